@@ -1,6 +1,6 @@
 -- While no write of a pen has failed, as many writes have failed as before.
 use Rattle.std.proofs.Common.{◌≡◌, ◌<◌, ℕ, Bool, true, false, List, Option, refl, sym, subst, ◌∙◌}
-use Rattle.cc_device.specs.Written.{Desk, Pens, GoesOn}
+use Rattle.cc_io.specs.Written.{Desk, Pens, GoesOn}
 
 room_after : (f g : Bool) (k l : List ℕ) (a b : Option (List ℕ)) (x y n : ℕ) (t : List ℕ) → GoesOn f g k l a b x y t → (f ≡ false → x < n) → g ≡ false → y < n
 room_after true g k l a b x y n t p room on = cc (sym p.0 ∙ on)

@@ -1,6 +1,6 @@
 -- The texts of the elements of a list, which were made of others, or are known by names of their own.
 use Rattle.std.proofs.Common.{◌≡◌, ◌<◌, ℕ, ◌+◌, length, get_or, subst, List, [], ◌∷◌, ◌++◌, map, refl, ap}
-use Rattle.cc_device.specs.Written.{Desk, Pens}
+use Rattle.cc_io.specs.Written.{Desk, Pens}
 use Rattle.cc_plan.specs.Report.{texts}
 use Rattle.cc_plan.proofs.Lines.{UpTo, one_more}
 

@@ -1,10 +1,10 @@
 -- The text of a page.
 use Rattle.std.specs.Prelude.{ℕ, ◌++◌, List, codes}
 use Rattle.cc_model.specs.Body.{words_of}
-use Rattle.cc_device.specs.Written.{word_text}
+use Rattle.cc_io.specs.Written.{word_text}
 use Rattle.cc_plan.specs.Plan.{PlanValue}
 use Rattle.cc_plan.specs.Report.{texts, words_text}
-use Rattle.cc_show.specs.Names.{Call, Done, Kind}
+use Rattle.cc_show.specs.Names.{Call, ShownEvent, Kind}
 use Rattle.cc_show.specs.declared.page.TheConstants.{FRONT, MIDDLE, BACK}
 
 -- the number of a kind
@@ -32,10 +32,10 @@ kind_number Kind.ReadItem = 20
 kind_number Kind.AddPassed = 21
 
 -- an event: the row of its pass, and its kind
-unfoldable pub event_text : Done → List ℕ
+unfoldable pub event_text : ShownEvent → List ℕ
 event_text e = word_text (codes " ") e.row ++ word_text (codes " ") (kind_number e.kind)
 
-abbrev pub events_text : List Done → List ℕ
+abbrev pub events_text : List ShownEvent → List ℕ
 events_text events = texts (λ i e. event_text e) 0 events
 
 -- a send with the words of its body, a close, or a take
@@ -57,17 +57,17 @@ config_text p = word_text (codes " ") p.version ++ word_text (codes " ") p.confi
     ++ word_text (codes " ") p.config.groups ++ word_text (codes " ") p.config.senders ++ word_text (codes " ") p.config.receivers ++ codes "\n"
 
 -- the configuration, the calls of the senders, how often each receiver takes, and the events
-unfoldable pub run_text : PlanValue → List Done → List ℕ
+unfoldable pub run_text : PlanValue → List ShownEvent → List ℕ
 run_text p events = config_text p ++ senders_text p.senders ++ words_text p.receivers ++ codes "\n" ++ events_text events ++ codes "\n"
 
 -- the text before the report
-unfoldable pub front_text : PlanValue → List Done → List ℕ
+unfoldable pub front_text : PlanValue → List ShownEvent → List ℕ
 front_text p events = FRONT.now ++ run_text p events ++ MIDDLE.now
 
 -- up to the end of the report
-unfoldable pub told_text : PlanValue → List Done → (report : List ℕ) → List ℕ
+unfoldable pub told_text : PlanValue → List ShownEvent → (report : List ℕ) → List ℕ
 told_text p events report = front_text p events ++ report
 
 -- the page of a plan with these events, and a report
-unfoldable pub page_text : PlanValue → List Done → (report : List ℕ) → List ℕ
+unfoldable pub page_text : PlanValue → List ShownEvent → (report : List ℕ) → List ℕ
 page_text p events report = told_text p events report ++ BACK.now

@@ -4,15 +4,16 @@ use Rattle.std.specs.Io.KnownBytes.{Keeps}
 use Rattle.cc_plan.specs.Plan.{PlanValue}
 use Rattle.cc_plan.specs.PlanOf.{plan_of}
 use Rattle.cc_play.specs.Outcome.{line_of, status_of}
-use Rattle.cc_play.specs.Play.{IsReport, Reads, WorksOn, failed_reads, failed_writes}
+use Rattle.cc_io.specs.Input.{Reads}
+use Rattle.cc_play.specs.Play.{IsReport, WorksOn, failed_reads, failed_writes}
 use Rattle.cc_play.specs.Schedule.{run_of}
-use Rattle.cc_show.specs.Names.{Done, Form, ShowFault, Verdict}
+use Rattle.cc_show.specs.Names.{ShownEvent, Form, ShowFault, Verdict}
 use Rattle.cc_show.specs.Events.{event_limit, happened}
 use Rattle.cc_show.specs.Page.{page_text}
 use Rattle.cc_show.specs.Trace.{trace_text}
 
 -- the text of a plan's events in a form; a page has a report too
-abbrev pub shown_text : Form → PlanValue → List Done → (report : List ℕ) → List ℕ
+abbrev pub shown_text : Form → PlanValue → List ShownEvent → (report : List ℕ) → List ℕ
 shown_text Form.Page p events report = page_text p events report
 shown_text Form.Trace p events report = trace_text events
 
@@ -49,4 +50,4 @@ shown_status (Err ShowFault.Long) = 5
 unfoldable pub shown_line : Result Verdict ShowFault → List ℕ
 shown_line (Ok verdict) = line_of (Ok verdict)
 shown_line (Err (ShowFault.Play f)) = line_of (Err f)
-shown_line (Err ShowFault.Long) = codes "ccq_show: more than 20000 events\n"
+shown_line (Err ShowFault.Long) = codes "ccq: more than 20000 events\n"

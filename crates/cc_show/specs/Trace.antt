@@ -1,8 +1,8 @@
 -- The text of a trace: the events of a run as lines of JSON.
 use Rattle.std.specs.Prelude.{ℕ, ◌+◌, ◌++◌, List, codes}
-use Rattle.cc_device.specs.Written.{word_text}
+use Rattle.cc_io.specs.Written.{word_text}
 use Rattle.cc_plan.specs.Report.{texts, pass_text}
-use Rattle.cc_show.specs.Names.{Chain, Done, ItemField, Kind, NodeField, Object, Word}
+use Rattle.cc_show.specs.Names.{Chain, ShownEvent, ItemField, Kind, NodeField, Object, Word}
 
 -- the name of a kind
 abbrev pub kind_name : Kind → List ℕ
@@ -65,12 +65,12 @@ word_name (Word.Node x node field) = chain_text x ++ node_field_text field ++ wo
 word_name (Word.Item node field) = item_field_text field ++ word_text (codes "[") node ++ codes "]"
 
 -- the line of an event of this number
-unfoldable pub line_text : ℕ → Done → List ℕ
+unfoldable pub line_text : ℕ → ShownEvent → List ℕ
 line_text number e =
     word_text (codes "{\"event\":") number ++ codes ",\"pass\":\"" ++ pass_text e.pass ++ codes "\",\"kind\":\"" ++ kind_name e.kind
     ++ codes "\",\"word\":\"" ++ word_name e.word ++ word_text (codes "\",\"before\":") e.before ++ word_text (codes ",\"after\":") e.after
     ++ word_text (codes ",\"call\":") e.call ++ codes "}\n"
 
 -- a line for each event, numbered from 1
-abbrev pub trace_text : List Done → List ℕ
+abbrev pub trace_text : List ShownEvent → List ℕ
 trace_text events = texts (λ i e. line_text (i + 1) e) 0 events

@@ -3,9 +3,9 @@ ghost use Rattle.std.specs.Prelude.{◌≡◌};
 ghost use Rattle.cc_play.specs.Play.{fault_of_input};
 ghost use Rattle.cc_show.specs.Names.{PlayFault, ShowFault};
 
-use cc_device::WriteFault;
+use cc_io::{InputFault, WriteFault};
 use cc_plan::PlanFault;
-use cc_play::{InputFault, PlayFault};
+use cc_play::PlayFault;
 use std::alloc::AllocError;
 use thiserror::Error;
 

@@ -14,4 +14,4 @@ mod trace;
 pub use fault::ShowFault;
 pub use form::Form;
 pub use outcome::tell_shown;
-pub use player::{Done, EVENT_LIMIT};
+pub use player::{EVENT_LIMIT, ShownEvent};

@@ -1,12 +1,12 @@
 //! The report of an outcome of a plan: the exit status, and the line on standard error.
 ghost use Rattle.std.specs.Prelude.{◌≡◌, ◌<◌, ◌-◌, ◌^◌};
-ghost use Rattle.cc_play.specs.Outcome.{Told};
+ghost use Rattle.cc_io.specs.FaultLine.{Told};
 ghost use Rattle.cc_show.specs.Show.{shown_line, shown_status};
 
 use crate::fault::ShowFault;
 use cc_audit::Verdict;
-use cc_device::Sink;
-use cc_play::{tell, told};
+use cc_io::{Sink, told};
+use cc_play::tell;
 
 /// Reports what went wrong, and returns the status: 5 if the run has too many events, and else that of a play.
 #[tactic(auto, unfolding(crate::specs::Show::shown_line))]
@@ -19,6 +19,6 @@ pub fn tell_shown<E: Sink>(errors: &mut E, outcome: Result<Verdict, ShowFault>) 
     match outcome {
         Ok(verdict) => tell(errors, Ok(verdict)),
         Err(ShowFault::Play(fault)) => tell(errors, Err(fault)),
-        Err(ShowFault::Long) => told(errors, b"ccq_show: more than 20000 events\n", 5),
+        Err(ShowFault::Long) => told(errors, b"ccq: more than 20000 events\n", 5),
     }
 }

@@ -364,7 +364,7 @@ first and the last event, <kbd>Page up</kbd> and <kbd>Page down</kbd> to decisio
 const Machine = (() => {
 'use strict';
 
-const EVENT_LIMIT = 20000;    // that of ccq_show
+const EVENT_LIMIT = 20000;    // that of ccq show
 const CALL_LIMIT = 65536;     // of each pass, that of a plan
 const BRANCH_LIMIT = 20;
 const CLEAN = 'audit clean';  // the verdict on each run, which is proved
@@ -541,7 +541,7 @@ const Codes_word = (body, v1) => {
 };
 const Codes_words_in = (body) => Codes_slots(Body_words_of(body));
 const CountLines_decides = (service, found) => ServiceLine_answer_of(CountLines_line(0n, service, found).next);
-const CountLines_goes = (job, service, found) => ServiceLine_place_of(CountLines_in_service, job, CountLines_line(0n, service, found).next);
+const CountLines_goes = (job, service, found) => ServiceLine_phase_of(CountLines_in_service, job, CountLines_line(0n, service, found).next);
 const CountLines_in_service = (job, service) => ({ is: 'Counting', job, service });
 const CountLines_kind_of = (service) => CountLines_line(0n, service, 0n).kind;
 const CountLines_line = (served, v1, v2) => {
@@ -664,7 +664,7 @@ const SendLines_by_shut = (request, v1) => {
   if (v1 >= 1n) return (request.tag === 0n) ? { is: 'On', 0: { is: 'ReadTotal' } } : { is: 'Decides', 0: { is: 'Send', 0: { is: 'Closed' } } };
 };
 const SendLines_decides = (c, service, found) => ServiceLine_answer_of(SendLines_line(c, 0n, service, found).next);
-const SendLines_goes = (c, job, service, found) => ServiceLine_place_of(SendLines_in_service, job, SendLines_line(c, 0n, service, found).next);
+const SendLines_goes = (c, job, service, found) => ServiceLine_phase_of(SendLines_in_service, job, SendLines_line(c, 0n, service, found).next);
 const SendLines_in_service = (job, service) => ({ is: 'Sending', job, service });
 const SendLines_kind_of = (service) => SendLines_line(SendLines_any_config(), 0n, service, 0n).kind;
 const SendLines_line = (c, served, v2, v3) => {
@@ -699,7 +699,7 @@ const ServiceLine_answer_of = (v0) => {
   if (v0.is === 'Tells') return { is: 'None' };
 };
 const ServiceLine_load = (kind, word, next) => ({ kind, does: { is: 'Load', 0: word }, next });
-const ServiceLine_place_of = (in_service, job, v2) => {
+const ServiceLine_phase_of = (in_service, job, v2) => {
   if (v2.is === 'On') return in_service(job, v2[0]);
   if (v2.is === 'Decides') return { is: 'WriteAnswer', job, answer: v2[0] };
   if (v2.is === 'DecidesAndOn') return in_service(job, v2[1]);
@@ -715,7 +715,7 @@ const TakeLines_by_tag = (dummy, taken, at, v3) => {
   if (v3 >= 1n) return { is: 'On', 0: { is: 'ReadItemBody', dummy, node: at, parcel: Codes_parcel(taken, ((v3 - 1n) + 1n), Codes_no_words()), index: 0n } };
 };
 const TakeLines_decides = (service, found) => ServiceLine_answer_of(TakeLines_line(0n, service, found).next);
-const TakeLines_goes = (job, service, found) => ServiceLine_place_of(TakeLines_in_service, job, TakeLines_line(0n, service, found).next);
+const TakeLines_goes = (job, service, found) => ServiceLine_phase_of(TakeLines_in_service, job, TakeLines_line(0n, service, found).next);
 const TakeLines_in_service = (job, service) => ({ is: 'Taking', job, service });
 const TakeLines_kind_of = (service) => TakeLines_line(0n, service, 0n).kind;
 const TakeLines_line = variant === 'freed_dummy' ? (g, v1, v2) => {

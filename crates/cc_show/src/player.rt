@@ -5,8 +5,8 @@ ghost use Rattle.cc_runs.specs.Run.{passes, reached, IsRun};
 ghost use Rattle.cc_machine.specs.View.{state_in};
 ghost use Rattle.cc_machine.specs.Machine.{index_of};
 ghost use Rattle.cc_plan.specs.Plan.{plan_value};
-ghost use Rattle.cc_plan.specs.PlanLaws.{Lawful};
-ghost use Rattle.cc_play.specs.Schedule.{setting_of, IsBetweenTurns, entry, run_of};
+ghost use Rattle.cc_plan.specs.PlanLaws.{Valid};
+ghost use Rattle.cc_play.specs.Schedule.{setting_of, CanFollow, IsBetweenTurns, entry, run_of};
 ghost use Rattle.cc_show.specs.Events.{happened, event_limit, Stands};
 
 use cc_machine::{Event, Kind, Machine, OpenFault};
@@ -21,7 +21,7 @@ pub const EVENT_LIMIT: usize = 20_000;
 
 /// An event.
 #[derive(Clone, Copy)]
-pub struct Done {
+pub struct ShownEvent {
     /// The row of its pass among all passes.
     pub row: usize,
     pub pass: Pass,
@@ -38,7 +38,7 @@ pub struct Done {
 #[derive(Drop)]
 pub struct Played {
     pub machine: Machine,
-    pub events: Vec<Done>,
+    pub events: Vec<ShownEvent>,
 }
 
 /// Up to this number of events of a pass, one by one.
@@ -46,14 +46,12 @@ pub struct Played {
 fn follow_entry(
     machine: &mut Machine,
     begun: &mut [usize],
-    events: &mut Vec<Done>,
+    events: &mut Vec<ShownEvent>,
     plan: &Plan,
     pass: Pass,
     count: u32,
 ) -> Result<(), AllocError>
-    requires lawful { Lawful (plan_value plan.now) }
-    requires rows { length begun.old ≡ passes (setting_of (plan_value plan.now)) }
-    requires between { IsBetweenTurns (plan_value plan.now) machine.old begun.old }
+    requires { CanFollow (plan_value plan.now) machine.old begun.old }
     ensures followed { OnOk result ((run : List Move) → Stands (plan_value plan.now) machine.old begun.old events.old.items run
         → Stands (plan_value plan.now) machine.new begun.new events.new.items (entry (plan_value plan.now) pass (index_of (setting_of (plan_value plan.now)) pass) count run)) }
     ensures between { OnOk result (IsBetweenTurns (plan_value plan.now) machine.new begun.new) }
@@ -66,7 +64,7 @@ fn follow_entry(
         let word = machine.word_in(row);
         let before = machine.value(word);
         match turn(machine, begun, plan, pass, row)? {
-            Event::Did(kind) => events.push(Done {
+            Event::Did(kind) => events.push(ShownEvent {
                 row,
                 pass,
                 call: begun[row],
@@ -84,7 +82,7 @@ fn follow_entry(
 /// Plays the schedule of a plan from the opening of its machine; `None` if its run has more events than a page shows.
 /// Only memory can be refused.
 pub fn play_events(alloc: Global, plan: &Plan) -> Result<Option<Played>, AllocError>
-    requires lawful { Lawful (plan_value plan.now) }
+    requires valid { Valid (plan_value plan.now) }
     ensures { IfOk result (λ played. MatchOption played
         (event_limit < length (happened (plan_value plan.now) (run_of (plan_value plan.now))))
         (λ p. IsRun (setting_of (plan_value plan.now)) (run_of (plan_value plan.now))

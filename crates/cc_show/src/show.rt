@@ -1,21 +1,20 @@
 //! From the bytes of a plan to the bytes of its page, or of its trace.
 ghost use Rattle.std.specs.Prelude.{◌≡◌, ◌<◌, ◌+◌, ◌-◌, ◌^◌, is_err};
 ghost use Rattle.cc_model.specs.HistoryRoom.{lists};
-ghost use Rattle.cc_device.specs.Written.{Writes};
+ghost use Rattle.cc_io.specs.Written.{Writes};
 ghost use Rattle.cc_plan.specs.Plan.{plan_value};
 ghost use Rattle.cc_plan.specs.Report.{report_text};
 ghost use Rattle.cc_show.specs.Show.{Shows, failed_reads_of, failed_writes_of, shown_text};
 
 use crate::fault::ShowFault;
 use crate::form::Form;
-use crate::player::{Done, play_events};
+use crate::player::{ShownEvent, play_events};
 use crate::text::write_page;
 use crate::trace::write_trace;
 use cc_audit::Verdict;
-use cc_device::{Sink, Source, WriteFault};
-use cc_plan::{Plan, Report};
+use cc_io::{Sink, Source, WriteFault, read_input};
+use cc_plan::{Plan, Report, read_plan};
 use cc_play::play::audit_of;
-use cc_play::{read_input, read_plan};
 use std::alloc::Global;
 
 /// Reads a plan from the source, plays its schedule on a machine event by event, and writes its run to the sink. A page has
@@ -57,7 +56,7 @@ fn write_shown<W: Sink>(
     sink: &mut W,
     form: Form,
     plan: &Plan,
-    events: &[Done],
+    events: &[ShownEvent],
     report: &Report<'_>,
 ) -> Result<(), WriteFault>
     requires { W.write_failures sink.old < 2 ^ 64 - 1 }

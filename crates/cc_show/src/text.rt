@@ -1,7 +1,7 @@
 //! The text of a page.
 ghost use Rattle.std.specs.Prelude.{◌≡◌, ◌<◌, ◌^◌, ◌-◌, false, is_err, map};
 ghost use Rattle.cc_model.specs.HistoryRoom.{lists};
-ghost use Rattle.cc_device.specs.Written.{Writes, Pens, desk};
+ghost use Rattle.cc_io.specs.Written.{Writes, Pens, desk};
 ghost use Rattle.cc_plan.specs.Calls.{calls_in};
 ghost use Rattle.cc_plan.specs.Plan.{plan_value};
 ghost use Rattle.cc_plan.specs.Report.{words_text, report_text};
@@ -9,17 +9,17 @@ ghost use Rattle.cc_show.specs.Page.{call_text, calls_text, senders_text, config
 
 use crate::kinds::kind_number;
 use crate::page::{BACK, FRONT, MIDDLE};
-use crate::player::Done;
-use cc_device::{Pen, Sink, WriteFault, write_bytes};
+use crate::player::ShownEvent;
+use cc_io::{Pen, Sink, WriteFault, write_bytes};
 use cc_model::Call;
 use cc_plan::{Calls, Plan, Report, write_body, write_report};
 
 /// Writes the page of a plan's events and of a report, and stops at the first write that fails.
-#[tactic(auto, using(cc_device::proofs::Writing::both_out, cc_device::proofs::Writing::first_failed), unfolding(crate::specs::Page::page_text))]
+#[tactic(auto, using(cc_io::proofs::Writing::both_out, cc_io::proofs::Writing::first_failed), unfolding(crate::specs::Page::page_text))]
 pub fn write_page<W: Sink>(
     sink: &mut W,
     plan: &Plan,
-    events: &[Done],
+    events: &[ShownEvent],
     report: &Report<'_>,
 ) -> Result<(), WriteFault>
     requires { W.write_failures sink.old < 2 ^ 64 - 1 }
@@ -32,11 +32,11 @@ pub fn write_page<W: Sink>(
 }
 
 /// Writes what comes before the report, and the report, and stops at the first write that fails.
-#[tactic(auto, using(cc_device::proofs::Writing::both_out, cc_device::proofs::Writing::first_failed), unfolding(crate::specs::Page::told_text))]
+#[tactic(auto, using(cc_io::proofs::Writing::both_out, cc_io::proofs::Writing::first_failed), unfolding(crate::specs::Page::told_text))]
 fn write_told<W: Sink>(
     sink: &mut W,
     plan: &Plan,
-    events: &[Done],
+    events: &[ShownEvent],
     report: &Report<'_>,
 ) -> Result<(), WriteFault>
     requires { W.write_failures sink.old < 2 ^ 64 - 1 }
@@ -49,7 +49,7 @@ fn write_told<W: Sink>(
 }
 
 /// Writes what comes before the report, and stops at the first write that fails.
-fn write_front<W: Sink>(sink: &mut W, plan: &Plan, events: &[Done]) -> Result<(), WriteFault>
+fn write_front<W: Sink>(sink: &mut W, plan: &Plan, events: &[ShownEvent]) -> Result<(), WriteFault>
     requires { W.write_failures sink.old < 2 ^ 64 - 1 }
     ensures { Writes (is_err result) (W.bytes_written sink.old) (W.bytes_written sink.new)
         (W.write_failures sink.old) (W.write_failures sink.new) (front_text (plan_value plan.now) events.now) }
@@ -62,7 +62,7 @@ fn write_front<W: Sink>(sink: &mut W, plan: &Plan, events: &[Done]) -> Result<()
 }
 
 /// Writes a plan's configuration, its calls, and the events of its run.
-fn write_run<W: Sink>(sink: &mut W, pen: &mut Pen, plan: &Plan, events: &[Done])
+fn write_run<W: Sink>(sink: &mut W, pen: &mut Pen, plan: &Plan, events: &[ShownEvent])
     requires { pen.old.failed ≡ false → W.write_failures sink.old < 2 ^ 64 - 1 }
     ensures { Pens (desk pen.old (W.bytes_written sink.old) (W.write_failures sink.old))
         (desk pen.new (W.bytes_written sink.new) (W.write_failures sink.new))
@@ -149,7 +149,7 @@ fn write_receivers<W: Sink>(sink: &mut W, pen: &mut Pen, takes: &[u32])
 
 /// Writes the events.
 #[tactic(auto, using(cc_plan::proofs::Lines::none, cc_plan::proofs::Lines::all))]
-fn write_events<W: Sink>(sink: &mut W, pen: &mut Pen, events: &[Done])
+fn write_events<W: Sink>(sink: &mut W, pen: &mut Pen, events: &[ShownEvent])
     requires { pen.old.failed ≡ false → W.write_failures sink.old < 2 ^ 64 - 1 }
     ensures { Pens (desk pen.old (W.bytes_written sink.old) (W.write_failures sink.old))
         (desk pen.new (W.bytes_written sink.new) (W.write_failures sink.new)) (events_text events.now) }
@@ -160,7 +160,7 @@ fn write_events<W: Sink>(sink: &mut W, pen: &mut Pen, events: &[Done])
 }
 
 /// Writes the row and the kind of an event.
-fn write_event<W: Sink>(sink: &mut W, pen: &mut Pen, event: Done)
+fn write_event<W: Sink>(sink: &mut W, pen: &mut Pen, event: ShownEvent)
     requires { pen.old.failed ≡ false → W.write_failures sink.old < 2 ^ 64 - 1 }
     ensures { Pens (desk pen.old (W.bytes_written sink.old) (W.write_failures sink.old))
         (desk pen.new (W.bytes_written sink.new) (W.write_failures sink.new)) (event_text event) }

@@ -1,18 +1,18 @@
 //! The text of a trace: the events of a run as lines of JSON.
 ghost use Rattle.std.specs.Prelude.{◌≡◌, ◌<◌, ◌^◌, ◌-◌, false, is_err};
-ghost use Rattle.cc_device.specs.Written.{Writes, Pens, desk};
+ghost use Rattle.cc_io.specs.Written.{Writes, Pens, desk};
 ghost use Rattle.cc_plan.specs.Report.{pass_text};
 ghost use Rattle.cc_show.specs.Trace.{kind_name, chain_text, object_text, node_field_text, item_field_text, word_name, line_text, trace_text};
 
-use crate::player::Done;
-use cc_device::{Pen, Sink, WriteFault};
+use crate::player::ShownEvent;
+use cc_io::{Pen, Sink, WriteFault};
 use cc_machine::Kind;
 use cc_model::Pass;
 use cc_runs::{Chain, ItemField, NodeField, Object, Word};
 
 /// Writes a line for each event, and stops at the first write that fails.
-#[tactic(auto, using(cc_device::proofs::Writing::all_out))]
-pub fn write_trace<W: Sink>(sink: &mut W, events: &[Done]) -> Result<(), WriteFault>
+#[tactic(auto, using(cc_io::proofs::Writing::all_out))]
+pub fn write_trace<W: Sink>(sink: &mut W, events: &[ShownEvent]) -> Result<(), WriteFault>
     requires { W.write_failures sink.old < 2 ^ 64 - 1 }
     ensures { Writes (is_err result) (W.bytes_written sink.old) (W.bytes_written sink.new)
         (W.write_failures sink.old) (W.write_failures sink.new) (trace_text events.now) }
@@ -24,7 +24,7 @@ pub fn write_trace<W: Sink>(sink: &mut W, events: &[Done]) -> Result<(), WriteFa
 
 /// A line for each event, numbered from 1.
 #[tactic(auto, using(cc_plan::proofs::Lines::none, cc_plan::proofs::Lines::all))]
-fn write_lines<W: Sink>(sink: &mut W, pen: &mut Pen, events: &[Done])
+fn write_lines<W: Sink>(sink: &mut W, pen: &mut Pen, events: &[ShownEvent])
     requires { pen.old.failed ≡ false → W.write_failures sink.old < 2 ^ 64 - 1 }
     ensures { Pens (desk pen.old (W.bytes_written sink.old) (W.write_failures sink.old))
         (desk pen.new (W.bytes_written sink.new) (W.write_failures sink.new)) (trace_text events.now) }
@@ -34,7 +34,7 @@ fn write_lines<W: Sink>(sink: &mut W, pen: &mut Pen, events: &[Done])
     }
 }
 
-fn write_line<W: Sink>(sink: &mut W, pen: &mut Pen, number: u64, event: Done)
+fn write_line<W: Sink>(sink: &mut W, pen: &mut Pen, number: u64, event: ShownEvent)
     requires { pen.old.failed ≡ false → W.write_failures sink.old < 2 ^ 64 - 1 }
     ensures { Pens (desk pen.old (W.bytes_written sink.old) (W.write_failures sink.old))
         (desk pen.new (W.bytes_written sink.new) (W.write_failures sink.new)) (line_text number event) }

@@ -11,7 +11,7 @@ use Rattle.cc_show.proofs.player.play_events.Goals as goal
 pub loop-pass-init : goal.loop-pass-init
 loop-pass-init c =
     let p = c.args.plan.now in
-    let at = opened (plan_value p) _ _ _ _ c.requires.lawful c.in-Ok.ensures.opened (c.in_ok-begun.ensures.items_if_clones_equal (λ y e. e)) (c.len.ensures ∙ p.senders.ok.0 ∙ sym (length-map p.senders.items calls_in)) (c.len-2.ensures ∙ p.receivers.ok.0) in
+    let at = opened (plan_value p) _ _ _ _ c.requires.valid c.in-Ok.ensures.opened (c.in_ok-begun.ensures.items_if_clones_equal (λ y e. e)) (c.len.ensures ∙ p.senders.ok.0 ∙ sym (length-map p.senders.items calls_in)) (c.len-2.ensures ∙ p.receivers.ok.0) in
     record { short = omega (arith, ap length c.new-events.ensures.items); between = opened_between (plan_value p) _ _ c.in-Ok.ensures.opened; leads = record { run = []; at = record { at = at; told = c.new-events.ensures.items }; leads = refl } }
 
 pub loop-pass-preserved : goal.loop-pass-preserved
@@ -21,8 +21,8 @@ loop-pass-preserved c =
     rw (written_back _ _ c.follow_entry.new.begun (c.follow_entry.ensures.rows ∙ ap length value) (sym c.as_mut_slice.ensures.len ∙ ap length value))
     (record { short = omega (arith, c.if-len-gt-EVENT_LIMIT.false, c.len-in-loop-pass.ensures); between = c.in_ok-follow_entry.ensures.between; leads = on })
 
-pub follow_entry-requires-clause-between : goal.follow_entry-requires-clause-between
-follow_entry-requires-clause-between c = rw c.as_mut_slice.ensures.value c.loop-pass.invariant.between
+pub follow_entry-requires : goal.follow_entry-requires
+follow_entry-requires c = rw c.as_mut_slice.ensures.value (record { valid = c.requires.valid; rows = c.loop-pass.invariant.leads.at.at.rows; between = c.loop-pass.invariant.between })
 
 pub returns-then-len-gt-EVENT_LIMIT : goal.returns-then-len-gt-EVENT_LIMIT
 returns-then-len-gt-EVENT_LIMIT c =

@@ -1,4 +1,4 @@
-use Rattle.cc_device.proofs.Writing.{then}
+use Rattle.cc_io.proofs.Writing.{then}
 use Rattle.cc_show.specs.Page.{event_text}
 use Rattle.cc_show.proofs.text.write_event.Goals as goal
 

@@ -1,5 +1,5 @@
 use Rattle.cc_show.specs.Page.{event_text}
-use Rattle.cc_device.specs.Written.{desk}
+use Rattle.cc_io.specs.Written.{desk}
 use Rattle.cc_plan.proofs.Lines.{UpTo}
 use Rattle.cc_show.proofs.text.write_events.Given as goal
 

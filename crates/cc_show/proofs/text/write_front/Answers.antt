@@ -1,4 +1,4 @@
-use Rattle.cc_device.proofs.Writing.{then, all_out}
+use Rattle.cc_io.proofs.Writing.{then, all_out}
 use Rattle.cc_show.specs.Page.{front_text}
 use Rattle.cc_show.proofs.Room.{room}
 use Rattle.cc_show.proofs.text.write_front.Goals as goal

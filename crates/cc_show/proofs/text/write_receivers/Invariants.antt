@@ -1,6 +1,6 @@
 use Rattle.std.specs.Prelude.{codes}
-use Rattle.cc_device.specs.Written.{word_text}
-use Rattle.cc_device.specs.Written.{desk}
+use Rattle.cc_io.specs.Written.{word_text}
+use Rattle.cc_io.specs.Written.{desk}
 use Rattle.cc_plan.proofs.Lines.{UpTo}
 use Rattle.cc_show.proofs.text.write_receivers.Given as goal
 

@@ -1,4 +1,4 @@
-use Rattle.cc_device.proofs.Writing.{then}
+use Rattle.cc_io.proofs.Writing.{then}
 use Rattle.cc_show.specs.Trace.{line_text}
 use Rattle.cc_show.proofs.trace.write_line.Goals as goal
 

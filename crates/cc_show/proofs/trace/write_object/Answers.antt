@@ -1,4 +1,4 @@
-use Rattle.cc_device.proofs.Writing.{then}
+use Rattle.cc_io.proofs.Writing.{then}
 use Rattle.cc_show.specs.Trace.{object_text}
 use Rattle.cc_show.proofs.trace.write_object.Goals as goal
 

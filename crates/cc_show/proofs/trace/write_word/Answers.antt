@@ -1,4 +1,4 @@
-use Rattle.cc_device.proofs.Writing.{then}
+use Rattle.cc_io.proofs.Writing.{then}
 use Rattle.cc_show.specs.Trace.{word_name}
 use Rattle.cc_show.proofs.trace.write_word.Goals as goal
 
