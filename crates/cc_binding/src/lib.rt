@@ -20,6 +20,7 @@ ghost use Rattle.cc_handles.specs.Opened.{config_of, refusal, HaveOpened};
 ghost use Rattle.cc_handles.specs.Handles.{pass_of, longest_of, IsDropped};
 ghost use Rattle.cc_handles.specs.Calls.{single, fitting, IfRoom, BeginsSend, TurnsSend, TriesSend, TellsWorn, BeginsClose, TurnsClose, BeginsTake, TurnsTake, TriesTake, TellsGroup};
 
+mod shared;
 mod version;
 
 use cc_handles::codes::{DONE, NO_MEMORY, NO_PASS};

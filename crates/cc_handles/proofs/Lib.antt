@@ -4,3 +4,4 @@ pub mod Trying
 pub mod Values
 pub mod Quiet
 pub mod LeftValues
+pub mod Staying

@@ -126,6 +126,10 @@ TurnsClose (Some (Pass.Closing v)) new told = CloseTurns v new told
 TurnsClose (Some p) new told = (new ≡ Some p) × (told ≡ only (no_pending_sender p))
 TurnsClose None new told = (new ≡ None) × (told ≡ only NO_PASS)
 
+-- a begin of a close, and if it was begun a turn of it
+abbrev pub TriesClose : Option Pass → Option Pass → Told → Type 0
+TriesClose = Tries only BeginsClose TurnsClose
+
 -- ---- a take
 
 -- an idle receiver begins a take
@@ -172,3 +176,8 @@ abbrev pub TellsGroup : Option Pass → Option Pass → ℕ → ℕ → Type 0
 TellsGroup (Some (Pass.Receiver w)) new code group = (new ≡ Some (Pass.Receiver w)) × (code ≡ DONE) × Ranked w group
 TellsGroup (Some p) new code group = (new ≡ Some p) × (code ≡ no_idle_receiver p) × (group ≡ 0)
 TellsGroup None new code group = (new ≡ None) × (code ≡ NO_PASS) × (group ≡ 0)
+
+-- a receiver of this group that has no call
+abbrev pub IsIn : ℕ → Option Pass → Type 0
+IsIn group (Some (Pass.Receiver w)) = Ranked w group
+IsIn group _ = ⊥

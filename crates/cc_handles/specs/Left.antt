@@ -1,3 +1,4 @@
+-- The memory that an abandoned pass leaves.
 use Rattle.std.specs.Prelude.{List, Option, Some, None}
 use base.Fml.{Fml, ftrue, fex}
 use mir.Val.{Val}

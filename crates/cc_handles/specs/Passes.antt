@@ -1,5 +1,5 @@
 -- The content of a handle.
-use Rattle.std.specs.Prelude.{ℕ, Option, Some, None}
+use Rattle.std.specs.Prelude.{◌≡◌, ℕ, Bool, true, false, Option, Some, None}
 use Rattle.cc_steps.specs.Topic.{Topic}
 use Rattle.cc_steps.specs.Walk.{Walk, IsOf}
 use Rattle.cc_handles.specs.Names.{Pass}
@@ -21,6 +21,21 @@ left_of (Some p) = Some (walk_of p)
 abbrev pub IsPassOf : Topic → Option Pass → Type 0
 IsPassOf z None = Unit {0}
 IsPassOf z (Some p) = IsOf z (walk_of p)
+
+-- there is a pass, and it has a call
+abbrev pub has_call : Option Pass → Bool
+has_call (Some (Pass.Sending w)) = true
+has_call (Some (Pass.Closing w)) = true
+has_call (Some (Pass.Taking w)) = true
+has_call _ = false
+
+-- there is a pass, and it is of this queue
+abbrev pub HasPassOf : Topic → Option Pass → Type 0
+HasPassOf z o = (p : Pass) × (o ≡ Some p) × IsOf z (walk_of p)
+
+-- the pass stays one of its queue
+abbrev pub StaysOf : Option Pass → Option Pass → Type 0
+StaysOf old new = (z : Topic) → HasPassOf z old → HasPassOf z new
 
 -- a pass, if there is one, and how many words a body of its queue has at most
 pub record Holding : Type 0 where

@@ -1,8 +1,8 @@
 //! A close, by the pass of a handle.
 ghost use Rattle.std.specs.Prelude.{◌≡◌, Some};
 ghost use Rattle.cc_steps.specs.Walk.{IsOf};
-ghost use Rattle.cc_handles.specs.Passes.{walk_of};
-ghost use Rattle.cc_handles.specs.Calls.{BeginsClose, TurnsClose};
+ghost use Rattle.cc_handles.specs.Passes.{walk_of, StaysOf};
+ghost use Rattle.cc_handles.specs.Calls.{BeginsClose, TurnsClose, TriesClose};
 
 use crate::codes::{BEGUN, NO_PASS, WAITING};
 use crate::held::{Held, Pass, put};
@@ -64,13 +64,34 @@ impl Held {
     }
 
     /// One turn of a close.
+    #[inline(always)]
     pub fn turn_close(&mut self) -> Told
         ensures turns { TurnsClose self.old.pass self.new.pass result }
         ensures same { self.new.words ≡ self.old.words }
+        ensures stays { StaysOf self.old.pass self.new.pass }
     {
         let Some(pass) = self.pass.take() else {
             return Told::only(NO_PASS);
         };
+        let (pass, told) = turned(&self.queue, pass);
+        put(&mut self.pass, pass);
+        told
+    }
+
+    /// Begins a close, and if it was begun turns it once.
+    pub fn try_close(&mut self) -> Told
+        ensures tries { TriesClose self.old.pass self.new.pass result }
+        ensures same { self.new.words ≡ self.old.words }
+        ensures stays { StaysOf self.old.pass self.new.pass }
+    {
+        let Some(pass) = self.pass.take() else {
+            return Told::only(NO_PASS);
+        };
+        let (pass, code) = begun(&self.queue, pass);
+        if code != BEGUN {
+            put(&mut self.pass, pass);
+            return Told::only(code);
+        }
         let (pass, told) = turned(&self.queue, pass);
         put(&mut self.pass, pass);
         told

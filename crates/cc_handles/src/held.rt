@@ -1,7 +1,7 @@
 //! The content of a handle's box.
 ghost use Rattle.std.specs.Prelude.{◌≡◌, Some, None};
 ghost use Rattle.cc_steps.specs.Walk.{IsOf};
-ghost use Rattle.cc_handles.specs.Passes.{walk_of, left_of, holding};
+ghost use Rattle.cc_handles.specs.Passes.{walk_of, left_of, holding, has_call};
 
 use crate::left::Left;
 use cc_queue::{GivenUp, PendingClose, PendingSend, PendingTake, Queue, Receiver, Sender};
@@ -55,6 +55,17 @@ impl Held {
             before: [0; 8],
             pass: Some(pass),
             behind: [0; 8],
+        }
+    }
+
+    /// Whether it holds a pass that has a call.
+    #[inline(always)]
+    pub fn has_call(&self) -> bool
+        ensures { result ≡ has_call self.now.pass }
+    {
+        match &self.pass {
+            Some(Pass::Sending(_) | Pass::Closing(_) | Pass::Taking(_)) => true,
+            _ => false,
         }
     }
 

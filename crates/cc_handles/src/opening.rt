@@ -51,7 +51,7 @@ impl Settings {
 }
 
 /// The code of a field that is out of its range.
-fn field_code(fault: ConfigFault) -> u32
+pub fn field_code(fault: ConfigFault) -> u32
     ensures code { result ≡ field_code fault }
     ensures told { result ≢ DONE }
 {
@@ -81,7 +81,7 @@ fn are_free(handles: &[Handle], count: u32) -> bool
 }
 
 /// Whether a body may have this number of words.
-fn are_few(words: u32) -> bool
+pub fn are_few(words: u32) -> bool
     ensures { result ≡ are_few words }
 {
     1 <= words && words <= 4
@@ -116,7 +116,7 @@ pub fn check(
 }
 
 /// A pass with its own share of the queue, for a handle.
-fn held(alloc: Global, queue: &Queue, words: u32, pass: Pass) -> Result<Box<Held>, AllocError>
+pub fn held(alloc: Global, queue: &Queue, words: u32, pass: Pass) -> Result<Box<Held>, AllocError>
     requires { IsOf queue.now (walk_of pass) }
     ensures { IfOk result (λ k. k.value ≡ holding words pass) }
 {

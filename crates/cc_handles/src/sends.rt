@@ -1,7 +1,7 @@
 //! A send, by the pass of a handle.
 ghost use Rattle.std.specs.Prelude.{◌≡◌, Some};
 ghost use Rattle.cc_steps.specs.Walk.{IsOf};
-ghost use Rattle.cc_handles.specs.Passes.{walk_of};
+ghost use Rattle.cc_handles.specs.Passes.{walk_of, StaysOf};
 ghost use Rattle.cc_handles.specs.Calls.{fitting, BeginsSend, TurnsSend, TriesSend, TellsWorn};
 
 use crate::codes::{BAD_WORDS, BEGUN, FRESH, LONG, NO_PASS, WAITING, WORN};
@@ -12,7 +12,7 @@ use cc_model::Body;
 use cc_queue::{Queue, SendTurn, begin_send, turn_send};
 
 /// The body of these words, if a body may have that many; or the code for which there is none.
-fn fitting(words: &[u64], longest: u32) -> Result<Body, u32>
+pub fn fitting(words: &[u64], longest: u32) -> Result<Body, u32>
     ensures { result ≡ fitting longest words.now }
 {
     let Some(body) = Body::new(words) else {
@@ -93,9 +93,11 @@ impl Held {
     }
 
     /// One turn of a send.
+    #[inline(always)]
     pub fn turn_send(&mut self) -> Told
         ensures turns { TurnsSend self.old.pass self.new.pass result }
         ensures same { self.new.words ≡ self.old.words }
+        ensures stays { StaysOf self.old.pass self.new.pass }
     {
         let Some(pass) = self.pass.take() else {
             return Told::only(NO_PASS);
@@ -110,6 +112,7 @@ impl Held {
     pub fn try_send(&mut self, body: Result<Body, u32>) -> Told
         ensures tries { TriesSend body self.old.pass self.new.pass result }
         ensures same { self.new.words ≡ self.old.words }
+        ensures stays { StaysOf self.old.pass self.new.pass }
     {
         let Some(pass) = self.pass.take() else {
             return Told::only(NO_PASS);

@@ -1,9 +1,9 @@
 //! A take, by the pass of a handle.
-ghost use Rattle.std.specs.Prelude.{◌≡◌, nat_le, Some};
+ghost use Rattle.std.specs.Prelude.{◌≡◌, true, nat_le, Some};
 ghost use Rattle.cc_steps.specs.Walk.{IsOf};
-ghost use Rattle.cc_handles.specs.Passes.{walk_of};
+ghost use Rattle.cc_handles.specs.Passes.{walk_of, StaysOf};
 ghost use Rattle.cc_handles.specs.Handles.{pass_of, longest_of};
-ghost use Rattle.cc_handles.specs.Calls.{BeginsTake, TurnsTake, TriesTake, IfRoom, TellsGroup};
+ghost use Rattle.cc_handles.specs.Calls.{BeginsTake, TurnsTake, TriesTake, IfRoom, TellsGroup, IsIn};
 
 use crate::codes::{BEGUN, DONE, NO_PASS, WAITING, WIDE};
 use crate::handle::Handle;
@@ -83,6 +83,16 @@ impl Held {
         if !self.has_room::<I>() {
             return Taken::only(WIDE);
         }
+        self.turn_any()
+    }
+
+    /// One turn of a take, of whatever room its item has.
+    #[inline(always)]
+    pub fn turn_any<I: ItemForm>(&mut self) -> Taken<I>
+        ensures turns { TurnsTake I.form self.old.pass self.new.pass result }
+        ensures same { self.new.words ≡ self.old.words }
+        ensures stays { StaysOf self.old.pass self.new.pass }
+    {
         let Some(pass) = self.pass.take() else {
             return Taken::only(NO_PASS);
         };
@@ -99,6 +109,16 @@ impl Held {
         if !self.has_room::<I>() {
             return Taken::only(WIDE);
         }
+        self.try_any()
+    }
+
+    /// Begins a take, and if it was begun turns it once, of whatever room its item has.
+    #[inline(always)]
+    pub fn try_any<I: ItemForm>(&mut self) -> Taken<I>
+        ensures tries { TriesTake I.form self.old.pass self.new.pass result }
+        ensures same { self.new.words ≡ self.old.words }
+        ensures stays { StaysOf self.old.pass self.new.pass }
+    {
         let Some(pass) = self.pass.take() else {
             return Taken::only(NO_PASS);
         };
@@ -110,6 +130,17 @@ impl Held {
         let (pass, told) = turned(&self.queue, pass);
         put(&mut self.pass, pass);
         told
+    }
+
+    /// Whether it holds a receiver of this group that has no call.
+    #[inline(always)]
+    pub fn is_in(&self, group: u32) -> bool
+        ensures { result ≡ true → IsIn group self.now.pass }
+    {
+        match &self.pass {
+            Some(Pass::Receiver(receiver)) => receiver.group() == group,
+            _ => false,
+        }
     }
 
     /// The group of the receiver, from 1.

@@ -1,0 +1,11 @@
+pub mod Kept
+pub mod Loans
+pub mod Made
+pub mod Pooled
+pub mod Tried
+pub mod Caller
+pub mod Opened
+pub mod Lent
+pub mod Cut
+pub mod Call
+pub mod New

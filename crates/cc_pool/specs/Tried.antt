@@ -1,0 +1,27 @@
+-- The result of a try of a place, or of a row of places.
+use Rattle.std.specs.Prelude.{Option, Some, None, Box}
+use Rattle.std.specs.declared.alloc.Global.{Global}
+use Rattle.cc_steps.specs.Topic.{Topic}
+use Rattle.cc_handles.specs.declared.held.Pass.{Pass}
+use Rattle.cc_handles.specs.Passes.{HasPassOf}
+use Rattle.cc_handles.specs.declared.held.Held.{Held}
+use Rattle.cc_pool.specs.declared.pooled.Tried.{Tried}
+use Rattle.cc_pool.specs.declared.pooled.Made.{Made}
+use Rattle.cc_pool.specs.Made.{IsMade}
+
+-- the pass in a box, if there is a box
+abbrev pub inside : Option (Box Held Global) → Option Pass
+inside None = None
+inside (Some b) = b.value.pass
+
+-- the box, if there is one, has a pass of this queue
+abbrev pub IsKeptOf : Topic → Option (Box Held Global) → Type 0
+IsKeptOf z None = Unit {0}
+IsKeptOf z (Some b) = HasPassOf z b.value.pass
+
+abbrev pub IsTriedOf : {T : Type 0} → Topic → (Option Pass → Option Pass → T → Type 0) → Tried T → Type 0
+IsTriedOf z Tells (Tried.Made told waits) = IsMade z Tells told (inside waits) × IsKeptOf z waits
+IsTriedOf z Tells _ = Unit {0}
+
+abbrev pub IsRowMade : {T : Type 0} → Topic → (Option Pass → Option Pass → T → Type 0) → Made T → Type 0
+IsRowMade z Tells m = IsMade z Tells m.told (inside m.waits) × IsKeptOf z m.waits

@@ -1,0 +1,72 @@
+//! The calls that a caller asks of whichever pass is free.
+ghost use Rattle.std.specs.Prelude.{◌≡◌, Option, Ok, IfSome, IfNone};
+ghost use Rattle.cc_handles.specs.declared.held.Pass.{Pass};
+ghost use Rattle.cc_handles.specs.declared.told.Told.{Told};
+ghost use Rattle.cc_handles.specs.declared.told.Taken.{Taken};
+ghost use Rattle.cc_handles.specs.Passes.{StaysOf};
+ghost use Rattle.cc_handles.specs.Calls.{TriesSend, TriesClose};
+ghost use Rattle.cc_pool.specs.Made.{TakesIn};
+
+use cc_handles::codes::WORN;
+use cc_handles::held::Held;
+use cc_handles::items::ItemForm;
+use cc_handles::told::{Taken, Told};
+use cc_model::Body;
+
+/// A call.
+pub trait Ask<T> {
+    ghost tells: { Self → Option Pass → Option Pass → T → Type 0 };
+
+    /// Makes the call by this pass; or none, if it is not one for the call.
+    fn ask(&self, held: &mut Held) -> Option<T>
+        ensures tells { IfSome result (λ told. tells self.now held.old.pass held.new.pass told) }
+        ensures stays { StaysOf held.old.pass held.new.pass };
+}
+
+/// A send of this body, by a sender that is not exhausted.
+#[derive(Drop)]
+pub struct Sending {
+    pub body: Body,
+}
+
+impl Ask<Told> for Sending {
+    ghost tells = { λ s old new told. TriesSend (Ok s.body) old new told };
+
+    #[inline(always)]
+    fn ask(&self, held: &mut Held) -> Option<Told> {
+        let told = held.try_send(Ok(self.body));
+        if told.code == WORN { None } else { Some(told) }
+    }
+}
+
+/// A close.
+#[derive(Drop)]
+pub struct Closing;
+
+impl Ask<Told> for Closing {
+    ghost tells = { λ _ old new told. TriesClose old new told };
+
+    #[inline(always)]
+    fn ask(&self, held: &mut Held) -> Option<Told> {
+        Some(held.try_close())
+    }
+}
+
+/// A take by a receiver of this group.
+#[derive(Drop)]
+pub struct Taking {
+    pub group: u32,
+}
+
+impl<I: ItemForm> Ask<Taken<I>> for Taking {
+    ghost tells = { λ s old new told. TakesIn I.form s.group old new told };
+
+    #[inline(always)]
+    fn ask(&self, held: &mut Held) -> Option<Taken<I>> {
+        if held.is_in(self.group) {
+            Some(held.try_any())
+        } else {
+            None
+        }
+    }
+}
