@@ -130,9 +130,9 @@ all_due z c (Ok a) told = tt
 all_due z c (Err f) told = told_due z c f told
 
 -- and so is missing memory, of a legal configuration
-pub memory_due : {A : Type 0} (lawful : Result ⊤ ConfigFault) (workers : ℕ) (r : Result A DriveFault) → lawful ≡ Ok tt → IfErr r (λ f. f ≡ DriveFault.NoMemory) → IfErr r (IsDue lawful workers)
-memory_due lawful workers (Ok a) fine none = tt
-memory_due lawful workers (Err f) fine none = subst (λ (y : Result ⊤ ConfigFault × DriveFault). IsDue y.0 workers y.1) (λ i. (sym fine i, sym none i)) tt
+pub memory_due : {A : Type 0} (valid : Result ⊤ ConfigFault) (workers : ℕ) (r : Result A DriveFault) → valid ≡ Ok tt → IfErr r (λ f. f ≡ DriveFault.NoMemory) → IfErr r (IsDue valid workers)
+memory_due valid workers (Ok a) fine none = tt
+memory_due valid workers (Err f) fine none = subst (λ (y : Result ⊤ ConfigFault × DriveFault). IsDue y.0 workers y.1) (λ i. (sym fine i, sym none i)) tt
 
 pub memory_cause : {A : Type 0} (c : DriveConfig) (r : Result A DriveFault) → IfErr r (λ f. f ≡ DriveFault.NoMemory) → IfErr r (HasCause (Ok tt) c)
 memory_cause c (Ok a) none = tt

@@ -43,8 +43,8 @@ same_items xs ys same = subst (IsPermutation xs) same (IsPermutation-refl xs)
 seen_of : (z : Topic) (n : ℕ) (w : Walk) (seen : List Move) → IsBack z n w → w.seen ≡ seen → history w ≡ history_of z.setting seen
 seen_of z n w seen b is = λ i. history_of (b.here.1 i) (is i)
 
-lawful : (z : Topic) (n : ℕ) (w : Walk) (seen : List Move) → IsBack z n w → w.seen ≡ seen → Legal z.setting.config (history_of z.setting seen)
-lawful z n w seen b is = subst (λ (y : Setting × Record). Legal y.0.config y.1) (λ i. (b.here.1 i, seen_of z n w seen b is i)) b.stands.legal
+valid : (z : Topic) (n : ℕ) (w : Walk) (seen : List Move) → IsBack z n w → w.seen ≡ seen → Legal z.setting.config (history_of z.setting seen)
+valid z n w seen b is = subst (λ (y : Setting × Record). Legal y.0.config y.1) (λ i. (b.here.1 i, seen_of z n w seen b is i)) b.stands.legal
 
 -- as many were taken as were sent
 even_so : (z : Topic) (n : ℕ) (receivers : List Walk) (seen : List Move) → z.setting.config.groups ≡ 1 → 0 < length receivers → InRow (ReceiverIsBack z) n receivers → All (λ w. w.seen ≡ seen) receivers → length (takes_of (history_of z.setting seen) 0) ≡ length (sends_of (history_of z.setting seen))
@@ -79,7 +79,7 @@ settled z c r all senders receivers setting some run is met met' one =
     let who_back : IsBack z c.senders who = back_met z c.senders r.closer who closer last.4 in
     let who_seen : who.seen ≡ one.seen = (all_split (λ w. w.seen ≡ one.seen) last.0 senders who last.2 one.senders_have).1 in
     let seen : seen_by senders ≡ history_of z.setting one.seen = seen_is z senders one.seen (let n = count in omega (arith, n)) first.0 one.senders_have in
-    let legal = lawful z c.senders who one.seen who_back who_seen in
+    let legal = valid z c.senders who one.seen who_back who_seen in
     record {
       all = all_live z senders receivers [] first.0 first.1;
       one = one;

@@ -76,10 +76,10 @@ all_stay : (cfg cfg' : Config) (h h' : Record) (p : Pass) → cfg' ≡ cfg → L
 all_stay cfg cfg' h h' p same l l' b all =
     let s : Side = side_of cfg p h in
     let more : SideBegins s (side_of cfg p h') = side_begins cfg p h h' b in
-    let lawful : Legal cfg h' = subst (λ (c : Config). Legal c h') same l' in
+    let valid : Legal cfg h' = subst (λ (c : Config). Legal c h') same l' in
     let f = stays p s.calls more.calls.0 s.answers more.answers.0 (subst (AllByRecursion HasAnswer) (on_its_side cfg h p l) all) in (
       f.0,
-      on_its_side cfg h' p lawful ∙ (λ i. its p (more.calls.1 i) (more.answers.1 i)) ∙ f.1 ∙ ap (λ (xs : List Told). xs ++ f.0) (sym (on_its_side cfg h p l)),
+      on_its_side cfg h' p valid ∙ (λ i. its p (more.calls.1 i) (more.answers.1 i)) ∙ f.1 ∙ ap (λ (xs : List Told). xs ++ f.0) (sym (on_its_side cfg h p l)),
     )
 
 -- a list that is one longer ends with its last call

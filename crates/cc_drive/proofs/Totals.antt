@@ -6,7 +6,7 @@ use Rattle.std.proofs.Math.Logic.{◌⊎◌, inl, inr}
 use Rattle.std.specs.List.{AllByRecursion, filter}
 use Rattle.cc_model.specs.Record.{Record}
 use Rattle.cc_model.specs.Items.{answered, is_pass, accepted, accepted_item, shuts, is_shut, handed, handed_by, handed_item}
-use Rattle.cc_model.specs.Legal.{Legal, LegalTakes, EAnswer, EAnswers, DAnswer, DAnswers, IsReceivers}
+use Rattle.cc_model.specs.Legal.{Legal, LegalTakes, SendSideAnswer, SendSideAnswers, TakeSideAnswer, TakeSideAnswers, IsReceivers}
 use Rattle.cc_drive.specs.Names.{Config, Call, Pass, Item, Entry, Answer, SendAnswer, CloseAnswer, TakeAnswer}
 use Rattle.cc_runs.specs.ChainLaws.{IsLastAnswer}
 use Rattle.cc_audit.specs.Receipts.{sends_of, takes_of, takes_by, take_receipt, total_of, total_by, send_receipt}
@@ -56,13 +56,13 @@ same_answer c e a b same = ap (λ (z : Told). told_of z.1 a) same
 
 -- ---- each answer is on its side
 
-no_end_of_sender : (cfg : Config) (count : ℕ) (shut : Bool) (calls : List Entry) (answers : List Answer) (e : Entry) (total : ℕ) → EAnswers cfg count shut calls answers → In (e, Some (Answer.Take (TakeAnswer.Ended total))) (answered calls answers) → ⊥
+no_end_of_sender : (cfg : Config) (count : ℕ) (shut : Bool) (calls : List Entry) (answers : List Answer) (e : Entry) (total : ℕ) → SendSideAnswers cfg count shut calls answers → In (e, Some (Answer.Take (TakeAnswer.Ended total))) (answered calls answers) → ⊥
 no_end_of_sender cfg count shut [] answers e total k i = i
 no_end_of_sender cfg count shut (c ∷ calls) [] e total k (inl same) = no_answer c e (Answer.Take (TakeAnswer.Ended total)) same
 no_end_of_sender cfg count shut (c ∷ calls) [] e total k (inr i) = no_end_of_sender cfg count shut calls [] e total tt i
-no_end_of_sender cfg count shut (c ∷ calls) (a ∷ answers) e total k (inl same) = no_take cfg count shut c.known c.call total (subst (λ (z : Answer). EAnswer cfg count shut c.known c.call z) (same_answer c e a (Answer.Take (TakeAnswer.Ended total)) same) k.0)
+no_end_of_sender cfg count shut (c ∷ calls) (a ∷ answers) e total k (inl same) = no_take cfg count shut c.known c.call total (subst (λ (z : Answer). SendSideAnswer cfg count shut c.known c.call z) (same_answer c e a (Answer.Take (TakeAnswer.Ended total)) same) k.0)
   where
-    no_take : (cfg : Config) (count : ℕ) (shut : Bool) (known : ℕ) (c : Call) (total : ℕ) → EAnswer cfg count shut known c (Answer.Take (TakeAnswer.Ended total)) → ⊥
+    no_take : (cfg : Config) (count : ℕ) (shut : Bool) (known : ℕ) (c : Call) (total : ℕ) → SendSideAnswer cfg count shut known c (Answer.Take (TakeAnswer.Ended total)) → ⊥
     no_take cfg count true known (Call.Send body) total k = k
     no_take cfg count true known Call.Close total k = k
     no_take cfg count true known Call.Take total k = k
@@ -71,59 +71,59 @@ no_end_of_sender cfg count shut (c ∷ calls) (a ∷ answers) e total k (inl sam
     no_take cfg count false known Call.Take total k = k
 no_end_of_sender cfg count shut (c ∷ calls) (a ∷ answers) e total k (inr i) = no_end_of_sender cfg (count + length (accepted_item c a)) (shut || shuts a) calls answers e total k.1 i
 
-no_close_of_receiver : (items : List Item) (shut : Bool) (count : ℕ) (calls : List Entry) (answers : List Answer) (e : Entry) (told : CloseAnswer) → DAnswers items shut count calls answers → In (e, Some (Answer.Close told)) (answered calls answers) → ⊥
+no_close_of_receiver : (items : List Item) (shut : Bool) (count : ℕ) (calls : List Entry) (answers : List Answer) (e : Entry) (told : CloseAnswer) → TakeSideAnswers items shut count calls answers → In (e, Some (Answer.Close told)) (answered calls answers) → ⊥
 no_close_of_receiver items shut count [] answers e told k i = i
 no_close_of_receiver items shut count (c ∷ calls) [] e told k (inl same) = no_answer c e (Answer.Close told) same
 no_close_of_receiver items shut count (c ∷ calls) [] e told k (inr i) = no_close_of_receiver items shut count calls [] e told tt i
-no_close_of_receiver items shut count (c ∷ calls) (a ∷ answers) e told k (inl same) = subst (λ (z : Answer). DAnswer items shut count c.known z) (same_answer c e a (Answer.Close told) same) k.0
+no_close_of_receiver items shut count (c ∷ calls) (a ∷ answers) e told k (inl same) = subst (λ (z : Answer). TakeSideAnswer items shut count c.known z) (same_answer c e a (Answer.Close told) same) k.0
 no_close_of_receiver items shut count (c ∷ calls) (a ∷ answers) e told k (inr i) = no_close_of_receiver items shut (count + length (handed_item a)) calls answers e told k.1 i
 
 -- ---- the total of a close
 
 -- after the close nothing is accepted, and each further close returns the same
-still_shut : (cfg : Config) (count : ℕ) (known : ℕ) (c : Entry) (a : Answer) → EAnswer cfg count true known c.call a → accepted_item c a ≡ []
+still_shut : (cfg : Config) (count : ℕ) (known : ℕ) (c : Entry) (a : Answer) → SendSideAnswer cfg count true known c.call a → accepted_item c a ≡ []
 still_shut cfg count known c (Answer.Send SendAnswer.Closed) k = refl
 still_shut cfg count known c (Answer.Send SendAnswer.Full) k = refl
 still_shut cfg count known c (Answer.Send SendAnswer.Spent) k = refl
 still_shut cfg count known c (Answer.Send (SendAnswer.Accepted place)) k = absurd (no c.call k)
   where
-    no : (x : Call) → EAnswer cfg count true known x (Answer.Send (SendAnswer.Accepted place)) → ⊥
+    no : (x : Call) → SendSideAnswer cfg count true known x (Answer.Send (SendAnswer.Accepted place)) → ⊥
     no (Call.Send body) k = k
     no Call.Close k = k
     no Call.Take k = k
 still_shut cfg count known c (Answer.Close a) k = refl
 still_shut cfg count known c (Answer.Take a) k = refl
 
-told_when_shut : (cfg : Config) (count : ℕ) (known : ℕ) (c : Call) (told : CloseAnswer) → EAnswer cfg count true known c (Answer.Close told) → total_in told ≡ count
+told_when_shut : (cfg : Config) (count : ℕ) (known : ℕ) (c : Call) (told : CloseAnswer) → SendSideAnswer cfg count true known c (Answer.Close told) → total_in told ≡ count
 told_when_shut cfg count known Call.Close (CloseAnswer.Already total) k = k
 told_when_shut cfg count known Call.Close (CloseAnswer.Shut total) k = absurd k
 told_when_shut cfg count known (Call.Send body) told k = absurd k
 told_when_shut cfg count known Call.Take told k = absurd k
 
-told_behind : (cfg : Config) (count : ℕ) (calls : List Entry) (answers : List Answer) (e : Entry) (told : CloseAnswer) → EAnswers cfg count true calls answers → In (e, Some (Answer.Close told)) (answered calls answers) → total_in told ≡ count
+told_behind : (cfg : Config) (count : ℕ) (calls : List Entry) (answers : List Answer) (e : Entry) (told : CloseAnswer) → SendSideAnswers cfg count true calls answers → In (e, Some (Answer.Close told)) (answered calls answers) → total_in told ≡ count
 told_behind cfg count [] answers e told k i = absurd i
 told_behind cfg count (c ∷ calls) [] e told k (inl same) = absurd (no_answer c e (Answer.Close told) same)
 told_behind cfg count (c ∷ calls) [] e told k (inr i) = told_behind cfg count calls [] e told tt i
-told_behind cfg count (c ∷ calls) (a ∷ answers) e told k (inl same) = told_when_shut cfg count c.known c.call told (subst (λ (z : Answer). EAnswer cfg count true c.known c.call z) (same_answer c e a (Answer.Close told) same) k.0)
+told_behind cfg count (c ∷ calls) (a ∷ answers) e told k (inl same) = told_when_shut cfg count c.known c.call told (subst (λ (z : Answer). SendSideAnswer cfg count true c.known c.call z) (same_answer c e a (Answer.Close told) same) k.0)
 told_behind cfg count (c ∷ calls) (a ∷ answers) e told k (inr i) =
     let none : length (accepted_item c a) ≡ 0 = ap length (still_shut cfg count c.known c a k.0) in
     told_behind cfg (count + length (accepted_item c a)) calls answers e told k.1 i ∙ omega (arith, none)
 
 -- the first close with this answer is the one that counts
-total_so : (cfg : Config) (count : ℕ) (calls : List Entry) (answers : List Answer) (e : Entry) (told : CloseAnswer) → EAnswers cfg count false calls answers → In (e, Some (Answer.Close told)) (answered calls answers) → Some (total_in told) ≡ total_by answers
+total_so : (cfg : Config) (count : ℕ) (calls : List Entry) (answers : List Answer) (e : Entry) (told : CloseAnswer) → SendSideAnswers cfg count false calls answers → In (e, Some (Answer.Close told)) (answered calls answers) → Some (total_in told) ≡ total_by answers
 total_so cfg count [] answers e told k i = absurd i
 total_so cfg count (c ∷ calls) [] e told k (inl same) = absurd (no_answer c e (Answer.Close told) same)
 total_so cfg count (c ∷ calls) [] e told k (inr i) = total_so cfg count calls [] e told tt i
 total_so cfg count (c ∷ calls) (Answer.Close (CloseAnswer.Shut total) ∷ answers) e told k (inl same) = (let s : Answer.Close (CloseAnswer.Shut total) ≡ Answer.Close told = same_answer c e (Answer.Close (CloseAnswer.Shut total)) (Answer.Close told) same in let t : CloseAnswer.Shut total ≡ told = cc s in ap (λ (a : CloseAnswer). Some (total_in a)) (sym t))
 total_so cfg count (c ∷ calls) (Answer.Close (CloseAnswer.Shut total) ∷ answers) e told k (inr i) = ap Some (told_behind cfg (count + 0) calls answers e told k.1 i ∙ (let z : count + 0 ≡ count = omega arith in z) ∙ sym (at c.call k.0))
   where
-    at : (x : Call) → EAnswer cfg count false c.known x (Answer.Close (CloseAnswer.Shut total)) → total ≡ count
+    at : (x : Call) → SendSideAnswer cfg count false c.known x (Answer.Close (CloseAnswer.Shut total)) → total ≡ count
     at Call.Close k = k
     at (Call.Send body) k = absurd k
     at Call.Take k = absurd k
 total_so cfg count (c ∷ calls) (Answer.Close (CloseAnswer.Already total) ∷ answers) e told k i = absurd (no c.call k.0)
   where
-    no : (x : Call) → EAnswer cfg count false c.known x (Answer.Close (CloseAnswer.Already total)) → ⊥
+    no : (x : Call) → SendSideAnswer cfg count false c.known x (Answer.Close (CloseAnswer.Already total)) → ⊥
     no Call.Close k = k
     no (Call.Send body) k = k
     no Call.Take k = k
@@ -151,19 +151,19 @@ total_is cfg h (Pass.Receiver r) told l k =
 
 -- ---- the end
 
-ended_so : (items : List Item) (shut : Bool) (count : ℕ) (calls : List Entry) (answers : List Answer) (e : Entry) (total : ℕ) → DAnswers items shut count calls answers → In (e, Some (Answer.Take (TakeAnswer.Ended total))) (answered calls answers) → length items ≤ count + length (handed_by answers)
+ended_so : (items : List Item) (shut : Bool) (count : ℕ) (calls : List Entry) (answers : List Answer) (e : Entry) (total : ℕ) → TakeSideAnswers items shut count calls answers → In (e, Some (Answer.Take (TakeAnswer.Ended total))) (answered calls answers) → length items ≤ count + length (handed_by answers)
 ended_so items shut count [] answers e total k i = absurd i
 ended_so items shut count (c ∷ calls) [] e total k (inl same) = absurd (no_answer c e (Answer.Take (TakeAnswer.Ended total)) same)
 ended_so items shut count (c ∷ calls) [] e total k (inr i) = ended_so items shut count calls [] e total tt i
 ended_so items shut count (c ∷ calls) (a ∷ answers) e total k (inl same) =
-    let d = subst (λ (z : Answer). DAnswer items shut count c.known z) (same_answer c e a (Answer.Take (TakeAnswer.Ended total)) same) k.0 in
+    let d = subst (λ (z : Answer). TakeSideAnswer items shut count c.known z) (same_answer c e a (Answer.Take (TakeAnswer.Ended total)) same) k.0 in
     let n : count ≡ length items = d.2 in omega (arith, n)
 ended_so items shut count (c ∷ calls) (a ∷ answers) e total k (inr i) =
     let rest = ended_so items shut (count + length (handed_item a)) calls answers e total k.1 i in
     omega (arith, rest, length-append (handed_item a) (handed_by answers))
 
 -- a receipt of each item that was handed out
-receipts_of : (cfg : Config) (g : ℕ) (items : List Item) (shut : Bool) (count : ℕ) (calls : List Entry) (answers : List Answer) → AllByRecursion (λ c. IsReceivers cfg g c.pass c.call) calls → DAnswers items shut count calls answers → length (takes_by calls answers) ≡ length (handed_by answers)
+receipts_of : (cfg : Config) (g : ℕ) (items : List Item) (shut : Bool) (count : ℕ) (calls : List Entry) (answers : List Answer) → AllByRecursion (λ c. IsReceivers cfg g c.pass c.call) calls → TakeSideAnswers items shut count calls answers → length (takes_by calls answers) ≡ length (handed_by answers)
 receipts_of cfg g items shut count [] [] all k = refl
 receipts_of cfg g items shut count [] (a ∷ answers) all k = absurd k
 receipts_of cfg g items shut count (c ∷ calls) [] all k = refl

@@ -5,7 +5,7 @@ use Rattle.std.specs.List.{All, AllByRecursion, filter}
 use Rattle.std.proofs.lemmas.Bool.{cases_lt}
 use Rattle.cc_model.specs.Record.{Record}
 use Rattle.cc_model.specs.Items.{answered, calls_of, is_pass, accepted_item, shuts}
-use Rattle.cc_model.specs.Legal.{Legal, IsSenders, EAnswer, EAnswers}
+use Rattle.cc_model.specs.Legal.{Legal, IsSenders, SendSideAnswer, SendSideAnswers}
 use Rattle.cc_drive.specs.Names.{Body, Config, Call, Pass, Entry, Answer, SendAnswer, CloseAnswer, Setting}
 use Rattle.cc_runs.specs.State.{pass_at}
 use Rattle.cc_runs.specs.Run.{history_of}
@@ -59,7 +59,7 @@ each_send cfg (c ∷ entries) (a ∷ answers) are each = (
 
 -- ---- nothing is answered that the queue is closed
 
-answer_of_send : (cfg : Config) (count known : ℕ) (e : Entry) (c : Call) (a : Answer) (body : Body) → c ≡ Call.Send body → EAnswer cfg count false known c a → IsNotClosed (e, Some a) × (shuts a ≡ false)
+answer_of_send : (cfg : Config) (count known : ℕ) (e : Entry) (c : Call) (a : Answer) (body : Body) → c ≡ Call.Send body → SendSideAnswer cfg count false known c a → IsNotClosed (e, Some a) × (shuts a ≡ false)
 answer_of_send cfg count known e c (Answer.Send (SendAnswer.Accepted place)) body is k = (tt, refl)
 answer_of_send cfg count known e c (Answer.Send SendAnswer.Full) body is k = (tt, refl)
 answer_of_send cfg count known e c (Answer.Send SendAnswer.Spent) body is k = (tt, refl)
@@ -72,12 +72,12 @@ answer_of_send cfg count known e Call.Take (Answer.Close (CloseAnswer.Shut total
 answer_of_send cfg count known e c (Answer.Close (CloseAnswer.Already total)) body is k = (tt, refl)
 answer_of_send cfg count known e c (Answer.Take told) body is k = (tt, refl)
 
-none_closed : (cfg : Config) (count : ℕ) (entries : List Entry) (answers : List Answer) → AllByRecursion IsSend (answered entries answers) → EAnswers cfg count false entries answers → AllByRecursion IsNotClosed (answered entries answers)
+none_closed : (cfg : Config) (count : ℕ) (entries : List Entry) (answers : List Answer) → AllByRecursion IsSend (answered entries answers) → SendSideAnswers cfg count false entries answers → AllByRecursion IsNotClosed (answered entries answers)
 none_closed cfg count [] answers all k = tt
 none_closed cfg count (c ∷ entries) [] all k = (tt, none_closed cfg count entries [] all.1 tt)
 none_closed cfg count (c ∷ entries) (a ∷ answers) all k =
     let one = answer_of_send cfg count c.known c c.call a all.0.0 all.0.1 k.0 in
-    (one.0, none_closed cfg (count + length (accepted_item c a)) entries answers all.1 (subst (λ (b : Bool). EAnswers cfg (count + length (accepted_item c a)) b entries answers) one.1 k.1))
+    (one.0, none_closed cfg (count + length (accepted_item c a)) entries answers all.1 (subst (λ (b : Bool). SendSideAnswers cfg (count + length (accepted_item c a)) b entries answers) one.1 k.1))
 
 -- ---- the senders of a run, and its closer
 
@@ -111,7 +111,7 @@ unclosed z items senders met count row m after =
     let cfg : Config = z.setting.config in
     let h : Record = history_of z.setting met.seen in
     let here : met.setting ≡ z.setting = m.stands.same.1 in
-    let lawful : Legal cfg h = subst (λ (s : Setting). Legal s.config (history_of s met.seen)) here m.stands.legal in
+    let valid : Legal cfg h = subst (λ (s : Setting). Legal s.config (history_of s met.seen)) here m.stands.legal in
     let same : All (λ w. history_of z.setting w.seen ≡ h) senders = λ k d less. ap (history_of z.setting) (after k d less) in
     let none : calls met ≡ [] = nil_of (calls met) (m.stands.calls_are ∙ m.stands.made ∙ append-nil []) in
     let closers : calls met ≡ calls_of (pass_at cfg (length senders)) h = λ i. calls_of (pass_at (here i).config (m.stands.same.2 i)) (history_of (here i) met.seen) in
@@ -121,8 +121,8 @@ unclosed z items senders met count row m after =
           let at : k ≡ length senders = omega (arith, last, less, count) in
           subst (λ (zs : List Told). AllByRecursion IsSend zs) (sym none ∙ closers ∙ ap (λ (n : ℕ). calls_of (pass_at cfg n) h) (sym at)) tt
     ] in
-    let by_number : (s : ℕ) → 1 ≤ s → s ≤ cfg.senders → AllByRecursion IsSend (its (Pass.Sender s) h.sends.calls h.sends.answers) = λ s low high. numbered cfg h lawful by_place s low high in
-    row_unclosed z items 0 senders h (omega (arith, count)) lawful row same (none_closed cfg 0 h.sends.calls h.sends.answers (each_send cfg h.sends.calls h.sends.answers lawful.senders by_number) lawful.answers)
+    let by_number : (s : ℕ) → 1 ≤ s → s ≤ cfg.senders → AllByRecursion IsSend (its (Pass.Sender s) h.sends.calls h.sends.answers) = λ s low high. numbered cfg h valid by_place s low high in
+    row_unclosed z items 0 senders h (omega (arith, count)) valid row same (none_closed cfg 0 h.sends.calls h.sends.answers (each_send cfg h.sends.calls h.sends.answers valid.senders by_number) valid.answers)
   where
     numbered : (cfg : Config) (h : Record) → Legal cfg h → ((k : ℕ) → k < cfg.senders → AllByRecursion IsSend (calls_of (pass_at cfg k) h)) → (s : ℕ) → 1 ≤ s → s ≤ cfg.senders → AllByRecursion IsSend (its (Pass.Sender s) h.sends.calls h.sends.answers)
     numbered cfg h l each zero low high = absurd (omega (arith, low))

@@ -6,17 +6,17 @@ use Rattle.cc_steps.specs.Topic.{Topic}
 use Rattle.cc_steps.specs.Walk.{Walk, fresh, fresh_from}
 use Rattle.cc_drive.specs.Config.{queue_of}
 use Rattle.cc_drive.specs.Row.{InRow}
-use Rattle.cc_drive.specs.declared.jobs.Job.{Job}
+use Rattle.cc_drive.specs.declared.jobs.WorkerJob.{WorkerJob}
 use Rattle.cc_drive.specs.declared.jobs.Passes.{Passes}
 use Rattle.cc_drive.specs.declared.jobs.Workers.{Workers}
 
 -- A sender's job, at this place in the row of all passes: its pass has done nothing, and its number is that of the pass. It
 -- may begin as many sends as one sender ever may.
-abbrev pub IsSending : {G : Type 0} → Topic → ℕ → Job Walk G → Type 0
+abbrev pub IsSending : {G : Type 0} → Topic → ℕ → WorkerJob Walk G → Type 0
 IsSending z row j = (j.pass ≡ fresh z row) × (pass_at z.setting.config row ≡ Pass.Sender j.number) × (z.setting.config.per_sender ≡ 2 ^ 32 - 1)
 
 -- and a receiver's
-abbrev pub IsTaking : {G : Type 0} → Topic → ℕ → Job Walk G → Type 0
+abbrev pub IsTaking : {G : Type 0} → Topic → ℕ → WorkerJob Walk G → Type 0
 IsTaking z row j = (j.pass ≡ fresh z row) × (pass_at z.setting.config row ≡ Pass.Receiver j.number)
 
 -- The queue of a run, which was opened for this configuration.

@@ -10,7 +10,7 @@ pub use Rattle.cc_model.specs.declared.call.Answer.{Answer}
 pub use Rattle.cc_model.specs.declared.call.Entry.{Entry}
 pub use Rattle.cc_model.specs.declared.config.Config.{Config}
 pub use Rattle.cc_model.specs.declared.config.ConfigFault.{ConfigFault}
-pub use Rattle.cc_runs.specs.declared.place.Kind.{Kind}
+pub use Rattle.cc_runs.specs.declared.phase.Kind.{Kind}
 pub use Rattle.cc_runs.specs.declared.setting.Setting.{Setting}
 pub use Rattle.cc_audit.specs.declared.receipt.SendReceipt.{SendReceipt}
 pub use Rattle.cc_audit.specs.declared.receipt.TakeReceipt.{TakeReceipt}
@@ -23,7 +23,7 @@ pub use Rattle.cc_drive.specs.declared.ending.Ran.{Ran}
 pub use Rattle.cc_drive.specs.declared.ending.Room.{Room}
 pub use Rattle.cc_drive.specs.declared.gate.Point.{Point}
 pub use Rattle.cc_drive.specs.declared.gate.Go.{Go}
-pub use Rattle.cc_drive.specs.declared.kept.Worked.{Worked}
+pub use Rattle.cc_drive.specs.declared.receipts.Worked.{Worked}
 pub use Rattle.cc_drive.specs.declared.sending.Sent.{Sent}
 pub use Rattle.cc_drive.specs.declared.starting.Refused.{Refused}
 pub use Rattle.cc_drive.specs.declared.threads.Brief.{Brief}

@@ -76,7 +76,7 @@ impl DriveConfig {
     /// The configuration of the queue, with one sender more; or the first field out of its range.
     pub fn queue(&self) -> Result<CheckedConfig, ConfigFault>
         ensures config { IfOk result (λ c. c ≡ queue_of self.now) }
-        ensures lawful { OnOk result (config_fault (queue_of self.now) ≡ Ok tt) }
+        ensures valid { OnOk result (config_fault (queue_of self.now) ≡ Ok tt) }
         ensures fine { OnOk result (drive_fault self.now ≡ Ok tt) }
         ensures fault { IfErr result (λ f. drive_fault self.now ≡ Err f) }
     {

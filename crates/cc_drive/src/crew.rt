@@ -3,7 +3,7 @@ ghost use Rattle.std.specs.Prelude.{[], ◌≡◌, ◌+◌, ◌<◌, ◌≤◌, 
 ghost use Rattle.std.specs.Option.{option_to_list};
 ghost use Rattle.cc_drive.specs.Crew.{AreGathered, sooner};
 
-use crate::kept::{Kept, Worked};
+use crate::receipts::{KeptReceipts, Worked};
 use std::alloc::Global;
 
 /// The results of a row of workers.
@@ -89,11 +89,11 @@ fn earlier(limited: Option<u32>, is_back: bool, number: u32) -> Option<u32>
 }
 
 /// Adds receipts: whether all were kept before, and there was memory for them here.
-fn add_receipts<X: Drop>(receipts: &mut Vec<X>, kept: Kept<X>) -> bool
+fn add_receipts<X: Drop>(receipts: &mut Vec<X>, kept: KeptReceipts<X>) -> bool
     ensures whole { result ≡ true → kept.is_whole ≡ true }
     ensures items { result ≡ true → receipts.new.items ≡ receipts.old.items ++ kept.receipts.items }
 {
-    let Kept {
+    let KeptReceipts {
         receipts: mut more,
         is_whole,
     } = kept;

@@ -13,7 +13,7 @@ use crate::gate::Gate;
 use crate::jobs::{Passes, Workers, deal};
 use crate::meeting::meet_everyone;
 use crate::threads::{Brief, Row, start_all};
-use cc_queue::{Opened, Queue, audit_all};
+use cc_queue::{AllPasses, Opened, Queue, Receipts, audit_all};
 use std::alloc::Global;
 use std::sync::Wait;
 use std::thread::{Scope, Threads, scope, scope_env};
@@ -34,7 +34,7 @@ pub fn drive<G: Gate + Send, R: Threads + Wait + Sync>(
     gates: Vec<G>,
 ) -> Result<DriveEnd, DriveFault>
     requires gates { vec_len gates ≡ config.now.senders + config.now.receivers }
-    ensures lawful { OnOk result (drive_fault config.now ≡ Ok tt) }
+    ensures valid { OnOk result (drive_fault config.now ≡ Ok tt) }
     ensures due { IfErr result (IsDue (drive_fault config.now) (config.now.senders + config.now.receivers)) }
     ensures clean { IfOk result (λ e. e.verdict ≡ Verdict.Clean) }
     ensures all_taken { IfOk result (λ e. e.taken ≡ e.sent) }
@@ -225,17 +225,18 @@ fn settle(alloc: Global, queue: &Queue, ran: Ran) -> Result<DriveEnd, DriveFault
     };
     meet_everyone(queue, &mut senders, &mut receivers);
     let total = total_of(closed);
-    let verdict = audit_all(
-        alloc,
-        queue,
-        &senders,
-        &receivers,
-        &[],
-        1,
-        &sends,
-        &takes,
-        Some(total),
-    )?;
+    let all = AllPasses {
+        senders: &senders,
+        receivers: &receivers,
+        given_up: &[],
+    };
+    let receipts = Receipts {
+        group: 1,
+        sends: &sends,
+        takes: &takes,
+        total: Some(total),
+    };
+    let verdict = audit_all(alloc, queue, &all, &receipts)?;
     Ok(DriveEnd {
         sent: sends.len() as u64,
         taken: takes.len() as u64,

@@ -14,8 +14,8 @@ use crate::closing::close_after;
 use crate::config::{DriveConfig, DriveFault};
 use crate::crew::{Crew, gather};
 use crate::gate::Gate;
-use crate::jobs::Job;
-use crate::kept::Worked;
+use crate::jobs::WorkerJob;
+use crate::receipts::Worked;
 use crate::starting::Refused;
 use crate::threads::{Brief, Started, join_all};
 use cc_audit::{SendReceipt, TakeReceipt};
@@ -72,7 +72,7 @@ pub fn room_for<H: Drop, P: Drop, X: Drop>(
 pub fn join_senders<G: Gate + Send, R: Threads>(
     rt: &R,
     alloc: Global,
-    sending: Started<Job<Sender, G>>,
+    sending: Started<WorkerJob<Sender, G>>,
     room: Room<Sender, SendReceipt>,
 ) -> Crew<Sender, SendReceipt>
     requires few { vec_len sending.handles < 2 ^ 32 }
@@ -90,7 +90,7 @@ pub fn join_receivers<G: Gate + Send, R: Threads>(
     rt: &R,
     alloc: Global,
     senders: u32,
-    taking: Started<Job<Receiver, G>>,
+    taking: Started<WorkerJob<Receiver, G>>,
     room: Room<Receiver, TakeReceipt>,
 ) -> Crew<Receiver, TakeReceipt>
     requires few { senders + vec_len taking.handles < 2 ^ 32 }

@@ -4,7 +4,7 @@ ghost use Rattle.std.specs.Prelude.{◌≡◌, ◌+◌, ◌<◌, ◌≤◌, ◌^
 ghost use Rattle.cc_drive.specs.Row.{InRow};
 
 use crate::gate::Gate;
-use crate::kept::Worked;
+use crate::receipts::Worked;
 use crate::receiving::take_all;
 use crate::sending::send_all;
 use crate::threads::{Brief, Worker};
@@ -15,14 +15,14 @@ use std::sync::Wait;
 
 /// A pass of a queue with its number, from 1, the gate of its worker, and the allocator of its receipts.
 #[derive(Drop)]
-pub struct Job<P: Drop, G: Gate> {
+pub struct WorkerJob<P: Drop, G: Gate> {
     pub alloc: Global,
     pub number: u32,
     pub pass: P,
     pub gate: G,
 }
 
-impl<G: Gate + Send> Worker for Job<Sender, G> {
+impl<G: Gate + Send> Worker for WorkerJob<Sender, G> {
     ghost use Rattle.cc_drive.specs.Back.{SenderGave, SendsByGate};
     ghost use Rattle.cc_drive.specs.Jobs.{IsSending};
 
@@ -43,7 +43,7 @@ impl<G: Gate + Send> Worker for Job<Sender, G> {
     }
 }
 
-impl<G: Gate + Send> Worker for Job<Receiver, G> {
+impl<G: Gate + Send> Worker for WorkerJob<Receiver, G> {
     ghost use Rattle.cc_drive.specs.Back.{ReceiverGave, TakesByGate};
     ghost use Rattle.cc_drive.specs.Jobs.{IsTaking};
 
@@ -77,8 +77,8 @@ pub struct Passes {
 #[derive(Drop)]
 pub struct Workers<G: Gate> {
     pub closer: Sender,
-    pub senders: Vec<Job<Sender, G>>,
-    pub receivers: Vec<Job<Receiver, G>>,
+    pub senders: Vec<WorkerJob<Sender, G>>,
+    pub receivers: Vec<WorkerJob<Receiver, G>>,
 }
 
 /// A job for each of these passes, numbered from 1, with the next of the gates.
@@ -86,7 +86,7 @@ pub fn deal<P: Drop, G: Gate>(
     alloc: Global,
     passes: Vec<P>,
     gates: &mut Vec<G>,
-) -> Result<Vec<Job<P, G>>, AllocError>
+) -> Result<Vec<WorkerJob<P, G>>, AllocError>
     requires gates { vec_len passes ≤ vec_len gates.old }
     requires few { vec_len passes < 2 ^ 16 }
     ensures passes { IfOk result (λ v. map (λ j. j.pass) v.items ≡ passes.items) }
@@ -97,7 +97,7 @@ pub fn deal<P: Drop, G: Gate>(
     let mut number = 1;
     for pass in passes {
         let gate = gates.remove(0);
-        jobs.push(Job {
+        jobs.push(WorkerJob {
             alloc,
             number,
             pass,

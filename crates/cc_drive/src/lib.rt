@@ -1,8 +1,8 @@
 //! A queue driven by threads: senders and receivers, each a thread of its own, and the audit of all their receipts.
 //!
 //! In layers: a call within the turns of its worker (`turns`, `gate`, `calls`, `pace`); the work of a sender, of a receiver and
-//! of the closer (`sending`, `receiving`, `closing`, with what they keep, `kept`); their threads, started and joined in a row
-//! (`jobs`, `starting`, `threads`, `crew`); the end of a run (`ending`); and the whole of it (`driver`).
+//! of the closer (`sending`, `receiving`, `closing`), with the receipts that they keep (`receipts`); their threads, started and
+//! joined in a row (`jobs`, `starting`, `threads`, `crew`); the end of a run (`ending`); and the whole of it (`driver`).
 #![tactic(auto)]
 
 mod calls;
@@ -13,9 +13,9 @@ mod driver;
 mod ending;
 mod gate;
 mod jobs;
-mod kept;
 mod meeting;
 mod pace;
+mod receipts;
 mod receiving;
 mod sending;
 mod starting;

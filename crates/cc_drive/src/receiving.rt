@@ -9,9 +9,9 @@ ghost use Rattle.cc_drive.specs.Work.{WentOn, IsAskedInTake, CostsOfTake};
 
 use crate::calls::{Left, answer_within};
 use crate::gate::{Gate, Point};
-use crate::jobs::Job;
-use crate::kept::{Kept, Worked};
+use crate::jobs::WorkerJob;
 use crate::pace::Pace;
+use crate::receipts::{KeptReceipts, Worked};
 use crate::threads::Brief;
 use crate::turns::Turns;
 use cc_audit::TakeReceipt;
@@ -53,13 +53,13 @@ pub(crate) fn take_all<G: Gate, R: Wait>(
     queue: &Queue,
     brief: Brief,
     row: u32,
-    job: Job<Receiver, G>,
+    job: WorkerJob<Receiver, G>,
 ) -> Worked<Receiver, TakeReceipt>
     requires { IsTaking queue.now row job }
     ensures gave { ReceiverGave queue.now brief.limit row result }
     ensures asked { TakesByGate G.tells job.gate queue.now brief.limit row result }
 {
-    let Job {
+    let WorkerJob {
         alloc,
         number,
         pass,
@@ -68,7 +68,7 @@ pub(crate) fn take_all<G: Gate, R: Wait>(
     let mut receiver = pass;
     receiver.is_sound();
     let mut turns = Turns::new(brief.limit);
-    let mut kept = Kept::new(alloc);
+    let mut kept = KeptReceipts::new(alloc);
     let mut pace = Pace::new();
     while turns.made < turns.limit {
         let before = turns.made;

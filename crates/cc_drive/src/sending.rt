@@ -7,9 +7,9 @@ ghost use Rattle.cc_drive.specs.Work.{WentOn, IsAskedInSend, IsSent, CostsOfSend
 
 use crate::calls::{Left, answer_within};
 use crate::gate::{Gate, Point};
-use crate::jobs::Job;
-use crate::kept::{Kept, Worked};
+use crate::jobs::WorkerJob;
 use crate::pace::Pace;
+use crate::receipts::{KeptReceipts, Worked};
 use crate::threads::Brief;
 use crate::turns::Turns;
 use cc_audit::SendReceipt;
@@ -77,13 +77,13 @@ pub(crate) fn send_all<G: Gate, R: Wait>(
     queue: &Queue,
     brief: Brief,
     row: u32,
-    job: Job<Sender, G>,
+    job: WorkerJob<Sender, G>,
 ) -> Worked<Sender, SendReceipt>
     requires { IsSending queue.now row job }
     ensures gave { SenderGave queue.now brief.items brief.limit row result }
     ensures asked { SendsByGate G.tells job.gate queue.now brief.items brief.limit row result }
 {
-    let Job {
+    let WorkerJob {
         alloc,
         number,
         pass,
@@ -92,7 +92,7 @@ pub(crate) fn send_all<G: Gate, R: Wait>(
     let mut sender = pass;
     sender.is_sound();
     let mut turns = Turns::new(brief.limit);
-    let mut kept = Kept::new(alloc);
+    let mut kept = KeptReceipts::new(alloc);
     let mut begun: u32 = 0;
     let mut accepted: u64 = 0;
     let mut pace = Pace::new();

@@ -8,7 +8,7 @@ use Rattle.cc_drive.proofs.driver.drive_opened.Goals as goal
 pub deal_and_run-requires-clause-passes : goal.deal_and_run-requires-clause-passes
 deal_and_run-requires-clause-passes g c κs within =
     let opened = c.requires.opened in
-    let r = in_range (queue_of c.args.config.now) opened.lawful in
+    let r = in_range (queue_of c.args.config.now) opened.valid in
     let parts = fresh_split c.args.opened.queue 0 _ _ c.in-Some.closer c.in-Some.ensures.items opened.senders in
     let long = one_longer _ _ c.in-Some.closer c.in-Some.ensures.items in
     let total = opened.count_senders in

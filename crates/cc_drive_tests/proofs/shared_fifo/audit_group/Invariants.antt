@@ -1,5 +1,0 @@
-use Rattle.cc_queue.proofs.Lasts.{live_row}
-use Rattle.cc_drive_tests.proofs.shared_fifo.audit_group.Given as goal
-
-abbrev pub ghost-audit_all : goal.ghost-audit_all
-ghost-audit_all a = live_row a.senders.now a.receivers.now

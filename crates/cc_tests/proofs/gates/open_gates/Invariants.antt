@@ -1,0 +1,5 @@
+use Rattle.std.specs.Prelude.{◌≡◌, vec_len}
+use Rattle.cc_tests.proofs.gates.open_gates.Given as goal
+
+abbrev pub invariant-loop : goal.invariant-loop
+invariant-loop l = vec_len l.gates ≡ l.counter
