@@ -1,9 +1,9 @@
-/* Begins and turns in random orders, in C: each turn tells what a model of the queue tells, which serves whole calls.
+/* Begins and turns in random orders, in C: each turn returns what a model of the queue returns, which serves whole calls.
  *
  * In thousands of runs three senders, and two receivers of each of one to three groups, begin calls and turn them in an order
  * that is rolled, on queues whose sizes are rolled too. At the end each call is turned until it is answered. It ends with
- * status 0 where each answer, each wait and each number of served calls was the model's, and all of these came about. */
-#include "checks.h"
+ * status 0 where each answer, each wait and each number of served calls was the model's, and each of these occurred. */
+#include "by_handles.h"
 
 #include <stdio.h>
 #include <string.h>
@@ -15,16 +15,16 @@ static uint64_t dice = 1;
 
 /* ---- the model */
 
-/* What a turn tells. `number` is a place or a total, and the item is that of a take that got one. */
+/* The results of a turn. `number` is a place or a total, and the item is that of a take that got one. */
 struct told {
     uint32_t code, served;
     uint64_t number;
-    vahepito_words_item item;
+    vahepito_item item;
 };
 
 enum call { NONE, SEND, CLOSE, TAKE };
 
-/* A pass with its last call, and what it will be told once another pass has served it. */
+/* A pass with its last call, and the results that its next turn returns once another pass has served it. */
 struct pass {
     enum call call;
     uint32_t begun;
@@ -45,7 +45,7 @@ static struct model {
     struct pass passes[MOST_PASSES];
     /* that of the senders, and that of each group */
     struct line lines[1 + MOST_GROUPS];
-    vahepito_words_item items[MOST_LIFE];
+    vahepito_item items[MOST_LIFE];
     uint64_t accepted, taken[MOST_GROUPS];
     int is_closed;
 } model;
@@ -68,8 +68,8 @@ static void serve_send(int pass) {
                       : held() == (uint64_t)model.config.capacity ? VAHEPITO_FULL
                                                                   : VAHEPITO_ACCEPTED;
     if (mine->told.code != VAHEPITO_ACCEPTED) return;
-    vahepito_words_item *item = &model.items[model.accepted];
-    *item = (vahepito_words_item){model.accepted, (uint32_t)pass + 1, mine->begun, mine->count, {0}};
+    vahepito_item *item = &model.items[model.accepted];
+    *item = (vahepito_item){model.accepted, (uint32_t)pass + 1, mine->begun, mine->count, {0}};
     memcpy(item->words, mine->words, mine->count * sizeof *mine->words);
     mine->told.number = model.accepted++;
 }
@@ -137,7 +137,7 @@ static void begin_model(int pass, enum call call) {
 
 static vahepito_pass passes[MOST_PASSES];
 
-/* What came about, each counted: the codes, and turns that served none, and several. */
+/* How often each result occurred: the codes, and turns that served none, and several. */
 static uint32_t codes[VAHEPITO_WIDE + 1], by_others, of_others;
 
 static void begin_send(int pass) {
@@ -179,7 +179,7 @@ static struct told turn_queue(int pass) {
     return told;
 }
 
-static int is_same_item(const vahepito_words_item *one, const vahepito_words_item *other) {
+static int is_same_item(const vahepito_item *one, const vahepito_item *other) {
     return one->place == other->place && one->sender == other->sender && one->number == other->number &&
            one->count == other->count && memcmp(one->words, other->words, sizeof one->words) == 0;
 }
@@ -230,7 +230,7 @@ int main(void) {
     const uint32_t seen[] = {VAHEPITO_ACCEPTED, VAHEPITO_FULL,  VAHEPITO_CLOSED, VAHEPITO_SPENT, VAHEPITO_SHUT, VAHEPITO_ALREADY,
                              VAHEPITO_GOT,      VAHEPITO_EMPTY, VAHEPITO_ENDED,  VAHEPITO_WORN,  VAHEPITO_WAITING};
     for (int k = 0; k < RUNS; k++) run();
-    for (size_t k = 0; k < sizeof seen / sizeof *seen; k++) check(codes[seen[k]] > 100, "each answer came about");
+    for (size_t k = 0; k < sizeof seen / sizeof *seen; k++) check(codes[seen[k]] > 100, "each answer occurred");
     check(by_others > 100 && of_others > 100, "calls were served by others");
     printf("%d orders of calls\n", RUNS);
     return 0;

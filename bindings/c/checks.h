@@ -6,6 +6,7 @@
 
 #include <stdio.h>
 #include <stdlib.h>
+#include <string.h>
 
 static inline void check(int holds, const char *what) {
     if (!holds) {
@@ -14,46 +15,61 @@ static inline void check(int holds, const char *what) {
     }
 }
 
+/* Those of the program's queue. */
+static vahepito_waits waits = VAHEPITO_WAITS;
+
+/* No call is in a line of theirs, or was notified and isn't. */
+static inline void check_no_call_waits(void) {
+    static const vahepito_waits none = VAHEPITO_WAITS;
+    check(memcmp(&waits, &none, sizeof waits) == 0, "no call waits");
+}
+
 /* The next of numbers without an order to be seen, below a bound. */
 static inline uint32_t roll(uint64_t *dice, uint32_t bound) {
     *dice = *dice * 6364136223846793005u + 1442695040888963407u;
     return (uint32_t)(*dice >> 33) % bound;
 }
 
-/* Sends 1, 2, .. up to the number of items, each of which is accepted. */
-static inline void send_up_to(vahepito_pass *sender, uint64_t items) {
+/* An item of a thread: the number of the thread is in the upper half of the word, and that of the item in the lower half. */
+static inline uint64_t item_of(uint32_t thread, uint64_t number) { return (uint64_t)thread << 32 | number; }
+
+/* A thread's sends, from 1 up to a number of items, each of which is accepted. */
+static inline void send_up_to(vahepito_queue *queue, uint32_t thread, uint64_t items) {
+    vahepito_call mine = VAHEPITO_CALL(queue);
     uint64_t last = 0;
-    for (uint64_t body = 1; body <= items; body++) {
+    for (uint64_t number = 1; number <= items; number++) {
         uint64_t place;
-        check(vahepito_send(sender, body, &place) == VAHEPITO_ACCEPTED, "a send is accepted in the end");
-        check(body == 1 || place > last, "places rise");
+        check(vahepito_send(&waits, &mine, item_of(thread, number), &place) == VAHEPITO_ACCEPTED, "a send is accepted in the end");
+        check(number == 1 || place > last, "places rise");
         last = place;
     }
 }
 
-/* A receiver with what it took and the total that its end told; the most senders that a queue has. */
+/* The items that a thread took, and the total of its end; the most threads that send. */
 struct taker {
-    vahepito_pass *receiver;
     uint64_t got, sum, total;
 };
-enum { MOST_SENDERS = 64 };
+enum { MOST_THREADS = 64 };
 
-/* Takes until the end what so many senders send by send_up_to. */
-static inline void take_to_the_end(struct taker *mine, uint32_t senders) {
-    uint64_t last[MOST_SENDERS + 1] = {0};
+/* Takes until the end for a group the items that threads below this number send by send_up_to. */
+static inline void take_to_the_end(vahepito_queue *queue, uint32_t group, uint32_t threads, struct taker *mine) {
+    uint64_t last[MOST_THREADS] = {0}, last_place = 0;
+    vahepito_call call = VAHEPITO_CALL(queue);
     vahepito_item item;
     uint32_t code;
-    while ((code = vahepito_take(mine->receiver, &item, &mine->total)) != VAHEPITO_ENDED) {
+    while ((code = vahepito_take(&waits, &call, group, &item, &mine->total)) != VAHEPITO_ENDED) {
+        const uint32_t thread = (uint32_t)(item.words[0] >> 32);
+        const uint64_t number = (uint32_t)item.words[0];
         check(code == VAHEPITO_GOT, "a take gets an item, or is told the end");
-        check(mine->total == 0, "an item comes without a total");
-        check(item.sender >= 1 && item.sender <= senders, "an item has its sender");
-        check(item.body > last[item.sender], "each sender's items come in order");
-        check(item.number >= item.body, "each send has a number");
-        last[item.sender] = item.body;
+        check(mine->total == 0 && item.count == 1 && item.words[1] == 0, "an item comes as it was sent, without a total");
+        check(thread < threads && number > last[thread], "each thread's items come in order");
+        check(mine->got == 0 || item.place > last_place, "places rise");
+        last[thread] = number;
+        last_place = item.place;
         mine->got++;
-        mine->sum += item.body;
+        mine->sum += number;
     }
-    check(item.body == 0 && item.sender == 0, "the end comes without an item");
+    check(item.count == 0 && item.words[0] == 0 && item.sender == 0, "the end comes without an item");
 }
 
 #endif

@@ -1,18 +1,17 @@
-/* Calls that are given up, in C: a pass is let go while it has a call that was begun.
+/* Calls that are given up, in C: a pass is dropped while it has a call that was begun.
  *
- * On one thread: what a send or a take that was given up leaves of the calls behind it, and of those before it. Then
- * threads that give calls up at random, while others go on, in two hundred rounds of four senders and four receivers, and
- * in more until all was seen that is looked for. It ends with status 0 where nothing that anybody was told is unlawful: an
- * item that nobody was told to have sent is that of a send that was given up, with its words, and a place that nobody was
- * told is that of a take that was given up. */
-#include "checks.h"
+ * On one thread: the answers of the calls before and after a send or a take that was given up. Then threads give calls up at
+ * random while others continue, in two hundred rounds of four senders and four receivers, and in more until everything was
+ * seen that is looked for. It ends with status 0 if all answers are legal. An item whose send returned no answer is that of a
+ * send that was given up, with its words. A place that no take returned is that of a take that was given up. */
+#include "by_handles.h"
 
 #include <pthread.h>
 #include <sched.h>
 #include <stdio.h>
 #include <string.h>
 
-/* What workers do at most: calls, and turns of a call that isn't about to be given up. A call behind one that was given up
+/* The most calls of a worker, and the most turns of a call that isn't about to be given up. A call after one that was given up
  * may wait for ever. */
 enum { WORKERS = 4, ROUNDS = 200, MOST_ROUNDS = 20000, CALLS = 500, MOST_TURNS = 2000, PLACES = WORKERS * CALLS };
 
@@ -30,7 +29,7 @@ static void open_queue(struct queue *queue, uint32_t senders, uint32_t receivers
     check(code == VAHEPITO_DONE, "a queue is opened");
 }
 
-/* Lets go of the passes that are there still. */
+/* Drops the passes that are there still. */
 static void drop_queue(struct queue *queue) {
     for (int k = 0; k <= WORKERS; k++)
         if (queue->senders[k].live) vahepito_drop(&queue->senders[k]);
@@ -38,13 +37,13 @@ static void drop_queue(struct queue *queue) {
         if (queue->receivers[k].live) vahepito_drop(&queue->receivers[k]);
 }
 
-/* The words of a send, which tell it from any other: one to four. Gives how many. */
+/* The words of a send, by which it differs from any other: one to four. Returns their number. */
 static size_t words_of(uint32_t sender, uint32_t number, uint64_t words[VAHEPITO_MOST_WORDS]) {
     for (uint64_t k = 0; k < VAHEPITO_MOST_WORDS; k++) words[k] = (uint64_t)sender << 48 | (uint64_t)number << 8 | k;
     return number % VAHEPITO_MOST_WORDS + 1;
 }
 
-static int has_its_words(const vahepito_words_item *item) {
+static int has_its_words(const vahepito_item *item) {
     uint64_t words[VAHEPITO_MOST_WORDS];
     const size_t count = words_of(item->sender, item->number, words);
     return item->count == count && memcmp(item->words, words, count * sizeof *words) == 0;
@@ -72,7 +71,7 @@ static void is_accepted(vahepito_pass *pass, uint64_t place, uint32_t serves) {
 }
 
 static void is_got(vahepito_pass *pass, uint64_t place, uint32_t sender, uint32_t number, uint32_t serves) {
-    vahepito_words_item item;
+    vahepito_item item;
     uint64_t total = 99;
     uint32_t served = 99;
     check(vahepito_turn_take_words(pass, &item, &total, &served) == VAHEPITO_GOT && served == serves, "a take gets an item");
@@ -118,9 +117,9 @@ static void served_though_given_up(void) {
     drop_queue(&queue);
 }
 
-/* One turn of each side serves a call that was given up: the item of that send went to that take, and nobody was told of
- * it. The passes that are left go on. */
-static void an_item_that_nobody_was_told_of(void) {
+/* One turn of each side serves a call that was given up: the item of that send went to that take, and no call returned it. The
+ * passes that are left continue. */
+static void an_item_that_no_call_returned(void) {
     struct queue queue;
     open_queue(&queue, 2, 2, 3);
     begins(&queue.senders[0], 1, 1);
@@ -139,9 +138,9 @@ static void an_item_that_nobody_was_told_of(void) {
     drop_queue(&queue);
 }
 
-/* ---- what workers were told, and the judgement on it */
+/* ---- the answers of workers, and the judgement on them */
 
-/* A send that was told to be accepted, or an item that was told: whose it is. Nobody's, where `sender` is 0. */
+/* The sender of an accepted send, or of an item that was taken, and the number. There is none if `sender` is 0. */
 struct entry {
     uint32_t sender, number;
 };
@@ -151,9 +150,9 @@ struct told {
     struct entry sent[PLACES], taken[PLACES];
     struct entry sends_given_up[WORKERS];
     uint32_t takes_given_up, served_by_others;
-    /* how many of the items that were taken are of sends that were given up, and how many places nobody was told */
+    /* the number of items taken whose sends were given up, and of places that no take returned */
     uint32_t strangers, gaps;
-    /* whether one place was told twice */
+    /* whether one place was returned twice */
     int is_double;
 };
 
@@ -178,8 +177,8 @@ static int is_of_given_up(struct entry entry) {
     return 0;
 }
 
-/* Each item that was taken was sent, as its sender was told, or by a send that was given up; none was had twice; and below
- * the last of them there are at most as many places that nobody was told as takes that were given up. */
+/* Each item that was taken was sent: its send returned that it was accepted, or was given up. No item was taken twice. Below the
+ * last of them at most as many places were returned by no take as takes were given up. */
 static enum judgement judge(void) {
     uint32_t end = 0;
     told.strangers = told.gaps = 0;
@@ -202,9 +201,9 @@ static enum judgement judge(void) {
     return told.gaps <= told.takes_given_up ? FAIR : GAP;
 }
 
-/* What the judgement leaves of a round: so many senders were told that their first item was accepted, at the places from 0
- * on; a receiver was told of the first sender's item at place 0 (`a`), or of the second's at place 1 (`b`), 2 (`c`) or 0
- * (`d`); the second sender's send, or a take, was given up. */
+/* The judgement on a round. The first items of this number of senders were accepted, at the places from 0 on. A receiver got the
+ * first sender's item at place 0 (`a`), or the second's at place 1 (`b`), 2 (`c`) or 0 (`d`). The second sender's send, or a take,
+ * was given up. */
 static enum judgement left(uint32_t senders, const char *items, int send_given_up, int take_given_up) {
     memset(&told, 0, sizeof told);
     for (uint32_t k = 0; k < senders; k++) tell(told.sent, k, k + 1, 1);
@@ -216,7 +215,7 @@ static enum judgement left(uint32_t senders, const char *items, int send_given_u
 
 /* What is explained by a call that was given up passes, and nothing else. */
 static void the_judgement_finds_faults(void) {
-    check(left(2, "ab", 0, 0) == FAIR, "all was told");
+    check(left(2, "ab", 0, 0) == FAIR, "all answers are there");
     check(left(1, "ab", 1, 0) == FAIR, "the stranger is a send's that was given up");
     check(left(1, "ab", 0, 0) == STRANGER, "a stranger");
     check(left(2, "b", 0, 1) == FAIR, "the gap is a take's that was given up");
@@ -228,14 +227,14 @@ static void the_judgement_finds_faults(void) {
 
 /* ---- on threads */
 
-/* One worker's pass, what it was told, and the numbers that it rolls. */
+/* One worker's pass, its answers, and the numbers that it rolls. */
 struct worker {
     vahepito_pass *pass;
     uint32_t sender, count, served_by_others;
     uint64_t dice;
     /* the number of the call that it gave up, from 1; 0 where it gave up none */
     uint32_t given_up;
-    /* the items with their places, in the order in which they were told */
+    /* the items with their places, in the order of the answers */
     struct {
         uint64_t place;
         struct entry entry;
@@ -282,7 +281,7 @@ static uint32_t turn_send(struct worker *mine, uint32_t number) {
 }
 
 static uint32_t turn_take(struct worker *mine) {
-    vahepito_words_item item;
+    vahepito_item item;
     uint64_t total;
     uint32_t served, code = VAHEPITO_WAITING;
     pause_at_random(mine);
@@ -330,7 +329,7 @@ static void *take_some(void *at) {
     return NULL;
 }
 
-/* Puts together what the workers of a round were told. */
+/* Gathers the answers of the workers of a round. */
 static void gather(const struct worker *senders, const struct worker *receivers) {
     memset(&told, 0, sizeof told);
     for (int k = 0; k < WORKERS; k++) {
@@ -389,13 +388,13 @@ static int has_all(const struct seen *seen) {
     return seen->sends > 0 && seen->takes > 0 && seen->by_others >= 1000 && seen->strangers > 0 && seen->gaps > 0;
 }
 
-/* Nobody is told what can't be, in so many rounds, and in further ones until all was seen: how seldom a call that was given
+/* All answers are legal, in this number of rounds, and in further ones until everything was seen: how seldom a call that was given
  * up is served depends on how the threads are run. */
 static void calls_are_given_up_by_threads(void) {
     struct seen seen = {0};
     for (uint64_t round = 0; round < ROUNDS || (round < MOST_ROUNDS && !has_all(&seen)); round++) {
         play(round * 1000);
-        check(judge() == FAIR, "nobody was told what can't be");
+        check(judge() == FAIR, "all answers are legal");
         count_round(&seen);
     }
     check(seen.sends > 0 && seen.takes > 0, "calls were given up");
@@ -406,7 +405,7 @@ static void calls_are_given_up_by_threads(void) {
 int main(void) {
     chain_stops();
     served_though_given_up();
-    an_item_that_nobody_was_told_of();
+    an_item_that_no_call_returned();
     the_judgement_finds_faults();
     calls_are_given_up_by_threads();
     printf("%d rounds or more\n", ROUNDS);

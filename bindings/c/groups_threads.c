@@ -1,9 +1,9 @@
 /* Two groups of receivers in C: each group gets every item once.
  *
  * One thread sends 1,000 numbers into a queue with room for four, and two threads for each group take until the end. It
- * ends with status 0 where each group got each item once and each receiver's items came in order; and where the opening
- * and vahepito_group told what they have to. */
-#include "checks.h"
+ * ends with status 0 if each group got each item once, each receiver's items came in order, and the opening and
+ * vahepito_group returned what they have to. */
+#include "by_handles.h"
 
 #include <pthread.h>
 #include <stdio.h>
@@ -47,20 +47,20 @@ static void one_group(void) {
     same.per_sender = config.per_sender;
     check(vahepito_open(&same, &sender, 1, receivers, IN_EACH) == VAHEPITO_DONE, "the topic is opened");
     for (int k = 0; k < IN_EACH; k++) check(group_of(&receivers[k]) == 1, "all receivers are of one group");
-    vahepito_item item;
+    vahepito_word_item item;
     uint64_t number;
-    check(vahepito_send(&sender, 5, &number) == VAHEPITO_ACCEPTED && number == 0, "a send is accepted");
-    check(vahepito_take(&receivers[0], &item, NULL) == VAHEPITO_GOT && item.body == 5, "one of them takes the item");
+    check(send_by(&sender, 5, &number) == VAHEPITO_ACCEPTED && number == 0, "a send is accepted");
+    check(take_by(&receivers[0], &item, NULL) == VAHEPITO_GOT && item.body == 5, "one of them takes the item");
     check(vahepito_begin_take(&receivers[1]) == VAHEPITO_BEGUN, "another's take is begun");
-    check(vahepito_finish_take(&receivers[1], &item, NULL) == VAHEPITO_EMPTY && item.body == 0, "and it gets none");
+    check(finish_take(&receivers[1], &item, NULL) == VAHEPITO_EMPTY && item.body == 0, "and it gets none");
     check(vahepito_drop(&sender) == VAHEPITO_DONE, "the sender is let go");
     for (int k = 0; k < IN_EACH; k++) check(vahepito_drop(&receivers[k]) == VAHEPITO_DONE, "a receiver is let go");
 }
 
-/* Whose group is told, and whose not: the number is 0 then. */
+/* A receiver has a group; for other handles the number is 0. */
 static void told_groups(vahepito_pass *sender, vahepito_pass *receivers) {
     vahepito_pass empty = VAHEPITO_PASS_EMPTY;
-    vahepito_item item = {0};
+    vahepito_word_item item = {0};
     uint64_t total = 0;
     uint32_t group = 99, served = 0;
     const uint32_t groups[RECEIVERS] = {1, 1, 2, 2};
@@ -76,22 +76,22 @@ static void told_groups(vahepito_pass *sender, vahepito_pass *receivers) {
 }
 
 static void *send_all(void *sender) {
-    send_up_to(sender, ITEMS);
+    send_up_to_by(sender, ITEMS);
     return NULL;
 }
 
 struct reader {
     vahepito_pass *receiver;
     uint64_t got, total;
-    vahepito_item items[ITEMS];
+    vahepito_word_item items[ITEMS];
 };
 
 /* Takes until the end. */
 static void *take_all(void *at) {
     struct reader *mine = at;
-    vahepito_item item;
+    vahepito_word_item item;
     uint32_t code;
-    while ((code = vahepito_take(mine->receiver, &item, &mine->total)) != VAHEPITO_ENDED) {
+    while ((code = take_by(mine->receiver, &item, &mine->total)) != VAHEPITO_ENDED) {
         check(code == VAHEPITO_GOT, "a take gets an item, or is told the end");
         check(mine->got < ITEMS, "there are no more items");
         mine->items[mine->got++] = item;
@@ -104,7 +104,7 @@ static void audit(const struct reader *group) {
     uint32_t numbers[ITEMS] = {0};
     for (int k = 0; k < IN_EACH; k++) {
         for (uint64_t n = 0; n < group[k].got; n++) {
-            const vahepito_item item = group[k].items[n];
+            const vahepito_word_item item = group[k].items[n];
             check(n == 0 || item.place > group[k].items[n - 1].place, "a receiver's items come in order");
             check(item.place < ITEMS && numbers[item.place] == 0, "a group gets no item twice");
             check(item.sender == 1 && item.number > 0 && item.body == item.place + 1, "it gets an item as it was sent");
@@ -134,7 +134,7 @@ int main(void) {
     check(!pthread_create(&sending, NULL, send_all, &sender), "a thread starts");
     check(!pthread_join(sending, NULL), "a thread ends");
     uint64_t total;
-    check(vahepito_close(&sender, &total) == VAHEPITO_SHUT && total == ITEMS, "all sends were accepted");
+    check(close_by(&sender, &total) == VAHEPITO_SHUT && total == ITEMS, "all sends were accepted");
     for (int k = 0; k < RECEIVERS; k++) check(!pthread_join(taking[k], NULL), "a thread ends");
     for (int g = 0; g < GROUPS; g++) audit(&readers[g * IN_EACH]);
 

@@ -1,5 +1,5 @@
 /* The headers in C99 to C23 and in C++11 to C++23: compiled by each compiler that is there, with all warnings. Run, it
- * makes each call that waits, on one thread, records five, and ends with status 0 where each told what it has to. */
+ * makes each call that waits, on one thread, records five, and ends with status 0 if each returned what it has to. */
 #ifndef _POSIX_C_SOURCE
 #define _POSIX_C_SOURCE 200809L
 #endif
@@ -9,40 +9,46 @@
 #include <stdio.h>
 #include <string.h>
 
-/* A caller's own struct with handles in it. */
+/* A caller's own struct with a queue in it. */
 struct service {
-    vahepito_pass sender, receiver;
+    vahepito_queue *queue;
+    vahepito_waits waits;
 };
 
-static vahepito_pass alone = VAHEPITO_PASS_EMPTY;
-static vahepito_pass several[3] = {VAHEPITO_PASS_EMPTY};
+static vahepito_waits waits = VAHEPITO_WAITS;
 
 /* One item through a queue with room for one, and the end. Gives how far that went: 0 where all was as it has to be. */
 static int one_item(struct service *service) {
+    const struct timespec soon = vahepito_after(2000000);
+    vahepito_call call = VAHEPITO_CALL(service->queue);
     vahepito_item item;
     uint64_t number;
-    if (vahepito_send(&service->sender, 7, &number) != VAHEPITO_ACCEPTED || number != 0) return 1;
-    if (vahepito_begin_send(&service->sender, 8) != VAHEPITO_BEGUN) return 2;
-    if (vahepito_finish_send(&service->sender, NULL) != VAHEPITO_FULL) return 3;
-    if (vahepito_take(&service->receiver, &item, &number) != VAHEPITO_GOT) return 4;
-    if (item.body != 7 || item.place != 0 || item.sender != 1 || item.number != 1 || number != 0) return 5;
-    if (vahepito_begin_take(&service->receiver) != VAHEPITO_BEGUN) return 6;
-    if (vahepito_finish_take(&service->receiver, NULL, NULL) != VAHEPITO_EMPTY) return 7;
-    if (vahepito_close(&service->sender, &number) != VAHEPITO_SHUT || number != 1) return 8;
-    if (vahepito_begin_close(&service->sender) != VAHEPITO_BEGUN) return 9;
-    if (vahepito_finish_close(&service->sender, &number) != VAHEPITO_ALREADY || number != 1) return 10;
-    return vahepito_take(&service->receiver, &item, &number) == VAHEPITO_ENDED && number == 1 ? 0 : 11;
+    if (vahepito_send(&service->waits, &call, 7, &number) != VAHEPITO_ACCEPTED || number != 0) return 1;
+    if (vahepito_finish_send(&call, NULL) != VAHEPITO_NO_PASS || call.waiting.live) return 2;
+    if (vahepito_send_now(&service->waits, &call, 9, NULL) != VAHEPITO_FULL) return 3;
+    if (vahepito_send_until(&service->waits, &call, 9, &soon, NULL) != VAHEPITO_FULL) return 4;
+    if (vahepito_take(&service->waits, &call, 1, &item, &number) != VAHEPITO_GOT) return 5;
+    if (item.words[0] != 7 || item.count != 1 || item.place != 0 || item.sender != 1 || item.number != 1 || number != 0) return 6;
+    if (vahepito_take_now(&service->waits, &call, 1, &item, &number) != VAHEPITO_EMPTY || item.count != 0) return 7;
+    if (vahepito_take_until(&service->waits, &call, 1, NULL, &soon, NULL) != VAHEPITO_EMPTY) return 8;
+    if (vahepito_finish_take(&call, NULL, NULL) != VAHEPITO_NO_PASS) return 9;
+    if (vahepito_close(&service->waits, &call, &number) != VAHEPITO_SHUT || number != 1) return 10;
+    if (vahepito_close(&service->waits, &call, &number) != VAHEPITO_ALREADY || number != 1) return 11;
+    if (vahepito_finish_close(&call, &number) != VAHEPITO_NO_PASS || number != 0) return 12;
+    return vahepito_take(&service->waits, &call, 1, &item, &number) == VAHEPITO_ENDED && number == 1 ? 0 : 13;
 }
 
-/* A body of two words so, by the calls that wait. */
-static int two_words(struct service *service) {
+/* An item of two words so, by the calls that wait. */
+static int two_words(vahepito_queue *queue) {
     const uint64_t words[2] = {7, 8};
-    vahepito_words_item item;
-    if (vahepito_send_words(&service->sender, words, 2, NULL) != VAHEPITO_ACCEPTED) return 12;
-    if (vahepito_take_words(&service->receiver, &item, NULL) != VAHEPITO_GOT) return 13;
-    if (item.count != 2 || item.words[0] != 7 || item.words[1] != 8) return 14;
-    if (vahepito_begin_take(&service->receiver) != VAHEPITO_BEGUN) return 15;
-    return vahepito_finish_take_words(&service->receiver, NULL, NULL) == VAHEPITO_EMPTY ? 0 : 16;
+    const struct timespec soon = vahepito_after(2000000);
+    vahepito_call call = VAHEPITO_CALL(queue);
+    vahepito_item item;
+    if (vahepito_send_words(&waits, &call, words, 2, NULL) != VAHEPITO_ACCEPTED) return 14;
+    if (vahepito_send_words_now(&waits, &call, words, 2, NULL) != VAHEPITO_FULL) return 15;
+    if (vahepito_send_words_until(&waits, &call, words, 2, &soon, NULL) != VAHEPITO_FULL) return 16;
+    if (vahepito_take(&waits, &call, 1, &item, NULL) != VAHEPITO_GOT) return 17;
+    return item.count == 2 && item.words[0] == 7 && item.words[1] == 8 && item.words[2] == 0 ? 0 : 18;
 }
 
 /* Whether the file's next line is this one, but for the times. */
@@ -90,18 +96,16 @@ static int recorded(void) {
 
 int main(void) {
     const vahepito_config config = {1, 1, 1, 8, (uint64_t)1 << 48, UINT32_MAX};
-    struct service service = {VAHEPITO_PASS_EMPTY, VAHEPITO_PASS_EMPTY};
-    vahepito_backoff backoff = VAHEPITO_BACKOFF;
+    struct service service = {NULL, VAHEPITO_WAITS};
+    vahepito_queue *queue;
     int failed;
-    while (backoff.microseconds < VAHEPITO_LONGEST_SLEEP) vahepito_between_tries(&backoff);
     if (vahepito_check_version() != VAHEPITO_DONE) return 19;
-    if (alone.live || several[0].live || several[2].live) return 20;
-    if (vahepito_drop(&alone) != VAHEPITO_NO_PASS || vahepito_drop(&several[2]) != VAHEPITO_NO_PASS) return 21;
-    if (vahepito_open(&config, &service.sender, 1, &service.receiver, 1) != VAHEPITO_DONE) return 22;
+    if (vahepito_new(&config, 0, 1, &queue) != VAHEPITO_BAD_GROUPS || queue) return 20;
+    if (vahepito_new(&config, 1, 1, &service.queue) != VAHEPITO_DONE) return 21;
     failed = one_item(&service);
-    if (vahepito_drop(&service.sender) != VAHEPITO_DONE || vahepito_drop(&service.receiver) != VAHEPITO_DONE) return 23;
-    if (vahepito_open_words(&config, 1, 2, &service.sender, 1, &service.receiver, 1) != VAHEPITO_DONE) return 24;
-    if (!failed) failed = two_words(&service);
-    if (vahepito_drop(&service.sender) != VAHEPITO_DONE || vahepito_drop(&service.receiver) != VAHEPITO_DONE) return 25;
+    vahepito_free(service.queue);
+    if (vahepito_new(&config, 1, 2, &queue) != VAHEPITO_DONE) return 22;
+    if (!failed) failed = two_words(queue);
+    vahepito_free(queue);
     return failed ? failed : recorded();
 }

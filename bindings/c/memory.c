@@ -2,8 +2,9 @@
  * allocations is counted and can be refused.
  *
  * An opening that is refused memory says so, whichever of its allocations that is, leaves the handles empty and keeps
- * nothing. No later call takes memory. The last handle frees all, and none before it frees the queue. */
-#include "vahepito.h"
+ * nothing. No later call takes memory. The last handle frees all, and none before it frees the queue. Of a queue behind one
+ * pointer vahepito_free does, and nothing else frees or takes any. */
+#include "handles.h"
 
 #include <errno.h>
 #include <stdio.h>
@@ -56,12 +57,12 @@ static void check(int holds, const char *what) {
 /* As many receivers in each group. */
 enum { SENDERS = 2, RECEIVERS = 3, MOST_GROUPS = 2, MOST_PASSES = SENDERS + MOST_GROUPS * RECEIVERS };
 
-/* One receiver of each group takes, and is told this; an item has this body. */
+/* One receiver of each group takes: the take returns this code and total, and an item has this body. */
 static void take_in_each(uint32_t groups, vahepito_pass *receivers, int k, uint32_t code, uint64_t body, uint64_t total) {
     for (uint32_t g = 0; g < groups; g++) {
         uint64_t number = 0;
         uint32_t served = 0;
-        vahepito_item item = {0};
+        vahepito_word_item item = {0};
         check(vahepito_begin_take(&receivers[g * RECEIVERS + k]) == VAHEPITO_BEGUN, "begun");
         check(vahepito_turn_take(&receivers[g * RECEIVERS + k], &item, &number, &served) == code, "the group's take is told so");
         check(item.body == body && number == total && served == 1, "and what it got");
@@ -72,7 +73,7 @@ static void take_in_each(uint32_t groups, vahepito_pass *receivers, int k, uint3
 static void call_all(uint32_t groups, vahepito_pass *senders, vahepito_pass *receivers) {
     uint64_t number = 0;
     uint32_t served = 0, group = 0;
-    vahepito_item item = {0};
+    vahepito_word_item item = {0};
     for (int k = 0; k < SENDERS; k++) check(vahepito_is_worn(&senders[k]) == VAHEPITO_FRESH, "fresh");
     for (uint32_t k = 0; k < groups * RECEIVERS; k++)
         check(vahepito_group(&receivers[k], &group) == VAHEPITO_DONE && group == k / RECEIVERS + 1, "group by group");
@@ -100,7 +101,7 @@ static void call_all(uint32_t groups, vahepito_pass *senders, vahepito_pass *rec
     take_in_each(groups, receivers, 1, VAHEPITO_ENDED, 0, 3);
 }
 
-/* Opens a queue of so many groups: the first by vahepito_open, which has one. */
+/* Opens a queue of this number of groups: the first by vahepito_open, which has one. */
 static uint32_t open_queue(uint32_t groups, vahepito_pass *senders, vahepito_pass *receivers) {
     /* of the life and of each sender's sends as many as call_all wants, so that both end in it */
     const vahepito_config config = {SENDERS, RECEIVERS, 2, 8, 3, 3};
@@ -108,7 +109,7 @@ static uint32_t open_queue(uint32_t groups, vahepito_pass *senders, vahepito_pas
     return vahepito_open_groups(&config, groups, senders, SENDERS, receivers, groups * RECEIVERS);
 }
 
-/* A queue of so many groups, from its opening to the drop of its last handle. */
+/* A queue of this number of groups, from its opening to the drop of its last handle. */
 static void use_queue(uint32_t groups) {
     const uint32_t count = SENDERS + groups * RECEIVERS;
     vahepito_pass passes[MOST_PASSES] = {VAHEPITO_PASS_EMPTY};
@@ -139,7 +140,53 @@ static void use_queue(uint32_t groups) {
     check(blocks == 0, "the last handle frees the queue");
 }
 
+/* A queue behind one pointer: its calls with each answer, by two callers. */
+static void call_by_pointer(vahepito_queue *queue, uint32_t groups) {
+    vahepito_call one = VAHEPITO_CALL(queue), other = VAHEPITO_CALL(queue);
+    const uint64_t words[2] = {7, 8};
+    vahepito_item item = {0};
+    uint64_t number = 0;
+    check(vahepito_call_take(&one, 1, &item, &number) == VAHEPITO_EMPTY, "empty");
+    check(vahepito_call_send(&one, words, 2, &number) == VAHEPITO_ACCEPTED && number == 0, "accepted");
+    check(vahepito_call_send(&other, words, 1, &number) == VAHEPITO_ACCEPTED && number == 1, "accepted");
+    check(vahepito_call_send(&other, words, 1, &number) == VAHEPITO_FULL, "full");
+    check(vahepito_call_send(&other, words, 3, &number) == VAHEPITO_LONG, "long");
+    for (uint32_t group = 1; group <= groups; group++) {
+        check(vahepito_call_take(&one, group, &item, &number) == VAHEPITO_GOT && item.count == 2, "got");
+        check(vahepito_call_take(&other, group, &item, &number) == VAHEPITO_GOT && item.count == 1, "got");
+    }
+    check(vahepito_call_take(&other, groups + 1, &item, &number) == VAHEPITO_BAD_GROUPS, "no such group");
+    check(vahepito_call_send(&one, words, 1, &number) == VAHEPITO_ACCEPTED && number == 2, "accepted");
+    check(vahepito_call_send(&one, words, 1, &number) == VAHEPITO_SPENT, "spent");
+    check(vahepito_call_turn_send(&one, &number) == VAHEPITO_NO_PASS, "no ticket");
+    check(vahepito_call_close(&one, &number) == VAHEPITO_SHUT && number == 3, "shut");
+    check(vahepito_call_close(&other, &number) == VAHEPITO_ALREADY && number == 3, "already");
+    check(vahepito_call_send(&one, words, 1, &number) == VAHEPITO_CLOSED || number == 0, "closed, or worn");
+    check(vahepito_call_take(&one, 1, &item, &number) == VAHEPITO_GOT, "got");
+    check(vahepito_call_take(&one, 1, &item, &number) == VAHEPITO_ENDED && number == 3, "ended");
+}
+
+static void use_pointer(uint32_t groups) {
+    const vahepito_config config = {SENDERS, RECEIVERS, 2, 8, 3, 3};
+    vahepito_queue *queue = NULL;
+    uint32_t code;
+    for (refused = 1;; refused++) {
+        asked = 0;
+        code = vahepito_new(&config, groups, 2, &queue);
+        if (asked < refused) break;
+        check(code == VAHEPITO_NO_MEMORY && queue == NULL, "want of memory is told");
+        check(blocks == 0, "nothing is kept");
+    }
+    const long opening = asked, kept = blocks;
+    check(code == VAHEPITO_DONE && queue && kept > 0, "the queue is opened where nothing is refused");
+    call_by_pointer(queue, groups);
+    check(asked == opening && blocks == kept, "no call takes memory or frees any");
+    vahepito_free(queue);
+    check(asked == opening && blocks == 0, "the free frees the queue");
+}
+
 int main(void) {
+    for (uint32_t groups = 1; groups <= 8; groups++) use_pointer(groups);
     for (uint32_t groups = 1; groups <= MOST_GROUPS; groups++) use_queue(groups);
     printf("%s\n", "all memory is free");
     return 0;

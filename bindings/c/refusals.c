@@ -1,10 +1,10 @@
-/* What each call tells of a handle in each state, on one thread.
+/* The code of each call by a handle in each state, on one thread.
  *
  * A handle is empty, or its pass is a sender or a receiver, idle or with a call that was begun. Each call by a handle is
- * made once in each of these six, of a queue of its own, and the code is compared with a table. Where it is refused it
- * tells no number and no item, and changes nothing: what was begun is answered then, and the first item is the first. It
- * ends with status 0 where each call told what it has to. */
-#include "checks.h"
+ * made once in each of these six, of a queue of its own, and the code is compared with a table. If it is refused it
+ * returns no number and no item, and changes nothing: what was begun is answered then, and the first item is the first. It
+ * ends with status 0 if each call returned what it has to. */
+#include "by_handles.h"
 
 #include <stddef.h>
 #include <stdio.h>
@@ -16,8 +16,8 @@ enum state { EMPTY, SENDER, SENDING, CLOSING, RECEIVER, TAKING, STATES };
 struct told {
     uint64_t number;
     uint32_t served, group;
-    vahepito_item item;
-    vahepito_words_item words;
+    vahepito_word_item item;
+    vahepito_item words;
 };
 
 static const uint64_t two[2] = {7, 8};
@@ -55,8 +55,8 @@ static uint32_t drop(vahepito_pass *pass, struct told *told) { return (void)told
 #define BEGUN VAHEPITO_BEGUN
 #define DONE VAHEPITO_DONE
 
-/* The calls, what each writes (a number with how many calls were served, a group, an item, or one of words), and what it
- * tells of a handle that is empty, an idle sender, one with a send, with a close, an idle receiver, and one with a take. */
+/* The calls, what each writes (a number with how many calls were served, a group, an item, or one of words), and the
+ * code for a handle that is empty, an idle sender, one with a send, with a close, an idle receiver, and one with a take. */
 enum { NUMBER = 1, GROUP = 2, ITEM = 4, WORDS = 8 };
 static const struct row {
     const char *name;
@@ -100,7 +100,7 @@ static vahepito_pass *open_in(enum state state, vahepito_pass *sender, vahepito_
     return state < RECEIVER ? sender : receiver;
 }
 
-/* The next call of a pass that is as it was before: it goes on, in one turn, from where the pass stood. */
+/* The next call of a pass that is as it was before: it continues, in one turn, from the state of the pass. */
 static const struct {
     uint32_t (*call)(vahepito_pass *, struct told *);
     uint32_t code;
@@ -126,8 +126,8 @@ static void is_as_before(enum state state, vahepito_pass *pass) {
 
 /* What a call wrote, where nothing was passed: 0 in each field, but for how many calls its turn served, if it had one. */
 static void wrote_nothing(const struct row *row, enum state state, const struct told *told) {
-    const vahepito_item *item = &told->item;
-    const vahepito_words_item *words = &told->words;
+    const vahepito_word_item *item = &told->item;
+    const vahepito_item *words = &told->words;
     const int turned = row->codes[state] > BEGUN;
     if (row->writes & NUMBER) holds(told->number == 0 && told->served == (turned ? 1 : 0), state, "no number is told");
     if (row->writes & GROUP) holds(told->group == (row->codes[state] == DONE ? 1 : 0), state, "a group is told, or none");

@@ -1,10 +1,14 @@
 # Gives the target vahepito::vahepito: headers and archives of the folder in which this file lies, wherever that is. The target
-# vahepito::strict has the library with no plain store in its place, as it was proved and built.
+# vahepito::strict has the library with no plain store in its place, as it was proved and built, and vahepito::shared the shared
+# library.
 if(NOT CMAKE_SYSTEM_NAME STREQUAL "Linux" OR NOT CMAKE_SYSTEM_PROCESSOR MATCHES "^(x86_64|AMD64)$" OR NOT CMAKE_SIZEOF_VOID_P EQUAL 8)
   set(vahepito_FOUND FALSE)
   set(vahepito_NOT_FOUND_MESSAGE "its archives are for Linux on x86_64 with 64 bits")
   return()
 endif()
+
+include(CMakeFindDependencyMacro)
+find_dependency(Threads)
 
 if(NOT TARGET vahepito::vahepito)
   get_filename_component(vahepito_prefix "${CMAKE_CURRENT_LIST_DIR}/../../.." ABSOLUTE)
@@ -19,5 +23,11 @@ if(NOT TARGET vahepito::vahepito)
   set_target_properties(vahepito::vahepito vahepito::strict PROPERTIES
     IMPORTED_LINK_INTERFACE_LANGUAGES C
     INTERFACE_INCLUDE_DIRECTORIES "${vahepito_prefix}/include"
-    INTERFACE_LINK_LIBRARIES vahepito::heap)
+    INTERFACE_LINK_LIBRARIES "vahepito::heap;Threads::Threads")
+  add_library(vahepito::shared SHARED IMPORTED)
+  set_target_properties(vahepito::shared PROPERTIES
+    IMPORTED_LOCATION "${vahepito_prefix}/lib/libvahepito.so.0"
+    IMPORTED_SONAME libvahepito.so.0
+    INTERFACE_INCLUDE_DIRECTORIES "${vahepito_prefix}/include"
+    INTERFACE_LINK_LIBRARIES Threads::Threads)
 endif()

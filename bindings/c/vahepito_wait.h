@@ -1,267 +1,400 @@
 /* Vahepito for C, the calls that wait: for room, for an item, or for an answer alone. They are inline functions over
- * those of vahepito.h, with a back-off in between; nothing more has to be linked.
+ * those of vahepito.h; nothing more has to be linked. A thread that waits parks on a futex, so this header is for Linux.
  *
  *     call                     waits until
  *     vahepito_send            the item is accepted, or will never be
  *     vahepito_take            there is an item, or the queue has ended
- *     vahepito_send_words      as vahepito_send, of a body of several words
- *     vahepito_take_words      as vahepito_take, of an item with all its words
+ *     .._until                 the same, or until a moment: then FULL, or EMPTY
+ *     .._now                   waits for neither: FULL, or EMPTY, if there is no room or no item now
+ *     vahepito_send_words, .._until, .._now        the same sends, of items of several words
  *     vahepito_close           the queue is closed
- *     vahepito_finish_send     a send that was begun is answered, maybe by FULL
- *     vahepito_finish_close    a close that was begun is answered
- *     vahepito_finish_take     a take that was begun is answered, maybe by EMPTY
- *     vahepito_finish_take_words   the same, of an item with all its words
+ *     vahepito_finish_send     a send that waits for its answer has it, maybe FULL
+ *     vahepito_finish_close    a close that waits for its answer has it
+ *     vahepito_finish_take     a take that waits for its answer has it, maybe EMPTY
  *
- * A call that waits for room or for an item tries again and again: for about 260 rounds, in which it spins and then yields
- * the processor, and from then on after a sleep of 50 microseconds, which doubles up to a millisecond. Between two tries
- * its pass has no call, so it delays nobody. A begun call never sleeps until it is answered, since others may wait for it.
- * Nobody is woken: a sleeping take sees an item at most a millisecond late, and a long wait takes a little processor time
- * all the while.
+ * The program has one vahepito_waits for each queue. It begins as VAHEPITO_WAITS, or all zero, isn't moved, and is kept until
+ * each call that has its pointer has returned. All threads share it.
  *
- * A take may try in each of these rounds, as often as it likes. A try of a send is a send that was begun, and uses up one
- * of the `per_sender` that its sender may begin, as no call looks for room without beginning a send. So a send tries
- * seldom: after 1, 2, 4, 8, .. of the rounds in which it yields, 17 times before it sleeps; and its sleeps grow beyond the
- * millisecond, each by a 32nd, up to a tenth of a second. It sees room at most about twice as late as if it had tried all
- * the time, and after a long wait at most a millisecond and a 32nd of its wait late. A sender that may begin 2^32 - 1 sends
- * is exhausted after this time, by the wait of each of its sends:
+ * A call tries for about 10 microseconds, in which it spins and yields the processor, and then parks. A parked call takes no
+ * processor time and occupies no place. It is woken by the call that makes room or an item, if that is a call of this header. A
+ * call of vahepito.h wakes nobody: after a send by it is accepted call vahepito_notify_item, after a take by it gets an item
+ * vahepito_notify_room, and after a close by it vahepito_notify_all. A call that has a place never parks until it is answered,
+ * since others may wait for it.
  *
- *     each waits          tries of each      WORN after
- *     not at all          1                  an hour, if it never pauses
- *     0.1 ms              17                 seven hours
- *     1 ms                22                 two days
- *     10 ms               31                 sixteen days
- *     a second            135                a year
- *     without end         ten a second       thirteen years
+ * If all places are taken, each call here waits for a free one, and yields the processor meanwhile; so do the calls whose names end
+ * in _now. It waits for this, and for its answer, also after its moment. So BUSY means that the vahepito_call has a ticket: no call
+ * here returns while it has one, so it comes from a call of vahepito.h.
  *
- * README.md says how a program continues then.
+ * Each try of a send is a send that was begun, and uses up one of the `per_sender` of its place. A send that
+ * waits makes at most six tries until it parks, and one or two each time that it is woken, which every take of any group
+ * does. A send that parked because there was no room learns at the next take, or at a close, that the queue's life is used up.
  *
- * The thread that holds the handle makes each call. An out-parameter may be NULL, and needs no value before; it is written,
- * with 0 if the code gives it no meaning. All else that vahepito.h says of handles holds here.
+ * The thread that has the vahepito_call makes each call. An out-parameter may be NULL, and needs no value before; it is written,
+ * with 0 if the code gives it no meaning. All else that vahepito.h says holds here. A moment is one of
+ * CLOCK_MONOTONIC, as clock_gettime gives it and vahepito_after computes it; NULL is none. No feature macro needs to be
+ * defined, but vahepito_after is there only if <time.h> declares clock_gettime (with -std=c99 or c11, define _POSIX_C_SOURCE
+ * as 200809L before the first header).
  *
- * Time passes by POSIX's sched_yield and select on such a system, else by C++'s <thread> or C11's <threads.h>. If
- * VAHEPITO_STANDARD_THREADS is defined before this header, it passes by these on all systems. No feature macro needs to be
- * defined. */
+ * Why no wake-up is lost. The senders wait in one line, and the receivers of each group in another. A line has two counts in
+ * one word: `waiting`, the calls in line that aren't notified, and `notified`, the notifications that no call has used.
+ *
+ *     a call that waits                            a call that notifies
+ *     join      waiting + 1                        make      its send or its take returns
+ *     look      try                                check     is waiting 0? then that is all
+ *     park      sleep while notified is 0          notify    waiting - 1 and notified + 1, in one step
+ *     leave     notified - 1                       wake      one call that sleeps
+ *     retry     and if there is nothing, join again
+ *
+ * A call whose look succeeds leaves by waiting - 1, or if that is 0 by notified - 1. A call whose time is over leaves by
+ * notified - 1 and tries once more, or if that is 0 by waiting - 1. A call whose try is refused (it is exhausted, say)
+ * notifies the next.
+ *
+ * The claim: when no thread makes a step any more, no call is parked while its try would take something. Suppose that call w
+ * is, and let e be the last moment with nothing to take. So w joined before e, and every try that begins after e succeeds.
+ * 1. At the end `notified` is 0. Otherwise, since it last rose from 0, no call went to sleep, so each notification woke a call
+ *    that slept (w was there), which used one: as many were used as were made.
+ * 2. After e `waiting` was never 0. Otherwise let s be the last such moment. A call that joins after s finds something at its
+ *    look, and leaves by waiting - 1; all other steps only lower `waiting`. So it is 0 at the end, though w is in line.
+ * 3. So each thing that was made after e made a notification. By 1 and 2 each of these was used by a call that left by
+ *    notified - 1 and tried after e. That call took something, or notified another one. So as many things were taken after e
+ *    as were made, and none is left.
+ * It uses that a try which begins after a send or a take has returned sees what that made (vahepito.h), and that all accesses
+ * to the counts are sequentially consistent. The program interleavings.c runs the code of this header in every interleaving
+ * of small models, and finds a lost wake-up if one of the steps is wrong. */
 #ifndef VAHEPITO_WAIT_H
 #define VAHEPITO_WAIT_H
 
 #include "vahepito.h"
 
-#if !defined(VAHEPITO_STANDARD_THREADS) && (defined(__unix__) || defined(__APPLE__))
-#define VAHEPITO_POSIX 1
+#include <errno.h>
+#include <limits.h>
+#include <linux/futex.h>
 #include <sched.h>
-#include <sys/select.h>
-#include <sys/time.h>
-#elif defined(__cplusplus)
-#include <chrono>
-#include <thread>
-#else
-#include <threads.h>
+#include <sys/syscall.h>
 #include <time.h>
-#endif
+#include <unistd.h>
 
 #ifdef __cplusplus
 extern "C" {
+#else
+/* As <unistd.h> declares it, which does so only with some feature macros. */
+extern long syscall(long number, ...);
 #endif
 
-/* The state of a back-off until the next turn, or the next try: which round it is, and how long it sleeps. */
+struct timespec;
+
+/* How many rounds a call spins or yields until it parks. */
+#ifndef VAHEPITO_ROUNDS
+#define VAHEPITO_ROUNDS 12
+#endif
+
+/* A line of calls that wait: `notified` in the lower half of the word, and `waiting` in the upper half. */
 typedef struct {
-    uint32_t round;
-    uint32_t microseconds;
-} vahepito_backoff;
+    uint64_t counts;
+} vahepito_line;
 
-/* A back-off at its beginning. */
-#define VAHEPITO_BACKOFF {0, 50}
+#define VAHEPITO_ONE_WAITING ((uint64_t)1 << 32)
 
-enum {
-    VAHEPITO_SPINS = 7,           /* the number of rounds that spin, each twice as long as the one before */
-    VAHEPITO_YIELDS = 256,        /* the number of further rounds that give the processor to another thread */
-    VAHEPITO_LONGEST_SLEEP = 1000, /* the most microseconds that a round sleeps */
-    VAHEPITO_LONGEST_SEND_SLEEP = 100000 /* the same of a send that waits for room */
-};
+/* The lines of a queue: that of its senders, and those of the groups of its receivers. */
+typedef struct {
+    vahepito_line senders;
+    uint64_t apart[7]; /* in another line of the cache */
+    vahepito_line groups[8];
+} vahepito_waits;
 
-/* Hints to the processor that this thread spins. */
-static inline void vahepito_spin(void) {
-#if defined(__GNUC__) && (defined(__x86_64__) || defined(__i386__))
-    __builtin_ia32_pause();
-#elif defined(__GNUC__)
-    __asm__ __volatile__("" ::: "memory");
-#endif
+#define VAHEPITO_WAITS {{0}, {0}, {{0}}}
+
+static inline long vahepito_futex(vahepito_line *line, int operation, int value, const struct timespec *moment) {
+    const int errno_before = errno;
+    const long done =
+        syscall(SYS_futex, &line->counts, operation | FUTEX_PRIVATE_FLAG, value, moment, NULL, FUTEX_BITSET_MATCH_ANY);
+    const long answer = done < 0 ? -errno : done;
+    errno = errno_before;
+    return answer;
 }
 
-/* Gives the processor to another thread. */
-static inline void vahepito_yield(void) {
-#if defined(VAHEPITO_POSIX)
-    (void)sched_yield();
-#elif defined(__cplusplus)
-    std::this_thread::yield();
-#else
-    thrd_yield();
-#endif
+/* Changes the counts, if they are these; else gives what they are. */
+static inline bool vahepito_change(vahepito_line *line, uint64_t *counts, uint64_t next) {
+    return __atomic_compare_exchange_n(&line->counts, counts, next, 0, __ATOMIC_SEQ_CST, __ATOMIC_SEQ_CST);
 }
 
-/* Sleeps for this time, which is less than a second; for less if a signal comes. */
-static inline void vahepito_sleep(uint32_t microseconds) {
-#if defined(VAHEPITO_POSIX)
-    struct timeval time;
-    time.tv_sec = 0;
-    time.tv_usec = (int)microseconds;
-    (void)select(0, NULL, NULL, NULL, &time);
-#elif defined(__cplusplus)
-    std::this_thread::sleep_for(std::chrono::microseconds(microseconds));
-#else
-    struct timespec time;
-    time.tv_sec = 0;
-    time.tv_nsec = (long)microseconds * 1000;
-    (void)thrd_sleep(&time, NULL);
-#endif
-}
-
-/* Waits until the next turn of a begun call. Others may wait for this call, so it never sleeps. */
-static inline void vahepito_between_turns(vahepito_backoff *backoff) {
-    if (backoff->round < VAHEPITO_SPINS) {
-        for (uint32_t spin = (uint32_t)1 << backoff->round; spin > 0; spin--) vahepito_spin();
-    } else {
-        vahepito_yield();
-    }
-    if (backoff->round < UINT32_MAX) backoff->round++;
-}
-
-/* Waits until the next try of a pass that has no call. Nobody waits for it, so it sleeps after it has tried for long. */
-static inline void vahepito_between_tries(vahepito_backoff *backoff) {
-    if (backoff->round < VAHEPITO_SPINS + VAHEPITO_YIELDS) {
-        vahepito_between_turns(backoff);
-    } else {
-        vahepito_sleep(backoff->microseconds);
-        backoff->microseconds *= 2;
-        if (backoff->microseconds > VAHEPITO_LONGEST_SLEEP) backoff->microseconds = VAHEPITO_LONGEST_SLEEP;
-    }
-}
-
-/* The same for a sender, whose tries are limited: as many rounds of yields pass as have passed before, and a sleep of a
- * millisecond or more is followed by one that is a 32nd longer, up to a tenth of a second. */
-static inline void vahepito_between_sends(vahepito_backoff *backoff) {
-    uint32_t rounds = 1;
-    if (backoff->round >= VAHEPITO_SPINS + VAHEPITO_YIELDS && backoff->microseconds >= VAHEPITO_LONGEST_SLEEP) {
-        vahepito_sleep(backoff->microseconds);
-        backoff->microseconds += backoff->microseconds / 32;
-        if (backoff->microseconds > VAHEPITO_LONGEST_SEND_SLEEP) backoff->microseconds = VAHEPITO_LONGEST_SEND_SLEEP;
+/* Notifies one call of the line, or all. */
+static inline void vahepito_notify(vahepito_line *line, bool all) {
+    uint64_t counts = __atomic_load_n(&line->counts, __ATOMIC_SEQ_CST);
+    while (counts >= VAHEPITO_ONE_WAITING) {
+        const uint64_t next = all ? (counts >> 32) + (uint32_t)counts : counts - VAHEPITO_ONE_WAITING + 1;
+        if (!vahepito_change(line, &counts, next)) continue;
+        (void)vahepito_futex(line, FUTEX_WAKE, all ? INT_MAX : 1, NULL);
         return;
     }
-    if (backoff->round >= VAHEPITO_SPINS && backoff->round < VAHEPITO_SPINS + VAHEPITO_YIELDS - 1)
-        rounds += backoff->round - VAHEPITO_SPINS;
-    while (rounds-- > 0) vahepito_between_tries(backoff);
 }
 
-/* Turns a send that was begun until it is answered.
- * ACCEPTED with the place, FULL, CLOSED, SPENT. NO_PASS, WRONG_SIDE, NOT_BEGUN: nothing has changed. */
-static inline uint32_t vahepito_finish_send(vahepito_pass *sender, uint64_t *place) {
-    vahepito_backoff backoff = VAHEPITO_BACKOFF;
-    uint64_t told = 0;
-    uint32_t served = 0, code;
-    while ((code = vahepito_turn_send(sender, &told, &served)) == VAHEPITO_WAITING) vahepito_between_turns(&backoff);
-    if (place) *place = told;
-    return code;
+/* Leaves the line after a look that succeeded. */
+static inline void vahepito_leave(vahepito_line *line) {
+    uint64_t counts = __atomic_load_n(&line->counts, __ATOMIC_SEQ_CST), next;
+    do next = counts >= VAHEPITO_ONE_WAITING ? counts - VAHEPITO_ONE_WAITING : counts - 1;
+    while (!vahepito_change(line, &counts, next));
 }
 
-/* Turns a close that was begun until it is answered.
- * SHUT, ALREADY with the total. NO_PASS, WRONG_SIDE, NOT_BEGUN: nothing has changed. */
-static inline uint32_t vahepito_finish_close(vahepito_pass *sender, uint64_t *total) {
-    vahepito_backoff backoff = VAHEPITO_BACKOFF;
-    uint64_t told = 0;
-    uint32_t served = 0, code;
-    while ((code = vahepito_turn_close(sender, &told, &served)) == VAHEPITO_WAITING) vahepito_between_turns(&backoff);
-    if (total) *total = told;
-    return code;
-}
-
-/* Turns a take that was begun until it is answered.
- * GOT with the item, EMPTY, ENDED with the total. NO_PASS, WRONG_SIDE, NOT_BEGUN: nothing has changed. */
-static inline uint32_t vahepito_finish_take(vahepito_pass *receiver, vahepito_item *item, uint64_t *total) {
-    vahepito_backoff backoff = VAHEPITO_BACKOFF;
-    vahepito_item got = {0, 0, 0, 0};
-    uint64_t told = 0;
-    uint32_t served = 0, code;
-    while ((code = vahepito_turn_take(receiver, &got, &told, &served)) == VAHEPITO_WAITING) vahepito_between_turns(&backoff);
-    if (item) *item = got;
-    if (total) *total = told;
-    return code;
-}
-
-/* The same of an item with all words of its body. */
-static inline uint32_t vahepito_finish_take_words(vahepito_pass *receiver, vahepito_words_item *item, uint64_t *total) {
-    vahepito_backoff backoff = VAHEPITO_BACKOFF;
-    vahepito_words_item got = {0, 0, 0, 0, {0}};
-    uint64_t told = 0;
-    uint32_t served = 0, code;
-    while ((code = vahepito_turn_take_words(receiver, &got, &told, &served)) == VAHEPITO_WAITING) vahepito_between_turns(&backoff);
-    if (item) *item = got;
-    if (total) *total = told;
-    return code;
-}
-
-/* Sends a body of `count` words, and waits for room. Each try counts as one of the sends that the sender may begin (the
- * head of this header says how many there are), so a sender that waits again and again is WORN in the end.
- * ACCEPTED with the place; CLOSED, SPENT: not accepted, and nothing will be. NO_PASS, WRONG_SIDE, BUSY, WORN: not
- * accepted. BAD_WORDS, LONG: no such body is sent. */
-static inline uint32_t vahepito_send_words(vahepito_pass *sender, const uint64_t *words, size_t count, uint64_t *place) {
-    vahepito_backoff backoff = VAHEPITO_BACKOFF;
+/* Sleeps in the line until there is a notification, or until this moment, and leaves it. Returns whether it used one. */
+static inline bool vahepito_park(vahepito_line *line, const struct timespec *moment) {
+    uint64_t counts = __atomic_load_n(&line->counts, __ATOMIC_SEQ_CST);
+    bool is_over = false;
     for (;;) {
-        uint32_t code = count == 1 ? vahepito_begin_send(sender, *words) : vahepito_begin_send_words(sender, words, count);
-        if (place) *place = 0;
-        if (code == VAHEPITO_BEGUN) code = vahepito_finish_send(sender, place);
-        if (code != VAHEPITO_FULL) return code;
-        vahepito_between_sends(&backoff);
+        const bool is_notified = (uint32_t)counts != 0;
+        if (is_notified || is_over) {
+            const uint64_t next = is_notified ? counts - 1 : counts - VAHEPITO_ONE_WAITING;
+            if (vahepito_change(line, &counts, next)) return is_notified;
+        } else {
+            const long answer = vahepito_futex(line, FUTEX_WAIT_BITSET, 0, moment);
+            is_over = answer == -ETIMEDOUT || answer == -EINVAL;
+            counts = __atomic_load_n(&line->counts, __ATOMIC_SEQ_CST);
+        }
     }
 }
 
-/* The same of one word. It never returns BAD_WORDS or LONG. */
-static inline uint32_t vahepito_send(vahepito_pass *sender, uint64_t body, uint64_t *place) {
-    return vahepito_send_words(sender, &body, 1, place);
+/* Hints to the processor that this thread spins, or gives the processor to another thread. A call passes the time until
+ * its next turn in this way, or until it looks for a free place again. */
+typedef struct {
+    uint32_t round;
+} vahepito_backoff;
+
+#define VAHEPITO_BACKOFF {0}
+
+static inline void vahepito_between_turns(vahepito_backoff *backoff) {
+    if (backoff->round < 7) {
+        for (uint32_t spin = (uint32_t)1 << backoff->round++; spin > 0; spin--) __builtin_ia32_pause();
+    } else {
+        (void)sched_yield();
+    }
 }
 
-/* Takes an item, and waits until there is one.
- * GOT with the item; ENDED with the total: there will be none any more. NO_PASS, WRONG_SIDE, BUSY, WIDE: nothing has
+/* Turns a send that waits until it is answered: ACCEPTED with the place, FULL, CLOSED, SPENT. NO_PASS, NOT_BEGUN, WRONG_SIDE:
+ * nothing has changed. */
+static inline uint32_t vahepito_finish_send(vahepito_call *call, uint64_t *place) {
+    vahepito_backoff backoff = VAHEPITO_BACKOFF;
+    uint64_t number = 0;
+    uint32_t code;
+    while ((code = vahepito_call_turn_send(call, &number)) == VAHEPITO_WAITING) vahepito_between_turns(&backoff);
+    if (place) *place = number;
+    return code;
+}
+
+/* Turns a close that waits until it is answered: SHUT, ALREADY with the total. NO_PASS, NOT_BEGUN, WRONG_SIDE: nothing has
  * changed. */
-static inline uint32_t vahepito_take(vahepito_pass *receiver, vahepito_item *item, uint64_t *total) {
+static inline uint32_t vahepito_finish_close(vahepito_call *call, uint64_t *total) {
     vahepito_backoff backoff = VAHEPITO_BACKOFF;
-    vahepito_item got = {0, 0, 0, 0};
-    uint64_t told = 0;
-    uint32_t served = 0, code;
-    for (;;) {
-        code = vahepito_try_take(receiver, &got, &told, &served);
-        if (code == VAHEPITO_WAITING) code = vahepito_finish_take(receiver, &got, &told);
-        if (code != VAHEPITO_EMPTY) break;
-        vahepito_between_tries(&backoff);
-    }
-    if (item) *item = got;
-    if (total) *total = told;
+    uint64_t number = 0;
+    uint32_t code;
+    while ((code = vahepito_call_turn_close(call, &number)) == VAHEPITO_WAITING) vahepito_between_turns(&backoff);
+    if (total) *total = number;
     return code;
 }
 
-/* The same of an item with all words of its body. It never returns WIDE. */
-static inline uint32_t vahepito_take_words(vahepito_pass *receiver, vahepito_words_item *item, uint64_t *total) {
+/* Turns a take that waits until it is answered: GOT with the item, EMPTY, ENDED with the total. NO_PASS, WRONG_SIDE:
+ * nothing has changed. */
+static inline uint32_t vahepito_finish_take(vahepito_call *call, vahepito_item *item, uint64_t *total) {
     vahepito_backoff backoff = VAHEPITO_BACKOFF;
-    vahepito_words_item got = {0, 0, 0, 0, {0}};
-    uint64_t told = 0;
-    uint32_t served = 0, code;
-    for (;;) {
-        code = vahepito_try_take_words(receiver, &got, &told, &served);
-        if (code == VAHEPITO_WAITING) code = vahepito_finish_take_words(receiver, &got, &told);
-        if (code != VAHEPITO_EMPTY) break;
-        vahepito_between_tries(&backoff);
-    }
+    vahepito_item got = {0, 0, 0, 0, {0}};
+    uint64_t number = 0;
+    uint32_t code;
+    while ((code = vahepito_call_turn_take(call, &got, &number)) == VAHEPITO_WAITING) vahepito_between_turns(&backoff);
     if (item) *item = got;
-    if (total) *total = told;
+    if (total) *total = number;
     return code;
 }
 
-/* Closes the queue: nothing is accepted after it, and takes return ENDED once they have taken what was accepted.
- * SHUT, ALREADY with the total. NO_PASS, WRONG_SIDE, BUSY: nothing has changed. An exhausted sender may close. */
-static inline uint32_t vahepito_close(vahepito_pass *sender, uint64_t *total) {
-    uint32_t code = vahepito_begin_close(sender);
-    if (total) *total = 0;
-    return code == VAHEPITO_BEGUN ? vahepito_finish_close(sender, total) : code;
+/* Whether this call found no free place: so it looks again after a while. */
+static inline bool vahepito_has_no_place(const vahepito_call *call, uint32_t code) {
+    return code == VAHEPITO_BUSY && !call->waiting.live;
 }
+
+/* One try of a call, which is answered. Its code may be the one that says that there is nothing: FULL of a send, EMPTY of a
+ * take. */
+typedef uint32_t vahepito_attempt(void *request);
+
+/* Tries until a try finds something, or until this moment. Of the rounds of a send, each try of which is used up, those whose
+ * number is a power of two begin with a try. */
+__attribute__((noinline, unused)) static uint32_t vahepito_wait(vahepito_line *line, vahepito_attempt *attempt, void *request,
+                                                                uint32_t nothing, const struct timespec *moment) {
+    vahepito_backoff backoff = VAHEPITO_BACKOFF;
+    uint32_t code;
+    for (uint32_t round = 1; round < VAHEPITO_ROUNDS; round++) {
+        vahepito_between_turns(&backoff);
+        if (nothing == VAHEPITO_FULL && (round & (round - 1)) != 0) continue;
+        if ((code = attempt(request)) != nothing) return code;
+    }
+    do {
+        (void)__atomic_fetch_add(&line->counts, VAHEPITO_ONE_WAITING, __ATOMIC_SEQ_CST);
+        code = attempt(request);
+        if (code != nothing) {
+            vahepito_leave(line);
+        } else {
+            if (!vahepito_park(line, moment)) return code;
+            code = attempt(request);
+        }
+    } while (code == nothing);
+    if (code != VAHEPITO_ACCEPTED && code != VAHEPITO_GOT) vahepito_notify(line, false);
+    return code;
+}
+
+/* Wakes a receiver of each group, if it waits: after a send that was accepted. */
+static inline void vahepito_notify_item(vahepito_waits *waits) {
+    for (int group = 0; group < 8; group++) vahepito_notify(&waits->groups[group], false);
+}
+
+/* Wakes a sender that waits: after a take that got an item. */
+static inline void vahepito_notify_room(vahepito_waits *waits) { vahepito_notify(&waits->senders, false); }
+
+/* Wakes all that wait: after a close. */
+static inline void vahepito_notify_all(vahepito_waits *waits) {
+    vahepito_notify(&waits->senders, true);
+    for (int group = 0; group < 8; group++) vahepito_notify(&waits->groups[group], true);
+}
+
+/* A send: of these words, whether it may wait for room, and until when; and the place that it gets. */
+typedef struct {
+    vahepito_call *call;
+    const uint64_t *words;
+    size_t count;
+    bool may_wait;
+    const struct timespec *moment;
+    uint64_t place;
+} vahepito_send_request;
+
+static inline uint32_t vahepito_attempt_send(void *at) {
+    vahepito_send_request *const it = (vahepito_send_request *)at;
+    vahepito_backoff backoff = VAHEPITO_BACKOFF;
+    uint32_t code;
+    while (vahepito_has_no_place(it->call, code = vahepito_call_send(it->call, it->words, it->count, &it->place)))
+        vahepito_between_turns(&backoff);
+    return code == VAHEPITO_WAITING ? vahepito_finish_send(it->call, &it->place) : code;
+}
+
+static inline uint32_t vahepito_make_send(vahepito_waits *waits, vahepito_send_request *it, uint64_t *place) {
+    uint32_t code = vahepito_attempt_send(it);
+    if (code == VAHEPITO_FULL && it->may_wait)
+        code = vahepito_wait(&waits->senders, vahepito_attempt_send, it, VAHEPITO_FULL, it->moment);
+    if (code == VAHEPITO_ACCEPTED) vahepito_notify_item(waits);
+    if (place) *place = it->place;
+    return code;
+}
+
+/* Sends an item of one word, and waits for room. ACCEPTED with the place; CLOSED, SPENT: not accepted, and nothing will be.
+ * WORN, BUSY: not accepted. */
+static inline uint32_t vahepito_send(vahepito_waits *waits, vahepito_call *call, uint64_t word, uint64_t *place) {
+    vahepito_send_request request = {call, &word, 1, true, NULL, 0};
+    return vahepito_make_send(waits, &request, place);
+}
+
+/* The same until this moment. FULL: the moment has come, and at the last try there was no room. */
+static inline uint32_t vahepito_send_until(vahepito_waits *waits, vahepito_call *call, uint64_t word,
+                                           const struct timespec *moment, uint64_t *place) {
+    vahepito_send_request request = {call, &word, 1, true, moment, 0};
+    return vahepito_make_send(waits, &request, place);
+}
+
+/* The same without a wait for room. FULL: there is none. */
+static inline uint32_t vahepito_send_now(vahepito_waits *waits, vahepito_call *call, uint64_t word, uint64_t *place) {
+    vahepito_send_request request = {call, &word, 1, false, NULL, 0};
+    return vahepito_make_send(waits, &request, place);
+}
+
+/* The same three of an item of `count` words. BAD_WORDS, LONG: no such item is sent. */
+static inline uint32_t vahepito_send_words(vahepito_waits *waits, vahepito_call *call, const uint64_t *words, size_t count,
+                                           uint64_t *place) {
+    vahepito_send_request request = {call, words, count, true, NULL, 0};
+    return vahepito_make_send(waits, &request, place);
+}
+
+static inline uint32_t vahepito_send_words_until(vahepito_waits *waits, vahepito_call *call, const uint64_t *words,
+                                                 size_t count, const struct timespec *moment, uint64_t *place) {
+    vahepito_send_request request = {call, words, count, true, moment, 0};
+    return vahepito_make_send(waits, &request, place);
+}
+
+static inline uint32_t vahepito_send_words_now(vahepito_waits *waits, vahepito_call *call, const uint64_t *words,
+                                               size_t count, uint64_t *place) {
+    vahepito_send_request request = {call, words, count, false, NULL, 0};
+    return vahepito_make_send(waits, &request, place);
+}
+
+/* A take: for this group, whether it may wait for an item, and until when; and the item and the total that it gets. */
+typedef struct {
+    vahepito_call *call;
+    uint32_t group;
+    bool may_wait;
+    const struct timespec *moment;
+    vahepito_item item;
+    uint64_t total;
+} vahepito_take_request;
+
+static inline uint32_t vahepito_attempt_take(void *at) {
+    vahepito_take_request *const it = (vahepito_take_request *)at;
+    vahepito_backoff backoff = VAHEPITO_BACKOFF;
+    uint32_t code;
+    while (vahepito_has_no_place(it->call, code = vahepito_call_take(it->call, it->group, &it->item, &it->total)))
+        vahepito_between_turns(&backoff);
+    return code == VAHEPITO_WAITING ? vahepito_finish_take(it->call, &it->item, &it->total) : code;
+}
+
+static inline uint32_t vahepito_make_take(vahepito_waits *waits, vahepito_take_request *it, vahepito_item *item, uint64_t *total) {
+    uint32_t code = vahepito_attempt_take(it);
+    if (code == VAHEPITO_EMPTY && it->may_wait)
+        code = vahepito_wait(&waits->groups[it->group - 1], vahepito_attempt_take, it, VAHEPITO_EMPTY, it->moment);
+    if (code == VAHEPITO_GOT) vahepito_notify_room(waits);
+    if (item) *item = it->item;
+    if (total) *total = it->total;
+    return code;
+}
+
+/* Takes an item for this group, from 1, and waits until there is one. GOT with the item; ENDED with the total: there will be
+ * none any more. BAD_GROUPS: there is no such group. BUSY: nothing has changed. */
+static inline uint32_t vahepito_take(vahepito_waits *waits, vahepito_call *call, uint32_t group, vahepito_item *item,
+                                     uint64_t *total) {
+    vahepito_take_request request = {call, group, true, NULL, {0, 0, 0, 0, {0}}, 0};
+    return vahepito_make_take(waits, &request, item, total);
+}
+
+/* The same until this moment. EMPTY: the moment has come, and at the last try there was no item. */
+static inline uint32_t vahepito_take_until(vahepito_waits *waits, vahepito_call *call, uint32_t group, vahepito_item *item,
+                                           const struct timespec *moment, uint64_t *total) {
+    vahepito_take_request request = {call, group, true, moment, {0, 0, 0, 0, {0}}, 0};
+    return vahepito_make_take(waits, &request, item, total);
+}
+
+/* The same without a wait for an item. EMPTY: there is none. */
+static inline uint32_t vahepito_take_now(vahepito_waits *waits, vahepito_call *call, uint32_t group, vahepito_item *item,
+                                         uint64_t *total) {
+    vahepito_take_request request = {call, group, false, NULL, {0, 0, 0, 0, {0}}, 0};
+    return vahepito_make_take(waits, &request, item, total);
+}
+
+/* Closes the queue: nothing is accepted after it, and takes return ENDED once they have taken what was accepted. All calls that
+ * wait are woken.
+ * SHUT, ALREADY with the total. BUSY: nothing has changed. A close is made also when all sends are WORN. */
+static inline uint32_t vahepito_close(vahepito_waits *waits, vahepito_call *call, uint64_t *total) {
+    vahepito_backoff backoff = VAHEPITO_BACKOFF;
+    uint64_t number = 0;
+    uint32_t code;
+    while (vahepito_has_no_place(call, code = vahepito_call_close(call, &number))) vahepito_between_turns(&backoff);
+    if (code == VAHEPITO_WAITING) code = vahepito_finish_close(call, &number);
+    vahepito_notify_all(waits);
+    if (total) *total = number;
+    return code;
+}
+
+#if defined(CLOCK_MONOTONIC)
+/* The moment that comes after these nanoseconds. */
+static inline struct timespec vahepito_after(uint64_t nanoseconds) {
+    struct timespec moment;
+    (void)clock_gettime(CLOCK_MONOTONIC, &moment);
+    nanoseconds += (uint64_t)moment.tv_nsec;
+    moment.tv_sec += (time_t)(nanoseconds / 1000000000u);
+    moment.tv_nsec = (long)(nanoseconds % 1000000000u);
+    return moment;
+}
+#endif
 
 #ifdef __cplusplus
 }

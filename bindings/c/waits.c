@@ -1,40 +1,57 @@
-/* The calls that wait, in C: with room for one item, a close while others wait, and every answer.
+/* The calls that wait, in C: with room for one item, a close while others wait, moments, every answer, and 64 threads.
  *
- * It ends with status 0 where each item was taken once, each receiver saw each sender's items in order, all who waited
- * were told the close, and each call told what it has to. A wait that isn't ended hangs it. */
+ *     waits [ITEMS]
+ *
+ * It ends with status 0 if each item was taken once, each receiver saw each sender's items in order, all calls that waited
+ * returned at the close, and each call returned what it has to. If a wake-up is lost it ends by a signal after two minutes.
+ * ITEMS (250) is how many items each sender sends. */
+#ifndef _POSIX_C_SOURCE
+#define _POSIX_C_SOURCE 200809L
+#endif
 #include "checks.h"
 
 #include <pthread.h>
 #include <time.h>
+#include <unistd.h>
 
-enum { EACH = 4, ITEMS = 250 };
+enum { EACH = 4, MANY = 32 };
 
-static vahepito_pass senders[EACH] = {VAHEPITO_PASS_EMPTY}, receivers[EACH] = {VAHEPITO_PASS_EMPTY};
-static pthread_t sending[EACH], taking[EACH];
+static uint64_t items = 250;
+static vahepito_queue *queue;
+static vahepito_call senders[MANY], receivers[MANY]; /* one for each thread */
+static pthread_t sending[MANY], taking[MANY];
+
+static void open_with(const vahepito_config *config, uint32_t groups) {
+    const vahepito_call fresh = VAHEPITO_CALL(NULL);
+    check(vahepito_new(config, groups, 1, &queue) == VAHEPITO_DONE, "the queue is opened");
+    for (int k = 0; k < MANY; k++) {
+        senders[k] = receivers[k] = fresh;
+        senders[k].queue = receivers[k].queue = queue;
+    }
+}
 
 static void open_for(uint32_t capacity, uint64_t life, uint32_t per_sender) {
     const vahepito_config config = {EACH, EACH, capacity, 2, life, per_sender};
-    check(vahepito_open(&config, senders, EACH, receivers, EACH) == VAHEPITO_DONE, "the queue is opened");
+    open_with(&config, 1);
 }
 
-static void drop_all(void) {
-    for (int k = 0; k < EACH; k++) {
-        check(vahepito_drop(&senders[k]) == VAHEPITO_DONE, "a sender is let go");
-        check(vahepito_drop(&receivers[k]) == VAHEPITO_DONE, "a receiver is let go");
-    }
+static void free_queue(void) {
+    for (int k = 0; k < MANY; k++) check(!senders[k].waiting.live && !receivers[k].waiting.live, "no call has left a ticket");
+    vahepito_free(queue);
+    check_no_call_waits();
 }
 
 static void start(pthread_t *thread, void *(*body)(void *), void *with) {
     check(!pthread_create(thread, NULL, body, with), "a thread starts");
 }
 
-static void *send_all(void *sender) {
-    send_up_to(sender, ITEMS);
+static void *send_all(void *mine) {
+    send_up_to(queue, (uint32_t)((vahepito_call *)mine - senders), items);
     return NULL;
 }
 
 static void *take_all(void *mine) {
-    take_to_the_end(mine, EACH);
+    take_to_the_end(queue, 1, EACH, mine);
     return NULL;
 }
 
@@ -44,52 +61,54 @@ static void room_for_one(void) {
     uint64_t total, got = 0, sum = 0;
     open_for(1, (uint64_t)1 << 48, UINT32_MAX);
     for (int k = 0; k < EACH; k++) {
-        takers[k].receiver = &receivers[k];
         start(&taking[k], take_all, &takers[k]);
         start(&sending[k], send_all, &senders[k]);
     }
     for (int k = 0; k < EACH; k++) check(!pthread_join(sending[k], NULL), "a sender ends");
-    check(vahepito_close(&senders[0], &total) == VAHEPITO_SHUT && total == EACH * ITEMS, "all were accepted");
+    check(vahepito_close(&waits, &senders[0], &total) == VAHEPITO_SHUT && total == EACH * items, "all were accepted");
     for (int k = 0; k < EACH; k++) {
         check(!pthread_join(taking[k], NULL), "a receiver ends");
         check(takers[k].total == total, "the end tells the total");
         got += takers[k].got;
         sum += takers[k].sum;
     }
-    check(got == total && sum == EACH * (ITEMS * (ITEMS + 1) / 2), "each item was taken once");
-    drop_all();
+    check(got == total && sum == EACH * (items * (items + 1) / 2), "each item was taken once");
+    free_queue();
 }
 
 static void *is_told_closed(void *sender) {
     uint64_t place = 99;
-    check(vahepito_send(sender, 2, &place) == VAHEPITO_CLOSED && place == 0, "a send that waits is told the close");
+    check(vahepito_send(&waits, sender, 2, &place) == VAHEPITO_CLOSED && place == 0, "a send that waits is told the close");
     return NULL;
 }
 
 static void *is_told_ended(void *receiver) {
     uint64_t total = 99;
-    check(vahepito_take(receiver, NULL, &total) == VAHEPITO_ENDED && total == 0, "a take that waits is told the end");
+    check(vahepito_take(&waits, receiver, 1, NULL, &total) == VAHEPITO_ENDED && total == 0, "a take that waits is told the end");
     return NULL;
 }
 
-/* Long enough for those who wait to sleep already. */
-static void let_them_sleep(void) {
-    for (int k = 0; k < 20; k++) vahepito_sleep(1000);
+static void sleep_for(uint64_t milliseconds) {
+    const struct timespec time = {(time_t)(milliseconds / 1000), (long)(milliseconds % 1000) * 1000000};
+    nanosleep(&time, NULL);
 }
+
+/* Long enough for those that wait to be parked. */
+static void let_them_sleep(void) { sleep_for(20); }
 
 /* Three wait for room, and the fourth closes. */
 static void close_over_senders(void) {
     vahepito_item item;
     uint64_t total;
     open_for(1, (uint64_t)1 << 48, UINT32_MAX);
-    check(vahepito_send(&senders[0], 1, NULL) == VAHEPITO_ACCEPTED, "there is room for one");
+    check(vahepito_send(&waits, &senders[0], 1, NULL) == VAHEPITO_ACCEPTED, "there is room for one");
     for (int k = 1; k < EACH; k++) start(&sending[k], is_told_closed, &senders[k]);
     let_them_sleep();
-    check(vahepito_close(&senders[0], &total) == VAHEPITO_SHUT && total == 1, "it is closed while they wait");
+    check(vahepito_close(&waits, &senders[0], &total) == VAHEPITO_SHUT && total == 1, "it is closed while they wait");
     for (int k = 1; k < EACH; k++) check(!pthread_join(sending[k], NULL), "a sender ends");
-    check(vahepito_take(&receivers[0], &item, NULL) == VAHEPITO_GOT && item.body == 1, "what was accepted can be taken");
-    check(vahepito_take(&receivers[0], &item, &total) == VAHEPITO_ENDED && total == 1, "and then it ends");
-    drop_all();
+    check(vahepito_take(&waits, &receivers[0], 1, &item, NULL) == VAHEPITO_GOT && item.words[0] == 1, "what was accepted can be taken");
+    check(vahepito_take(&waits, &receivers[0], 1, &item, &total) == VAHEPITO_ENDED && total == 1, "and then it ends");
+    free_queue();
 }
 
 /* Four wait for an item, and a sender closes. */
@@ -97,138 +116,201 @@ static void close_over_receivers(void) {
     open_for(1, (uint64_t)1 << 48, UINT32_MAX);
     for (int k = 0; k < EACH; k++) start(&taking[k], is_told_ended, &receivers[k]);
     let_them_sleep();
-    check(vahepito_close(&senders[0], NULL) == VAHEPITO_SHUT, "it is closed while they wait");
+    check(vahepito_close(&waits, &senders[0], NULL) == VAHEPITO_SHUT, "it is closed while they wait");
     for (int k = 0; k < EACH; k++) check(!pthread_join(taking[k], NULL), "a receiver ends");
-    drop_all();
-}
-
-static void *finishes_full(void *sender) {
-    uint64_t place = 99;
-    check(vahepito_finish_send(sender, &place) == VAHEPITO_FULL && place == 0, "the second send finds no room");
-    return NULL;
-}
-
-static void *finishes_shut(void *sender) {
-    uint64_t total = 0;
-    check(vahepito_finish_close(sender, &total) == VAHEPITO_SHUT && total == 1, "the close comes after it");
-    return NULL;
-}
-
-static void *finishes_ended(void *receiver) {
-    uint64_t total = 0;
-    check(vahepito_finish_take(receiver, NULL, &total) == VAHEPITO_ENDED && total == 1, "the second take is told the end");
-    return NULL;
-}
-
-/* Calls that were begun behind another one are finished once that is turned, and not before. */
-static void behind_another(void) {
-    vahepito_item item;
-    uint64_t place = 99;
-    open_for(1, (uint64_t)1 << 48, UINT32_MAX);
-    check(vahepito_begin_send(&senders[0], 1) == VAHEPITO_BEGUN, "a send is begun");
-    check(vahepito_begin_send(&senders[1], 2) == VAHEPITO_BEGUN, "and one behind it");
-    check(vahepito_begin_close(&senders[2]) == VAHEPITO_BEGUN, "and a close");
-    check(vahepito_begin_take(&receivers[0]) == VAHEPITO_BEGUN, "a take is begun");
-    check(vahepito_begin_take(&receivers[1]) == VAHEPITO_BEGUN, "and one behind it");
-    start(&sending[1], finishes_full, &senders[1]);
-    start(&sending[2], finishes_shut, &senders[2]);
-    start(&taking[1], finishes_ended, &receivers[1]);
-    let_them_sleep();
-    check(vahepito_finish_send(&senders[0], &place) == VAHEPITO_ACCEPTED && place == 0, "the first send is accepted");
-    check(!pthread_join(sending[1], NULL) && !pthread_join(sending[2], NULL), "those behind it end");
-    check(vahepito_finish_take(&receivers[0], &item, NULL) == VAHEPITO_GOT && item.body == 1, "the first take gets it");
-    check(!pthread_join(taking[1], NULL), "the one behind it ends");
-    drop_all();
+    free_queue();
 }
 
 /* What a call can't be made for: the out-parameters are 0 then, whatever they were. */
 static void refusals(void) {
-    vahepito_pass empty = VAHEPITO_PASS_EMPTY;
-    vahepito_item item = {9, 9, 9, 9};
+    const uint64_t words[2] = {1, 2};
+    const struct timespec moment = vahepito_after((uint64_t)100 << 30);
+    vahepito_item item = {9, 9, 9, 9, {9}};
     uint64_t number = 99;
     open_for(1, 2, UINT32_MAX);
-    check(vahepito_send(&empty, 1, &number) == VAHEPITO_NO_PASS && number == 0, "an empty handle doesn't send");
-    check(vahepito_take(&empty, &item, NULL) == VAHEPITO_NO_PASS && item.body == 0, "nor take");
-    check(vahepito_close(&empty, NULL) == VAHEPITO_NO_PASS, "nor close");
+    check(vahepito_take(&waits, &receivers[0], 0, &item, &number) == VAHEPITO_BAD_GROUPS && number == 0, "groups begin with 1");
+    check(item.count == 0 && item.words[0] == 0, "and there is no item");
+    check(vahepito_take_until(&waits, &receivers[0], 2, NULL, &moment, NULL) == VAHEPITO_BAD_GROUPS, "this queue has one");
+    check(vahepito_take_now(&waits, &receivers[0], UINT32_MAX, NULL, NULL) == VAHEPITO_BAD_GROUPS, "and no more");
     number = 99;
-    check(vahepito_send(&receivers[0], 1, NULL) == VAHEPITO_WRONG_SIDE, "a receiver doesn't send");
-    check(vahepito_close(&receivers[0], &number) == VAHEPITO_WRONG_SIDE && number == 0, "nor close");
-    number = 99;
-    check(vahepito_take(&senders[0], NULL, &number) == VAHEPITO_WRONG_SIDE && number == 0, "a sender doesn't take");
-    number = 99;
-    check(vahepito_finish_send(&senders[0], &number) == VAHEPITO_NOT_BEGUN && number == 0, "no send is finished that wasn't begun");
-    check(vahepito_finish_close(&senders[0], NULL) == VAHEPITO_NOT_BEGUN, "nor a close");
-    check(vahepito_finish_take(&receivers[0], NULL, NULL) == VAHEPITO_NOT_BEGUN, "nor a take");
-    check(vahepito_begin_take(&receivers[0]) == VAHEPITO_BEGUN, "a take is begun");
-    check(vahepito_take(&receivers[0], NULL, NULL) == VAHEPITO_BUSY, "no second one before its answer");
-    check(vahepito_finish_take(&receivers[0], NULL, NULL) == VAHEPITO_EMPTY, "and it is answered");
-    check(vahepito_begin_send(&senders[0], 5) == VAHEPITO_BEGUN, "a send is begun");
-    check(vahepito_send(&senders[0], 6, NULL) == VAHEPITO_BUSY && vahepito_close(&senders[0], NULL) == VAHEPITO_BUSY, "nor a send");
-    check(vahepito_finish_send(&senders[0], &number) == VAHEPITO_ACCEPTED && number == 0, "and it is answered");
-    check(vahepito_take(&receivers[1], &item, NULL) == VAHEPITO_GOT && item.body == 5, "once");
-    check(vahepito_send(&senders[1], 7, &number) == VAHEPITO_ACCEPTED && number == 1, "the last of its life");
-    check(vahepito_take(&receivers[1], NULL, NULL) == VAHEPITO_GOT, "is taken");
-    check(vahepito_send(&senders[1], 8, &number) == VAHEPITO_SPENT && number == 0, "and then it is spent");
-    drop_all();
+    check(vahepito_send_words(&waits, &senders[0], words, 0, &number) == VAHEPITO_BAD_WORDS && number == 0, "no word is no item");
+    check(vahepito_send_words_until(&waits, &senders[0], words, 2, &moment, NULL) == VAHEPITO_LONG, "one is all in this queue");
+    check(vahepito_send_words_now(&waits, &senders[0], words, 2, NULL) == VAHEPITO_LONG, "in each call");
+    check(vahepito_finish_send(&senders[0], &number) == VAHEPITO_NO_PASS && number == 0, "no send is finished that doesn't wait");
+    check(vahepito_finish_close(&senders[0], NULL) == VAHEPITO_NO_PASS, "nor a close");
+    check(vahepito_finish_take(&receivers[0], &item, NULL) == VAHEPITO_NO_PASS, "nor a take");
+    check(vahepito_send(&waits, &senders[0], 5, &number) == VAHEPITO_ACCEPTED && number == 0, "a send is accepted");
+    check(vahepito_take(&waits, &receivers[1], 1, &item, NULL) == VAHEPITO_GOT && item.words[0] == 5, "and taken");
+    check(vahepito_send(&waits, &senders[1], 7, &number) == VAHEPITO_ACCEPTED && number == 1, "the last of its life");
+    check(vahepito_take(&waits, &receivers[1], 1, NULL, NULL) == VAHEPITO_GOT, "is taken");
+    check(vahepito_send(&waits, &senders[1], 8, &number) == VAHEPITO_SPENT && number == 0, "and then it is spent");
+    free_queue();
 }
 
-/* A sender that may begin three sends waits for room until they are used up, and may still close. */
+/* With one place that may begin three sends, a send waits for room until they are used up, and a close is still made. */
 static void worn_while_it_waits(void) {
+    const vahepito_config config = {1, 1, 1, 64, (uint64_t)1 << 48, 3};
     uint64_t number = 99;
-    open_for(1, (uint64_t)1 << 48, 3);
-    check(vahepito_send(&senders[0], 1, NULL) == VAHEPITO_ACCEPTED, "there is room for one");
-    check(vahepito_send(&senders[0], 2, &number) == VAHEPITO_WORN && number == 0, "each try counts");
-    check(vahepito_close(&senders[0], &number) == VAHEPITO_SHUT && number == 1, "a worn sender closes");
-    check(vahepito_close(&senders[1], &number) == VAHEPITO_ALREADY && number == 1, "once");
-    drop_all();
+    open_with(&config, 1);
+    check(vahepito_send(&waits, &senders[0], 1, NULL) == VAHEPITO_ACCEPTED, "there is room for one");
+    check(vahepito_send(&waits, &senders[0], 2, &number) == VAHEPITO_WORN && number == 0, "each try counts");
+    check(vahepito_close(&waits, &senders[0], &number) == VAHEPITO_SHUT && number == 1, "a close is made when it is worn");
+    check(vahepito_close(&waits, &senders[1], &number) == VAHEPITO_ALREADY && number == 1, "once");
+    free_queue();
 }
 
-static uint64_t milliseconds(void) {
+static uint64_t nanoseconds(clockid_t clock) {
     struct timespec now;
-    check(timespec_get(&now, TIME_UTC) == TIME_UTC, "there is a clock");
-    return (uint64_t)now.tv_sec * 1000 + (uint64_t)now.tv_nsec / 1000000;
+    check(clock_gettime(clock, &now) == 0, "there is a clock");
+    return (uint64_t)now.tv_sec * 1000000000u + (uint64_t)now.tv_nsec;
 }
 
 static void *sends_second(void *sender) {
-    check(vahepito_send(sender, 2, NULL) == VAHEPITO_ACCEPTED, "a send that waits is accepted");
+    check(vahepito_send(&waits, sender, 2, NULL) == VAHEPITO_ACCEPTED, "a send that waits is accepted");
     return NULL;
 }
 
-/* How many sends are begun for one that waits for room, and how long that takes: the receiver lets so many times 20 ms
- * pass before it makes room. */
-static uint32_t tries_in(int rounds, uint64_t *time) {
+/* A send that waits for room begins few sends, however long it waits: at most nine until it has parked and was woken once. The
+ * first item was sent at the same place. */
+static void tries_are_few(void) {
     vahepito_item item;
     open_for(1, (uint64_t)1 << 48, UINT32_MAX);
-    check(vahepito_send(&senders[0], 1, NULL) == VAHEPITO_ACCEPTED, "there is room for one");
-    const uint64_t before = milliseconds();
+    check(vahepito_send(&waits, &senders[0], 1, NULL) == VAHEPITO_ACCEPTED, "there is room for one");
     start(&sending[1], sends_second, &senders[1]);
-    while (rounds-- > 0) let_them_sleep();
-    check(vahepito_take(&receivers[0], &item, NULL) == VAHEPITO_GOT && item.body == 1, "the first is taken");
+    sleep_for(300);
+    check(vahepito_take(&waits, &receivers[0], 1, &item, NULL) == VAHEPITO_GOT && item.words[0] == 1, "the first is taken");
     check(!pthread_join(sending[1], NULL), "a sender ends");
-    *time = milliseconds() - before;
-    check(vahepito_take(&receivers[0], &item, NULL) == VAHEPITO_GOT && item.body == 2, "and the second");
-    drop_all();
-    return item.number;
+    check(vahepito_take(&waits, &receivers[0], 1, &item, NULL) == VAHEPITO_GOT && item.words[0] == 2, "and the second");
+    check(item.number <= 10, "few sends were begun for it");
+    free_queue();
 }
 
-/* A send that waits tries seldom, since each try is used up: 17 times before it sleeps, and then at most once in a
- * millisecond but for the first few; and where it waits for long, more seldom still. */
-static void tries_are_few(void) {
-    uint64_t time;
-    uint32_t tries = tries_in(1, &time);
-    check(tries <= 24 + time, "few sends were begun for it");
-    tries = tries_in(20, &time);
-    check(time >= 400 && tries <= time / 2, "and fewer in each millisecond of a long wait");
+static void *takes_one(void *receiver) {
+    static uint64_t used;
+    const uint64_t before = nanoseconds(CLOCK_THREAD_CPUTIME_ID);
+    check(vahepito_take(&waits, receiver, 1, NULL, NULL) == VAHEPITO_GOT, "a take that waits gets an item");
+    used = nanoseconds(CLOCK_THREAD_CPUTIME_ID) - before;
+    return &used;
 }
 
-int main(void) {
+/* A call that waits uses no processor time. */
+static void waiting_is_parking(void) {
+    void *used;
+    open_for(1, (uint64_t)1 << 48, UINT32_MAX);
+    start(&taking[0], takes_one, &receivers[0]);
+    sleep_for(500);
+    check(vahepito_send(&waits, &senders[0], 1, NULL) == VAHEPITO_ACCEPTED, "there is room");
+    check(!pthread_join(taking[0], &used), "a receiver ends");
+    check(*(uint64_t *)used < 100000000, "it slept");
+    free_queue();
+}
+
+/* A call until a moment returns then, or before. An item or room that comes in time is found. */
+static void moments(void) {
+    const struct timespec wrong = {0, 2000000000};
+    struct timespec moment = vahepito_after(0);
+    vahepito_item item = {9, 9, 9, 9, {9}};
+    uint64_t number = 99, from = nanoseconds(CLOCK_MONOTONIC);
+    open_for(1, (uint64_t)1 << 48, UINT32_MAX);
+    check(vahepito_take_until(&waits, &receivers[0], 1, &item, &moment, &number) == VAHEPITO_EMPTY, "the moment is over");
+    check(item.words[0] == 0 && number == 0, "and there is no item");
+    check(vahepito_take_until(&waits, &receivers[0], 1, NULL, &wrong, NULL) == VAHEPITO_EMPTY, "no such moment comes");
+    moment = vahepito_after(30000000);
+    check(vahepito_take_until(&waits, &receivers[0], 1, &item, &moment, NULL) == VAHEPITO_EMPTY, "no item comes");
+    check(nanoseconds(CLOCK_MONOTONIC) - from >= 30000000, "until the moment");
+    check(vahepito_send_until(&waits, &senders[0], 1, &moment, &number) == VAHEPITO_ACCEPTED && number == 0, "there is room");
+    check(vahepito_send_now(&waits, &senders[0], 2, &number) == VAHEPITO_FULL && number == 0, "for one");
+    moment = vahepito_after(30000000);
+    from = nanoseconds(CLOCK_MONOTONIC);
+    check(vahepito_send_until(&waits, &senders[1], 2, &moment, NULL) == VAHEPITO_FULL, "no room comes");
+    check(nanoseconds(CLOCK_MONOTONIC) - from >= 20000000, "until the moment");
+    moment = vahepito_after((uint64_t)100 << 30);
+    start(&sending[1], sends_second, &senders[1]);
+    let_them_sleep();
+    check(vahepito_take_now(&waits, &receivers[0], 1, &item, NULL) == VAHEPITO_GOT && item.words[0] == 1, "there is one");
+    check(vahepito_take_until(&waits, &receivers[0], 1, &item, &moment, NULL) == VAHEPITO_GOT && item.words[0] == 2, "and one comes");
+    check(vahepito_take_now(&waits, &receivers[0], 1, NULL, NULL) == VAHEPITO_EMPTY, "and no more");
+    check(!pthread_join(sending[1], NULL), "a sender ends");
+    free_queue();
+}
+
+/* Sends and takes of 64 threads, of which a half have little time for each call, in two groups, with a capacity of three, and
+ * with fewer places than threads.
+ * Now and then a thread pauses for so long that others park. */
+struct worker {
+    vahepito_call *call;
+    uint64_t got, sum;
+    uint32_t group;
+    bool has_time;
+};
+
+static void pauses(uint64_t number) {
+    if (number % 50 == 0) sleep_for(1);
+}
+
+static void *sends_in_time(void *at) {
+    const struct worker *mine = at;
+    for (uint64_t body = 1; body <= items; body++) {
+        uint32_t code = VAHEPITO_FULL;
+        while (mine->has_time && code == VAHEPITO_FULL) {
+            const struct timespec soon = vahepito_after(50000);
+            code = vahepito_send_until(&waits, mine->call, body, &soon, NULL);
+        }
+        if (!mine->has_time) code = vahepito_send(&waits, mine->call, body, NULL);
+        check(code == VAHEPITO_ACCEPTED, "a send is accepted in the end");
+        pauses(body);
+    }
+    return NULL;
+}
+
+static void *takes_in_time(void *at) {
+    struct worker *mine = at;
+    vahepito_item item;
+    for (;;) {
+        const struct timespec soon = vahepito_after(50000);
+        const uint32_t code = mine->has_time ? vahepito_take_until(&waits, mine->call, mine->group, &item, &soon, NULL) : vahepito_take(&waits, mine->call, mine->group, &item, NULL);
+        if (code == VAHEPITO_ENDED) return NULL;
+        check(code == VAHEPITO_GOT || (mine->has_time && code == VAHEPITO_EMPTY), "a take gets an item, or its time is over");
+        if (code == VAHEPITO_GOT) mine->got++, mine->sum += item.words[0];
+        pauses(mine->got);
+    }
+}
+
+static void many_threads(void) {
+    const vahepito_config config = {MANY / 4, MANY / 8, 3, 64, (uint64_t)1 << 48, UINT32_MAX};
+    static struct worker sends[MANY], takes[MANY];
+    uint64_t got[2] = {0, 0}, sum[2] = {0, 0};
+    open_with(&config, 2);
+    for (int k = 0; k < MANY; k++) {
+        sends[k] = (struct worker){&senders[k], 0, 0, 0, k % 2 == 0};
+        takes[k] = (struct worker){&receivers[k], 0, 0, k / (MANY / 2) + 1, k % 2 == 0};
+        start(&taking[k], takes_in_time, &takes[k]);
+        start(&sending[k], sends_in_time, &sends[k]);
+    }
+    for (int k = 0; k < MANY; k++) check(!pthread_join(sending[k], NULL), "a sender ends");
+    check(vahepito_close(&waits, &senders[0], NULL) == VAHEPITO_SHUT, "the queue is closed");
+    for (int k = 0; k < MANY; k++) {
+        check(!pthread_join(taking[k], NULL), "a receiver ends");
+        got[k / (MANY / 2)] += takes[k].got;
+        sum[k / (MANY / 2)] += takes[k].sum;
+    }
+    for (int group = 0; group < 2; group++)
+        check(got[group] == MANY * items && sum[group] == MANY * (items * (items + 1) / 2), "each group has each item once");
+    free_queue();
+}
+
+int main(int count, char **words) {
+    if (count > 1) items = strtoull(words[1], NULL, 10);
+    alarm(120);
     refusals();
     worn_while_it_waits();
     tries_are_few();
-    behind_another();
+    waiting_is_parking();
+    moments();
     close_over_senders();
     close_over_receivers();
     room_for_one();
-    printf("%d items through room for one\n", EACH * ITEMS);
+    many_threads();
+    printf("%llu items through room for one\n", (unsigned long long)(EACH * items));
     return 0;
 }

@@ -2,17 +2,17 @@
  *
  * On one thread: what an opening and a send refuse, what a queue of bodies of one word refuses, and each number of words
  * sent and taken. Then two threads send 1,000 bodies each of one to four words through room for four, and two take until
- * the end. It ends with status 0 where each item came with the words that were sent, and each refusal was told. */
-#include "checks.h"
+ * the end. It ends with status 0 if each item came with the words that were sent, and each refusal was returned. */
+#include "by_handles.h"
 
 #include <pthread.h>
 #include <stddef.h>
 #include <stdio.h>
 
-_Static_assert(sizeof(vahepito_words_item) == 56, "vahepito_words_item");
-_Static_assert(offsetof(vahepito_words_item, place) == 0 && offsetof(vahepito_words_item, sender) == 8, "vahepito_words_item");
-_Static_assert(offsetof(vahepito_words_item, number) == 12 && offsetof(vahepito_words_item, count) == 16, "vahepito_words_item");
-_Static_assert(offsetof(vahepito_words_item, words) == 24, "vahepito_words_item");
+_Static_assert(sizeof(vahepito_item) == 56, "vahepito_item");
+_Static_assert(offsetof(vahepito_item, place) == 0 && offsetof(vahepito_item, sender) == 8, "vahepito_item");
+_Static_assert(offsetof(vahepito_item, number) == 12 && offsetof(vahepito_item, count) == 16, "vahepito_item");
+_Static_assert(offsetof(vahepito_item, words) == 24, "vahepito_item");
 
 enum { PASSES = 2, ITEMS = 1000 };
 
@@ -49,7 +49,7 @@ static void refused_openings(void) {
 /* What each call of several words refuses. Nothing is begun by it: the sender's first send is its first. */
 static void refused_calls(struct queue *queue) {
     vahepito_pass empty = VAHEPITO_PASS_EMPTY, *sender = &queue->senders[0], *receiver = &queue->receivers[0];
-    vahepito_words_item item = {99, 99, 99, 99, {99}};
+    vahepito_item item = {99, 99, 99, 99, {99}};
     uint64_t number = 99;
     uint32_t served = 99;
     check(vahepito_begin_send_words(&empty, five, 5) == VAHEPITO_NO_PASS, "an empty handle has no pass");
@@ -58,15 +58,15 @@ static void refused_calls(struct queue *queue) {
     check(vahepito_begin_send_words(sender, five, 5) == VAHEPITO_BAD_WORDS, "nor are five");
     check(vahepito_try_send_words(sender, five, 5, &number, &served) == VAHEPITO_BAD_WORDS, "a try tells so too");
     check(number == 0 && served == 0, "and no number");
-    check(vahepito_send_words(sender, five, 0, &number) == VAHEPITO_BAD_WORDS, "and a send that waits");
+    check(send_words_by(sender, five, 0, &number) == VAHEPITO_BAD_WORDS, "and a send that waits");
     check(vahepito_turn_take_words(sender, &item, &number, &served) == VAHEPITO_WRONG_SIDE, "a sender doesn't take");
     check(item.place == 0 && item.sender == 0 && item.number == 0 && item.count == 0, "there is no item");
     for (int at = 0; at < VAHEPITO_MOST_WORDS; at++) check(item.words[at] == 0, "nor a word of it");
     check(vahepito_turn_take_words(receiver, &item, &number, &served) == VAHEPITO_NOT_BEGUN, "no take was begun");
 }
 
-/* An item has the first of the five words, so many, and is the first sender's. */
-static void has_words(const vahepito_words_item *item, uint64_t place, size_t count) {
+/* An item has the first `count` of the five words, and is the first sender's. */
+static void has_words(const vahepito_item *item, uint64_t place, size_t count) {
     check(item->place == place && item->sender == 1 && item->number == place + 1, "an item is the one that was sent");
     check(item->count == count, "it tells how many words were sent");
     for (size_t at = 0; at < VAHEPITO_MOST_WORDS; at++)
@@ -76,7 +76,7 @@ static void has_words(const vahepito_words_item *item, uint64_t place, size_t co
 /* A body of one to four words, sent and taken by the calls that begin and turn, and by those that do both. */
 static void each_number(struct queue *queue) {
     vahepito_pass *sender = &queue->senders[0], *receiver = &queue->receivers[0];
-    vahepito_words_item item;
+    vahepito_item item;
     uint64_t number = 99;
     uint32_t served = 99;
     for (size_t count = 1; count <= VAHEPITO_MOST_WORDS; count++) {
@@ -92,32 +92,32 @@ static void each_number(struct queue *queue) {
         check(vahepito_try_take_words(receiver, &item, &number, &served) == VAHEPITO_GOT, "and a second one");
         has_words(&item, 2 * count - 1, count);
     }
-    check(vahepito_send(sender, five[0], NULL) == VAHEPITO_ACCEPTED, "a send of one word is one of words");
-    check(vahepito_take_words(receiver, &item, &number) == VAHEPITO_GOT && number == 0, "and taken as such");
+    check(send_by(sender, five[0], NULL) == VAHEPITO_ACCEPTED, "a send of one word is one of words");
+    check(take_words_by(receiver, &item, &number) == VAHEPITO_GOT && number == 0, "and taken as such");
     has_words(&item, 8, 1);
 }
 
 /* An item of one word has no room for the bodies of this queue: nothing is taken by a call that gives such a one. */
 static void no_room(struct queue *queue) {
     vahepito_pass *receiver = &queue->receivers[0];
-    vahepito_item one = {99, 99, 99, 99};
-    vahepito_words_item item;
+    vahepito_word_item one = {99, 99, 99, 99};
+    vahepito_item item;
     uint64_t number = 99;
     uint32_t served = 99;
-    check(vahepito_send_words(&queue->senders[0], five, 2, &number) == VAHEPITO_ACCEPTED && number == 9, "two words are sent");
+    check(send_words_by(&queue->senders[0], five, 2, &number) == VAHEPITO_ACCEPTED && number == 9, "two words are sent");
     check(vahepito_try_take(receiver, &one, &number, &served) == VAHEPITO_WIDE, "one word has no room for them");
     check(one.place == 0 && one.sender == 0 && one.number == 0 && one.body == 0 && number == 0 && served == 0, "nothing is told");
-    check(vahepito_take(receiver, &one, NULL) == VAHEPITO_WIDE, "for a take that waits neither");
+    check(take_by(receiver, &one, NULL) == VAHEPITO_WIDE, "for a take that waits neither");
     check(vahepito_turn_take_words(receiver, &item, &number, &served) == VAHEPITO_NOT_BEGUN, "no take was begun by them");
     check(vahepito_begin_take(receiver) == VAHEPITO_BEGUN, "a take is begun");
     check(vahepito_turn_take(receiver, &one, &number, &served) == VAHEPITO_WIDE, "nor does its turn tell one word");
-    check(vahepito_finish_take_words(receiver, &item, NULL) == VAHEPITO_GOT, "it goes on with all words");
+    check(finish_take_words(receiver, &item, NULL) == VAHEPITO_GOT, "it goes on with all words");
     has_words(&item, 9, 2);
 }
 
 /* A queue takes bodies of as many words as its opening says, and one of an older opening bodies of one word. */
 static void most_words(void) {
-    vahepito_words_item item;
+    vahepito_item item;
     for (uint32_t most = 0; most <= VAHEPITO_MOST_WORDS; most++) {
         struct queue queue = {{VAHEPITO_PASS_EMPTY}, {VAHEPITO_PASS_EMPTY}};
         const size_t room = most == 0 ? 1 : most;
@@ -131,19 +131,19 @@ static void most_words(void) {
                 continue;
             }
             check(code == VAHEPITO_BEGUN, "so many words are not");
-            check(vahepito_finish_send(&queue.senders[0], NULL) == VAHEPITO_ACCEPTED, "they are accepted");
-            check(vahepito_take_words(&queue.receivers[0], &item, NULL) == VAHEPITO_GOT, "and taken");
+            check(finish_send(&queue.senders[0], NULL) == VAHEPITO_ACCEPTED, "they are accepted");
+            check(take_words_by(&queue.receivers[0], &item, NULL) == VAHEPITO_GOT, "and taken");
             has_words(&item, count - 1, count);
         }
         drop(&queue);
     }
 }
 
-/* Sends bodies of one to four words in turn, each of which tells which one it is by all its words. */
+/* Sends bodies of one to four words in turn, whose words all depend on the number of the body. */
 static void *send_all(void *sender) {
     for (uint64_t sent = 1; sent <= ITEMS; sent++) {
         const uint64_t words[VAHEPITO_MOST_WORDS] = {sent, 2 * sent, 3 * sent, 4 * sent};
-        check(vahepito_send_words(sender, words, sent % 4 + 1, NULL) == VAHEPITO_ACCEPTED, "a send is accepted in the end");
+        check(send_words_by(sender, words, sent % 4 + 1, NULL) == VAHEPITO_ACCEPTED, "a send is accepted in the end");
     }
     return NULL;
 }
@@ -157,9 +157,9 @@ struct reader {
 static void *take_all(void *at) {
     struct reader *mine = at;
     uint64_t last[PASSES + 1] = {0};
-    vahepito_words_item item;
+    vahepito_item item;
     uint32_t code;
-    while ((code = vahepito_take_words(mine->pass, &item, &mine->total)) == VAHEPITO_GOT) {
+    while ((code = take_words_by(mine->pass, &item, &mine->total)) == VAHEPITO_GOT) {
         const uint64_t sent = item.words[0];
         check(sent > last[item.sender], "each sender's items come in order");
         check(item.count == sent % 4 + 1, "an item has as many words as were sent");
@@ -182,7 +182,7 @@ static void on_threads(void) {
         check(!pthread_create(&sending[k], NULL, send_all, &queue.senders[k]), "a thread starts");
     }
     for (int k = 0; k < PASSES; k++) check(!pthread_join(sending[k], NULL), "a thread ends");
-    check(vahepito_close(&queue.senders[0], NULL) == VAHEPITO_SHUT, "the queue is closed");
+    check(close_by(&queue.senders[0], NULL) == VAHEPITO_SHUT, "the queue is closed");
     for (int k = 0; k < PASSES; k++) check(!pthread_join(taking[k], NULL), "a thread ends");
     check(readers[0].got + readers[1].got == PASSES * ITEMS, "each item is taken once");
     check(readers[0].total == PASSES * ITEMS && readers[1].total == PASSES * ITEMS, "the end tells the total");

@@ -1,0 +1,177 @@
+/* The exports of the library that the Rust crate calls, for the tests in this folder: a queue whose calls are made by handles.
+ * This header isn't installed. A program in C has vahepito.h, whose calls need one pointer for all threads.
+ *
+ * A pass is one sender or one receiver of one queue, and it is held by a handle, a vahepito_pass. Passes are not copied and not
+ * shared by two threads at once: a queue has as many as its configuration says, all given by its opening. A queue of vahepito_open has one
+ * group of receivers, one of vahepito_open_groups up to 8.
+ *
+ * A body is one word of 64 bits. A queue of vahepito_open_words has bodies of one to four words, up to as many as its
+ * opening says: they are sent by the calls whose names end in _words, and taken by such calls alone; the other calls of a
+ * sender send one word there too.
+ *
+ * A call is begun, and then asked for its answer in turns. Turn every begun call to its end: if it is abandoned, or its handle
+ * dropped, no pass of its side may get an answer any more. No call but the three openings takes memory.
+ *
+ * The caller must do the following, and nothing checks it:
+ * - A handle begins as VAHEPITO_PASS_EMPTY, or all zero, and is filled by an opening alone. Its bytes are neither changed nor copied to a second
+ *   handle that is used; a handle may be moved to another place, and the old place is then not used.
+ * - A handle is given to one call at a time. It may go to another thread: by a mutex, a thread's start or join, or a
+ *   sequentially consistent atomic. Different handles may be used by different threads at once, of one queue or of many.
+ * All else is as vahepito.h says. */
+#ifndef VAHEPITO_HANDLES_H
+#define VAHEPITO_HANDLES_H
+
+#include "vahepito.h"
+
+#ifdef __cplusplus
+extern "C" {
+#endif
+
+/* An item of one word that was taken. */
+typedef struct {
+    uint64_t place;  /* which of the accepted items it is, from 0 */
+    uint32_t sender; /* whose, from 1 */
+    uint32_t number; /* which of its sender's sends, from 1 */
+    uint64_t body;   /* what was sent */
+} vahepito_word_item;
+
+/* Opens a queue of one group and fills the handles: senders[k] becomes sender k + 1, receivers[k] receiver k + 1. The
+ * handles are the caller's, all of them empty before; they share the queue, and the last one that is dropped frees it. Any
+ * thread may call.
+ * DONE; BAD_SENDERS to BAD_PER_SENDER, then BAD_HANDLES, then NO_MEMORY: no handle was changed. */
+uint32_t vahepito_open(const vahepito_config *config, vahepito_pass *senders, size_t sender_count,
+                       vahepito_pass *receivers, size_t receiver_count);
+
+/* Opens a queue of this number of groups, 1 to 8, with config->receivers receivers in each, and fills the handles: senders[k]
+ * becomes sender k + 1, receivers[k] receiver k + 1, which is of group k / config->receivers + 1. So there are
+ * groups * config->receivers handles of receivers. All else is as of vahepito_open, which is this call with one group.
+ * DONE; BAD_SENDERS to BAD_PER_SENDER, then BAD_GROUPS, then BAD_HANDLES, then NO_MEMORY: no handle was changed. */
+uint32_t vahepito_open_groups(const vahepito_config *config, uint32_t groups, vahepito_pass *senders, size_t sender_count,
+                              vahepito_pass *receivers, size_t receiver_count);
+
+/* Opens a queue of this number of groups, whose bodies have at most this number of words, 1 to 4, and fills the handles. All
+ * else is as of vahepito_open_groups, which is this call with one word. vahepito_turn_take_words and
+ * vahepito_try_take_words take its items; if a body may have more than one word, the calls for items of one word return
+ * WIDE.
+ * DONE; BAD_SENDERS to BAD_PER_SENDER, then BAD_GROUPS, then BAD_WORDS, then BAD_HANDLES, then NO_MEMORY: no handle was
+ * changed. */
+uint32_t vahepito_open_words(const vahepito_config *config, uint32_t groups, uint32_t words, vahepito_pass *senders,
+                             size_t sender_count, vahepito_pass *receivers, size_t receiver_count);
+
+/* The group of a receiver, from 1. The thread that holds the handle calls.
+ * DONE with the group. NO_PASS, WRONG_SIDE, BUSY as everywhere. Nothing changes. */
+uint32_t vahepito_group(vahepito_pass *receiver, uint32_t *group);
+
+/* Begins a send of this body. The thread that holds the handle calls.
+ * BEGUN: turn it. NO_PASS, WRONG_SIDE, BUSY, WORN: nothing has changed. */
+uint32_t vahepito_begin_send(vahepito_pass *sender, uint64_t body);
+
+/* Begins a send of `count` words, which are copied. The thread that holds the handle calls.
+ * BEGUN: turn it. NO_PASS, WRONG_SIDE, BUSY, then BAD_WORDS, LONG, then WORN: nothing has changed. */
+uint32_t vahepito_begin_send_words(vahepito_pass *sender, const uint64_t *words, size_t count);
+
+/* One turn of a send, of one word or of several. The thread that holds the handle calls.
+ * ACCEPTED with the place, FULL, CLOSED, SPENT: the sender is idle again, and this turn served `served` calls (0 if another
+ * pass served it). WAITING: turn again. NO_PASS, WRONG_SIDE, NOT_BEGUN: nothing has changed. */
+uint32_t vahepito_turn_send(vahepito_pass *sender, uint64_t *place, uint32_t *served);
+
+/* Begins a send, and turns it once: the codes of both. After WAITING continue with vahepito_turn_send. */
+uint32_t vahepito_try_send(vahepito_pass *sender, uint64_t body, uint64_t *place, uint32_t *served);
+
+/* The same of `count` words: the codes of vahepito_begin_send_words and vahepito_turn_send. */
+uint32_t vahepito_try_send_words(vahepito_pass *sender, const uint64_t *words, size_t count, uint64_t *place, uint32_t *served);
+
+/* Whether the sender has begun as many sends as it may: its next send returns WORN. The thread that holds the handle
+ * calls.
+ * WORN, FRESH. NO_PASS, WRONG_SIDE, BUSY as everywhere. Nothing changes. */
+uint32_t vahepito_is_worn(vahepito_pass *sender);
+
+/* Begins a close of the queue. The thread that holds the handle calls.
+ * BEGUN: turn it. NO_PASS, WRONG_SIDE, BUSY: nothing has changed. An exhausted sender may close. */
+uint32_t vahepito_begin_close(vahepito_pass *sender);
+
+/* One turn of a close. The thread that holds the handle calls.
+ * SHUT, ALREADY with the total: the sender is idle again, and this turn served `served` calls. WAITING: turn again.
+ * NO_PASS, WRONG_SIDE, NOT_BEGUN: nothing has changed. */
+uint32_t vahepito_turn_close(vahepito_pass *sender, uint64_t *total, uint32_t *served);
+
+/* Begins a take. The thread that holds the handle calls.
+ * BEGUN: turn it. NO_PASS, WRONG_SIDE, BUSY: nothing has changed. */
+uint32_t vahepito_begin_take(vahepito_pass *receiver);
+
+/* One turn of a take. The thread that holds the handle calls.
+ * GOT with the item, EMPTY, ENDED with the total: the receiver is idle again, and this turn served `served` calls.
+ * WAITING: turn again. NO_PASS, WRONG_SIDE, NOT_BEGUN; WIDE, of any pass of a queue whose bodies may have several words:
+ * nothing has changed. */
+uint32_t vahepito_turn_take(vahepito_pass *receiver, vahepito_word_item *item, uint64_t *total, uint32_t *served);
+
+/* Begins a take, and turns it once: the codes of both. After WAITING continue with vahepito_turn_take. */
+uint32_t vahepito_try_take(vahepito_pass *receiver, vahepito_word_item *item, uint64_t *total, uint32_t *served);
+
+/* The same two calls, of an item with all words of its body. They never return WIDE. */
+uint32_t vahepito_turn_take_words(vahepito_pass *receiver, vahepito_item *item, uint64_t *total, uint32_t *served);
+uint32_t vahepito_try_take_words(vahepito_pass *receiver, vahepito_item *item, uint64_t *total, uint32_t *served);
+
+/* Drops a pass at any moment, and leaves the handle empty. A begun call is abandoned: it may stay in the queue unanswered,
+ * and stop its side, as said above. The last handle of a queue frees it. The thread that holds the handle
+ * calls.
+ * DONE, NO_PASS. */
+uint32_t vahepito_drop(vahepito_pass *pass);
+
+#if defined(VAHEPITO_TOLD)
+static inline uint32_t vahepito_got_word(uint32_t code, const vahepito_word_item *item) {
+    if (code == VAHEPITO_GOT) __tsan_acquire(vahepito_hand(item->body));
+    return code;
+}
+
+static inline uint32_t vahepito_begin_send_told(vahepito_pass *sender, uint64_t body) {
+    __tsan_release(vahepito_hand(body));
+    return vahepito_begin_send(sender, body);
+}
+
+static inline uint32_t vahepito_try_send_told(vahepito_pass *sender, uint64_t body, uint64_t *place, uint32_t *served) {
+    __tsan_release(vahepito_hand(body));
+    return vahepito_try_send(sender, body, place, served);
+}
+
+static inline uint32_t vahepito_begin_send_words_told(vahepito_pass *sender, const uint64_t *words, size_t count) {
+    vahepito_hand_words(words, count);
+    return vahepito_begin_send_words(sender, words, count);
+}
+
+static inline uint32_t vahepito_try_send_words_told(vahepito_pass *sender, const uint64_t *words, size_t count, uint64_t *place, uint32_t *served) {
+    vahepito_hand_words(words, count);
+    return vahepito_try_send_words(sender, words, count, place, served);
+}
+
+static inline uint32_t vahepito_turn_take_told(vahepito_pass *receiver, vahepito_word_item *item, uint64_t *total, uint32_t *served) {
+    return vahepito_got_word(vahepito_turn_take(receiver, item, total, served), item);
+}
+
+static inline uint32_t vahepito_try_take_told(vahepito_pass *receiver, vahepito_word_item *item, uint64_t *total, uint32_t *served) {
+    return vahepito_got_word(vahepito_try_take(receiver, item, total, served), item);
+}
+
+static inline uint32_t vahepito_turn_take_words_told(vahepito_pass *receiver, vahepito_item *item, uint64_t *total, uint32_t *served) {
+    return vahepito_got(vahepito_turn_take_words(receiver, item, total, served), item);
+}
+
+static inline uint32_t vahepito_try_take_words_told(vahepito_pass *receiver, vahepito_item *item, uint64_t *total, uint32_t *served) {
+    return vahepito_got(vahepito_try_take_words(receiver, item, total, served), item);
+}
+
+#define vahepito_begin_send vahepito_begin_send_told
+#define vahepito_try_send vahepito_try_send_told
+#define vahepito_turn_take vahepito_turn_take_told
+#define vahepito_try_take vahepito_try_take_told
+#define vahepito_begin_send_words vahepito_begin_send_words_told
+#define vahepito_try_send_words vahepito_try_send_words_told
+#define vahepito_turn_take_words vahepito_turn_take_words_told
+#define vahepito_try_take_words vahepito_try_take_words_told
+#endif
+
+#ifdef __cplusplus
+}
+#endif
+
+#endif

@@ -1,0 +1,419 @@
+/* No wake-up is lost: the code of vahepito_wait.h in every interleaving of small models.
+ *
+ * A process makes calls of the header. Its steps are the header's accesses to the counts of a line, its futex calls, and its
+ * calls of the library. Here the counts, the futex and the library are models: a bounded queue whose calls take one step, and
+ * the kernel's futex, which may wake any one that sleeps, may time out, and may once wake a process for nothing. The search
+ * visits all states that the processes reach. It replays a process from its start with the results of its steps so far, up
+ * to the next step.
+ *
+ * It ends with status 0 if this holds in each state in which no process makes a step: no process sleeps whose try would find
+ * something, and the counts of each line are those of the processes that sleep there. With --faults it ends with status 0 if
+ * this fails in some state: so the Makefile compiles it with each fault of wait_faults.txt in the header. */
+#include <errno.h>
+#include <limits.h>
+#include <setjmp.h>
+#include <stdarg.h>
+#include <stdbool.h>
+#include <stdint.h>
+#include <stdio.h>
+#include <stdlib.h>
+#include <string.h>
+#include <sys/syscall.h>
+#include <unistd.h>
+
+#define __atomic_load_n(place, order) model_load(place)
+#define __atomic_fetch_add(place, by, order) model_add(place, by)
+#define __atomic_compare_exchange_n(place, old, new, weak, order, other) model_exchange(place, old, new)
+#define syscall model_futex
+#define VAHEPITO_ROUNDS 1
+static uint64_t model_load(const uint64_t *place);
+static uint64_t model_add(const uint64_t *place, uint64_t by);
+static bool model_exchange(const uint64_t *place, uint64_t *old, uint64_t new);
+#include HEADER
+
+enum { PROCESSES = 4, GROUPS = 2, LINES = 1 + GROUPS, CALLS = 3, LONGEST = 400 };
+
+/* ---- models */
+
+/* The calls of each process, in order: a send or a take of group 1 or 2 (s, t, u), the same until a moment (S, T, U), or now
+ * (m, n); a send that is exhausted at its third try (w); a send of vahepito.h with a notification after it (r), or, as a
+ * fault, before it (e); a close (c). */
+struct model {
+    const char *calls[PROCESSES];
+    int capacity, groups, life, wakes_for_nothing;
+};
+
+static const struct model *model;
+
+/* ---- a process, step by step */
+
+enum kind { DONE, LOAD, ADD, EXCHANGE, SLEEP, WAKE, TRY_SEND, TRY_TAKE, CLOSE };
+
+struct step {
+    enum kind kind;
+    int line; /* or the group of a take */
+    uint64_t value, next;
+    bool has_time;
+};
+
+/* A process after some steps of a call: which one that is, the result of the last step, and the next step. Node 0 is after all
+ * calls. */
+struct node {
+    struct step step;
+    uint64_t result;
+    uint32_t before, child, sibling;
+    int process, call;
+};
+
+static struct node *nodes;
+static uint32_t node_count, node_room;
+static uint32_t first_nodes[PROCESSES][CALLS + 1];
+
+static vahepito_waits waits;
+static uint64_t results[LONGEST];
+static int result_count, result_at, tries;
+static struct step next_step;
+static jmp_buf at_next_step;
+
+static uint64_t result_of(struct step step) {
+    if (result_at < result_count) return results[result_at++];
+    next_step = step;
+    longjmp(at_next_step, 1);
+}
+
+static int line_of(const void *place) {
+    const vahepito_line *line = place;
+    return line == &waits.senders ? 0 : 1 + (int)(line - waits.groups);
+}
+
+/* Only the first two groups have processes: the lines of the others are empty. */
+static uint64_t model_load(const uint64_t *place) {
+    const int line = line_of(place);
+    return line >= LINES ? 0 : result_of((struct step){LOAD, line, 0, 0, false});
+}
+
+static uint64_t model_add(const uint64_t *place, uint64_t by) {
+    return result_of((struct step){ADD, line_of(place), by, 0, false});
+}
+
+static bool model_exchange(const uint64_t *place, uint64_t *old, uint64_t new) {
+    const uint64_t found = result_of((struct step){EXCHANGE, line_of(place), *old, new, false});
+    const bool is_same = found == *old;
+    *old = found;
+    return is_same;
+}
+
+long model_futex(long number, ...) {
+    va_list rest;
+    va_start(rest, number);
+    const void *place = va_arg(rest, void *);
+    const int operation = va_arg(rest, int) & ~FUTEX_PRIVATE_FLAG, value = va_arg(rest, int);
+    const bool has_time = va_arg(rest, void *) != NULL;
+    va_end(rest);
+    const enum kind kind = operation == FUTEX_WAKE ? WAKE : SLEEP;
+    errno = (int)result_of((struct step){kind, line_of(place), (uint64_t)value, 0, has_time});
+    return errno ? -1 : 0;
+}
+
+/* The library. One caller is exhausted at the third try. */
+static vahepito_call callers[] = {VAHEPITO_CALL(NULL), VAHEPITO_CALL(NULL)};
+#define EXHAUSTED (&callers[0])
+#define MINE (&callers[1])
+
+uint32_t vahepito_call_send(vahepito_call *call, const uint64_t *words, size_t count, uint64_t *place) {
+    (void)words, (void)count, (void)place;
+    if (call == EXHAUSTED && tries++ > 1) return VAHEPITO_WORN;
+    return (uint32_t)result_of((struct step){TRY_SEND, 0, 0, 0, false});
+}
+
+uint32_t vahepito_call_take(vahepito_call *call, uint32_t group, vahepito_item *item, uint64_t *total) {
+    (void)call, (void)item, (void)total;
+    return (uint32_t)result_of((struct step){TRY_TAKE, (int)group, 0, 0, false});
+}
+
+uint32_t vahepito_call_close(vahepito_call *call, uint64_t *total) {
+    (void)call, (void)total;
+    return (uint32_t)result_of((struct step){CLOSE, 0, 0, 0, false});
+}
+
+uint32_t vahepito_call_turn_close(vahepito_call *call, uint64_t *total) {
+    (void)call, (void)total;
+    return VAHEPITO_SHUT;
+}
+
+uint32_t vahepito_call_turn_send(vahepito_call *call, uint64_t *place) {
+    (void)call, (void)place;
+    abort();
+}
+
+uint32_t vahepito_call_turn_take(vahepito_call *call, vahepito_item *item, uint64_t *total) {
+    (void)call, (void)item, (void)total;
+    abort();
+}
+
+static void make_call(char call) {
+    static const struct timespec some_time = {1, 0};
+    static const uint64_t word = 1;
+    uint64_t place;
+    switch (call) {
+    case 's': vahepito_send(&waits, MINE, 1, NULL); break;
+    case 'S': vahepito_send_until(&waits, MINE, 1, &some_time, NULL); break;
+    case 'm': vahepito_send_now(&waits, MINE, 1, NULL); break;
+    case 'w': tries = 0, vahepito_send(&waits, EXHAUSTED, 1, NULL); break;
+    case 'r': if (vahepito_call_send(MINE, &word, 1, &place) == VAHEPITO_ACCEPTED) vahepito_notify_item(&waits); break;
+    case 'e': vahepito_notify_item(&waits), vahepito_call_send(MINE, &word, 1, &place); break;
+    case 't': case 'u': vahepito_take(&waits, MINE, 1 + (call == 'u'), NULL, NULL); break;
+    case 'T': case 'U': vahepito_take_until(&waits, MINE, 1 + (call == 'U'), NULL, &some_time, NULL); break;
+    case 'n': vahepito_take_now(&waits, MINE, 1, NULL, NULL); break;
+    case 'c': vahepito_close(&waits, MINE, NULL); break;
+    default: abort();
+    }
+}
+
+/* The step that comes after this node. */
+static struct step step_after(uint32_t node) {
+    result_at = result_count = 0;
+    for (uint32_t at = node; nodes[at].before != 0; at = nodes[at].before) result_count++;
+    if (result_count > LONGEST) abort();
+    for (uint32_t at = node, k = (uint32_t)result_count; nodes[at].before != 0; at = nodes[at].before) results[--k] = nodes[at].result;
+    if (setjmp(at_next_step)) return next_step;
+    make_call(model->calls[nodes[node].process][nodes[node].call]);
+    return (struct step){DONE, 0, 0, 0, false};
+}
+
+static uint32_t add_node(int process, int call, uint32_t before, uint64_t result) {
+    if (node_count == node_room) {
+        node_room = node_room ? 2 * node_room : 1024;
+        nodes = realloc(nodes, node_room * sizeof *nodes);
+        if (!nodes) abort();
+    }
+    const uint32_t node = node_count++;
+    nodes[node] = (struct node){{DONE, 0, 0, 0, false}, result, before, 0, 0, process, call};
+    if (node != 0) nodes[node].step = step_after(node);
+    return node;
+}
+
+/* The node after a step with this result; if the call is over then, the first one of the next call. */
+static uint32_t node_after(uint32_t node, uint64_t result) {
+    uint32_t child = nodes[node].child;
+    const int process = nodes[node].process, call = nodes[node].call;
+    while (child != 0 && nodes[child].result != result) child = nodes[child].sibling;
+    if (child == 0) {
+        child = add_node(process, call, node, result);
+        nodes[child].sibling = nodes[node].child;
+        nodes[node].child = child;
+    }
+    return nodes[child].step.kind == DONE ? first_nodes[process][call + 1] : child;
+}
+
+/* ---- states */
+
+enum sleep { AWAKE, ASLEEP, WOKEN };
+
+struct state {
+    uint64_t counts[LINES];
+    uint32_t nodes[PROCESSES];
+    uint8_t sleeps[PROCESSES], woken_for_nothing[PROCESSES];
+    uint8_t sent, taken[GROUPS], closed;
+};
+
+static struct state *states, *left;
+static size_t state_count, state_room, left_count, left_room;
+static uint32_t *places;
+
+static uint64_t hash_of(const struct state *state) {
+    uint64_t hash = 0;
+    uint64_t words[sizeof *state / 8];
+    memcpy(words, state, sizeof words);
+    for (size_t at = 0; at < sizeof *state / 8; at++) hash = (hash ^ words[at] ^ hash >> 32) * UINT64_C(0x9e3779b97f4a7c15);
+    return hash ^ hash >> 29;
+}
+
+/* Adds a state to those that were reached, and to those from which the search continues, if it is new. */
+static void reach(const struct state *state) {
+    if (2 * state_count >= state_room) {
+        state_room = state_room ? 2 * state_room : 1 << 16;
+        states = realloc(states, state_room / 2 * sizeof *states);
+        free(places);
+        places = calloc(state_room, sizeof *places);
+        if (!states || !places) abort();
+        for (size_t at = 0; at < state_count; at++) {
+            uint64_t place = hash_of(&states[at]) % state_room;
+            while (places[place] != 0) place = (place + 1) % state_room;
+            places[place] = (uint32_t)at + 1;
+        }
+    }
+    uint64_t place = hash_of(state) % state_room;
+    for (; places[place] != 0; place = (place + 1) % state_room)
+        if (memcmp(&states[places[place] - 1], state, sizeof *state) == 0) return;
+    states[state_count++] = *state;
+    places[place] = (uint32_t)state_count;
+    if (left_count == left_room) {
+        left_room = left_room ? 2 * left_room : 1024;
+        left = realloc(left, left_room * sizeof *left);
+        if (!left) abort();
+    }
+    left[left_count++] = *state;
+}
+
+static int room(const struct state *state) {
+    int least = state->taken[0];
+    if (model->groups == 2 && state->taken[1] < least) least = state->taken[1];
+    return least + model->capacity - state->sent;
+}
+
+static uint32_t try_send(struct state *state) {
+    if (state->closed) return VAHEPITO_CLOSED;
+    if (state->sent == model->life) return VAHEPITO_SPENT;
+    if (room(state) == 0) return VAHEPITO_FULL;
+    state->sent++;
+    return VAHEPITO_ACCEPTED;
+}
+
+static uint32_t try_take(struct state *state, int group) {
+    if (state->taken[group - 1] == state->sent) return state->closed ? VAHEPITO_ENDED : VAHEPITO_EMPTY;
+    state->taken[group - 1]++;
+    return VAHEPITO_GOT;
+}
+
+static void advance(struct state state, int process, uint64_t result) {
+    state.sleeps[process] = AWAKE;
+    state.nodes[process] = node_after(state.nodes[process], result);
+    reach(&state);
+}
+
+/* The load, before this node, of the value that its exchange expects. */
+static uint32_t load_before(uint32_t node) {
+    do node = nodes[node].before;
+    while (nodes[node].step.kind != LOAD);
+    return node;
+}
+
+static bool sleeps_in(const struct state *state, int process, int line) {
+    return state->sleeps[process] == ASLEEP && nodes[state->nodes[process]].step.line == line;
+}
+
+/* The states after one step of this process. */
+static void search_after(const struct state *state, int process) {
+    const struct step step = nodes[state->nodes[process]].step;
+    struct state next = *state;
+    uint64_t *const counts = &next.counts[step.line % LINES];
+    const uint64_t before = *counts;
+    switch (step.kind) {
+    case DONE: break;
+    case LOAD: advance(next, process, before); break;
+    case ADD: *counts += step.value, advance(next, process, 0); break;
+    case EXCHANGE:
+        /* One that fails has loaded the value that it found. */
+        if (before != step.value) next.nodes[process] = load_before(next.nodes[process]);
+        else *counts = step.next;
+        advance(next, process, before);
+        break;
+    case SLEEP:
+        if (state->sleeps[process] == ASLEEP) {
+            if (step.has_time) advance(next, process, ETIMEDOUT);
+            if (state->woken_for_nothing[process] < model->wakes_for_nothing) next.woken_for_nothing[process]++, advance(next, process, 0);
+        } else if (state->sleeps[process] == WOKEN || (uint32_t)before != (uint32_t)step.value) {
+            advance(next, process, 0);
+        } else {
+            next.sleeps[process] = ASLEEP;
+            reach(&next);
+        }
+        break;
+    case WAKE: {
+        bool none = true;
+        for (int other = 0; other < PROCESSES; other++) {
+            if (!sleeps_in(state, other, step.line)) continue;
+            none = false;
+            if (step.value == 1) next = *state;
+            next.sleeps[other] = WOKEN;
+            if (step.value == 1) advance(next, process, 0);
+        }
+        if (none || step.value != 1) advance(next, process, 0);
+        break;
+    }
+    case TRY_SEND: {
+        const uint32_t code = try_send(&next);
+        advance(next, process, code);
+        break;
+    }
+    case TRY_TAKE: {
+        const uint32_t code = try_take(&next, step.line);
+        advance(next, process, code);
+        break;
+    }
+    case CLOSE: next.closed = 1, advance(next, process, VAHEPITO_WAITING); break;
+    }
+}
+
+/* Whether no process makes a step, though the try of a process that sleeps would find something, or the counts of a line aren't
+ * the number of those that sleep there. */
+static bool is_wrong(const struct state *state) {
+    uint64_t sleeping[LINES] = {0};
+    bool is_missed = false;
+    for (int process = 0; process < PROCESSES; process++) {
+        const struct step *step = &nodes[state->nodes[process]].step;
+        if (step->kind == DONE) continue;
+        if (state->sleeps[process] != ASLEEP) return false;
+        sleeping[step->line] += VAHEPITO_ONE_WAITING;
+        is_missed |= state->closed || (step->line == 0 ? room(state) > 0 : state->taken[step->line - 1] < state->sent);
+    }
+    return is_missed || memcmp(sleeping, state->counts, sizeof sleeping) != 0;
+}
+
+/* Searches all states of a model. Returns whether one is wrong. */
+static bool search(const struct model *it) {
+    struct state start;
+    memset(&start, 0, sizeof start);
+    model = it;
+    node_count = 0;
+    state_count = left_count = 0;
+    if (places) memset(places, 0, state_room * sizeof *places);
+    memset(first_nodes, 0, sizeof first_nodes);
+    add_node(0, 0, 0, 0);
+    for (int process = 0; process < PROCESSES; process++) {
+        for (int call = 0; it->calls[process][call]; call++) first_nodes[process][call] = add_node(process, call, 0, 0);
+        start.nodes[process] = first_nodes[process][0];
+    }
+    reach(&start);
+    while (left_count > 0) {
+        const struct state state = left[--left_count];
+        if (is_wrong(&state)) return true;
+        for (int process = 0; process < PROCESSES; process++) search_after(&state, process);
+    }
+    return false;
+}
+
+static const struct model models[] = {
+    {{"t", "s", "", ""}, 1, 1, 9, 1},    {{"T", "s", "s", ""}, 2, 1, 9, 1},  {{"t", "t", "ss", ""}, 2, 1, 9, 0},
+    {{"t", "t", "s", "s"}, 2, 1, 9, 0},  {{"t", "T", "ss", ""}, 2, 1, 9, 0}, {{"t", "T", "s", "n"}, 2, 1, 9, 0},
+    {{"t", "t", "r", "r"}, 2, 1, 9, 0},  {{"t", "t", "sc", ""}, 2, 1, 9, 0}, {{"t", "u", "s", ""}, 1, 2, 9, 0},
+    {{"tt", "uu", "ss", ""}, 1, 2, 9, 0}, {{"tt", "ss", "", ""}, 1, 1, 9, 1}, {{"tt", "s", "s", ""}, 1, 1, 9, 0},
+    {{"tt", "S", "ss", ""}, 1, 1, 9, 0}, {{"tt", "w", "ss", ""}, 1, 1, 9, 0}, {{"ms", "s", "c", ""}, 1, 1, 9, 0},
+    {{"ms", "s", "s", "t"}, 1, 1, 1, 0}, {{"tc", "ss", "S", ""}, 1, 1, 9, 0}, {{"c", "ss", "s", "t"}, 1, 1, 9, 0},
+    {{"t", "t", "c", "s"}, 1, 1, 9, 0},  {{"t", "T", "T", "s"}, 2, 1, 9, 0},  {{"tt", "w", "s", "s"}, 1, 1, 9, 0},
+    {{"t", "U", "u", "s"}, 1, 2, 9, 0}, {{"tt", "u", "ss", ""}, 1, 2, 9, 1},
+};
+
+int main(int count, char **words) {
+    const bool faults = count > 1 && strcmp(words[1], "--faults") == 0;
+    const struct model early = {{"t", "e", "", ""}, 1, 1, 9, 0};
+    size_t all = 0;
+    bool found = false;
+    for (size_t at = 0; at < sizeof models / sizeof *models && !found; at++) {
+        found = search(&models[at]);
+        all += state_count;
+        if (count > 1 && !faults) fprintf(stderr, "%s %s %s %s: %zu states, %u nodes\n", model->calls[0], model->calls[1], model->calls[2], model->calls[3], state_count, node_count);
+    }
+    if (faults) return found ? 0 : 1;
+    if (found) {
+        fprintf(stderr, "a wake-up is lost: %s %s %s %s\n", model->calls[0], model->calls[1], model->calls[2], model->calls[3]);
+        return 1;
+    }
+    if (!search(&early)) {
+        fprintf(stderr, "a notification before its send isn't found\n");
+        return 1;
+    }
+    printf("no wake-up is lost\n");
+    return all > 1000 ? 0 : 1;
+}

@@ -1,0 +1,94 @@
+/* vahepito.hpp: threads send pairs and take them, they are copied and moved, calls wait until a moment, and the last sender closes. */
+#include "vahepito.hpp"
+
+#include <cstdio>
+#include <cstdlib>
+#include <thread>
+
+namespace {
+
+struct pair {
+    std::uint64_t number;
+    double half;
+    char letter;
+};
+
+void check(bool holds, const char *what) {
+    if (holds) return;
+    std::fprintf(stderr, "not so: %s\n", what);
+    std::exit(1);
+}
+
+template <class F, class... With> std::uint32_t code_of(F call, With &...with) {
+    try {
+        call(with...);
+    } catch (const vahepito::error &error) {
+        return error.code;
+    }
+    return VAHEPITO_DONE;
+}
+
+void one_thread() {
+    vahepito::config config;
+    config.capacity = 1;
+    auto [sender, receivers] = vahepito::open<int>(config);
+    const auto soon = [] { return std::chrono::steady_clock::now() + std::chrono::milliseconds(20); };
+    check(sender.send(-7), "there is room for one");
+    check(sender.try_send(8) == vahepito::sent::full, "and no more");
+    vahepito::sender<int> copy = sender;
+    auto from = std::chrono::steady_clock::now();
+    check(copy.send_until(8, soon()) == vahepito::sent::full, "until the moment");
+    check(std::chrono::steady_clock::now() - from >= std::chrono::milliseconds(20), "and not before");
+    vahepito::receiver<int> receiver = std::move(receivers[0]);
+    check(receiver.take() == -7, "it is as it was sent");
+    check(!receiver.try_take() && !receiver.ended() && !receiver.take_until(soon()), "there is none");
+    check(code_of([](auto &it) { it.take(); }, receivers[0]) == VAHEPITO_NO_PASS, "a receiver that was moved from takes nothing");
+    { vahepito::sender<int> other = std::move(sender); }
+    check(code_of([](auto &it) { it.send(1); }, sender) == VAHEPITO_NO_PASS && !sender.close(), "nor does a sender send");
+    check(copy.send(9), "a queue with a sender is open");
+    vahepito::receiver<int> second = receiver;
+    { auto last = std::move(copy); }
+    check(second.take() == 9 && !receiver.take() && receiver.ended(), "the last sender closes it");
+    config.capacity = 0;
+    check(code_of([](auto &it) { vahepito::open<int>(it); }, config) == VAHEPITO_BAD_CAPACITY, "an opening is refused");
+    config.capacity = 1;
+    auto [closing, left] = vahepito::open<pair>(config);
+    auto again = closing;
+    check(closing.close() && !again.close() && !closing.send({}), "a close is seen by all");
+    closing = std::move(again);
+    check(!left[0].take(), "and ends the takes");
+}
+
+std::uint64_t many_threads() {
+    constexpr std::uint32_t each = 4, items = 2000;
+    vahepito::config config;
+    config.capacity = 3;
+    config.groups = 2;
+    config.senders = config.receivers = 3;
+    auto [first, receivers] = vahepito::open<pair>(config);
+    std::atomic<std::uint64_t> taken{0};
+    std::vector<std::thread> threads;
+    for (auto &its : receivers)
+        for (std::uint32_t thread = 0; thread < each; thread++)
+            threads.emplace_back([receiver = its, &taken]() mutable {
+                while (const auto item = receiver.take()) {
+                    check(item->half * 2 == double(item->number) && item->letter == 'v', "an item is as it was sent");
+                    taken++;
+                }
+            });
+    for (std::uint32_t thread = 0; thread < each; thread++)
+        threads.emplace_back([sender = first]() mutable {
+            for (std::uint64_t number = 0; number < items; number++) check(sender.send({number, double(number) / 2, 'v'}), "it is open");
+        });
+    { auto last = std::move(first); }
+    for (auto &thread : threads) thread.join();
+    check(taken == std::uint64_t(2) * each * items, "each group has each item once");
+    return taken;
+}
+
+} // namespace
+
+int main() {
+    one_thread();
+    std::printf("%llu items\n", static_cast<unsigned long long>(many_threads()));
+}
