@@ -1,40 +1,37 @@
-//! How the time passes until the next turn, or the next try.
+//! The pauses of a thread between its tries, before it parks.
+use std::hint::spin_loop;
 use std::thread;
 use std::time::{Duration, Instant};
 
-/// So many rounds spin, each twice as long as the one before.
-const SPINS: u32 = 7;
-/// So many rounds more give the processor to another thread.
-const YIELDS: u32 = 256;
-/// How long a round sleeps then: at first, and at most.
-const SLEEPS: (Duration, Duration) = (Duration::from_micros(50), Duration::from_millis(1));
 /// How long the other side goes ahead: some items, and less than a park costs.
 const AHEAD: Duration = Duration::from_micros(1);
 
-#[derive(Default)]
-pub struct Backoff {
-    round: u32,
-}
+/// A number of rounds that spin, each twice as long as the one before, and then a number of rounds that yield the
+/// processor.
+pub struct Rounds(u32, u32);
 
-impl Backoff {
-    /// Until the next turn of a call that was begun. Others may wait for this call, so it never
-    /// sleeps.
-    pub fn between_turns(&mut self) {
-        match self.round {
-            0..SPINS => (0..1 << self.round).for_each(|_| std::hint::spin_loop()),
-            _ => thread::yield_now(),
+/// Until something comes from the other side: a park costs some microseconds.
+pub const FOR_OTHERS: Rounds = Rounds(7, 5);
+/// Until the own side goes on: about 25 microseconds. A thread that yields may wait for milliseconds until it runs again.
+/// The thread sanitizer sees neither std's parks nor what std does within its locks: under it no thread parks here.
+pub const FOR_OWN_SIDE: Rounds = Rounds(9, if cfg!(vahepito_tsan) { 1 << 31 } else { 0 });
+
+impl Rounds {
+    /// Tries before each round, until it is done, or until the rounds are over.
+    pub fn try_until<T>(&self, mut attempt: impl FnMut() -> Option<T>) -> Option<T> {
+        let Rounds(spins, yields) = *self;
+        for round in 0..spins + yields {
+            let done = attempt();
+            if done.is_some() {
+                return done;
+            }
+            if round < spins {
+                (0..1 << round).for_each(|_| spin_loop());
+            } else {
+                thread::yield_now();
+            }
         }
-        self.round = self.round.saturating_add(1);
-    }
-
-    /// Until the next try of a pass that has no call. Nobody waits for it, so it sleeps if it has
-    /// tried for long.
-    pub fn between_tries(&mut self) {
-        let Some(slept) = self.round.checked_sub(SPINS + YIELDS) else {
-            return self.between_turns();
-        };
-        thread::sleep(SLEEPS.1.min(SLEEPS.0 * (1 << slept.min(8))));
-        self.round = self.round.saturating_add(1);
+        None
     }
 }
 
@@ -42,18 +39,16 @@ impl Backoff {
 pub fn let_ahead() {
     let from = Instant::now();
     while from.elapsed() < AHEAD {
-        std::hint::spin_loop();
+        spin_loop();
     }
 }
 
 /// Does turns until one of them is answered.
 #[inline(never)]
 pub fn turn_until<T>(mut turn: impl FnMut() -> Option<T>) -> T {
-    let mut backoff = Backoff::default();
     loop {
-        if let Some(answer) = turn() {
+        if let Some(answer) = FOR_OTHERS.try_until(&mut turn) {
             return answer;
         }
-        backoff.between_turns();
     }
 }

@@ -3,8 +3,8 @@
 
 mod backoff;
 mod channel;
+mod event;
 mod queue;
-pub mod record;
 
 pub use channel::*;
 pub use queue::{IS_PROVED, OpenError};

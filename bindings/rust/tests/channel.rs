@@ -280,7 +280,7 @@ fn a_drain_ends() {
     assert!(drain.by_ref().eq([3, 4]));
     sender.send(5).unwrap();
     assert_eq!(drain.next(), None);
-    // What a drain hasn't taken stays.
+    // An item that a drain hasn't taken stays.
     drop(receiver.drain());
     assert_eq!(receiver.recv(), Ok(5));
     let mut drain = receiver.drain();
@@ -419,7 +419,7 @@ fn items_of_one_thread_pass() {
     assert!(std::rc::Rc::ptr_eq(&receiver.recv().unwrap(), &item));
 }
 
-/// What is left is dropped with the last receiver; else with whoever takes it.
+/// An item that is left is dropped with the last receiver, or by its taker.
 #[test]
 fn what_is_left_is_dropped() {
     for left in 0..9 {
@@ -623,7 +623,7 @@ fn every_group_gets_every_item() {
 
 /// A group that has lost its last receiver holds nobody up, and keeps no item.
 #[test]
-fn a_group_that_is_gone_holds_nobody_up() {
+fn a_group_that_is_gone_delays_no_call() {
     let count = Arc::default();
     let (sender, mut receivers) = groups(2, 2).unwrap();
     let (gone, stays) = (receivers.remove(1), receivers.remove(0));

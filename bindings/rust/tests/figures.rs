@@ -1,10 +1,10 @@
-//! What a channel costs: its memory, as the C library has handed it out, and its opening. One test, so that
+//! The costs of a channel: its memory, as the C library has handed it out, and its opening. One test, so that
 //! no other one asks for memory meanwhile. The README's table has these figures for four processors.
 use std::thread::available_parallelism;
 use std::time::Instant;
 use vahepito::{channel, groups, never};
 
-/// What `mallinfo2` of the GNU C library tells.
+/// The result of `mallinfo2` of the GNU C library.
 #[repr(C)]
 struct Info {
     arena: usize,
@@ -59,8 +59,8 @@ fn a_channel_is_cheap_in_memory() {
     let sixteen = 16 * KB * seats.max(8) / 8;
     let small = bytes("channel::<u64>(1)", || channel::<u64>(1));
     assert!(small < sixteen, "{small}");
-    let meeting = bytes("channel::<u64>(0)", || channel::<u64>(0));
-    assert!(meeting < 3 * KB / 2, "{meeting}");
+    let rendezvous = bytes("channel::<u64>(0)", || channel::<u64>(0));
+    assert!(rendezvous < 3 * KB / 2, "{rendezvous}");
     let timer = bytes("never::<u64>()", never::<u64>);
     assert!(timer < 3 * KB / 2, "{timer}");
     let of_words = bytes("channel::<[u64; 4]>(1)", || channel::<[u64; 4]>(1));

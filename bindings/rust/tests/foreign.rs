@@ -1,5 +1,8 @@
 //! User code (an item's drop or clone, a waker) that takes long, blocks, panics, or comes back to
-//! the channel: it holds up nobody, and loses nobody's ring.
+//! the channel: it holds up nobody, and loses nobody's notification.
+mod polling;
+
+use polling::{Woken, poll};
 use std::panic::{AssertUnwindSafe, catch_unwind, resume_unwind};
 use std::pin::Pin;
 use std::sync::atomic::{AtomicBool, AtomicUsize, Ordering};
@@ -49,9 +52,9 @@ fn two<T>((sender, mut receivers): (Sender<T>, Vec<Receiver<T>>)) -> (Sender<T>,
     (sender, [one, other])
 }
 
-/// What a lost group hasn't taken is dropped for two seconds: others go on meanwhile.
+/// The drop of a lost group's item takes two seconds: others continue meanwhile.
 #[test]
-fn a_slow_drop_of_a_lost_group_delays_nobody() {
+fn a_slow_drop_of_a_lost_group_delays_no_call() {
     ends(|| {
         let (sender, [one, lost]) = two(groups(1, 2).unwrap());
         let (begins, begun) = mpsc::channel();
@@ -77,7 +80,7 @@ fn a_slow_drop_of_a_lost_group_delays_nobody() {
 
 /// Such a drop sends, and waits for room, on the same channel.
 #[test]
-fn a_drop_of_a_lost_group_that_blocks_holds_up_nobody() {
+fn a_drop_of_a_lost_group_that_blocks_delays_no_call() {
     ends(|| {
         let (sender, [one, lost]) = two(groups(1, 2).unwrap());
         let again = sender.clone();
@@ -163,43 +166,20 @@ fn groups_are_lost_while_others_go_on() {
     });
 }
 
-/// A waker that panics, or counts.
-struct Wakes {
-    panics: bool,
-    times: AtomicUsize,
-}
-
-impl Wake for Wakes {
-    fn wake(self: Arc<Self>) {
-        self.times.fetch_add(1, Ordering::SeqCst);
-        if self.panics {
-            resume_unwind(Box::new("no wake"));
-        }
-    }
-}
-
-impl Wakes {
-    fn new(panics: bool) -> Arc<Wakes> {
-        let times = AtomicUsize::new(0);
-        Arc::new(Wakes { panics, times })
-    }
-
-    fn times(&self) -> usize {
-        self.times.load(Ordering::SeqCst)
-    }
-}
-
-fn poll<F: Future + Unpin>(future: &mut F, wakes: &Arc<Wakes>) -> Poll<F::Output> {
-    let waker = Waker::from(wakes.clone());
-    Pin::new(future).poll(&mut Context::from_waker(&waker))
+/// A waker that panics.
+fn panicking() -> Arc<Woken> {
+    Arc::new(Woken {
+        panics: true,
+        ..Woken::default()
+    })
 }
 
 /// A close wakes all that wait, though a waker panics; then it goes on with the panic.
 #[test]
-fn a_waker_that_panics_strands_nobody_at_a_close() {
+fn a_waker_that_panics_strands_no_waiter_at_a_close() {
     ends(|| {
         let (sender, receiver) = channel::<u64>(1).unwrap();
-        let (bad, good) = (Wakes::new(true), Wakes::new(false));
+        let (bad, good) = (panicking(), Arc::new(Woken::default()));
         let (mut first, mut last) = (receiver.recv_async(), receiver.recv_async());
         assert!(poll(&mut first, &bad).is_pending());
         let waits = {
@@ -218,11 +198,11 @@ fn a_waker_that_panics_strands_nobody_at_a_close() {
 
 /// The drops of the last handles do the same.
 #[test]
-fn a_waker_that_panics_strands_nobody_at_a_drop() {
+fn a_waker_that_panics_strands_no_waiter_at_a_drop() {
     ends(|| {
         let (sender, receiver) = channel::<u64>(1).unwrap();
         sender.send(1).unwrap();
-        let bad = Wakes::new(true);
+        let bad = panicking();
         let mut first = sender.send_async(2);
         assert!(poll(&mut first, &bad).is_pending());
         let waits = {
@@ -236,13 +216,13 @@ fn a_waker_that_panics_strands_nobody_at_a_drop() {
     });
 }
 
-/// A send whose item is in doesn't panic, nor does a take that has its item; and the ring of a waker that
+/// A send whose item is in doesn't panic, nor does a take that has its item; and the notification of a waker that
 /// panics is the next one's.
 #[test]
 fn a_waker_that_panics_is_no_matter_of_a_send_or_a_take() {
     ends(|| {
         let (sender, receiver) = channel::<u64>(1).unwrap();
-        let (bad, good) = (Wakes::new(true), Wakes::new(false));
+        let (bad, good) = (panicking(), Arc::new(Woken::default()));
         let (mut first, mut second) = (receiver.recv_async(), receiver.recv_async());
         assert!(poll(&mut first, &bad).is_pending() && poll(&mut second, &good).is_pending());
         assert_eq!(sender.send(5), Ok(()));
@@ -285,7 +265,7 @@ fn a_waker_that_calls_the_channel_comes_back() {
 
 /// A clone that takes long holds up neither its own group nor another.
 #[test]
-fn a_slow_clone_delays_nobody() {
+fn a_slow_clone_delays_no_call() {
     struct Slow(Arc<AtomicBool>);
     impl Clone for Slow {
         fn clone(&self) -> Slow {

@@ -1,12 +1,13 @@
 //! Sends and takes as futures, polled by a loop that parks.
+mod polling;
 #[path = "../src/channel/rounds.rs"]
 mod rounds;
 
+use polling::{Woken, poll};
 use rounds::rounds;
-use std::pin::{Pin, pin};
+use std::pin::pin;
 use std::sync::Arc;
-use std::sync::atomic::{AtomicUsize, Ordering};
-use std::task::{Context, Poll, Wake, Waker};
+use std::task::{Context, Poll, Wake};
 use std::thread;
 use std::time::{Duration, Instant};
 use vahepito::{RecvError, SendError, channel};
@@ -29,27 +30,6 @@ fn block_on<F: Future>(future: F) -> F::Output {
             Poll::Pending => thread::park(),
         }
     }
-}
-
-/// Counts how often it was woken.
-#[derive(Default)]
-struct Woken(AtomicUsize);
-
-impl Wake for Woken {
-    fn wake(self: Arc<Self>) {
-        self.0.fetch_add(1, Ordering::SeqCst);
-    }
-}
-
-impl Woken {
-    fn times(&self) -> usize {
-        self.0.load(Ordering::SeqCst)
-    }
-}
-
-fn poll<F: Future + Unpin>(future: &mut F, woken: &Arc<Woken>) -> Poll<F::Output> {
-    let waker = Waker::from(woken.clone());
-    Pin::new(future).poll(&mut Context::from_waker(&waker))
 }
 
 #[test]
@@ -203,7 +183,7 @@ fn a_task_leaves_a_long_line_at_once() {
     let again = start.elapsed();
     sender.send(1).unwrap();
     assert_eq!(woken.times(), 1);
-    // The first in line was woken, and its ring is passed on as long as tasks leave.
+    // The first in line was woken, and its notification is passed on as long as tasks leave.
     let first = Arc::new(Woken::default());
     assert_eq!(poll(&mut all[0], &first), Poll::Ready(Ok(1)));
     let start = Instant::now();
@@ -212,7 +192,7 @@ fn a_task_leaves_a_long_line_at_once() {
     }
     let left = start.elapsed();
     println!("polled again in {again:?}, left in {left:?}");
-    // A line that is searched takes tens of seconds. As it is, an optimized build has some 30 ms.
+    // A line that is searched takes tens of seconds. As it is, an optimized build takes about 30 ms.
     assert!(again + left < Duration::from_secs(5));
 }
 

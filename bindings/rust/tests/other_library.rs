@@ -1,10 +1,10 @@
-//! A library of another version is told by each opening, before anything else is asked of it. These
-//! tests are for archives that `tools/test_bindings.sh` makes of `../c/stub.c`: any other call of
-//! theirs ends the process. `VAHEPITO_LINKED` is the version that such a one tells.
+//! Each opening reports a library of another version, before any other call of it. These
+//! tests are for archives that `tests/bindings.sh` makes of `../c/stub.c`: any other call of
+//! theirs ends the process. `VAHEPITO_LINKED` is the version that such an archive returns.
 use std::fmt::Debug;
 use vahepito::OpenError;
 
-/// The version of this crate, as a library tells its own.
+/// The version of this crate, as a library returns its own.
 fn wanted() -> u32 {
     let numbers = env!("CARGO_PKG_VERSION").split('.');
     numbers.fold(0, |sum, it| sum * 1000 + it.parse::<u32>().unwrap())

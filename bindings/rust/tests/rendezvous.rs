@@ -1,14 +1,15 @@
 //! Channels of capacity 0: pairs that are given up, calls whose time is over, and tasks.
+mod polling;
 #[path = "../src/channel/rounds.rs"]
 mod rounds;
 
+use polling::{Woken, poll};
 use rounds::rounds;
 use std::panic::{AssertUnwindSafe, catch_unwind, resume_unwind};
-use std::pin::Pin;
 use std::sync::Arc;
-use std::sync::atomic::{AtomicBool, AtomicUsize, Ordering};
+use std::sync::atomic::{AtomicBool, Ordering};
 use std::sync::mpsc;
-use std::task::{Context, Poll, Wake, Waker};
+use std::task::Poll;
 use std::thread;
 use std::time::{Duration, Instant};
 use vahepito::{
@@ -46,26 +47,6 @@ fn selects_a_send(sender: &Sender<u32>) -> (thread::JoinHandle<bool>, mpsc::Send
     let thread = thread::spawn(|| catch_unwind(AssertUnwindSafe(selects)).unwrap_or(false));
     thread::sleep(SOON);
     (thread, gives)
-}
-
-#[derive(Default)]
-struct Woken(AtomicUsize);
-
-impl Wake for Woken {
-    fn wake(self: Arc<Self>) {
-        self.0.fetch_add(1, Ordering::SeqCst);
-    }
-}
-
-impl Woken {
-    fn times(&self) -> usize {
-        self.0.load(Ordering::SeqCst)
-    }
-}
-
-fn poll<F: Future + Unpin>(future: &mut F, woken: &Arc<Woken>) -> Poll<F::Output> {
-    let waker = Waker::from(woken.clone());
-    Pin::new(future).poll(&mut Context::from_waker(&waker))
 }
 
 /// A select of two takes meets a send, whose item panics: it goes on with the other take.

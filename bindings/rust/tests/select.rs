@@ -236,7 +236,7 @@ fn a_selected_take_has_its_item() {
     assert_eq!(Arc::strong_count(&counted), 1);
 }
 
-/// One that waits until an operation is ready takes nothing, and keeps nobody's ring.
+/// One that waits until an operation is ready takes nothing, and keeps nobody's notification.
 #[test]
 fn ready_leaves_the_item_to_others() {
     let (sender, receiver) = open::<u32>(1);

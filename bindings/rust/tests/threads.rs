@@ -28,7 +28,7 @@ fn audit(sent: &[u64], taken: &[Vec<Item>]) {
     assert!(due.eq(all), "an item is lost, or was taken twice");
 }
 
-/// What each of these threads gives at its end.
+/// The results of these threads.
 fn joined<T>(threads: Vec<ScopedJoinHandle<'_, T>>) -> Vec<T> {
     let given = threads.into_iter().map(|thread| thread.join().unwrap());
     given.collect()
@@ -43,7 +43,7 @@ fn open(capacity: usize, count: usize) -> (Sender<Item>, Vec<Receiver<Item>>) {
     (sender, vec![receiver])
 }
 
-/// Each of these senders sends so many items, and each receiver of each group takes until the end.
+/// Each of these senders sends this number of items, and each receiver of each group takes until the end.
 fn pass(senders: usize, groups: usize, receivers: usize, capacity: usize, items: u64) {
     let (sender, firsts) = open(capacity, groups);
     let taken: Vec<Vec<Vec<Item>>> = thread::scope(|scope| {

@@ -1,4 +1,4 @@
-//! User code that panics: each of the places that the table in `src/channel/event.rs` lists, on every path.
+//! User code that panics: each of the places that the table in `src/event.rs` lists, on every path.
 //!
 //! A run counts the pieces of user code in the order in which the crate runs them: the clone, the wake and the drop of a
 //! waker, the clone and the drop of an item, the drop of a panic's payload. It's made again and again: the first piece
@@ -28,7 +28,7 @@ thread_local! {
     static WAKERS: Cell<i64> = const { Cell::new(0) };
 }
 
-/// What a panic carries.
+/// The payload of a panic.
 struct Payload;
 
 impl Drop for Payload {
@@ -172,7 +172,7 @@ fn sends<const N: usize>() {
     poll(&mut two);
     poll(&mut three);
     poll(&mut two);
-    run(|| receiver.try_recv()); // rings for the first
+    run(|| receiver.try_recv()); // notifies the first
     poll(&mut three); // has the room, and leaves the line
     poll(&mut four);
     poll(&mut three);
@@ -294,7 +294,7 @@ fn selects<const N: usize>() {
     drop_all([receiver]);
 }
 
-fn meetings<const N: usize>() {
+fn rendezvous<const N: usize>() {
     let (sender, receiver) = channel::<Item<N>>(0).unwrap();
     // Takes of tasks that are posted.
     let [mut one, mut two, mut three, mut four] = [(); 4].map(|()| receiver.recv_async());
@@ -393,9 +393,9 @@ fn of_selects() {
 }
 
 #[test]
-fn of_meetings() {
-    every_piece_panics(meetings::<0>);
-    every_piece_panics(meetings::<4>);
+fn of_rendezvous() {
+    every_piece_panics(rendezvous::<0>);
+    every_piece_panics(rendezvous::<4>);
 }
 
 /// A send's poll succeeds, and so drops the waker that was in line, whose drop panics.
@@ -420,7 +420,7 @@ fn a_send_is_made_once_though_its_waker_panics() {
     let waker = Waker::from(Arc::new(Panics));
     assert!(poll(&mut two, &waker).is_pending());
     drop(waker); // the one in line is the last
-    assert!(receiver.try_recv().is_ok()); // rings for the first
+    assert!(receiver.try_recv().is_ok()); // notifies the first
     assert!(matches!(poll(&mut two, Waker::noop()), Poll::Ready(Ok(()))));
     assert_eq!(receiver.try_recv().map(|it| *it.0), Ok(2));
     drop((one, two));

@@ -1,5 +1,5 @@
-//! No wake-up is lost: a search over all interleavings of the waiting (`src/channel/event.rs` says
-//! what its steps are) and of the meetings (`src/channel/meeting.rs`), and threads that stop for good where one
+//! No wake-up is lost: a search over all interleavings of the waiting (`src/event.rs` says
+//! what its steps are) and of the rendezvous (`src/channel/rendezvous.rs`), and threads that stop for good where one
 //! is lost.
 #[path = "../src/channel/rounds.rs"]
 mod rounds;
@@ -11,25 +11,25 @@ use std::thread;
 use std::time::{Duration, Instant};
 use vahepito::{Receiver, RecvTimeoutError, SendError, Sender, channel};
 
-/// What is left out or turned round in a model, to see that the search finds it.
+/// A step that a model leaves out or exchanges, to see that the search finds it.
 #[derive(Clone, Copy, PartialEq, Eq, Debug)]
 enum Fault {
     None,
     /// A waiter tries and then stands in line, and parks.
     NoTryInLine,
-    /// A ringer looks whether somebody waits before it makes its item.
+    /// A notifier looks whether somebody waits before it makes its item.
     LookBeforeMaking,
-    /// A waiter whose try in line took an item keeps the ring that took it out meanwhile.
+    /// A waiter whose try in line took an item keeps the notification that took it out meanwhile.
     TakerKeepsRing,
-    /// A task that is dropped keeps the ring that took it out.
+    /// A task that is dropped keeps the notification that took it out.
     DroppedKeepsRing,
-    /// A thread whose time is over doesn't try once more, and keeps the ring that took it out.
+    /// A thread whose time is over doesn't try once more, and keeps the notification that took it out.
     NoTryAtTheEnd,
-    /// A waiter in two lines keeps the ring of the one from which it took nothing.
+    /// A waiter in two lines keeps the notification of the one from which it took nothing.
     SelectKeepsOther,
-    /// One that only waits until there is an item keeps the ring that told it.
+    /// One that only waits until there is an item keeps its notification.
     ReadyKeepsRing,
-    /// One that gives its item back rings for nobody.
+    /// One that gives its item back notifies nobody.
     GivesBackSilently,
 }
 
@@ -45,7 +45,7 @@ enum Kind {
     Ready,
     /// Waits for one item (as one that selects a send does for room), and gives it back.
     GivesBack,
-    /// Makes items, and rings for each.
+    /// Makes items, and notifies for each.
     Makes,
     /// Takes an item if there is one, and never waits.
     Steals,
@@ -59,7 +59,7 @@ enum At {
     Park,
     Leave(usize),
     TryAgain(usize),
-    /// It makes no further try: it rings for the next in each line from which a ring took it out.
+    /// It makes no further try: it notifies the next in each line from which a notification took it out.
     PassOn(usize),
     Make,
     Look(usize),
@@ -75,7 +75,7 @@ struct Process {
     /// A bit for each channel of which it waits for an item; or the one for which it makes items.
     channels: u8,
     at: At,
-    /// So many items it makes still.
+    /// The number of items that it still makes.
     makes: u8,
     woken: bool,
     /// Whether its time is over.
@@ -84,8 +84,8 @@ struct Process {
     saw: bool,
     /// Whether it has an item, or was dropped: it tries no more.
     ends: bool,
-    /// Whether a ring took it out of the line of each channel.
-    rung: [bool; 2],
+    /// Whether a notification took it out of the line of each channel.
+    notified: [bool; 2],
     /// From which channel it has an item.
     has: Option<usize>,
 }
@@ -124,7 +124,7 @@ impl State {
                 over: false,
                 saw: false,
                 ends: false,
-                rung: [false; 2],
+                notified: [false; 2],
                 has: None,
             };
             process.at = match kind {
@@ -162,7 +162,7 @@ impl State {
         some
     }
 
-    /// At its end a process gives back what it is to give back, and then rings for it.
+    /// At its end a process gives back what it is to give back, and then notifies.
     fn gives_back(&mut self, who: usize, fault: Fault) {
         let process = &mut self.processes[who];
         let (Kind::GivesBack, At::Done, Some(channel)) = (process.kind, process.at, process.has)
@@ -177,8 +177,8 @@ impl State {
         (process.channels, process.makes, process.at) = (1 << channel, 1, At::Make);
     }
 
-    /// After a ring in this line.
-    fn rings(&mut self, who: usize, channel: usize, fault: Fault) -> At {
+    /// After a notification in this line.
+    fn notifies(&mut self, who: usize, channel: usize, fault: Fault) -> At {
         let process = &mut self.processes[who];
         if process.kind != Kind::Makes {
             return process.next(channel + 1, At::PassOn, At::Done);
@@ -201,7 +201,7 @@ impl State {
             At::Stand(channel) => {
                 next.lines[channel].push(who);
                 next.processes[who].woken = false;
-                next.processes[who].rung = [false; 2];
+                next.processes[who].notified = [false; 2];
                 let looks = match fault {
                     Fault::NoTryInLine => At::Park,
                     _ => process.next(0, At::TryInLine, At::Done),
@@ -232,7 +232,7 @@ impl State {
                 leaves
             }
             At::Leave(channel) => {
-                next.processes[who].rung[channel] = !next.remove(who, channel);
+                next.processes[who].notified[channel] = !next.remove(who, channel);
                 let keeps = match process.kind {
                     Kind::Task if fault == Fault::DroppedKeepsRing => true,
                     Kind::Ready if fault == Fault::ReadyKeepsRing => true,
@@ -248,7 +248,7 @@ impl State {
             }
             At::TryAgain(channel) if next.take(who, channel) => {
                 let is_ready = process.kind == Kind::Ready;
-                next.processes[who].rung[channel] &= is_ready;
+                next.processes[who].notified[channel] &= is_ready;
                 match fault {
                     Fault::SelectKeepsOther => At::Done,
                     Fault::ReadyKeepsRing if is_ready => At::Done,
@@ -263,14 +263,14 @@ impl State {
                 };
                 process.next(channel + 1, At::TryAgain, again)
             }
-            At::PassOn(channel) if process.rung[channel] => At::Look(channel),
+            At::PassOn(channel) if process.notified[channel] => At::Look(channel),
             At::PassOn(channel) => process.next(channel + 1, At::PassOn, At::Done),
             At::Make => {
                 let channel = process.channel(0).expect("it has one");
                 next.items[channel] += 1;
                 match early {
                     true if process.saw => At::TakeOut(channel),
-                    true => next.rings(who, channel, fault),
+                    true => next.notifies(who, channel, fault),
                     false => At::Look(channel),
                 }
             }
@@ -279,13 +279,13 @@ impl State {
                 At::Make
             }
             At::Look(channel) | At::TakeOut(channel) if self.lines[channel].is_empty() => {
-                next.rings(who, channel, fault)
+                next.notifies(who, channel, fault)
             }
             At::Look(channel) => At::TakeOut(channel),
             At::TakeOut(channel) => At::Wake(channel, next.lines[channel].remove(0)),
             At::Wake(channel, waiter) => {
                 next.processes[waiter].woken = true;
-                next.rings(who, channel, fault)
+                next.notifies(who, channel, fault)
             }
             At::Steal => {
                 process.channel(0).map(|channel| next.take(who, channel));
@@ -440,7 +440,7 @@ fn the_search_finds_each_fault() {
 }
 
 /// The seats of a pool, and callers that each make some calls by them. A try looks at one seat after
-/// another. A seat is freed, and the line looked at, in either order; so a ring may be missed, and a caller
+/// another. A seat is freed, and the line looked at, in either order; so a notification may be missed, and a caller
 /// that waits looks again after some time.
 mod seats {
     use std::collections::HashMap;
@@ -519,7 +519,7 @@ mod seats {
                     At::Try(0)
                 }
                 At::LeaveWithSeat(seat) => {
-                    // It keeps the ring that took it out: it rings when it frees the seat.
+                    // It keeps the notification that took it out: it notifies when it frees the seat.
                     next.line.retain(|&other| other != who);
                     At::Call(seat)
                 }
@@ -546,7 +546,7 @@ mod seats {
         }
     }
 
-    /// Searches all states of so many seats and these callers' calls. Gives their number, or one from which
+    /// Searches all states of this number of seats and these callers' calls. Gives their number, or one from which
     /// no way leads to the end.
     pub fn search(seats: usize, calls: &[u8], looks_again: bool) -> Result<usize, State> {
         let count = calls.len();
@@ -602,7 +602,7 @@ fn no_interleaving_leaves_a_caller_without_a_seat() {
     }
 }
 
-/// A caller that waits for a ring alone waits for good in some interleaving.
+/// A caller that waits for a notification alone waits for good in some interleaving.
 #[test]
 fn the_search_finds_the_ring_for_a_seat_that_is_missed() {
     let mut all = SEATS.iter();
@@ -612,7 +612,7 @@ fn the_search_finds_the_ring_for_a_seat_that_is_missed() {
 /// Threads that meet in two channels of capacity 0: each looks for others and posts itself, parks, takes itself
 /// off, and looks whether another thread met it. Then the send gives the pair its item, or gives the pair up; and the
 /// take waits for the item, or gives the pair up since its time is over.
-mod meetings {
+mod rendezvous {
     use std::collections::HashSet;
 
     /// A channel, and whether it sends there.
@@ -636,7 +636,7 @@ mod meetings {
         /// A take whose time is over gives its pair up, though that has the item.
         LeavesTheItem,
         /// A send gives its item to a pair that is given up.
-        GivesToNobody,
+        GivesToNone,
     }
 
     #[derive(Clone, Copy, PartialEq, Eq, Hash, Debug)]
@@ -780,7 +780,7 @@ mod meetings {
                         others.push(other);
                     }
                     let is_there = self.pairs[pair].is_there;
-                    if is_there || fault == Fault::GivesToNobody {
+                    if is_there || fault == Fault::GivesToNone {
                         next.pairs[pair].has_item = true;
                         next.processes[taker].woken = true;
                         next.processes[who].sent = true;
@@ -880,12 +880,12 @@ mod meetings {
     }
 }
 
-const SENDS: meetings::Operation = (0, true);
-const TAKES: meetings::Operation = (0, false);
-const OTHER_SENDS: meetings::Operation = (1, true);
-const OTHER_TAKES: meetings::Operation = (1, false);
+const SENDS: rendezvous::Operation = (0, true);
+const TAKES: rendezvous::Operation = (0, false);
+const OTHER_SENDS: rendezvous::Operation = (1, true);
+const OTHER_TAKES: rendezvous::Operation = (1, false);
 
-const MEETINGS: [&meetings::Model; 11] = [
+const MEETINGS: [&rendezvous::Model; 11] = [
     &[(&[SENDS], false, false), (&[TAKES], false, false)],
     &[
         (&[SENDS], true, false),
@@ -944,7 +944,7 @@ const MEETINGS: [&meetings::Model; 11] = [
 #[test]
 fn no_interleaving_misses_a_meeting() {
     for model in MEETINGS {
-        let states = meetings::search(model, meetings::Fault::None);
+        let states = rendezvous::search(model, rendezvous::Fault::None);
         let states = states.unwrap_or_else(|state| panic!("{state:#?}"));
         assert!(states >= 5, "{model:?}");
     }
@@ -953,18 +953,18 @@ fn no_interleaving_misses_a_meeting() {
 #[test]
 fn the_search_finds_each_fault_of_a_meeting() {
     for fault in [
-        meetings::Fault::PostsLater,
-        meetings::Fault::OneByOne,
-        meetings::Fault::MetTwice,
-        meetings::Fault::GoesOnUnmet,
-        meetings::Fault::GivesUpSilently,
-        meetings::Fault::EndsWithThePair,
-        meetings::Fault::LeavesTheItem,
-        meetings::Fault::GivesToNobody,
+        rendezvous::Fault::PostsLater,
+        rendezvous::Fault::OneByOne,
+        rendezvous::Fault::MetTwice,
+        rendezvous::Fault::GoesOnUnmet,
+        rendezvous::Fault::GivesUpSilently,
+        rendezvous::Fault::EndsWithThePair,
+        rendezvous::Fault::LeavesTheItem,
+        rendezvous::Fault::GivesToNone,
     ] {
         let found = MEETINGS
             .iter()
-            .any(|it| meetings::search(it, fault).is_err());
+            .any(|it| rendezvous::search(it, fault).is_err());
         assert!(found, "{fault:?}");
     }
 }
@@ -1055,11 +1055,11 @@ fn many_waiters() {
     const NEVER: u64 = 1 << 50;
     many_wait(1, [NEVER; 4], rounds(2000));
     many_wait(3, [NEVER; 4], rounds(2000));
-    // One that waits without end is rung for though others give up.
+    // One that waits without end is notified though others give up.
     many_wait(1, [NEVER, 20, 50, 100], rounds(2000));
 }
 
-/// Those that wait on either side are told of a close.
+/// A close wakes the waiters of both sides.
 #[test]
 fn a_close_wakes_all() {
     const SOON: Duration = Duration::from_millis(30);
@@ -1098,7 +1098,7 @@ fn a_close_wakes_all() {
     });
 }
 
-/// Who waits costs no processor time.
+/// A waiter takes no processor time.
 #[test]
 fn waiting_is_parking() {
     /// The ticks, of a hundredth of a second, that this process had.

@@ -5,7 +5,7 @@
 //! get: its body is sent once, and taken once by each group.
 #![allow(unsafe_code)]
 
-use super::event::ignore_panics;
+use crate::event::ignore_panics;
 use crate::queue::handle::{Words, code};
 use std::marker::PhantomData;
 use std::mem::{ManuallyDrop, MaybeUninit, size_of};

@@ -9,15 +9,15 @@
 //! **Order of locks**: the list of groups, all seats, a line. A holder of a seat makes one call of the queue, and
 //! takes no other lock. User code (an item's drop or copy, a waker) runs while none is held.
 use super::body::{Copies, Parcel, Unsent, words_of};
-use super::event::{AT_A_RING, Event, Panics, Try, ignore_panics, lock, soon};
-use super::pool::{Held, Pass, Pool};
-use super::select::Selected;
+use super::flavor::Flavor;
+use super::pool::{Pass, Pool, SeatGuard};
 use super::side::Shared;
-use super::special::Special;
-use crate::backoff::turn_until;
+use crate::event::{Event, Panics, Try, WHEN_NOTIFIED, drop_each, ignore_panics, lock, soon};
 use crate::queue::handle::{self, Handle, code, hands_over, has_taken, unexpected};
 use crate::queue::{Config, OpenError};
+use std::collections::BTreeMap;
 use std::iter;
+use std::mem::take;
 use std::sync::atomic::{AtomicBool, AtomicUsize, Ordering};
 use std::sync::{Mutex, OnceLock, Weak};
 
@@ -48,50 +48,63 @@ impl Side {
 pub struct Core<T> {
     pub config: Config,
     pub copies: Option<Copies<T>>,
-    pub special: Option<Special<T>>,
+    pub flavor: Option<Flavor<T>>,
     pub senders: Side,
     pub groups: Box<[Side]>,
-    /// What the handles of each side share, once it has a first one.
+    /// The part that the handles of each side share, once it has a first one.
     pub handles: Box<[OnceLock<Weak<Shared<T>>>]>,
     closed: AtomicBool,
     /// How many groups the queue has. It changes while all seats are taken.
     pub shares: AtomicUsize,
     /// The groups that the queue has, in its order. A further queue takes its place under this lock.
     pub in_queue: Mutex<Vec<usize>>,
-    /// By it this is `Send` and `Sync` if items are `Send`.
-    pub selected: Selected<T>,
+    /// How much room is reserved for selected sends. It grows under the lock of the groups.
+    pub reserved: AtomicUsize,
+    /// The items of selected takes, by numbers, until they are handed over. By it this is `Send` and `Sync` if items are
+    /// `Send`.
+    pub kept: Mutex<BTreeMap<u64, T>>,
+}
+
+/// Items are kept if selected operations were forgotten.
+impl<T> Drop for Core<T> {
+    fn drop(&mut self) {
+        drop_each(take(&mut *lock(&self.kept)).into_values());
+    }
 }
 
 impl<T> Core<T> {
     /// Opens a channel. Its groups share items if there is a function that copies them.
     pub fn open(config: Config, groups: u32, copies: Option<Copies<T>>) -> Result<Self, OpenError> {
         let sides = handle::open(&config, groups, words_of(copies))?;
-        Ok(Core::new(config, copies, sides))
+        Ok(Core::new(config, copies, None, sides))
     }
 
     /// A channel without a queue.
-    pub fn special(config: Config, special: Special<T>) -> Core<T> {
-        Core {
-            special: Some(special),
-            ..Core::new(config, None, vec![vec![], vec![]])
-        }
+    pub fn flavor(config: Config, flavor: Flavor<T>) -> Core<T> {
+        Core::new(config, None, Some(flavor), vec![vec![], vec![]])
     }
 
-    fn new(config: Config, copies: Option<Copies<T>>, sides: Vec<Vec<Handle>>) -> Core<T> {
+    fn new(
+        config: Config,
+        copies: Option<Copies<T>>,
+        flavor: Option<Flavor<T>>,
+        sides: Vec<Vec<Handle>>,
+    ) -> Core<T> {
         let mut sides = sides.into_iter().map(Side::new);
         let senders = sides.next().expect("a channel has senders");
         let groups: Box<[Side]> = sides.collect();
         Core {
             config,
             copies,
-            special: None,
+            flavor,
             senders,
             handles: (0..=groups.len()).map(|_| OnceLock::new()).collect(),
             closed: AtomicBool::new(false),
             shares: AtomicUsize::new(groups.len()),
             in_queue: Mutex::new((1..=groups.len()).collect()),
             groups,
-            selected: Selected::default(),
+            reserved: AtomicUsize::new(0),
+            kept: Mutex::default(),
         }
     }
 
@@ -116,15 +129,9 @@ impl<T> Core<T> {
         self.groups.iter().filter(|it| !it.is_lost())
     }
 
-    /// Waits until all is done that comes of the loss of this side's last handle: another thread is at it.
-    pub fn wait_until_gone(&self, side: usize) {
-        turn_until(|| self.side(side).is_lost().then_some(()));
-        drop(lock(&self.in_queue));
-    }
-
     /// How many items this group hasn't taken; for the senders, some group that has receivers.
     pub fn len(&self, side: usize) -> usize {
-        if let Some(Special::Timer(timer)) = &self.special {
+        if let Some(Flavor::Timer(timer)) = &self.flavor {
             return timer.len();
         }
         let sent = self.senders.seats.count();
@@ -137,19 +144,19 @@ impl<T> Core<T> {
     }
 
     /// Tries to send this item. Returns whether it is sent; if not,
-    /// the channel is closed. If there is no room, a take or a loss of receivers rings; if there is no memory
-    /// for a further queue, nobody rings when there is.
+    /// the channel is closed. If there is no room, a take or a loss of receivers notifies; if there is no memory
+    /// for a further queue, nobody notifies when there is.
     #[inline]
     pub fn try_send(&self, item: &mut Unsent<T>) -> Try<bool> {
         let mut seat = self.senders.seats.take();
-        if self.selected.room.load(Ordering::Relaxed) != 0 {
+        if self.reserved.load(Ordering::Relaxed) != 0 {
             drop(seat);
             return self.send_beside_reserved(item);
         }
         let sent = self.send_by(&mut seat, item);
         drop(seat);
         match sent {
-            Ok(()) => self.ring_for_item(),
+            Ok(()) => self.notify_item(),
             Err(refusal) => return self.send_after_refusal(item, refusal),
         }
         Ok(true)
@@ -166,11 +173,11 @@ impl<T> Core<T> {
 
     /// Sends by this seat. If it isn't sent, gives the code, and the number of the queue.
     #[inline]
-    pub fn send_by(&self, seat: &mut Held, item: &mut Unsent<T>) -> Result<(), (u32, u64)> {
-        let (pass, groups) = (seat.pass(), self.shares.load(Ordering::Relaxed));
+    pub fn send_by(&self, seat: &mut SeatGuard, item: &mut Unsent<T>) -> Result<(), (u32, u64)> {
+        let ((pass, line), groups) = (seat.pass(), self.shares.load(Ordering::Relaxed));
         let code = item.send_by(groups, |words| {
             hands_over(self);
-            pass.handle.send(words, words_of(self.copies))
+            pass.handle.send(words, words_of(self.copies), line)
         });
         if code != code::ACCEPTED {
             return Err((code, pass.queue));
@@ -180,8 +187,8 @@ impl<T> Core<T> {
     }
 
     #[inline]
-    pub fn ring_for_item(&self) {
-        self.groups.iter().for_each(|group| group.line.ring());
+    pub fn notify_item(&self) {
+        self.groups.iter().for_each(|group| group.line.notify_one());
     }
 
     /// After this queue refused an item. Returns whether a further try is to be made; if not,
@@ -191,7 +198,7 @@ impl<T> Core<T> {
         let is_stale = self.shares.load(Ordering::SeqCst) != self.alive().count();
         match code {
             code::CLOSED => self.closed.store(true, Ordering::SeqCst),
-            code::FULL if !is_stale => return Err(AT_A_RING),
+            code::FULL if !is_stale => return Err(WHEN_NOTIFIED),
             code::FULL | code::SPENT | code::WORN => {}
             code => unexpected(code),
         }
@@ -200,40 +207,41 @@ impl<T> Core<T> {
             return Ok(false);
         }
         let mut left_by_lost = vec![];
-        if self.senders.seats.take().pass().queue == queue {
-            left_by_lost = self.renew(&mut in_queue).ok_or_else(soon)?;
+        if self.senders.seats.take().pass().0.queue == queue {
+            left_by_lost = self.replace_queue(&mut in_queue).ok_or_else(soon)?;
         }
         drop(in_queue);
         // The item isn't sent yet, but this call may go on for others: it doesn't panic.
         ignore_panics(left_by_lost, drop);
-        self.senders.line.ring_for_all(&mut Panics::default());
+        self.senders.line.notify_all(&mut Panics::default());
         Ok(true)
     }
 
     /// Takes an item of the queue for a group. Gives the code if there is none, or no queue.
     #[inline]
     pub fn take(&self, group: usize) -> Result<Parcel<T>, u32> {
-        if self.special.is_some() {
+        if self.flavor.is_some() {
             return Err(code::EMPTY);
         }
         let mut seat = self.side(group).seats.take();
-        let parcel = self.take_by(seat.pass())?;
+        let (pass, line) = seat.pass();
+        let parcel = self.take_by(pass, line)?;
         seat.count_one();
         drop(seat);
         has_taken(self);
-        self.senders.line.ring();
+        self.senders.line.notify_one();
         Ok(parcel)
     }
 
     /// Tries to take an item for a group. Gives None at the end of the channel.
     #[inline]
     pub fn try_recv(&self, group: usize) -> Try<Option<Parcel<T>>> {
-        if let Some(special) = &self.special {
-            return special.try_recv(&self.closed);
+        if let Some(flavor) = &self.flavor {
+            return flavor.try_recv(&self.closed);
         }
         match self.take(group) {
             Ok(parcel) => Ok(Some(parcel)),
-            Err(code::EMPTY) => Err(AT_A_RING),
+            Err(code::EMPTY) => Err(WHEN_NOTIFIED),
             Err(code::ENDED) => {
                 self.closed.store(true, Ordering::SeqCst);
                 Ok(None)
@@ -242,9 +250,17 @@ impl<T> Core<T> {
         }
     }
 
+    /// Keeps the item of a selected take, under the number that this returns.
+    pub fn keep(&self, item: T) -> u64 {
+        let mut kept = lock(&self.kept);
+        let number = kept.last_key_value().map_or(0, |(last, _)| last + 1);
+        kept.insert(number, item);
+        number
+    }
+
     #[allow(unsafe_code)]
-    pub fn take_by(&self, pass: &mut Pass) -> Result<Parcel<T>, u32> {
-        let words = pass.handle.take(words_of(self.copies))?;
+    pub fn take_by(&self, pass: &mut Pass, line: &Event) -> Result<Parcel<T>, u32> {
+        let words = pass.handle.take(words_of(self.copies), line)?;
         // SAFETY: what is in the queue was sent as the words of parcels, with these `copies`; each was
         // for as many groups as the queue has; and a group takes each item of the queue once.
         Ok(unsafe { Parcel::taken(words, self.copies) })
@@ -255,29 +271,30 @@ impl<T> Core<T> {
         let closed = self.close_queue();
         if closed {
             let mut panics = Panics::default();
-            self.ring_all(&mut panics);
+            self.notify_all(&mut panics);
             panics.raise();
         }
         closed
     }
 
     fn close_queue(&self) -> bool {
-        if let Some(special) = &self.special {
-            return special.close(&self.closed);
+        if let Some(flavor) = &self.flavor {
+            return flavor.close(&self.closed);
         }
         let mut seat = self.senders.seats.take();
-        let closed = seat.pass().handle.close();
+        let (pass, line) = seat.pass();
+        let closed = pass.handle.close(line);
         // While the seat is taken, so that whoever has all seats knows it.
         self.closed.store(true, Ordering::SeqCst);
         closed
     }
 
     /// Wakes all that wait.
-    fn ring_all(&self, panics: &mut Panics) {
+    fn notify_all(&self, panics: &mut Panics) {
         let sides = iter::once(&self.senders).chain(&self.groups);
-        sides.for_each(|it| it.line.ring_for_all(panics));
-        if let Some(meeting) = self.meeting() {
-            meeting.wake_all(panics);
+        sides.for_each(|it| it.line.notify_all(panics));
+        if let Some(rendezvous) = self.rendezvous() {
+            rendezvous.wake_all(panics);
         }
     }
 
@@ -290,7 +307,7 @@ impl<T> Core<T> {
             self.close_queue();
             None
         } else {
-            self.renew(&mut in_queue) // or there is no memory: a send tries again, once it finds no room
+            self.replace_queue(&mut in_queue) // or there is no memory: a send tries again, once it finds no room
         };
         let mut lost = vec![];
         if side != 0 && self.is_closed() {
@@ -300,7 +317,7 @@ impl<T> Core<T> {
         let takes = |group| iter::from_fn(move || self.try_recv(group).ok()?);
         let left = lost.into_iter().flat_map(takes);
         let mut panics = Panics::default();
-        self.ring_all(&mut panics);
+        self.notify_all(&mut panics);
         panics.run_each(left_by_lost.into_iter().flatten().chain(left), drop);
         panics.raise();
     }

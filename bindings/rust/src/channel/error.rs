@@ -1,6 +1,5 @@
 //! Why a channel's call wasn't done. An item that wasn't sent is handed back. The texts are crossbeam-channel's.
 use std::error::Error;
-use std::fmt;
 
 /// Why [`send`](crate::Sender::send) didn't send: the channel is closed. It has the item. A selected send with
 /// capacity 0 has a further reason: see [`SelectedOperation::send`](crate::SelectedOperation::send).
@@ -19,18 +18,9 @@ impl<T> SendError<T> {
     }
 }
 
-// An item needs no `Debug`, so that each error has it.
-impl<T> fmt::Debug for SendError<T> {
-    fn fmt(&self, f: &mut fmt::Formatter<'_>) -> fmt::Result {
-        f.pad("SendError(..)")
-    }
-}
+fmt_by_text! { impl<T> Debug for SendError<T>: _ => "SendError(..)" }
 
-impl<T> fmt::Display for SendError<T> {
-    fn fmt(&self, f: &mut fmt::Formatter<'_>) -> fmt::Result {
-        f.pad("sending on a disconnected channel")
-    }
-}
+fmt_by_text! { impl<T> Display for SendError<T>: _ => "sending on a disconnected channel" }
 
 impl<T> Error for SendError<T> {}
 
@@ -77,22 +67,16 @@ impl<T> TrySendError<T> {
     }
 }
 
-impl<T> fmt::Debug for TrySendError<T> {
-    fn fmt(&self, f: &mut fmt::Formatter<'_>) -> fmt::Result {
-        f.pad(match self {
-            TrySendError::Full(_) => "Full(..)",
-            TrySendError::Disconnected(_) => "Disconnected(..)",
-        })
-    }
+fmt_by_text! {
+    impl<T> Debug for TrySendError<T>:
+    TrySendError::Full(_) => "Full(..)",
+    TrySendError::Disconnected(_) => "Disconnected(..)",
 }
 
-impl<T> fmt::Display for TrySendError<T> {
-    fn fmt(&self, f: &mut fmt::Formatter<'_>) -> fmt::Result {
-        f.pad(match self {
-            TrySendError::Full(_) => "sending on a full channel",
-            TrySendError::Disconnected(_) => "sending on a disconnected channel",
-        })
-    }
+fmt_by_text! {
+    impl<T> Display for TrySendError<T>:
+    TrySendError::Full(_) => "sending on a full channel",
+    TrySendError::Disconnected(_) => "sending on a disconnected channel",
 }
 
 impl<T> Error for TrySendError<T> {}
@@ -147,19 +131,12 @@ impl<T> SendTimeoutError<T> {
     }
 }
 
-impl<T> fmt::Debug for SendTimeoutError<T> {
-    fn fmt(&self, f: &mut fmt::Formatter<'_>) -> fmt::Result {
-        f.pad("SendTimeoutError(..)")
-    }
-}
+fmt_by_text! { impl<T> Debug for SendTimeoutError<T>: _ => "SendTimeoutError(..)" }
 
-impl<T> fmt::Display for SendTimeoutError<T> {
-    fn fmt(&self, f: &mut fmt::Formatter<'_>) -> fmt::Result {
-        f.pad(match self {
-            SendTimeoutError::Timeout(_) => "timed out waiting on send operation",
-            SendTimeoutError::Disconnected(_) => "sending on a disconnected channel",
-        })
-    }
+fmt_by_text! {
+    impl<T> Display for SendTimeoutError<T>:
+    SendTimeoutError::Timeout(_) => "timed out waiting on send operation",
+    SendTimeoutError::Disconnected(_) => "sending on a disconnected channel",
 }
 
 impl<T> Error for SendTimeoutError<T> {}
@@ -175,11 +152,7 @@ impl<T> From<SendError<T>> for SendTimeoutError<T> {
 #[derive(Clone, Copy, Debug, PartialEq, Eq, Hash)]
 pub struct RecvError;
 
-impl fmt::Display for RecvError {
-    fn fmt(&self, f: &mut fmt::Formatter<'_>) -> fmt::Result {
-        f.pad("receiving on an empty and disconnected channel")
-    }
-}
+fmt_by_text! { impl Display for RecvError: _ => "receiving on an empty and disconnected channel" }
 
 impl Error for RecvError {}
 
@@ -214,13 +187,10 @@ impl TryRecvError {
     }
 }
 
-impl fmt::Display for TryRecvError {
-    fn fmt(&self, f: &mut fmt::Formatter<'_>) -> fmt::Result {
-        f.pad(match self {
-            TryRecvError::Empty => "receiving on an empty channel",
-            TryRecvError::Disconnected => "receiving on an empty and disconnected channel",
-        })
-    }
+fmt_by_text! {
+    impl Display for TryRecvError:
+    TryRecvError::Empty => "receiving on an empty channel",
+    TryRecvError::Disconnected => "receiving on an empty and disconnected channel",
 }
 
 impl Error for TryRecvError {}
@@ -263,13 +233,10 @@ impl RecvTimeoutError {
     }
 }
 
-impl fmt::Display for RecvTimeoutError {
-    fn fmt(&self, f: &mut fmt::Formatter<'_>) -> fmt::Result {
-        f.pad(match self {
-            RecvTimeoutError::Timeout => "timed out waiting on receive operation",
-            RecvTimeoutError::Disconnected => "channel is empty and disconnected",
-        })
-    }
+fmt_by_text! {
+    impl Display for RecvTimeoutError:
+    RecvTimeoutError::Timeout => "timed out waiting on receive operation",
+    RecvTimeoutError::Disconnected => "channel is empty and disconnected",
 }
 
 impl Error for RecvTimeoutError {}
@@ -284,11 +251,7 @@ impl From<RecvError> for RecvTimeoutError {
 #[derive(Clone, Copy, Debug, PartialEq, Eq, Hash)]
 pub struct TrySelectError;
 
-impl fmt::Display for TrySelectError {
-    fn fmt(&self, f: &mut fmt::Formatter<'_>) -> fmt::Result {
-        f.pad("all operations in select would block")
-    }
-}
+fmt_by_text! { impl Display for TrySelectError: _ => "all operations in select would block" }
 
 impl Error for TrySelectError {}
 
@@ -297,11 +260,7 @@ impl Error for TrySelectError {}
 #[derive(Clone, Copy, Debug, PartialEq, Eq, Hash)]
 pub struct SelectTimeoutError;
 
-impl fmt::Display for SelectTimeoutError {
-    fn fmt(&self, f: &mut fmt::Formatter<'_>) -> fmt::Result {
-        f.pad("timed out waiting on select")
-    }
-}
+fmt_by_text! { impl Display for SelectTimeoutError: _ => "timed out waiting on select" }
 
 impl Error for SelectTimeoutError {}
 
@@ -309,11 +268,7 @@ impl Error for SelectTimeoutError {}
 #[derive(Clone, Copy, Debug, PartialEq, Eq, Hash)]
 pub struct TryReadyError;
 
-impl fmt::Display for TryReadyError {
-    fn fmt(&self, f: &mut fmt::Formatter<'_>) -> fmt::Result {
-        f.pad("all operations in select would block")
-    }
-}
+fmt_by_text! { impl Display for TryReadyError: _ => "all operations in select would block" }
 
 impl Error for TryReadyError {}
 
@@ -322,10 +277,6 @@ impl Error for TryReadyError {}
 #[derive(Clone, Copy, Debug, PartialEq, Eq, Hash)]
 pub struct ReadyTimeoutError;
 
-impl fmt::Display for ReadyTimeoutError {
-    fn fmt(&self, f: &mut fmt::Formatter<'_>) -> fmt::Result {
-        f.pad("timed out waiting on select")
-    }
-}
+fmt_by_text! { impl Display for ReadyTimeoutError: _ => "timed out waiting on select" }
 
 impl Error for ReadyTimeoutError {}

@@ -1,17 +1,16 @@
-//! Sends and takes as futures. A poll makes a call of the queue to its end, and so may spin for its
-//! answer, but none is left begun between two polls: it would stop its side. A poll waits for nothing else: with
-//! capacity 0 it is posted, as [`meeting`](super::meeting) says.
+//! Sends and takes as futures. A poll makes a call of the queue to its end, and so may wait until it
+//! is served, but none is left begun between two polls: it would stop its side. A poll waits for nothing else: with
+//! capacity 0 it is posted, as [`rendezvous`](super::rendezvous) says.
 //!
 //! **Fused**: a poll after the call is done is pending, for ever, and does nothing.
 //!
 //! **Panics of wakers** that are dropped end in the poll that is done, whose result would be lost; another poll
 //! raises the first of them again at its end, and so does the drop of a future.
 use super::body::{Parcel, Unsent};
-use super::event::{Event, Panics, Ticket, Try};
-use super::meeting::TakerState;
+use super::rendezvous::TakerState;
 use super::{Receiver, RecvError, SendError, Sender};
+use crate::event::{Event, Panics, Ticket, Try};
 use std::borrow::Cow;
-use std::fmt;
 use std::mem::take;
 use std::pin::Pin;
 use std::task::{Context, Poll, Waker};
@@ -22,7 +21,7 @@ struct Place(Option<Ticket>);
 
 impl Place {
     /// Tries, unless it would seem to be in vain, and stays in line; or stands in line, and tries once more.
-    /// One that is still in line needs no try: the ring that takes it out is to come.
+    /// One that is still in line needs no try: the notification that takes it out is to come.
     fn poll<R>(
         &mut self,
         line: &Event,
@@ -125,20 +124,16 @@ impl<T> Future for RecvFuture<'_, T> {
     type Output = Result<T, RecvError>;
 
     fn poll(mut self: Pin<&mut Self>, context: &mut Context<'_>) -> Poll<Self::Output> {
-        let RecvFuture {
-            receiver,
-            is_done,
-            place,
-            taker,
-        } = &mut *self;
-        let waker = context.waker();
-        poll_once(is_done, |panics| {
-            if let Some(meeting) = receiver.core().meeting() {
-                let taken = receiver.poll_met(meeting, taker, waker, panics);
+        let (this, waker) = (&mut *self, context.waker());
+        poll_once(&mut this.is_done, |panics| {
+            let receiver = &this.receiver;
+            if let Some(rendezvous) = receiver.core().rendezvous() {
+                let taken = receiver.poll_met(rendezvous, &mut this.taker, waker, panics);
                 return taken.map(|item| item.ok_or(RecvError));
             }
-            let (line, is_empty) = (receiver.line(), receiver.is_empty());
-            let taken = place.poll(line, waker, panics, is_empty, || receiver.try_take());
+            let (line, is_empty) = (receiver.0.line(), receiver.is_empty());
+            let attempt = || receiver.try_take();
+            let taken = this.place.poll(line, waker, panics, is_empty, attempt);
             taken.map(|parcel| parcel.map(Parcel::unpack).ok_or(RecvError))
         })
     }
@@ -147,21 +142,17 @@ impl<T> Future for RecvFuture<'_, T> {
 impl<T> Drop for RecvFuture<'_, T> {
     fn drop(&mut self) {
         let (core, mut panics) = (self.receiver.core(), Panics::default());
-        self.place.leave(self.receiver.line(), &mut panics);
-        if let Some(meeting) = core.meeting()
-            && let Some(item) = meeting.leave(take(&mut self.taker), &mut panics)
+        self.place.leave(self.receiver.0.line(), &mut panics);
+        if let Some(rendezvous) = core.rendezvous()
+            && let Some(item) = rendezvous.leave(take(&mut self.taker), &mut panics)
         {
-            core.give_back_item(meeting, item);
+            core.give_back_item(rendezvous, item);
         }
         panics.raise();
     }
 }
 
-impl<T> fmt::Debug for RecvFuture<'_, T> {
-    fn fmt(&self, f: &mut fmt::Formatter<'_>) -> fmt::Result {
-        f.pad("RecvFuture { .. }")
-    }
-}
+fmt_by_text! { impl<T> Debug for RecvFuture<'_, T>: _ => "RecvFuture { .. }" }
 
 /// A send: see [`send_async`](crate::Sender::send_async).
 ///
@@ -218,24 +209,19 @@ impl<T> Future for SendFuture<'_, T> {
     type Output = Result<(), SendError<T>>;
 
     fn poll(mut self: Pin<&mut Self>, context: &mut Context<'_>) -> Poll<Self::Output> {
-        let SendFuture {
-            sender,
-            is_done,
-            place,
-            item,
-            offer,
-        } = &mut *self;
-        let waker = context.waker();
-        poll_once(is_done, |panics| {
-            if let Some(meeting) = sender.core().meeting() {
-                return sender.poll_posted(meeting, item, offer, waker, panics);
+        let (this, waker) = (&mut *self, context.waker());
+        poll_once(&mut this.is_done, |panics| {
+            let (sender, item) = (&this.sender, &mut this.item);
+            if let Some(rendezvous) = sender.core().rendezvous() {
+                let item = || item.take().expect("the item isn't sent yet").into_inner();
+                return sender.poll_posted(rendezvous, item, &mut this.offer, waker, panics);
             }
-            let (line, is_full) = (sender.line(), sender.is_full());
+            let (line, is_full) = (sender.0.line(), sender.is_full());
             let attempt = || match item {
                 Some(item) => sender.core().try_send(item),
                 None => Ok(false),
             };
-            let sent = place.poll(line, waker, panics, is_full, attempt);
+            let sent = this.place.poll(line, waker, panics, is_full, attempt);
             sent.map(|is_sent| match item.take() {
                 Some(item) if !is_sent => Err(SendError(item.into_inner())),
                 _ => Ok(()),
@@ -247,9 +233,11 @@ impl<T> Future for SendFuture<'_, T> {
 impl<T> Drop for SendFuture<'_, T> {
     fn drop(&mut self) {
         let mut panics = Panics::default();
-        self.place.leave(self.sender.line(), &mut panics);
-        if let (Some(meeting), Some(offer)) = (self.sender.core().meeting(), self.offer.take()) {
-            let item = meeting.withdraw(offer, &mut panics);
+        self.place.leave(self.sender.0.line(), &mut panics);
+        if let (Some(rendezvous), Some(offer)) =
+            (self.sender.core().rendezvous(), self.offer.take())
+        {
+            let item = rendezvous.withdraw(offer, &mut panics);
             panics.run_each(item, drop);
         }
         panics.run_each(self.item.take(), drop);
@@ -257,8 +245,4 @@ impl<T> Drop for SendFuture<'_, T> {
     }
 }
 
-impl<T> fmt::Debug for SendFuture<'_, T> {
-    fn fmt(&self, f: &mut fmt::Formatter<'_>) -> fmt::Result {
-        f.pad("SendFuture { .. }")
-    }
-}
+fmt_by_text! { impl<T> Debug for SendFuture<'_, T>: _ => "SendFuture { .. }" }

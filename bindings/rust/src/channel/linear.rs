@@ -5,7 +5,7 @@
 use super::rounds::rounds;
 use super::select::Begun;
 use super::*;
-use crate::backoff::Backoff;
+use crate::backoff::turn_until;
 use std::collections::{HashSet, VecDeque};
 use std::sync::atomic::{AtomicU64, AtomicUsize, Ordering};
 use std::thread;
@@ -434,10 +434,7 @@ struct Clock {
 impl Clock {
     fn start(&self) {
         self.ready.fetch_add(1, Ordering::SeqCst);
-        let mut backoff = Backoff::default();
-        while self.ready.load(Ordering::SeqCst) < THREADS {
-            backoff.between_turns();
-        }
+        turn_until(|| (self.ready.load(Ordering::SeqCst) >= THREADS).then_some(()));
     }
 
     fn now(&self) -> u64 {
@@ -626,7 +623,7 @@ fn selects_have_an_order() {
 }
 
 #[test]
-fn meetings_have_an_order() {
+fn rendezvous_have_an_order() {
     select_runs(10_000, 1, |_| 0, 0);
     select_runs(10_000, 1, |run| run as usize % 2, 1);
     select_runs(5_000, 1, |_| 2, 0);
@@ -735,10 +732,10 @@ fn what_has_no_order_is_refused() {
         of_other(call(10, 11, Outcome::Got(0, 8))),
     ]));
     let meets = |calls: &[Call]| super::linear::is_linear(calls, start(0));
-    let meeting = |begin| call(begin, begin + 2, Outcome::Sent(7));
-    assert!(meets(&[meeting(0), call(1, 3, Outcome::Got(0, 7))]));
-    assert!(!meets(&[meeting(0), call(3, 4, Outcome::Got(0, 7))]));
-    assert!(!meets(&[meeting(0)]));
+    let rendezvous = |begin| call(begin, begin + 2, Outcome::Sent(7));
+    assert!(meets(&[rendezvous(0), call(1, 3, Outcome::Got(0, 7))]));
+    assert!(!meets(&[rendezvous(0), call(3, 4, Outcome::Got(0, 7))]));
+    assert!(!meets(&[rendezvous(0)]));
     assert!(is_linear(&[sent, call(0, 3, Outcome::Empty(0))]));
     assert!(is_linear(&[
         call(0, 9, Outcome::Got(0, 7)),

@@ -1,15 +1,18 @@
 //! Channels of any type, over queues of words.
+#[macro_use]
+mod texts;
+
 mod body;
 mod core;
 mod error;
-mod event;
+mod flavor;
 mod future;
 #[cfg(test)]
 mod linear;
-mod meeting;
 mod pool;
 mod receiver;
-mod renew;
+mod rendezvous;
+mod replace_queue;
 mod reserve;
 #[cfg(test)]
 mod rounds;
@@ -17,7 +20,6 @@ mod select;
 mod select_macro;
 mod sender;
 mod side;
-mod special;
 #[cfg(test)]
 mod tests;
 mod timer;
@@ -36,8 +38,9 @@ pub use timer::{after, at, never, tick};
 
 use self::body::Copies;
 use self::core::Core;
-use self::meeting::Meeting;
-use self::special::Special;
+use self::flavor::Flavor;
+use self::rendezvous::Rendezvous;
+use self::side::Shared;
 use crate::queue::{Config, OpenError};
 use std::sync::Arc;
 
@@ -82,10 +85,13 @@ fn config(capacity: usize) -> Config {
 #[doc(alias("mpsc", "mpmc", "sync_channel"))]
 pub fn channel<T>(capacity: usize) -> Result<(Sender<T>, Receiver<T>), OpenError> {
     let core = Arc::new(match capacity {
-        0 => Core::special(config(0), Special::Meeting(Meeting::new())),
+        0 => Core::flavor(config(0), Flavor::Rendezvous(Rendezvous::new())),
         _ => Core::open(config(capacity), 1, None)?,
     });
-    Ok((Sender::new(core.clone()), Receiver::new(core, 1)))
+    Ok((
+        Sender(Shared::new(core.clone(), 0)),
+        Receiver(Shared::new(core, 1)),
+    ))
 }
 
 /// The same as [`channel`], under the name that it has in crossbeam-channel, flume and async-channel.
@@ -146,9 +152,9 @@ fn open<T>(
     copies: Option<Copies<T>>,
 ) -> Result<(Sender<T>, Vec<Receiver<T>>), OpenError> {
     let core = Arc::new(Core::open(config, groups, copies)?);
-    let receiver = |group| Receiver::new(core.clone(), group);
+    let receiver = |group| Receiver(Shared::new(core.clone(), group));
     let receivers = (1..=groups as usize).map(receiver).collect();
-    Ok((Sender::new(core), receivers))
+    Ok((Sender(Shared::new(core, 0)), receivers))
 }
 
 /// These don't compile: a handle doesn't go to another thread if its items can't, and no group clones items

@@ -2,11 +2,11 @@
 //! the pass, and gives the seat back. So there may be any number of handles.
 //!
 //! To take a seat is one exchange, and to give it back one store, after which the line is looked at. A
-//! caller that finds none free tries a few times more, and then parks: see [`event`](super::event).
+//! caller that finds none free tries a few times more, and then parks: see [`event`](crate::event).
 #![allow(unsafe_code)]
 
-use super::event::{Event, soon, wait};
-use crate::backoff::turn_until;
+use crate::backoff::{FOR_OWN_SIDE, turn_until};
+use crate::event::{Event, Panics, soon, wait};
 use crate::queue::handle::Handle;
 use std::cell::{Cell, UnsafeCell};
 use std::sync::OnceLock;
@@ -41,12 +41,12 @@ struct Seat {
     number: usize,
     /// How many items went through it. The holder alone writes it.
     count: AtomicU64,
-    /// What the count was when it was asked for last, by [`Pool::check_ahead`].
+    /// The count at the last question for it, by [`Pool::check_ahead`].
     asked: AtomicU64,
     pass: UnsafeCell<Pass>,
 }
 
-// SAFETY: `pass` is reached by the holder of the seat alone ([`Held`]), and there is one at a time:
+// SAFETY: `pass` is reached by the holder of the seat alone ([`SeatGuard`]), and there is one at a time:
 // whoever sets `taken` from false to true, until it is set back. Threads so have the pass one after
 // another, each with what the one before it did, by an acquire and a release; which is to send it from
 // one to the next, and `Pass` is `Send`.
@@ -59,20 +59,24 @@ pub struct Pool {
     used: AtomicUsize,
     /// The line in which callers wait for a free seat.
     free: Event,
+    /// The line in which callers wait until another one has served their call, or handed over to it.
+    served: Event,
 }
 
 /// A seat that is taken, until the drop.
-pub struct Held<'a> {
+pub struct SeatGuard<'a> {
     pool: &'a Pool,
     seat: &'a Seat,
 }
 
-impl Held<'_> {
+impl<'a> SeatGuard<'a> {
+    /// Its pass, and the line in which a call of the pass waits until it is served.
     #[inline]
-    pub fn pass(&mut self) -> &mut Pass {
+    pub fn pass(&mut self) -> (&mut Pass, &'a Event) {
         // SAFETY: this is the holder of the seat, so there is no other reference to its pass; and this
         // one lasts no longer than the borrow of `self`, which gives the seat back at its drop.
-        unsafe { &mut *self.seat.pass.get() }
+        let pass = unsafe { &mut *self.seat.pass.get() };
+        (pass, &self.pool.served)
     }
 
     /// Counts an item that went through the seat.
@@ -86,11 +90,14 @@ impl Held<'_> {
     }
 }
 
-impl Drop for Held<'_> {
+impl Drop for SeatGuard<'_> {
     #[inline]
     fn drop(&mut self) {
         self.seat.taken.store(false, Ordering::Release);
-        self.pool.free.ring();
+        if self.pool.served.has_waiters() {
+            self.pool.served.notify_all(&mut Panics::default());
+        }
+        self.pool.free.notify_one();
     }
 }
 
@@ -117,6 +124,7 @@ impl Pool {
             seats: (1..).zip(handles).map(seat).collect(),
             used: AtomicUsize::new(0),
             free: Event::default(),
+            served: Event::default(),
         }
     }
 
@@ -141,41 +149,41 @@ impl Pool {
 
     /// Takes the seat at this place, if it is free.
     #[inline]
-    fn try_take(&self, at: usize) -> Option<Held<'_>> {
+    fn try_take(&self, at: usize) -> Option<SeatGuard<'_>> {
         let seat = self.seat(at);
         let taken = seat.taken.swap(true, Ordering::Acquire);
-        (!taken).then(|| Held { pool: self, seat })
+        (!taken).then(|| SeatGuard { pool: self, seat })
     }
 
     /// Takes a free seat, and waits for one.
     #[inline]
-    pub fn take(&self) -> Held<'_> {
+    pub fn take(&self) -> SeatGuard<'_> {
         let hint = HINT.get();
         self.try_take(hint)
             .unwrap_or_else(|| self.take_another(hint))
     }
 
     #[cold]
-    fn take_another(&self, hint: usize) -> Held<'_> {
+    fn take_another(&self, hint: usize) -> SeatGuard<'_> {
         let first_free = || {
             let mut places = hint..hint + self.seats.len();
             let found = places.find_map(|at| Some((at, self.try_take(at)?)));
-            // The look at the line may come before the store for this thread: so not at a ring alone.
+            // The look at the line may come before the store for this thread: so it doesn't wait for a notification alone.
             let (at, held) = found.ok_or_else(soon)?;
             HINT.set(at % MOST);
             Ok(held)
         };
-        wait(&self.free, None, first_free).expect("it waits without end")
+        wait(&self.free, FOR_OWN_SIDE, None, first_free).expect("it waits without end")
     }
 
     /// Takes each seat once it is free.
-    pub fn take_each(&self) -> impl Iterator<Item = Held<'_>> {
+    pub fn take_each(&self) -> impl Iterator<Item = SeatGuard<'_>> {
         let take = |at| turn_until(|| self.try_take(at));
         (0..self.seats.len()).map(take)
     }
 
     /// Takes all seats, each once it is free.
-    pub fn take_all(&self) -> Vec<Held<'_>> {
+    pub fn take_all(&self) -> Vec<SeatGuard<'_>> {
         self.take_each().collect()
     }
 }

@@ -1,13 +1,12 @@
 //! The receivers of a channel.
 use super::body::Parcel;
 use super::core::Core;
-use super::event::{Event, Try};
 use super::future::RecvFuture;
-use super::side::{Handle, WeakHandle};
+use super::side::Shared;
 use super::{RecvError, RecvTimeoutError, TryRecvError};
+use crate::event::Try;
 use std::borrow::Cow;
 use std::convert::identity;
-use std::fmt;
 use std::iter::FusedIterator;
 use std::sync::Arc;
 use std::time::{Duration, Instant};
@@ -30,32 +29,16 @@ use std::time::{Duration, Instant};
 /// assert_eq!((receiver.recv(), other.recv()), (Ok(1), Ok(2))); // each item goes to one of them
 /// # Ok::<(), vahepito::OpenError>(())
 /// ```
-pub struct Receiver<T> {
-    pub(super) handle: Handle<T>,
-}
+pub struct Receiver<T>(pub(super) Arc<Shared<T>>);
 
 impl<T> Receiver<T> {
-    /// The first receiver of this group.
-    pub(super) fn new(core: Arc<Core<T>>, group: usize) -> Receiver<T> {
-        let handle = Handle::new(core, group);
-        Receiver { handle }
-    }
-
-    pub(super) fn core(&self) -> &Core<T> {
-        self.handle.core()
-    }
-
-    pub(super) fn side(&self) -> usize {
-        self.handle.side()
-    }
-
-    pub(super) fn line(&self) -> &Event {
-        self.handle.line()
+    pub(super) fn core(&self) -> &Arc<Core<T>> {
+        &self.0.core
     }
 
     /// Tries to take an item. Gives None at the end of the channel.
     pub(super) fn try_take(&self) -> Try<Option<Parcel<T>>> {
-        self.core().try_recv(self.side())
+        self.core().try_recv(self.group())
     }
 
     /// Takes an item, if there is one. It doesn't wait for an item; but if another thread serves the
@@ -88,7 +71,7 @@ impl<T> Receiver<T> {
     /// Takes an item, and waits for one until this moment.
     #[inline]
     fn recv_until<E>(&self, until: Option<Instant>, or: fn(RecvTimeoutError) -> E) -> Result<T, E> {
-        match self.core().take(self.side()) {
+        match self.core().take(self.group()) {
             Ok(parcel) => Ok(parcel.unpack()),
             Err(_) => self.wait_for_item(until).map_err(or),
         }
@@ -96,10 +79,10 @@ impl<T> Receiver<T> {
 
     #[inline(never)]
     fn wait_for_item(&self, until: Option<Instant>) -> Result<T, RecvTimeoutError> {
-        if self.core().meeting().is_some() {
-            return self.meet_until(until);
+        if let Some(rendezvous) = self.core().rendezvous() {
+            return self.meet_until(rendezvous, until);
         }
-        match self.handle.wait(until, || self.try_take()) {
+        match self.0.wait(until, || self.try_take()) {
             Some(Some(parcel)) => Ok(parcel.unpack()),
             Some(None) => Err(RecvTimeoutError::Disconnected),
             None => Err(RecvTimeoutError::Timeout),
@@ -305,7 +288,7 @@ impl<T> Receiver<T> {
     /// ```
     #[must_use]
     pub fn len(&self) -> usize {
-        self.handle.len()
+        self.core().len(self.group())
     }
 
     /// Whether [`len`](Receiver::len) is 0.
@@ -333,7 +316,7 @@ impl<T> Receiver<T> {
     /// ```
     #[must_use]
     pub fn is_full(&self) -> bool {
-        self.handle.is_full()
+        self.len() == self.core().capacity()
     }
 
     /// How many items the channel may hold. The answer is never None, since every channel has a bound.
@@ -359,7 +342,7 @@ impl<T> Receiver<T> {
     /// ```
     #[must_use]
     pub fn same_channel(&self, other: &Receiver<T>) -> bool {
-        self.handle.is_same_channel(&other.handle)
+        Arc::ptr_eq(self.core(), other.core())
     }
 
     /// Its group, from 1. A channel of [`channel`](crate::channel()) has one.
@@ -371,7 +354,7 @@ impl<T> Receiver<T> {
     /// ```
     #[must_use]
     pub fn group(&self) -> usize {
-        self.side()
+        self.0.side
     }
 
     /// How many receivers its group has.
@@ -385,7 +368,7 @@ impl<T> Receiver<T> {
     /// ```
     #[must_use]
     pub fn receiver_count(&self) -> usize {
-        self.core().count(self.side())
+        self.core().count(self.group())
     }
 
     /// How many senders the channel has.
@@ -415,28 +398,24 @@ impl<T> Receiver<T> {
     /// ```
     #[must_use]
     pub fn downgrade(&self) -> WeakReceiver<T> {
-        let handle = self.handle.downgrade();
-        WeakReceiver { handle }
+        let (core, group) = (self.core().clone(), self.group());
+        WeakReceiver { core, group }
     }
 }
 
 /// A further receiver of its group.
 impl<T> Clone for Receiver<T> {
     fn clone(&self) -> Receiver<T> {
-        let handle = self.handle.clone();
-        Receiver { handle }
+        Receiver(self.0.clone())
     }
 }
 
-impl<T> fmt::Debug for Receiver<T> {
-    fn fmt(&self, f: &mut fmt::Formatter<'_>) -> fmt::Result {
-        f.pad("Receiver { .. }")
-    }
-}
+fmt_by_text! { impl<T> Debug for Receiver<T>: _ => "Receiver { .. }" }
 
 /// A receiver that keeps neither the channel nor its group: see [`Receiver::downgrade`].
 pub struct WeakReceiver<T> {
-    handle: WeakHandle<T>,
+    core: Arc<Core<T>>,
+    group: usize,
 }
 
 impl<T> WeakReceiver<T> {
@@ -452,23 +431,18 @@ impl<T> WeakReceiver<T> {
     /// ```
     #[must_use]
     pub fn upgrade(&self) -> Option<Receiver<T>> {
-        let handle = self.handle.upgrade()?;
-        Some(Receiver { handle })
+        self.core.shared(self.group).map(Receiver)
     }
 }
 
 impl<T> Clone for WeakReceiver<T> {
     fn clone(&self) -> WeakReceiver<T> {
-        let handle = self.handle.clone();
-        WeakReceiver { handle }
+        let (core, group) = (self.core.clone(), self.group);
+        WeakReceiver { core, group }
     }
 }
 
-impl<T> fmt::Debug for WeakReceiver<T> {
-    fn fmt(&self, f: &mut fmt::Formatter<'_>) -> fmt::Result {
-        f.pad("WeakReceiver { .. }")
-    }
-}
+fmt_by_text! { impl<T> Debug for WeakReceiver<T>: _ => "WeakReceiver { .. }" }
 
 /// Takes items until the end: see [`Receiver::iter`].
 #[derive(Debug)]

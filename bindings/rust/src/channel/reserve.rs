@@ -1,10 +1,11 @@
 //! Room that is reserved for selected sends, and the looks of a select: see [`select`](super::select).
 use super::body::Unsent;
 use super::core::{Core, Side};
-use super::event::{AT_A_RING, Try, lock};
 use super::pool::Pool;
-use crate::backoff::Backoff;
+use crate::event::{Try, WHEN_NOTIFIED, lock};
 use std::sync::atomic::Ordering;
+use std::thread;
+use std::time::Duration;
 
 /// Waits until whoever has a seat has counted what went through it.
 fn wait_for_holders(seats: &Pool) {
@@ -24,7 +25,7 @@ impl<T> Core<T> {
         if has_item() || self.is_closed() {
             Ok(())
         } else {
-            Err(AT_A_RING)
+            Err(WHEN_NOTIFIED)
         }
     }
 
@@ -32,14 +33,14 @@ impl<T> Core<T> {
     /// some moment of this call.
     pub fn seems_to_have_room(&self) -> Try<()> {
         self.has_room_beside(0)?;
-        let reserved = self.selected.room.load(Ordering::SeqCst);
+        let reserved = self.reserved.load(Ordering::SeqCst);
         if reserved == 0 || self.has_room_beside(reserved).is_ok() {
             return Ok(());
         }
         // Not while a selected send is on its way: its item may be taken before its place is counted down.
         let _in_queue = lock(&self.in_queue);
         let _seats = self.senders.seats.take_all();
-        self.has_room_beside(self.selected.room.load(Ordering::SeqCst))
+        self.has_room_beside(self.reserved.load(Ordering::SeqCst))
     }
 
     /// Whether there is room beside these reserved places, or none will come. If it says no, there was none at
@@ -59,7 +60,7 @@ impl<T> Core<T> {
             }
         });
         if is_full && !self.is_closed() {
-            Err(AT_A_RING)
+            Err(WHEN_NOTIFIED)
         } else {
             Ok(())
         }
@@ -72,33 +73,32 @@ impl<T> Core<T> {
     pub fn reserve(&self) -> Try<bool> {
         self.seems_to_have_room()?;
         let _in_queue = lock(&self.in_queue);
-        self.selected.room.fetch_add(1, Ordering::SeqCst);
+        self.reserved.fetch_add(1, Ordering::SeqCst);
         let _seats = self.senders.seats.take_all();
         // A selected send that was on its way before has counted its place down.
-        let others = self.selected.room.load(Ordering::SeqCst) - 1;
+        let others = self.reserved.load(Ordering::SeqCst) - 1;
         let has_room = self.has_room_beside(others).map(|()| !self.is_closed());
         if has_room != Ok(true) {
-            self.selected.room.fetch_sub(1, Ordering::SeqCst);
+            self.reserved.fetch_sub(1, Ordering::SeqCst);
         }
         has_room
     }
 
     /// Gives back room that was reserved.
     pub fn give_back_room(&self) {
-        self.selected.room.fetch_sub(1, Ordering::SeqCst);
-        self.senders.line.ring();
+        self.reserved.fetch_sub(1, Ordering::SeqCst);
+        self.senders.line.notify_one();
     }
 
     /// Sends to room that was reserved. Returns whether it is sent; if not, the channel is closed.
     pub fn send_to_room(&self, item: &mut Unsent<T>) -> bool {
-        let mut backoff = Backoff::default();
         loop {
             let mut seat = self.senders.seats.take();
             let Err(refusal) = self.send_by(&mut seat, item) else {
                 // While the seat is taken, so that nobody counts both the item and its room.
-                self.selected.room.fetch_sub(1, Ordering::SeqCst);
+                self.reserved.fetch_sub(1, Ordering::SeqCst);
                 drop(seat);
-                self.ring_for_item();
+                self.notify_item();
                 return true;
             };
             drop(seat);
@@ -109,7 +109,7 @@ impl<T> Core<T> {
                     return false;
                 }
                 // Memory is wanting for a further queue.
-                Err(_) => backoff.between_tries(),
+                Err(_) => thread::sleep(Duration::from_millis(1)),
             }
         }
     }
@@ -119,13 +119,13 @@ impl<T> Core<T> {
     pub fn send_beside_reserved(&self, item: &mut Unsent<T>) -> Try<bool> {
         let in_queue = lock(&self.in_queue);
         let mut seats = self.senders.seats.take_all();
-        self.has_room_beside(self.selected.room.load(Ordering::SeqCst))?;
+        self.has_room_beside(self.reserved.load(Ordering::SeqCst))?;
         let sent = self.send_by(&mut seats[0], item);
         drop(seats);
         drop(in_queue);
         match sent {
             Ok(()) => {
-                self.ring_for_item();
+                self.notify_item();
                 Ok(true)
             }
             Err(refusal) => self.send_after_refusal(item, refusal),

@@ -1,12 +1,12 @@
 //! One of several operations, over channels of any types: [`Select`] and [`select!`](crate::select!).
 //!
 //! A select tries each operation, in a random order. If none is ready, its thread stands in the line of
-//! each, and goes on as [`event`](super::event) says of a waiter in several lines: it looks, parks until one
-//! of the lines rings, leaves all, and tries again. It passes on the ring of each line from which it takes
+//! each, and goes on as [`event`](crate::event) says of a waiter in several lines: it looks, parks until one
+//! of the lines is notified, leaves all, and tries again. It passes on the notification of each line from which it takes
 //! nothing. So no wake-up is lost, and while it is blocked it costs nothing.
 //!
 //! **None is ready**, it says after its time if each operation wasn't ready at a moment of this call, after which
-//! nobody rang for it. These moments may differ: a send that is on its way rings after its item is in.
+//! nobody notified it. These moments may differ: a send that is on its way notifies after its item is in.
 //!
 //! **A selected take has its item.** The try is the take itself, so there is one, and no other receiver gets
 //! the item. The channel keeps it until [`SelectedOperation::recv`] hands it over.
@@ -15,27 +15,24 @@
 //! as reserved, and then takes all the senders' seats: no send is on its way then. If the place isn't free it
 //! counts it down again. Each other send sees by its seat that places are reserved; it then takes all seats too,
 //! and leaves those places free. So items and reserved places together are never more than the capacity, and
-//! [`SelectedOperation::send`] finds room without waiting. A send that gives its place back rings for room.
+//! [`SelectedOperation::send`] finds room without waiting. A send that gives its place back notifies one that waits for room.
 //!
 //! **Room and items are counted here**, not asked of the queue: a send and a take each count by their seat,
 //! give it back, and then look whether somebody waits. A look takes each of those seats, and gives it back. A
 //! holder before that has counted; a holder after that sees the waiter in line. So a look that finds nothing
-//! is the look of [`event`](super::event)'s argument: at some moment of it there was nothing.
-use super::event::{Event, Panics, Parker, TRIES, Ticket, Try, drop_each, lock};
-use super::meeting::{Meets, SENDS, TAKES, Waiter, meet_or_post, try_meet};
-use super::special::Special;
+//! is the look of [`event`](crate::event)'s argument: at some moment of it there was nothing.
+use super::flavor::Flavor;
+use super::rendezvous::{Meets, SENDS, TAKES, Waiter, meet_or_post, try_meet};
 use super::{
     ReadyTimeoutError, Receiver, RecvError, SelectTimeoutError, SendError, Sender, TryReadyError,
     TrySelectError,
 };
-use crate::backoff::Backoff;
-use std::cell::Cell;
-use std::fmt;
-use std::mem::take;
+use crate::backoff::FOR_OTHERS;
+use crate::event::{Event, Panics, Parker, Ticket, Try, lock};
+use std::hash::{BuildHasher, Hasher, RandomState};
 use std::ops::Deref;
 use std::ptr::addr_eq;
-use std::sync::atomic::{AtomicU64, AtomicUsize, Ordering};
-use std::sync::{Arc, Mutex};
+use std::sync::Arc;
 use std::time::{Duration, Instant};
 
 /// The state of a selected operation, until it is completed.
@@ -52,13 +49,13 @@ pub enum Begun {
     Nothing,
 }
 
-/// An operation of a select.
+/// An operation of a select. If its channel has capacity 0, it is begun and looked at by [`Meets`].
 pub trait Case {
     /// The line in which one waits for it.
     fn line(&self) -> &Event;
     /// The channel and the side at which it is posted, if the channel has capacity 0.
-    fn meeting(&self) -> Option<(&dyn Meets, usize)>;
-    /// It is posted: rings for those of the other side that aren't.
+    fn rendezvous(&self) -> Option<(&dyn Meets, usize)>;
+    /// It is posted: notifies those of the other side that aren't.
     fn notify_posted(&self);
     /// Begins it, if it is ready.
     fn begin(&self) -> Try<Begun>;
@@ -68,78 +65,30 @@ pub trait Case {
     fn give_up(&self, begun: Begun);
 }
 
-/// What a channel keeps for selected operations until they are completed.
-pub struct Selected<T> {
-    /// How much room is reserved for sends. It grows under the lock of the groups.
-    pub room: AtomicUsize,
-    /// The items of takes.
-    kept: Mutex<Kept<T>>,
-}
-
-impl<T> Default for Selected<T> {
-    fn default() -> Selected<T> {
-        let items = vec![];
-        Selected {
-            room: AtomicUsize::new(0),
-            kept: Mutex::new(Kept { last: 0, items }),
-        }
-    }
-}
-
-struct Kept<T> {
-    last: u64,
-    items: Vec<(u64, T)>,
-}
-
-/// There are some if selected operations were forgotten.
-impl<T> Drop for Kept<T> {
-    fn drop(&mut self) {
-        drop_each(take(&mut self.items));
-    }
-}
-
-impl<T> Kept<T> {
-    fn put(&mut self, item: T) -> u64 {
-        self.last += 1;
-        self.items.push((self.last, item));
-        self.last
-    }
-
-    fn take(&mut self, number: u64) -> Option<T> {
-        let at = self.items.iter().position(|(other, _)| *other == number)?;
-        Some(self.items.swap_remove(at).1)
-    }
-}
-
 impl<T> Case for Receiver<T> {
     fn line(&self) -> &Event {
-        Receiver::line(self)
+        self.0.line()
     }
 
-    fn meeting(&self) -> Option<(&dyn Meets, usize)> {
-        Some((self.core().meeting()?, TAKES))
+    fn rendezvous(&self) -> Option<(&dyn Meets, usize)> {
+        Some((self.core().rendezvous()?, TAKES))
     }
 
     fn notify_posted(&self) {
-        self.core().senders.line.ring();
+        self.core().senders.line.notify_one();
     }
 
     fn begin(&self) -> Try<Begun> {
-        if let Some((meeting, side)) = self.meeting() {
-            return try_meet(meeting, side);
-        }
         let taken = self.try_take()?;
         Ok(taken.map_or(Begun::Closed, |parcel| {
-            let item = parcel.unpack();
-            Begun::Kept(lock(&self.core().selected.kept).put(item))
+            Begun::Kept(self.core().keep(parcel.unpack()))
         }))
     }
 
     fn look(&self) -> Try<()> {
-        match &self.core().special {
-            Some(Special::Meeting(meeting)) => meeting.look(TAKES),
-            Some(Special::Timer(timer)) => timer.look(),
-            None => self.core().seems_to_have_item(self.side()),
+        match &self.core().flavor {
+            Some(Flavor::Timer(timer)) => timer.look(),
+            _ => self.core().seems_to_have_item(self.group()),
         }
     }
 
@@ -151,9 +100,9 @@ impl<T> Case for Receiver<T> {
 impl<T> Receiver<T> {
     /// The item of a selected take.
     pub(super) fn completed(&self, begun: Begun) -> Result<T, RecvError> {
-        let item = match (begun, self.core().meeting()) {
-            (Begun::Met(pair), Some(meeting)) => meeting.take(pair),
-            (Begun::Kept(number), _) => lock(&self.core().selected.kept).take(number),
+        let item = match (begun, self.core().rendezvous()) {
+            (Begun::Met(pair), Some(rendezvous)) => rendezvous.take(pair),
+            (Begun::Kept(number), _) => lock(&self.core().kept).remove(&number),
             _ => None,
         };
         item.ok_or(RecvError)
@@ -162,35 +111,29 @@ impl<T> Receiver<T> {
 
 impl<T> Case for Sender<T> {
     fn line(&self) -> &Event {
-        Sender::line(self)
+        self.0.line()
     }
 
-    fn meeting(&self) -> Option<(&dyn Meets, usize)> {
-        Some((self.core().meeting()?, SENDS))
+    fn rendezvous(&self) -> Option<(&dyn Meets, usize)> {
+        Some((self.core().rendezvous()?, SENDS))
     }
 
     fn notify_posted(&self) {
-        self.core().ring_for_item();
+        self.core().notify_item();
     }
 
     fn begin(&self) -> Try<Begun> {
-        if let Some((meeting, side)) = self.meeting() {
-            return try_meet(meeting, side);
-        }
         let has_room = self.core().reserve()?;
         Ok(if has_room { Begun::Room } else { Begun::Closed })
     }
 
     fn look(&self) -> Try<()> {
-        match self.core().meeting() {
-            Some(meeting) => meeting.look(SENDS),
-            None => self.core().seems_to_have_room(),
-        }
+        self.core().seems_to_have_room()
     }
 
     fn give_up(&self, begun: Begun) {
-        match (begun, self.core().meeting()) {
-            (Begun::Met(pair), Some(meeting)) => drop(meeting.give_up(pair)),
+        match (begun, self.core().rendezvous()) {
+            (Begun::Met(pair), Some(rendezvous)) => drop(rendezvous.give_up(pair)),
             (Begun::Room, _) => self.core().give_back_room(),
             _ => {}
         }
@@ -200,10 +143,10 @@ impl<T> Case for Sender<T> {
 impl<T> Sender<T> {
     /// Sends by a selected send.
     fn complete(&self, begun: Begun, item: T, until: Option<Instant>) -> Result<(), SendError<T>> {
-        match (begun, self.core().meeting()) {
-            (Begun::Met(pair), Some(meeting)) => meeting.send(pair, item).or_else(|item| {
+        match (begun, self.core().rendezvous()) {
+            (Begun::Met(pair), Some(rendezvous)) => rendezvous.send(pair, item).or_else(|item| {
                 // The take gave the pair up: the send waits for another one, as long as its select would have.
-                let sent = self.meet_until(meeting, item, until);
+                let sent = self.meet_until(rendezvous, item, until);
                 sent.map_err(|error| SendError(error.into_inner()))
             }),
             (Begun::Room, _) => {
@@ -219,13 +162,13 @@ impl<T> Sender<T> {
     }
 }
 
-/// A thread's place in line. Its drop passes on the ring that took it out, if no try came after it.
+/// A thread's place in line. Its drop passes on the notification that took it out, if no try came after it.
 struct Place<'a> {
     event: &'a Event,
     /// Until it leaves the line.
     ticket: Option<Ticket>,
-    /// Whether a ring took it out. A try that is made after that clears it.
-    rung: bool,
+    /// Whether a notification took it out. A try that is made after that clears it.
+    notified: bool,
 }
 
 impl<'a> Place<'a> {
@@ -234,27 +177,27 @@ impl<'a> Place<'a> {
         Place {
             event,
             ticket: Some(event.stand(parker.clone().into())),
-            rung: false,
+            notified: false,
         }
     }
 
-    /// Leaves the line. A try has to follow, since a ring may have taken this one out. Returns whether there
-    /// was a ring at all since it stood there.
+    /// Leaves the line. A try has to follow, since a notification may have taken this one out. Returns whether there
+    /// was a notification at all since it entered the line.
     fn leave(&mut self) -> bool {
         // It is a parker's, whose drop doesn't panic.
         let leave = |ticket| self.event.leave(ticket, &mut Panics::default());
         let left = self.ticket.take().map(leave);
-        let (rung, was_rung) = left.unwrap_or((self.rung, false));
-        self.rung = rung;
-        was_rung
+        let (notified, was_notified) = left.unwrap_or((self.notified, false));
+        self.notified = notified;
+        was_notified
     }
 }
 
 impl Drop for Place<'_> {
     fn drop(&mut self) {
         self.leave();
-        if self.rung {
-            self.event.ring();
+        if self.notified {
+            self.event.notify_one();
         }
     }
 }
@@ -267,27 +210,32 @@ pub struct Entry<R> {
 }
 
 impl<R: Deref<Target: Case>> Entry<R> {
+    /// Begins it, or only looks.
+    fn attempt(&self, begins: bool) -> Try<Begun> {
+        match self.case.rendezvous() {
+            Some((channel, side)) if begins => try_meet(channel, side),
+            Some((channel, side)) => channel.look(side).map(|()| Begun::Nothing),
+            None if begins => self.case.begin(),
+            None => self.case.look().map(|()| Begun::Nothing),
+        }
+    }
+
     /// Whether what has begun is for good, with capacity 0: see [`Meets::wait_for_pair`].
     fn wait_for_pair(&self, begun: &Begun, until: Option<Instant>) -> bool {
-        let meeting = self.case.meeting();
-        meeting.is_none_or(|(channel, side)| channel.wait_for_pair(begun, side, until))
+        let rendezvous = self.case.rendezvous();
+        rendezvous.is_none_or(|(channel, side)| channel.wait_for_pair(begun, side, until))
     }
 }
 
-/// Tries each of these once: begins it, or only looks. Gives the place of the first that is done; if none is,
-/// when to try again though nobody rings.
+/// Tries each of these once. Gives the place of the first that is done; if none is, when to try again though
+/// nobody notifies.
 fn try_each<R: Deref<Target: Case>>(
     entries: &[Entry<R>],
     begins: bool,
 ) -> Result<(usize, Begun), Option<Instant>> {
     let mut moment = None;
-    for (place, Entry { case, .. }) in entries.iter().enumerate() {
-        let tried = if begins {
-            case.begin()
-        } else {
-            case.look().map(|()| Begun::Nothing)
-        };
-        match tried {
+    for (place, entry) in entries.iter().enumerate() {
+        match entry.attempt(begins) {
             Ok(begun) => return Ok((place, begun)),
             Err(again) => moment = again.into_iter().chain(moment).min(),
         }
@@ -295,23 +243,9 @@ fn try_each<R: Deref<Target: Case>>(
     Err(moment)
 }
 
-/// A random number below this one.
+/// A random number below this one: each such hasher has random keys of its own.
 fn random_below(limit: usize) -> usize {
-    thread_local! {
-        static LAST: Cell<u64> = const { Cell::new(0) };
-    }
-    static THREADS: AtomicU64 = AtomicU64::new(1);
-    let mut number = match LAST.get() {
-        0 => THREADS
-            .fetch_add(1, Ordering::Relaxed)
-            .wrapping_mul(0x9e37_79b9_7f4a_7c15),
-        last => last,
-    };
-    number ^= number << 13;
-    number ^= number >> 7;
-    number ^= number << 17;
-    LAST.set(number);
-    (number >> 11) as usize % limit
+    RandomState::new().build_hasher().finish() as usize % limit
 }
 
 /// Waits until one of several operations is ready, and makes it, or says which it is.
@@ -349,9 +283,7 @@ fn random_below(limit: usize) -> usize {
 /// # Ok::<(), vahepito::OpenError>(())
 /// ```
 #[derive(Clone)]
-pub struct Select<'a> {
-    cases: Cases<&'a (dyn Case + Sync)>,
-}
+pub struct Select<'a>(Cases<&'a (dyn Case + Sync)>);
 
 impl<'a> Select<'a> {
     /// One without operations.
@@ -362,8 +294,7 @@ impl<'a> Select<'a> {
     /// ```
     #[must_use]
     pub fn new() -> Select<'a> {
-        let cases = Cases::new(false);
-        Select { cases }
+        Select(Cases::new(false))
     }
 
     /// One that prefers the operation with the lowest index.
@@ -382,8 +313,7 @@ impl<'a> Select<'a> {
     /// ```
     #[must_use]
     pub fn new_biased() -> Select<'a> {
-        let cases = Cases::new(true);
-        Select { cases }
+        Select(Cases::new(true))
     }
 
     /// Adds a send, and returns its index.
@@ -399,7 +329,7 @@ impl<'a> Select<'a> {
     /// # Ok::<(), vahepito::OpenError>(())
     /// ```
     pub fn send<T: Send>(&mut self, sender: &'a Sender<T>) -> usize {
-        self.cases.add(sender)
+        self.0.add(sender)
     }
 
     /// Adds a take, and returns its index.
@@ -415,7 +345,7 @@ impl<'a> Select<'a> {
     /// # Ok::<(), vahepito::OpenError>(())
     /// ```
     pub fn recv<T: Send>(&mut self, receiver: &'a Receiver<T>) -> usize {
-        self.cases.add(receiver)
+        self.0.add(receiver)
     }
 
     /// Removes an operation. The others keep their indices.
@@ -436,7 +366,7 @@ impl<'a> Select<'a> {
     /// # Ok::<(), vahepito::OpenError>(())
     /// ```
     pub fn remove(&mut self, index: usize) {
-        let entries = &mut self.cases.entries;
+        let entries = &mut self.0.entries;
         let place = entries.iter().position(|it| it.index == index);
         entries.remove(place.expect("the select has an operation with this index"));
     }
@@ -477,15 +407,14 @@ impl<R: Copy + Deref<Target: Case>> Cases<R> {
         self.shuffle();
         let is_over = || until.is_some_and(|until| until <= Instant::now());
         // Those that may meet another are posted at once, so that the other finds them.
-        let posts = begins && self.entries.iter().any(|it| it.case.meeting().is_some());
-        let mut backoff = Backoff::default();
+        let posts = begins && self.entries.iter().any(|it| it.case.rendezvous().is_some());
         let mut done = self.try_once(until, begins);
-        for _ in 1..if posts { 1 } else { TRIES } {
-            if done.is_some() || is_over() {
-                break;
-            }
-            backoff.between_turns();
-            done = self.try_once(until, begins);
+        if done.is_none() && !posts {
+            let attempt = || match self.try_once(until, begins) {
+                None if !is_over() => None,
+                tried => Some(tried),
+            };
+            done = FOR_OTHERS.try_until(attempt).flatten();
         }
         done.or_else(|| {
             Parker::with(|parker| {
@@ -523,7 +452,7 @@ impl<R: Copy + Deref<Target: Case>> Cases<R> {
     }
 
     /// Stands in all lines, looks, and parks; leaves all, and tries again. If none is done, returns whether
-    /// there was no ring: then each wasn't ready when it was looked at. The ring of a line is passed on if its
+    /// there was no notification: then each wasn't ready when it was looked at. The notification of a line is passed on if its
     /// operation wasn't tried after it, or was only looked at and is ready.
     fn stand_and_park(
         &self,
@@ -532,7 +461,7 @@ impl<R: Copy + Deref<Target: Case>> Cases<R> {
         parker: &Arc<Parker>,
     ) -> Result<(usize, Begun), bool> {
         let is_over = until.is_some_and(|until| until <= Instant::now());
-        let is_posted = |it: &Entry<R>| begins && it.case.meeting().is_some();
+        let is_posted = |it: &Entry<R>| begins && it.case.rendezvous().is_some();
         let mut places: Vec<_> = vec![];
         places.extend(self.entries.iter().map(|it| {
             let stands = !is_posted(it);
@@ -558,21 +487,21 @@ impl<R: Copy + Deref<Target: Case>> Cases<R> {
         if is_quiet && is_over {
             return Err(true);
         }
-        // The one that was rung for comes first.
-        let is_rung = |it: &Option<Place>| it.as_ref().is_some_and(|it| it.rung);
-        let first = places.iter().position(is_rung);
-        let rung = first.and_then(|at| {
+        // The one that was notified comes first.
+        let is_notified = |it: &Option<Place>| it.as_ref().is_some_and(|it| it.notified);
+        let first = places.iter().position(is_notified);
+        let notified = first.and_then(|at| {
             let (_, begun) = try_each(&self.entries[at..=at], begins).ok()?;
             Some((at, begun))
         });
-        let done = rung.or_else(|| try_each(&self.entries, begins).ok());
+        let done = notified.or_else(|| try_each(&self.entries, begins).ok());
         let tried = match done {
             Some((place, _)) if begins => place..place + 1,
             Some(_) => 0..0,
             None => 0..places.len(),
         };
         let tried = places[tried].iter_mut().flatten();
-        tried.for_each(|place| place.rung = false);
+        tried.for_each(|place| place.notified = false);
         done.ok_or(is_quiet)
     }
 
@@ -580,7 +509,7 @@ impl<R: Copy + Deref<Target: Case>> Cases<R> {
     /// another.
     fn meet(&self, until: Option<Instant>, parker: &Arc<Parker>) -> Option<(usize, Begun)> {
         let cases = self.entries.iter().enumerate().filter_map(|(place, it)| {
-            let (channel, side) = it.case.meeting()?;
+            let (channel, side) = it.case.rendezvous()?;
             Some((place, channel, side))
         });
         let cases: Vec<_> = cases.collect();
@@ -612,7 +541,7 @@ impl<R: Copy + Deref<Target: Case>> Cases<R> {
 
 impl<'a> Select<'a> {
     fn select_until(&mut self, until: Option<Instant>) -> Option<SelectedOperation<'a>> {
-        let (Entry { index, case }, begun) = self.cases.wait(until, true)?;
+        let (Entry { index, case }, begun) = self.0.wait(until, true)?;
         Some(SelectedOperation::new(Entry { index, case }, begun, until))
     }
 
@@ -715,7 +644,7 @@ impl<'a> Select<'a> {
     }
 
     fn ready_until(&mut self, until: Option<Instant>) -> Option<usize> {
-        Some(self.cases.wait(until, false)?.0.index)
+        Some(self.0.wait(until, false)?.0.index)
     }
 
     /// Returns the index of an operation that is ready, if there is one. Another thread may make it
@@ -825,11 +754,7 @@ impl<'a> LocalSelect<'a> {
     }
 }
 
-impl fmt::Debug for Select<'_> {
-    fn fmt(&self, f: &mut fmt::Formatter<'_>) -> fmt::Result {
-        f.pad("Select { .. }")
-    }
-}
+fmt_by_text! { impl Debug for Select<'_>: _ => "Select { .. }" }
 
 impl Default for Select<'_> {
     fn default() -> Self {
@@ -955,8 +880,4 @@ impl Drop for SelectedOperation<'_> {
     }
 }
 
-impl fmt::Debug for SelectedOperation<'_> {
-    fn fmt(&self, f: &mut fmt::Formatter<'_>) -> fmt::Result {
-        f.pad("SelectedOperation { .. }")
-    }
-}
+fmt_by_text! { impl Debug for SelectedOperation<'_>: _ => "SelectedOperation { .. }" }

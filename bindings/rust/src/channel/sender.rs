@@ -1,12 +1,10 @@
 //! The senders of a channel.
 use super::body::Unsent;
 use super::core::Core;
-use super::event::Event;
 use super::future::SendFuture;
-use super::side::{Handle, WeakHandle};
+use super::side::Shared;
 use super::{SendError, SendTimeoutError, TrySendError};
 use std::borrow::Cow;
-use std::fmt;
 use std::sync::Arc;
 use std::time::{Duration, Instant};
 
@@ -29,25 +27,13 @@ use std::time::{Duration, Instant};
 /// assert!(receiver.into_iter().eq([1, 2]));
 /// # Ok::<(), vahepito::OpenError>(())
 /// ```
-pub struct Sender<T> {
-    pub(super) handle: Handle<T>,
-}
+pub struct Sender<T>(pub(super) Arc<Shared<T>>);
 
 type Sent<T> = Result<(), SendTimeoutError<T>>;
 
 impl<T> Sender<T> {
-    /// The first sender.
-    pub(super) fn new(core: Arc<Core<T>>) -> Sender<T> {
-        let handle = Handle::new(core, 0);
-        Sender { handle }
-    }
-
-    pub(super) fn core(&self) -> &Core<T> {
-        self.handle.core()
-    }
-
-    pub(super) fn line(&self) -> &Event {
-        self.handle.line()
+    pub(super) fn core(&self) -> &Arc<Core<T>> {
+        &self.0.core
     }
 
     pub(super) fn pack(&self, item: T) -> Unsent<T> {
@@ -72,8 +58,8 @@ impl<T> Sender<T> {
     /// # Ok::<(), vahepito::OpenError>(())
     /// ```
     pub fn try_send(&self, item: T) -> Result<(), TrySendError<T>> {
-        if let Some(meeting) = self.core().meeting() {
-            return meeting.try_send(item);
+        if let Some(rendezvous) = self.core().rendezvous() {
+            return rendezvous.try_send(item);
         }
         let mut item = self.pack(item);
         match self.core().try_send(&mut item) {
@@ -86,8 +72,8 @@ impl<T> Sender<T> {
     /// Sends, and waits for room until this moment.
     #[inline]
     fn send_until(&self, item: T, until: Option<Instant>) -> Sent<T> {
-        if let Some(meeting) = self.core().meeting() {
-            return self.meet_until(meeting, item, until);
+        if let Some(rendezvous) = self.core().rendezvous() {
+            return self.meet_until(rendezvous, item, until);
         }
         let mut item = self.pack(item);
         match self.core().try_send(&mut item) {
@@ -98,7 +84,7 @@ impl<T> Sender<T> {
 
     #[inline(never)]
     fn wait_for_room(&self, mut item: Unsent<T>, until: Option<Instant>) -> Sent<T> {
-        match self.handle.wait(until, || self.core().try_send(&mut item)) {
+        match self.0.wait(until, || self.core().try_send(&mut item)) {
             Some(true) => Ok(()),
             Some(false) => Err(SendTimeoutError::Disconnected(item.into_inner())),
             None => Err(SendTimeoutError::Timeout(item.into_inner())),
@@ -251,7 +237,7 @@ impl<T> Sender<T> {
     /// ```
     #[must_use]
     pub fn len(&self) -> usize {
-        self.handle.len()
+        self.core().len(0)
     }
 
     /// Whether [`len`](Sender::len) is 0.
@@ -279,7 +265,7 @@ impl<T> Sender<T> {
     /// ```
     #[must_use]
     pub fn is_full(&self) -> bool {
-        self.handle.is_full()
+        self.len() == self.core().capacity()
     }
 
     /// How many items the channel may hold. The answer is never None, since every channel has a bound.
@@ -305,7 +291,7 @@ impl<T> Sender<T> {
     /// ```
     #[must_use]
     pub fn same_channel(&self, other: &Sender<T>) -> bool {
-        self.handle.is_same_channel(&other.handle)
+        Arc::ptr_eq(self.core(), other.core())
     }
 
     /// How many senders the channel has.
@@ -347,29 +333,21 @@ impl<T> Sender<T> {
     /// ```
     #[must_use]
     pub fn downgrade(&self) -> WeakSender<T> {
-        let handle = self.handle.downgrade();
-        WeakSender { handle }
+        WeakSender(self.core().clone())
     }
 }
 
 /// A further sender of the channel.
 impl<T> Clone for Sender<T> {
     fn clone(&self) -> Sender<T> {
-        let handle = self.handle.clone();
-        Sender { handle }
+        Sender(self.0.clone())
     }
 }
 
-impl<T> fmt::Debug for Sender<T> {
-    fn fmt(&self, f: &mut fmt::Formatter<'_>) -> fmt::Result {
-        f.pad("Sender { .. }")
-    }
-}
+fmt_by_text! { impl<T> Debug for Sender<T>: _ => "Sender { .. }" }
 
 /// A sender that doesn't keep the channel open: see [`Sender::downgrade`].
-pub struct WeakSender<T> {
-    handle: WeakHandle<T>,
-}
+pub struct WeakSender<T>(Arc<Core<T>>);
 
 impl<T> WeakSender<T> {
     /// A sender, if the channel has one still.
@@ -384,20 +362,14 @@ impl<T> WeakSender<T> {
     /// ```
     #[must_use]
     pub fn upgrade(&self) -> Option<Sender<T>> {
-        let handle = self.handle.upgrade()?;
-        Some(Sender { handle })
+        self.0.shared(0).map(Sender)
     }
 }
 
 impl<T> Clone for WeakSender<T> {
     fn clone(&self) -> WeakSender<T> {
-        let handle = self.handle.clone();
-        WeakSender { handle }
+        WeakSender(self.0.clone())
     }
 }
 
-impl<T> fmt::Debug for WeakSender<T> {
-    fn fmt(&self, f: &mut fmt::Formatter<'_>) -> fmt::Result {
-        f.pad("WeakSender { .. }")
-    }
-}
+fmt_by_text! { impl<T> Debug for WeakSender<T>: _ => "WeakSender { .. }" }

@@ -1,8 +1,9 @@
 //! Timers, and a receiver that has no item. None has a thread: a call that waits parks until the moment.
 use super::core::Core;
-use super::event::{AT_A_RING, Try, lock};
-use super::special::Special;
+use super::flavor::Flavor;
+use super::side::Shared;
 use super::{Receiver, config};
+use crate::event::{Try, WHEN_NOTIFIED, lock};
 use std::sync::{Arc, Mutex};
 use std::time::{Duration, Instant};
 
@@ -20,7 +21,7 @@ impl<T> Timer<T> {
     pub fn try_take(&self) -> Try<T> {
         let mut due = lock(&self.due);
         let (Some(at), Some(item)) = (*due, self.item) else {
-            return Err(AT_A_RING);
+            return Err(WHEN_NOTIFIED);
         };
         let now = Instant::now();
         if now < at {
@@ -37,7 +38,7 @@ impl<T> Timer<T> {
     /// Whether there is an item.
     pub fn look(&self) -> Try<()> {
         match *lock(&self.due) {
-            None => Err(AT_A_RING),
+            None => Err(WHEN_NOTIFIED),
             Some(at) if Instant::now() < at => Err(Some(at)),
             Some(_) => Ok(()),
         }
@@ -61,8 +62,8 @@ fn timer<T>(
     let capacity = usize::from(item.is_some());
     let due = Mutex::new(due);
     let timer = Timer { due, every, item };
-    let core = Core::special(config(capacity), Special::Timer(timer));
-    Receiver::new(Arc::new(core), 1)
+    let core = Core::flavor(config(capacity), Flavor::Timer(timer));
+    Receiver(Shared::new(Arc::new(core), 1))
 }
 
 /// A receiver with one item, which is there at this moment, and is the moment. Then it is empty for ever.
@@ -101,11 +102,8 @@ pub fn at(moment: Instant) -> Receiver<Instant> {
 #[must_use]
 pub fn after(time: Duration) -> Receiver<Instant> {
     // A moment beyond the clock's range never comes.
-    timer(
-        Instant::now().checked_add(time),
-        None,
-        Some(|moment| moment),
-    )
+    let moment = Instant::now().checked_add(time);
+    timer(moment, None, Some(|moment| moment))
 }
 
 /// A receiver with an item, its moment, once in each such period, the first one a period from now. Those that

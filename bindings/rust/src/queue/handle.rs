@@ -4,7 +4,8 @@
 
 use super::{Config, OpenError, Word};
 pub use super::{Words, code, unexpected};
-use crate::backoff::turn_until;
+use crate::backoff::FOR_OWN_SIDE;
+use crate::event::{Event, soon, wait};
 use std::ffi::c_void;
 use std::iter;
 use std::mem::size_of;
@@ -104,22 +105,23 @@ impl Handle {
         })
     }
 
-    /// Sends these words, of this number, and waits for the answer: the code of a send.
+    /// Sends these words, of this number, and waits for the answer in this line: the code of a send.
     #[inline]
-    pub fn send(&mut self, words: &Words, count: usize) -> u32 {
+    pub fn send(&mut self, words: &Words, count: usize, line: &Event) -> u32 {
         let at = words.as_ptr();
         let first = match count {
             1 => vahepito_try_send(&mut self.0, words[0], &mut 0, &mut 0),
             // SAFETY: there are four words, and the library refuses to read more.
             _ => unsafe { vahepito_try_send_words(&mut self.0, at, count, &mut 0, &mut 0) },
         };
-        answered(first, || vahepito_turn_send(&mut self.0, &mut 0, &mut 0))
+        let turn = || vahepito_turn_send(&mut self.0, &mut 0, &mut 0);
+        answered(first, line, turn)
     }
 
-    /// Takes the words of an item, of this number, and waits for the answer. If there is no item, it returns
+    /// Takes the words of an item, of this number, and waits for the answer in this line. If there is no item, it returns
     /// the code of the take.
     #[inline]
-    pub fn take(&mut self, count: usize) -> Result<Words, u32> {
+    pub fn take(&mut self, count: usize, line: &Event) -> Result<Words, u32> {
         let (take, turn): (Take, Take) = match count {
             1 => (vahepito_try_take, vahepito_turn_take),
             _ => (vahepito_try_take_words, vahepito_turn_take_words),
@@ -127,29 +129,39 @@ impl Handle {
         let mut item = NO_ITEM;
         let first = take(&mut self.0, &mut item, &mut 0, &mut 0);
         let turn = || turn(&mut self.0, &mut item, &mut 0, &mut 0);
-        match answered(first, turn) {
+        match answered(first, line, turn) {
             code::GOT => Ok(words_of(&item, count)),
             code => Err(code),
         }
     }
 
-    /// Closes the queue. Returns whether it was open.
-    pub fn close(&mut self) -> bool {
+    /// Closes the queue, and waits for the answer in this line. Returns whether it was open.
+    pub fn close(&mut self, line: &Event) -> bool {
         match vahepito_begin_close(&mut self.0) {
             code::BEGUN => {}
             code => unexpected(code),
         }
         let turn = || vahepito_turn_close(&mut self.0, &mut 0, &mut 0);
-        answered(code::WAITING, turn) == code::SHUT
+        answered(code::WAITING, line, turn) == code::SHUT
     }
 }
 
-/// The code of a call that was turned once, and gave this one: if it isn't answered yet it is turned on.
-fn answered(first: u32, mut turn: impl FnMut() -> u32) -> u32 {
+/// The code of a call that was turned once, and gave this one. If it isn't answered yet it is turned on.
+fn answered(first: u32, line: &Event, turn: impl FnMut() -> u32) -> u32 {
     match first {
-        code::WAITING => turn_until(move || Some(turn()).filter(|&code| code != code::WAITING)),
+        code::WAITING => wait_until_served(line, turn),
         code => code,
     }
+}
+
+/// Turns a call until it is answered. It waits in this line, in which each call of its side wakes it at its end.
+#[cold]
+fn wait_until_served(line: &Event, mut turn: impl FnMut() -> u32) -> u32 {
+    let turn = || match turn() {
+        code::WAITING => Err(soon()),
+        code => Ok(code),
+    };
+    wait(line, FOR_OWN_SIDE, None, turn).expect("it waits without end")
 }
 
 impl Drop for Handle {
@@ -167,12 +179,9 @@ pub fn check_library() -> Result<(), OpenError> {
     if linked == VERSION {
         vahepito_sizes(&mut config, &mut pass, &mut item, &mut words_item);
     }
-    let here = [
-        size_of::<Config>(),
-        size_of::<Pass>(),
-        3 * size_of::<Word>(),
-    ];
-    if [config, pass, item] == here && words_item == size_of::<Taken>() {
+    let word = size_of::<Word>();
+    let here = [size_of::<Config>(), size_of::<Pass>(), 3 * word, 7 * word];
+    if [config, pass, item, words_item] == here {
         return Ok(());
     }
     let wanted = VERSION;

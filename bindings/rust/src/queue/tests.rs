@@ -1,6 +1,7 @@
 //! The answers of each call that the channel makes, on one thread.
 use super::handle::{Handle, Words, code, open};
 use super::{Config, OpenError};
+use crate::event::Event;
 use std::mem::MaybeUninit;
 
 const SMALL: Config = Config::new(2, 2, 2);
@@ -18,7 +19,7 @@ fn body(first: u64) -> Words {
 }
 
 fn send(sender: &mut Handle, word: u64) -> u32 {
-    sender.send(&body(word), 1)
+    sender.send(&body(word), 1, &Event::default())
 }
 
 /// The first words of a body, of this number.
@@ -30,7 +31,9 @@ fn values(words: Words, count: usize) -> Vec<u64> {
 }
 
 fn take(receiver: &mut Handle) -> Result<u64, u32> {
-    receiver.take(1).map(|words| values(words, 1)[0])
+    receiver
+        .take(1, &Event::default())
+        .map(|words| values(words, 1)[0])
 }
 
 #[test]
@@ -86,11 +89,14 @@ fn one_to_eight_groups_are_opened() {
 
 #[test]
 fn all_bodies_pass() {
+    let line = &Event::default();
     for count in 1..=4 {
         let mut sides = open(&SMALL, 1, count).unwrap();
         for first in [0, 1, u64::from(u32::MAX), 1 << 56, u64::MAX] {
-            assert_eq!(sides[0][0].send(&body(first), count), code::ACCEPTED);
-            let taken = sides[1][0].take(count).map(|words| values(words, count));
+            assert_eq!(sides[0][0].send(&body(first), count, line), code::ACCEPTED);
+            let taken = sides[1][0]
+                .take(count, line)
+                .map(|words| values(words, count));
             assert_eq!(taken, Ok(values(body(first), count)));
         }
     }
@@ -105,8 +111,8 @@ fn items_come_in_order_up_to_the_end() {
     assert_eq!(send(&mut one, 9), code::FULL);
     assert_eq!(take(&mut second), Ok(7));
     assert_eq!(send(&mut two, 9), code::ACCEPTED);
-    assert!(one.close());
-    assert!(!two.close() && !one.close());
+    assert!(one.close(&Event::default()));
+    assert!(!two.close(&Event::default()) && !one.close(&Event::default()));
     assert_eq!(send(&mut one, 6), code::CLOSED);
     assert_eq!(send(&mut two, 6), code::CLOSED);
     assert_eq!((take(&mut first), take(&mut second)), (Ok(8), Ok(9)));
@@ -124,9 +130,9 @@ fn a_life_is_spent() {
     assert_eq!(send(&mut one, 3), code::SPENT);
     assert_eq!(send(&mut two, 3), code::SPENT);
     assert_eq!(take(&mut receiver), Err(code::EMPTY));
-    assert!(two.close());
+    assert!(two.close(&Event::default()));
     assert_eq!(send(&mut two, 3), code::CLOSED);
-    // If the queue is full too, a send returns that its life is spent.
+    // If the queue is full too, a send returns that its life is over.
     let ([mut one, _], _receivers) = two_and_two(Config { life: 2, ..SMALL });
     let codes = [5, 6, 7].map(|word| send(&mut one, word));
     assert_eq!(codes, [code::ACCEPTED, code::ACCEPTED, code::SPENT]);
@@ -144,7 +150,7 @@ fn a_sender_is_worn_by_sends_that_were_refused_too() {
     assert_eq!(take(&mut receiver), Ok(0));
     assert_eq!(send(&mut one, 3), code::WORN);
     assert_eq!(send(&mut two, 4), accepted);
-    assert!(one.close());
+    assert!(one.close(&Event::default()));
     assert_eq!(send(&mut one, 3), code::WORN);
     assert_eq!(send(&mut two, 4), code::CLOSED);
 }
@@ -163,7 +169,7 @@ fn each_group_gets_every_item_once() {
     assert_eq!(take(&mut two[1]), Ok(70));
     assert_eq!((sends(91), sends(92)), (code::ACCEPTED, code::FULL));
     assert_eq!(take(&mut one[1]), Ok(91));
-    assert!(senders[1].close());
+    assert!(senders[1].close(&Event::default()));
     assert_eq!(take(&mut one[0]), Err(code::ENDED));
     assert_eq!((take(&mut two[1]), take(&mut two[0])), (Ok(80), Ok(91)));
     assert_eq!(take(&mut two[0]), Err(code::ENDED));

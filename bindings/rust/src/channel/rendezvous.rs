@@ -4,9 +4,10 @@
 //!
 //! A call looks first whether the other side has something for it, and posts itself if not. There are two kinds of
 //! posts. An *offer* is a send of a thread or a task, with its item: a take has the item at once. A *waiter* is a
-//! take, or an operation of a select. Whoever meets a waiter makes a *pair* with it, and neither meets anybody else.
-//! A send that has its item gives the item to the pair at once. A selected send has no item yet: it gives the item
-//! when it is completed, or gives the pair up when it is dropped.
+//! take, or an operation of a select. A call that meets a waiter makes a *pair* with it, and neither of them meets
+//! another call. A send that has its item gives the item to the pair at once. A selected send has no item yet: it gives
+//! the item when it is completed, or gives the pair up when it is dropped. A thread that waits makes the polls of a task,
+//! and parks between two of them.
 //!
 //! **None is missed.** A call looks for others and posts itself, in all the channels of its select, in one step: it
 //! has the locks of all of them. So of two that might meet, one is posted first, and the other one finds it. Before
@@ -25,19 +26,18 @@
 //! **A time that is over** hands the item back exactly if nobody took it: a send takes it off itself then.
 //!
 //! **A poll waits for nothing.** The take of a task is a waiter too. A waker is noted before the look at what it is
-//! to tell, first in the waiter and then in the pair, so that whoever changes that finds the waker. A task that is
+//! to report, first in the waiter and then in the pair, so that whoever changes that finds the waker. A task that is
 //! dropped gives the item of its pair to the next take, or the channel keeps it for one, also after a close.
 //!
 //! **Those that only look** ([`Select::ready`](crate::Select::ready)) aren't posted. They wait in the lines of their sides, for which each
-//! post rings: see [`event`](super::event).
+//! post notifies: see [`event`](crate::event).
 //!
 //! **Order of locks**: the lines, by their address; the pairs; a waiter. User code runs while none is held.
-use super::body::Unsent;
 use super::core::Core;
-use super::event::{AT_A_RING, Panics, Parker, Try, ignore_panics, lock};
-use super::select::{Begun, LocalSelect};
+use super::select::Begun;
 use super::{Receiver, RecvTimeoutError, SendError, SendTimeoutError, Sender, TrySendError};
-use std::collections::VecDeque;
+use crate::event::{Panics, Try, WHEN_NOTIFIED, ignore_panics, lock, poll_until};
+use std::collections::{BTreeMap, VecDeque};
 use std::mem::{swap, take};
 use std::sync::atomic::{AtomicBool, Ordering};
 use std::sync::{Arc, Mutex, MutexGuard};
@@ -116,7 +116,7 @@ pub struct Lines {
     posted: [VecDeque<Posted>; 2],
 }
 
-/// What a call meets: its operation has begun, and somebody is to be woken, while no lock is held.
+/// A begun operation, and the waker to call once no lock is held.
 type Met = (Begun, Option<Waker>);
 
 /// A channel of capacity 0, whatever its items are.
@@ -124,6 +124,8 @@ pub trait Meets {
     fn lines(&self) -> &Mutex<Lines>;
     /// Meets one for this side.
     fn begin(&self, lines: &mut Lines, side: usize) -> Option<Met>;
+    /// Whether there seems to be one to meet, or nobody will be.
+    fn look(&self, side: usize) -> Try<()>;
     /// Whether what has begun is for good: whether a send still has its pair; and whether the pair of a take has its
     /// item, for which it waits until this moment, or [`GRACE`].
     fn wait_for_pair(&self, begun: &Begun, side: usize, until: Option<Instant>) -> bool;
@@ -160,7 +162,6 @@ pub fn meet_or_post(cases: &[Case], waiter: &Arc<Waiter>) -> Option<(usize, Begu
 
 /// A send and a take that have met, until the item is taken or one of them gives the pair up.
 struct Pair<T> {
-    number: u64,
     /// The waker of the take, unless it is awake.
     taker: Option<Waker>,
     item: Option<T>,
@@ -168,15 +169,15 @@ struct Pair<T> {
 
 /// A send that is posted with its item.
 struct Offer<T> {
-    number: u64,
     item: T,
     waker: Option<Waker>,
 }
 
 struct Pairs<T> {
+    /// The last number of a pair or an offer.
     last: u64,
-    pairs: Vec<Pair<T>>,
-    offers: VecDeque<Offer<T>>,
+    pairs: BTreeMap<u64, Pair<T>>,
+    offers: BTreeMap<u64, Offer<T>>,
     /// Items of tasks that were dropped.
     returned: VecDeque<T>,
     /// Takes meet offers and selected sends in turn.
@@ -191,25 +192,8 @@ impl<T> Pairs<T> {
 
     fn push(&mut self, taker: Option<Waker>, item: Option<T>) -> u64 {
         let number = self.next();
-        self.pairs.push(Pair {
-            number,
-            taker,
-            item,
-        });
+        self.pairs.insert(number, Pair { taker, item });
         number
-    }
-
-    fn pair(&mut self, number: u64) -> Option<&mut Pair<T>> {
-        self.pairs.iter_mut().find(|it| it.number == number)
-    }
-
-    fn remove(&mut self, number: u64) -> Option<Pair<T>> {
-        let at = self.pairs.iter().position(|it| it.number == number)?;
-        Some(self.pairs.swap_remove(at))
-    }
-
-    fn offer(&mut self, number: u64) -> Option<usize> {
-        self.offers.iter().position(|it| it.number == number)
     }
 
     /// Meets the first waiter of the other side that nobody has met, with the item if it is at hand.
@@ -227,7 +211,7 @@ impl<T> Pairs<T> {
     }
 
     fn take_offer(&mut self) -> Option<Met> {
-        let Offer { item, waker, .. } = self.offers.pop_front()?;
+        let (_, Offer { item, waker }) = self.offers.pop_first()?;
         Some((Begun::Met(self.push(None, Some(item))), waker))
     }
 }
@@ -236,8 +220,8 @@ impl<T> Pairs<T> {
 impl<T> Drop for Pairs<T> {
     fn drop(&mut self) {
         let (pairs, offers) = (take(&mut self.pairs), take(&mut self.offers));
-        let pairs = pairs.into_iter().map(|it| (it.item, it.taker));
-        let offers = offers.into_iter().map(|it| (Some(it.item), it.waker));
+        let pairs = pairs.into_values().map(|it| (it.item, it.taker));
+        let offers = offers.into_values().map(|it| (Some(it.item), it.waker));
         let (items, wakers): (Vec<_>, Vec<_>) = pairs.chain(offers).unzip();
         let mut panics = Panics::default();
         panics.run_each(
@@ -249,19 +233,19 @@ impl<T> Drop for Pairs<T> {
     }
 }
 
-pub struct Meeting<T> {
+pub struct Rendezvous<T> {
     lines: Mutex<Lines>,
     pairs: Mutex<Pairs<T>>,
 }
 
-impl<T> Meeting<T> {
-    pub fn new() -> Meeting<T> {
-        Meeting {
+impl<T> Rendezvous<T> {
+    pub fn new() -> Rendezvous<T> {
+        Rendezvous {
             lines: Mutex::default(),
             pairs: Mutex::new(Pairs {
                 last: 0,
-                pairs: vec![],
-                offers: VecDeque::new(),
+                pairs: BTreeMap::new(),
+                offers: BTreeMap::new(),
                 returned: VecDeque::new(),
                 is_turn_of_offers: false,
             }),
@@ -282,18 +266,6 @@ impl<T> Meeting<T> {
         drop(lines);
         ignore_panics(met.and_then(|it| it.1), Waker::wake);
         Ok(())
-    }
-
-    /// Whether there seems to be one to meet, or nobody will be.
-    pub fn look(&self, side: usize) -> Try<()> {
-        let lines = lock(&self.lines);
-        let pairs = lock(&self.pairs);
-        let has_item = side == TAKES && pairs.offers.len() + pairs.returned.len() > 0;
-        if has_item || lines.is_closed || !lines.posted[1 - side].is_empty() {
-            Ok(())
-        } else {
-            Err(AT_A_RING)
-        }
     }
 
     /// Takes an item of one that is posted. Gives None if the channel is closed.
@@ -324,7 +296,7 @@ impl<T> Meeting<T> {
     fn poll_pair(&self, number: u64, waker: &Waker, panics: &mut Panics) -> Poll<bool> {
         let mut waker = Some(waker.clone());
         let mut pairs = lock(&self.pairs);
-        let polled = match pairs.pair(number) {
+        let polled = match pairs.pairs.get_mut(&number) {
             None => Poll::Ready(false),
             Some(Pair { item: Some(_), .. }) => Poll::Ready(true),
             Some(pair) => {
@@ -340,21 +312,12 @@ impl<T> Meeting<T> {
     /// Waits until this pair has its item, and returns whether it has. If not, the pair is given up: by the send, or
     /// since the time is over.
     fn wait_for_item(&self, number: u64, until: Option<Instant>) -> bool {
-        Parker::with(|parker| {
-            let waker = parker.clone().into();
-            loop {
-                match self.poll_pair(number, &waker, &mut Panics::default()) {
-                    Poll::Ready(has_item) => return has_item,
-                    Poll::Pending if until.is_some_and(|it| it <= Instant::now()) => break,
-                    Poll::Pending => {}
-                }
-                parker.spin();
-                parker.park(until);
-            }
-            let mut pairs = lock(&self.pairs);
-            let has_item = pairs.pair(number).is_some_and(|it| it.item.is_some());
+        let poll = |waker: &Waker| self.poll_pair(number, waker, &mut Panics::default());
+        poll_until(until, poll).unwrap_or_else(|| {
+            let pairs = &mut lock(&self.pairs).pairs;
+            let has_item = pairs.get(&number).is_some_and(|it| it.item.is_some());
             if !has_item {
-                pairs.remove(number);
+                pairs.remove(&number);
             }
             has_item
         })
@@ -362,13 +325,13 @@ impl<T> Meeting<T> {
 
     /// The item of a pair that has it.
     pub fn take(&self, pair: u64) -> Option<T> {
-        lock(&self.pairs).remove(pair)?.item
+        lock(&self.pairs).pairs.remove(&pair)?.item
     }
 
     /// Gives a pair its item. Hands it back if the take gave the pair up.
     pub fn send(&self, pair: u64, item: T) -> Result<(), T> {
         let mut pairs = lock(&self.pairs);
-        let Some(pair) = pairs.pair(pair) else {
+        let Some(pair) = pairs.pairs.get_mut(&pair) else {
             return Err(item);
         };
         pair.item = Some(item);
@@ -380,7 +343,7 @@ impl<T> Meeting<T> {
 
     /// A selected operation gives its pair up. Gives the item that it has already.
     pub fn give_up(&self, pair: u64) -> Option<T> {
-        let Pair { item, taker, .. } = lock(&self.pairs).remove(pair)?;
+        let Pair { item, taker } = lock(&self.pairs).pairs.remove(&pair)?;
         ignore_panics(taker, Waker::wake);
         item
     }
@@ -394,11 +357,7 @@ impl<T> Meeting<T> {
             Err((item, _lines)) => {
                 let mut pairs = lock(&self.pairs);
                 let (number, waker) = (pairs.next(), waker.take());
-                pairs.offers.push_back(Offer {
-                    number,
-                    item,
-                    waker,
-                });
+                pairs.offers.insert(number, Offer { item, waker });
                 Ok(Some(number))
             }
         }
@@ -408,25 +367,16 @@ impl<T> Meeting<T> {
     fn keep_offer(&self, number: u64, waker: &Waker, panics: &mut Panics) -> bool {
         let mut waker = Some(waker.clone());
         let mut pairs = lock(&self.pairs);
-        let offer = pairs.offer(number);
-        if let Some(at) = offer {
-            swap(&mut pairs.offers[at].waker, &mut waker);
-        }
+        let offer = pairs.offers.get_mut(&number);
+        let is_posted = offer.map(|it| swap(&mut it.waker, &mut waker)).is_some();
         drop(pairs);
         panics.run_each(waker, drop);
-        offer.is_some()
-    }
-
-    fn has_offer(&self, number: u64) -> bool {
-        lock(&self.pairs).offer(number).is_some()
+        is_posted
     }
 
     /// Takes this item off, if nobody took it.
     pub fn withdraw(&self, number: u64, panics: &mut Panics) -> Option<T> {
-        let mut pairs = lock(&self.pairs);
-        let at = pairs.offer(number)?;
-        let Offer { item, waker, .. } = pairs.offers.remove(at)?;
-        drop(pairs);
+        let Offer { item, waker } = lock(&self.pairs).offers.remove(&number)?;
         panics.run_each(waker, drop);
         Some(item)
     }
@@ -443,30 +393,36 @@ impl<T> Meeting<T> {
         let (lines, mut pairs) = (lock(&self.lines), lock(&self.pairs));
         let posted = lines.posted.iter().flatten();
         let waiters = posted.filter_map(|it| it.waiter.take_waker());
-        let offers = pairs.offers.iter_mut().filter_map(|it| it.waker.take());
+        let offers = pairs.offers.values_mut();
+        let offers = offers.filter_map(|it| it.waker.take());
         let wakers: Vec<Waker> = waiters.chain(offers).collect();
         drop((pairs, lines));
         panics.run_each(wakers, Waker::wake);
     }
 
-    /// A task's take is no more. Gives the item that it has already.
-    pub fn leave(&self, taker: TakerState, panics: &mut Panics) -> Option<T> {
-        let pair = match taker {
-            TakerState::Idle => return None,
-            TakerState::Met(pair) => pair,
+    /// A take takes itself off. Gives its pair, if it is in one.
+    fn take_off(&self, taker: TakerState, panics: &mut Panics) -> Option<u64> {
+        match taker {
+            TakerState::Idle => None,
+            TakerState::Met(pair) => Some(pair),
             TakerState::Posted(waiter) => {
                 let met = waiter.withdraw(&[(0, self, TAKES)]);
                 panics.run_each(waiter.take_waker(), drop);
-                met?.1
+                Some(met?.1)
             }
-        };
-        let Pair { taker, item, .. } = lock(&self.pairs).remove(pair)?;
+        }
+    }
+
+    /// A task's take is no more. Gives the item that it has already.
+    pub fn leave(&self, taker: TakerState, panics: &mut Panics) -> Option<T> {
+        let pair = self.take_off(taker, panics)?;
+        let Pair { taker, item } = lock(&self.pairs).pairs.remove(&pair)?;
         panics.run_each(taker, drop);
         item
     }
 }
 
-impl<T> Meets for Meeting<T> {
+impl<T> Meets for Rendezvous<T> {
     fn lines(&self) -> &Mutex<Lines> {
         &self.lines
     }
@@ -488,9 +444,20 @@ impl<T> Meets for Meeting<T> {
         met.or_else(|| takes.then(|| pairs.take_offer()).flatten())
     }
 
+    fn look(&self, side: usize) -> Try<()> {
+        let lines = lock(&self.lines);
+        let pairs = lock(&self.pairs);
+        let has_item = side == TAKES && pairs.offers.len() + pairs.returned.len() > 0;
+        if has_item || lines.is_closed || !lines.posted[1 - side].is_empty() {
+            Ok(())
+        } else {
+            Err(WHEN_NOTIFIED)
+        }
+    }
+
     fn wait_for_pair(&self, begun: &Begun, side: usize, until: Option<Instant>) -> bool {
         match begun {
-            Begun::Met(pair) if side == SENDS => lock(&self.pairs).pair(*pair).is_some(),
+            Begun::Met(pair) if side == SENDS => lock(&self.pairs).pairs.contains_key(pair),
             Begun::Met(pair) => {
                 let until = until.map(|until| until.max(Instant::now() + GRACE));
                 self.wait_for_item(*pair, until)
@@ -503,22 +470,22 @@ impl<T> Meets for Meeting<T> {
 /// Meets one that is posted for this operation alone.
 pub fn try_meet(channel: &dyn Meets, side: usize) -> Try<Begun> {
     let met = channel.begin(&mut lock(channel.lines()), side);
-    let (begun, waker) = met.ok_or(AT_A_RING)?;
+    let (begun, waker) = met.ok_or(WHEN_NOTIFIED)?;
     ignore_panics(waker, Waker::wake);
     Ok(begun)
 }
 
 impl<T> Core<T> {
     /// A task that was given this item is dropped: the item goes to the next take.
-    pub fn give_back_item(&self, meeting: &Meeting<T>, item: T) {
-        if let Err((item, _lines)) = meeting.give(item) {
-            lock(&meeting.pairs).returned.push_back(item);
+    pub fn give_back_item(&self, rendezvous: &Rendezvous<T>, item: T) {
+        if let Err((item, _lines)) = rendezvous.give(item) {
+            lock(&rendezvous.pairs).returned.push_back(item);
         }
-        self.ring_for_item();
+        self.notify_item();
     }
 }
 
-/// How far the take of a task is.
+/// How far the take of a task is, or that of a thread.
 #[derive(Default)]
 pub enum TakerState {
     #[default]
@@ -531,18 +498,30 @@ pub enum TakerState {
 impl<T> Receiver<T> {
     /// Takes an item of one that sends, and waits for one until this moment.
     #[cold]
-    pub(super) fn meet_until(&self, until: Option<Instant>) -> Result<T, RecvTimeoutError> {
-        let mut select = LocalSelect::new(false);
-        select.add(self);
-        let (_, begun) = select.wait(until, true).ok_or(RecvTimeoutError::Timeout)?;
-        Ok(self.completed(begun)?)
+    pub(super) fn meet_until(
+        &self,
+        rendezvous: &Rendezvous<T>,
+        until: Option<Instant>,
+    ) -> Result<T, RecvTimeoutError> {
+        let (mut taker, mut panics) = (TakerState::Idle, Panics::default());
+        let polled = poll_until(until, |waker| {
+            self.poll_met(rendezvous, &mut taker, waker, &mut panics)
+        });
+        if let Some(item) = polled {
+            return item.ok_or(RecvTimeoutError::Disconnected);
+        }
+        let pair = rendezvous.take_off(taker, &mut panics);
+        let grace = Some(Instant::now() + GRACE);
+        let pair = pair.filter(|pair| rendezvous.wait_for_item(*pair, grace));
+        let item = pair.and_then(|pair| rendezvous.take(pair));
+        item.ok_or(RecvTimeoutError::Timeout)
     }
 
     /// One poll of a take: looks for a send, or posts itself, and then looks whether its pair has the item. Gives
     /// None if the channel is closed.
     pub(super) fn poll_met(
         &self,
-        meeting: &Meeting<T>,
+        rendezvous: &Rendezvous<T>,
         taker: &mut TakerState,
         waker: &Waker,
         panics: &mut Panics,
@@ -553,16 +532,16 @@ impl<T> Receiver<T> {
                 TakerState::Posted(waiter) => match waiter.stay(waker, panics) {
                     Some(pair) => pair,
                     None if !self.is_closed() => return Poll::Pending,
-                    None => match meeting.leave(take(taker), panics) {
+                    None => match rendezvous.leave(take(taker), panics) {
                         None => continue,
                         taken => return Poll::Ready(taken),
                     },
                 },
                 TakerState::Idle => {
                     let waiter = Waiter::new(waker.clone());
-                    let Some((_, begun)) = meet_or_post(&[(0, meeting, TAKES)], &waiter) else {
+                    let Some((_, begun)) = meet_or_post(&[(0, rendezvous, TAKES)], &waiter) else {
                         *taker = TakerState::Posted(waiter);
-                        self.core().senders.line.ring();
+                        self.core().senders.line.notify_one();
                         return Poll::Pending;
                     };
                     panics.run_each(waiter.take_waker(), drop);
@@ -573,10 +552,10 @@ impl<T> Receiver<T> {
                 }
             };
             *taker = TakerState::Met(pair);
-            let has_item = ready!(meeting.poll_pair(pair, waker, panics));
+            let has_item = ready!(rendezvous.poll_pair(pair, waker, panics));
             *taker = TakerState::Idle;
             if has_item {
-                return Poll::Ready(meeting.take(pair));
+                return Poll::Ready(rendezvous.take(pair));
             }
         }
     }
@@ -586,62 +565,49 @@ impl<T> Sender<T> {
     /// One poll of a send: gives the item to a take, or posts it, and then looks whether it was taken.
     pub(super) fn poll_posted(
         &self,
-        meeting: &Meeting<T>,
-        item: &mut Option<Unsent<T>>,
+        rendezvous: &Rendezvous<T>,
+        item: impl FnOnce() -> T,
         offer: &mut Option<u64>,
         waker: &Waker,
         panics: &mut Panics,
     ) -> Poll<Result<(), SendError<T>>> {
         let left = if let Some(number) = *offer {
-            if meeting.keep_offer(number, waker, panics) && !self.is_closed() {
+            if rendezvous.keep_offer(number, waker, panics) && !self.is_closed() {
                 return Poll::Pending;
             }
             *offer = None;
-            meeting.withdraw(number, panics)
+            rendezvous.withdraw(number, panics)
         } else {
             let mut waker = Some(waker.clone());
-            let item = item.take().expect("the item isn't sent yet").into_inner();
-            let posted = meeting.post(item, &mut waker);
+            let posted = rendezvous.post(item(), &mut waker);
             panics.run_each(waker, drop);
             if let Ok(Some(number)) = posted {
                 *offer = Some(number);
-                self.core().ring_for_item();
+                self.core().notify_item();
                 return Poll::Pending;
             }
             posted.err()
         };
         Poll::Ready(left.map_or(Ok(()), |it| Err(SendError(it))))
     }
-}
 
-impl<T> Sender<T> {
     /// Sends to one that takes, and waits for one until this moment.
     #[cold]
     pub(super) fn meet_until(
         &self,
-        meeting: &Meeting<T>,
+        rendezvous: &Rendezvous<T>,
         item: T,
         until: Option<Instant>,
     ) -> Result<(), SendTimeoutError<T>> {
-        let left = Parker::with(|parker| {
-            let posted = meeting.post(item, &mut Some(parker.clone().into()));
-            posted.map_or_else(Some, |number| {
-                let number = number?;
-                self.core().ring_for_item();
-                parker.spin();
-                loop {
-                    parker.park(until);
-                    let is_over = until.is_some_and(|until| until <= Instant::now());
-                    if is_over || self.is_closed() || !meeting.has_offer(number) {
-                        return meeting.withdraw(number, &mut Panics::default());
-                    }
-                }
-            })
+        let (mut item, mut offer, mut panics) = (Some(item), None, Panics::default());
+        let polled = poll_until(until, |waker| {
+            let item = || item.take().expect("it is posted once");
+            self.poll_posted(rendezvous, item, &mut offer, waker, &mut panics)
         });
-        match left {
-            None => Ok(()),
-            Some(item) if self.is_closed() => Err(SendTimeoutError::Disconnected(item)),
-            Some(item) => Err(SendTimeoutError::Timeout(item)),
+        if let Some(sent) = polled {
+            return Ok(sent?);
         }
+        let left = offer.and_then(|number| rendezvous.withdraw(number, &mut panics));
+        left.map_or(Ok(()), |item| Err(SendTimeoutError::Timeout(item)))
     }
 }

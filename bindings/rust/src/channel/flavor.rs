@@ -1,27 +1,27 @@
 //! Channels without a queue: those of capacity 0, and timers.
 use super::body::Parcel;
 use super::core::Core;
-use super::event::Try;
-use super::meeting::Meeting;
+use super::rendezvous::Rendezvous;
 use super::timer::Timer;
+use crate::event::Try;
 use std::sync::atomic::{AtomicBool, Ordering};
 
-/// What a channel has in place of a queue.
-pub enum Special<T> {
+/// A channel without a queue.
+pub enum Flavor<T> {
     /// It has capacity 0.
-    Meeting(Meeting<T>),
+    Rendezvous(Rendezvous<T>),
     /// It is `after`, `at`, `tick` or `never`.
     Timer(Timer<T>),
 }
 
-impl<T> Special<T> {
+impl<T> Flavor<T> {
     /// Tries to take an item. Gives None if this flag says that the channel is closed.
     #[cold]
     pub fn try_recv(&self, closed: &AtomicBool) -> Try<Option<Parcel<T>>> {
         let item = match self {
-            Special::Meeting(meeting) => meeting.try_take()?,
-            Special::Timer(_) if closed.load(Ordering::SeqCst) => None,
-            Special::Timer(timer) => Some(timer.try_take()?),
+            Flavor::Rendezvous(rendezvous) => rendezvous.try_take()?,
+            Flavor::Timer(_) if closed.load(Ordering::SeqCst) => None,
+            Flavor::Timer(timer) => Some(timer.try_take()?),
         };
         Ok(item.map(|item| Parcel::pack(item, None)))
     }
@@ -29,8 +29,8 @@ impl<T> Special<T> {
     /// Closes the channel, and sets this flag. Returns whether it was open.
     pub fn close(&self, closed: &AtomicBool) -> bool {
         match self {
-            Special::Meeting(meeting) => !meeting.close(closed),
-            Special::Timer(_) => !closed.swap(true, Ordering::SeqCst),
+            Flavor::Rendezvous(rendezvous) => !rendezvous.close(closed),
+            Flavor::Timer(_) => !closed.swap(true, Ordering::SeqCst),
         }
     }
 }
@@ -38,14 +38,14 @@ impl<T> Special<T> {
 impl<T> Core<T> {
     /// Whether it is `after`, `at` or `tick`.
     pub fn is_timer(&self) -> bool {
-        matches!(&self.special, Some(Special::Timer(timer)) if timer.has_item())
+        matches!(&self.flavor, Some(Flavor::Timer(timer)) if timer.has_item())
     }
 
     /// Where its senders and receivers meet, if it has capacity 0.
     #[inline]
-    pub fn meeting(&self) -> Option<&Meeting<T>> {
-        match &self.special {
-            Some(Special::Meeting(meeting)) => Some(meeting),
+    pub fn rendezvous(&self) -> Option<&Rendezvous<T>> {
+        match &self.flavor {
+            Some(Flavor::Rendezvous(rendezvous)) => Some(rendezvous),
             _ => None,
         }
     }

@@ -1,10 +1,10 @@
 //! The lines in which callers wait, and why no wake-up is lost.
 //!
-//! An event is a line of those that wait: for an item, for room, or for a free seat. A waiter is a
+//! An event is a line of those that wait: for an item, for room, for a free seat, or until their call is served. A waiter is a
 //! [`Waker`]: a task's, or that of a thread that parks. Waiting goes so, step by step on either side:
 //!
 //! ```text
-//! waiter                                        ringer
+//! waiter                                        notifier
 //!   stand   in line, waiting := its length        make      a try succeed: send an item, or take one
 //!   look    whether a try succeeds                check     is waiting 0? then that is all
 //!   park                                          take out  the first of the line
@@ -19,7 +19,7 @@
 //! **What is used of the queue.** A try that begins after *make* was answered finds what it made,
 //! unless another try took it first: the steps of the queue are those of one run, each step sees the
 //! longest run there is, and when a call returns none of its stores is pending. The accesses to `waiting`
-//! are sequentially consistent; all of them, and the queue's steps, stand in one order that every thread
+//! are sequentially consistent; all of them, and the queue's steps, have one order that every thread
 //! agrees on.
 //!
 //! **The claim.** When nobody makes a step any more, there isn't at once a waiter in line and something
@@ -33,54 +33,58 @@
 //! which is after `w` stood in line: so it finds `waiting` above 0, and goes on to *take out* a waiter:
 //! not `w`, which is there for good, but one that came before `w`. Each waiter that is taken out makes a
 //! try after that: its *retry*, or its *look* where it was only about to try. This try begins after `e`,
-//! and after the *make* of the ring that took the waiter out; from then on there was always something to
-//! take. So the try took something. Different rings take out different entries of the line, and each
+//! and after the *make* of the notification that took the waiter out; from then on there was always something to
+//! take. So the try took something. Different notifications take out different entries of the line, and each
 //! entry has its own try; so at least as many things were taken after `e` as were made. That is a
 //! contradiction.
 //!
 //! **Seats.** A seat is freed by a store, and the holder's *check* may come before other threads see that
-//! store; an exchange would mend it, and each call would pay for it. So a ring for a seat may be missed.
-//! Therefore a waiter for a seat doesn't wait for a ring alone: it looks again after a millisecond. It gets
-//! a seat in the end, since each seat is freed: its holder makes one call of the queue, which waits in no
-//! line and runs no user code. So a try for an item, which needs a seat, may wait for one while it
+//! store; an exchange would mend it, and each call would pay for it. So a notification of a free seat may be missed.
+//! Therefore a waiter for a seat doesn't wait for a notification alone: it looks again after a millisecond. It gets
+//! a seat in the end, since each seat is freed: its holder makes one call of the queue, which waits until it is served
+//! and runs no user code. So a try for an item, which needs a seat, may wait for one while it
 //! stands in line for the item: the two kinds of lines don't hold each other up.
 //!
-//! **Who is taken out and doesn't try any more** rings for the next in line instead
+//! **Calls that another one serves** wait in a line of their side. *Make* is a store by which a call serves another one,
+//! or hands over to it. At its end each call checks this line, and wakes all of it. An answer may be there before that:
+//! its server may serve others first, or be preempted. So the waiter looks again after a millisecond.
+//!
+//! **Who is taken out and doesn't try any more** notifies the next in line instead
 //! ([`Event::pass_on`]): a waiter whose *look* took something while it was taken out (its try may have
 //! come before the *make*), and a task that is dropped before its next poll. A thread whose time is
-//! over tries once more after it left the line, and so needs no ring. The ring that is passed on ends
+//! over tries once more after it left the line, and so needs no notification. The notification that is passed on ends
 //! at a waiter that tries, or at an empty line. **A waiter in two lines** (of two channels, say) that
-//! takes something from one has given up its tries in the other: it passes on the ring of either line
+//! takes something from one has given up its tries in the other: it passes on the notification of either line
 //! that took it out. **A waiter that only waits until there is something** leaves it there, and passes on
-//! every ring, that of its own line too. **A waiter that gives back what it took** has made it, and rings.
+//! every notification, that of its own line too. **A waiter that gives back what it took** has made it, and notifies.
 //!
-//! **A waker that panics** has woken nobody: the ring is the next waiter's.
+//! **A waker that panics** has woken nobody: the notification is the next waiter's.
 //!
-//! **Rings for nothing** are harmless: their waiter tries, finds nothing, and stands in line again.
-//! So a take rings for room though another group hasn't taken the item yet, and a close rings for all.
+//! **Notifications of nothing** are harmless: their waiter tries, finds nothing, and stands in line again.
+//! So a take notifies one that waits for room though another group hasn't taken the item yet, and a close notifies all.
 //!
 //! # User code
 //!
 //! Wakers and items have calls that the user wrote: a waker's clone, wake and drop; an item's clone and drop; the drop
 //! of a panic's payload. Each may block, call the channel, or panic. None runs while a lock or a seat is held. This table
 //! has every place at which one runs, what was done before it, and what becomes of its panic. [`Panics`] catches
-//! panics, and [`Unsent`](super::body::Unsent) keeps unwinding from an item that the queue has. `tests/user_code.rs`
+//! panics, and [`Unsent`](crate::channel::body::Unsent) keeps unwinding from an item that the queue has. `tests/user_code.rs`
 //! makes each of them panic.
 //!
 //! | user code | place | done before it | its panic |
 //! |---|---|---|---|
-//! | a waker's clone | a poll, before it stands or stays in line, or is posted | the last attempt found nothing; the item is in the future | leaves the poll |
-//! | a waker's drop | a poll that replaces the waker, `Event::stay` and those of `meeting` | the new waker is in its place | is raised at the end of the poll, if that is pending |
-//! | | a poll that is done, `Event::leave`, `poll_posted` | the item is sent or taken, the future is out of the line, a ring that it had is passed on | ends |
+//! | a waker's clone | a poll, before it enters or stays in line, or is posted | the last attempt found nothing; the item is in the future | leaves the poll |
+//! | a waker's drop | a poll that replaces the waker, `Event::stay` and those of `rendezvous` | the new waker is in its place | is raised at the end of the poll, if that is pending |
+//! | | a poll that is done, `Event::leave`, `poll_posted` | the item is sent or taken, the future is out of the line, a notification that it had is passed on | ends |
 //! | | the drop of a future | as above; an item of capacity 0 went to the next take | is raised after the other drops |
-//! | a waker's wake | a send, a take, a selected operation, `Event::ring` | the item is sent or taken, the waker is out of the line | ends; the next waiter of the line is woken instead, and an item of capacity 0 stays in its pair |
+//! | a waker's wake | a send, a take, a selected operation, `Event::notify_one` | the item is sent or taken, the waker is out of the line | ends; the next waiter of the line is woken instead, and an item of capacity 0 stays in its pair |
 //! | | a close, the drop of a last handle | the channel is closed, all wakers are out of their lines | is raised once all are woken, and what is left is dropped |
 //! | | a poll without memory for a further queue | the future is in line | is raised at the end of the poll |
 //! | an item's drop | the drop of a last handle | the item is out of the queue, the channel is closed or goes on without the group | is raised once all are dropped |
 //! | | a send that finds a lost group in the queue | a further queue is in place, the send's item is in `Unsent` | ends |
 //! | | the drop of a future or a selected operation | the future is out of the line, the pair is gone | is raised after the other drops |
 //! | | `Parcel::unpack`, of the last share | the copy is made | ends |
-//! | an item's clone | `Parcel::unpack`, in a take of a group | the item is taken, and room is rung for | is raised once the share is given up |
+//! | an item's clone | `Parcel::unpack`, in a take of a group | the item is taken, and one that waits for room is notified | is raised once the share is given up |
 //! | items and wakers that are left | the drop of the channel, if futures or operations were forgotten | both sides are gone | is raised once all of its list are dropped |
 //! | the expression of a selected item | `select!`, while the operation is held | the room is reserved, or the pair is made | leaves the select; the operation's drop gives back the room or the pair |
 //! | a payload's drop | the end of a panic | all of the above | ends; the second payload is forgotten |
@@ -89,23 +93,18 @@
 //!
 //! `tests/wakeups.rs` searches all interleavings of these steps in small models, and finds the lost wake-up
 //! if one of them is left out.
-use crate::backoff::Backoff;
+use crate::backoff::{FOR_OTHERS, Rounds};
 use std::any::Any;
 use std::cell::RefCell;
-use std::collections::VecDeque;
+use std::collections::BTreeMap;
 use std::iter;
 use std::mem::{forget, replace, swap, take};
 use std::panic::{AssertUnwindSafe, catch_unwind, resume_unwind};
 use std::sync::atomic::{AtomicBool, AtomicUsize, Ordering};
 use std::sync::{Arc, Mutex, MutexGuard, PoisonError};
-use std::task::{Wake, Waker};
+use std::task::{Poll, Wake, Waker};
 use std::thread::{self, Thread, panicking};
 use std::time::{Duration, Instant};
-
-/// Tries before parking, with spins and yields between: a park costs some microseconds, so few.
-pub const TRIES: u32 = 12;
-/// A line gives memory back, if it has some for more waiters than these.
-const KEPT: usize = 64;
 
 pub fn lock<T>(mutex: &Mutex<T>) -> MutexGuard<'_, T> {
     mutex.lock().unwrap_or_else(PoisonError::into_inner)
@@ -162,59 +161,34 @@ pub fn drop_each<I>(all: impl IntoIterator<Item = I>) {
 /// Those that stand in line.
 #[derive(Default)]
 struct Line {
-    /// The wakers by the numbers of their tickets, in order. The entry of a waiter that has left has none; such entries
-    /// go once they are half of all.
-    wakers: VecDeque<(u64, Option<Waker>)>,
-    /// The number of those in line.
-    length: usize,
+    /// The wakers by the numbers of their tickets, in order.
+    wakers: BTreeMap<u64, Waker>,
     /// The number of the last ticket: each has one of its own.
     last: u64,
-    /// How many rings there were while somebody was in line.
-    rings: u64,
+    /// How many notifications there were while somebody was in line.
+    notifications: u64,
 }
 
 impl Line {
-    fn waker(&mut self, number: u64) -> Option<&mut Option<Waker>> {
-        let at = self.wakers.binary_search_by_key(&number, |it| it.0);
-        Some(&mut self.wakers[at.ok()?].1)
-    }
-
-    fn remove(&mut self, number: u64) -> Option<Waker> {
-        let waker = self.waker(number)?.take()?;
-        self.count_down();
-        Some(waker)
-    }
-
     fn pop(&mut self) -> Option<Waker> {
-        self.rings += 1;
-        let mut first = iter::from_fn(|| self.wakers.pop_front());
-        let waker = first.find_map(|it| it.1)?;
-        self.count_down();
-        Some(waker)
-    }
-
-    fn count_down(&mut self) {
-        self.length -= 1;
-        if 2 * self.length <= self.wakers.len() {
-            self.wakers.retain(|it| it.1.is_some());
-            self.wakers.shrink_to(KEPT);
-        }
+        self.notifications += 1;
+        Some(self.wakers.pop_first()?.1)
     }
 }
 
 /// There are some if futures were forgotten.
 impl Drop for Line {
     fn drop(&mut self) {
-        drop_each(take(&mut self.wakers));
+        drop_each(take(&mut self.wakers).into_values());
     }
 }
 
-/// A place in the line of an event, until a ring takes it out.
+/// A place in the line of an event, until a notification takes it out.
 #[derive(Clone, Copy, Debug)]
 pub struct Ticket {
     number: u64,
-    /// The rings before it.
-    rings: u64,
+    /// The notifications before it.
+    notifications: u64,
 }
 
 /// A line in which callers wait. It has a cache line for itself, since waiters write it, and each call of its side
@@ -233,8 +207,8 @@ impl Event {
         let mut line = lock(&self.line);
         let changed = change(&mut line);
         // It is written under the lock alone.
-        if self.waiting.load(Ordering::Relaxed) != line.length {
-            self.waiting.store(line.length, Ordering::SeqCst);
+        if self.waiting.load(Ordering::Relaxed) != line.wakers.len() {
+            self.waiting.store(line.wakers.len(), Ordering::SeqCst);
         }
         changed
     }
@@ -243,10 +217,12 @@ impl Event {
     pub fn stand(&self, waker: Waker) -> Ticket {
         self.with_line(|line| {
             line.last += 1;
-            line.length += 1;
-            line.wakers.push_back((line.last, Some(waker)));
-            let (number, rings) = (line.last, line.rings);
-            Ticket { number, rings }
+            line.wakers.insert(line.last, waker);
+            let (number, notifications) = (line.last, line.notifications);
+            Ticket {
+                number,
+                notifications,
+            }
         })
     }
 
@@ -254,14 +230,14 @@ impl Event {
     /// there.
     pub fn stay(&self, ticket: Ticket, waker: &Waker, panics: &mut Panics) -> bool {
         let number = ticket.number;
-        let is_same = |line: &mut Line| Some(line.waker(number)?.as_ref()?.will_wake(waker));
-        match is_same(&mut lock(&self.line)) {
+        let is_same = |line: &Line| Some(line.wakers.get(&number)?.will_wake(waker));
+        match is_same(&lock(&self.line)) {
             Some(false) => {}
             there => return there.is_some(),
         }
         let mut waker = waker.clone();
         let is_there = self.with_line(|line| {
-            let place = line.waker(number).and_then(Option::as_mut);
+            let place = line.wakers.get_mut(&number);
             place.map(|place| swap(place, &mut waker)).is_some()
         });
         // The one that isn't in line.
@@ -269,26 +245,43 @@ impl Event {
         is_there
     }
 
-    /// Leaves the line. Returns whether a ring had taken this one out, and whether there was a ring at all.
-    pub fn leave(&self, Ticket { number, rings }: Ticket, panics: &mut Panics) -> (bool, bool) {
-        let leave = |line: &mut Line| (line.remove(number), line.rings != rings);
-        let (waker, was_rung) = self.with_line(leave);
+    /// Leaves the line. Returns whether a notification had taken this one out, and whether there was one at all.
+    pub fn leave(
+        &self,
+        Ticket {
+            number,
+            notifications,
+        }: Ticket,
+        panics: &mut Panics,
+    ) -> (bool, bool) {
+        let leave = |line: &mut Line| {
+            (
+                line.wakers.remove(&number),
+                line.notifications != notifications,
+            )
+        };
+        let (waker, was_notified) = self.with_line(leave);
         let is_out = waker.is_none();
         panics.run_each(waker, drop);
-        (is_out, was_rung)
+        (is_out, was_notified)
     }
 
-    /// Leaves the line without a further try: a ring that took this one out is passed on.
+    /// Leaves the line without a further try: a notification that took this one out is passed on.
     pub fn pass_on(&self, ticket: Ticket, panics: &mut Panics) {
         if self.leave(ticket, panics).0 {
-            self.ring();
+            self.notify_one();
         }
+    }
+
+    #[inline]
+    pub fn has_waiters(&self) -> bool {
+        self.waiting.load(Ordering::SeqCst) != 0
     }
 
     /// Wakes the first in line, if there is one. It never panics.
     #[inline]
-    pub fn ring(&self) {
-        if self.waiting.load(Ordering::SeqCst) != 0 {
+    pub fn notify_one(&self) {
+        if self.has_waiters() {
             self.wake_first();
         }
     }
@@ -305,7 +298,8 @@ impl Event {
     }
 
     /// Wakes all that stand in line now.
-    pub fn ring_for_all(&self, panics: &mut Panics) {
+    #[cold]
+    pub fn notify_all(&self, panics: &mut Panics) {
         let all: Vec<_> = self.with_line(|line| iter::from_fn(|| line.pop()).collect());
         panics.run_each(all, Waker::wake);
     }
@@ -330,7 +324,7 @@ impl Wake for Parker {
 
 thread_local! {
     /// Those of this thread that are idle. A wait inside of another (for a seat, or by an item's own
-    /// drop or clone) has one of its own, so that it doesn't use up the other's ring.
+    /// drop or clone) has one of its own, so that it doesn't use up the other's notification.
     static PARKERS: RefCell<Vec<Arc<Parker>>> = const { RefCell::new(Vec::new()) };
 }
 
@@ -350,16 +344,10 @@ impl Parker {
 
     /// Waits a little for a waker that is near.
     pub fn spin(&self) {
-        let mut backoff = Backoff::default();
-        for _ in 0..TRIES {
-            if self.woken.load(Ordering::SeqCst) {
-                return;
-            }
-            backoff.between_turns();
-        }
+        FOR_OTHERS.try_until(|| self.woken.load(Ordering::SeqCst).then_some(()));
     }
 
-    /// Until it is woken, or this moment. It may be woken by a ring of an earlier wait.
+    /// Until it is woken, or this moment. It may be woken by a notification of an earlier wait.
     pub fn park(&self, until: Option<Instant>) {
         while !self.woken.swap(false, Ordering::SeqCst) {
             match until.map(|until| until.saturating_duration_since(Instant::now())) {
@@ -371,29 +359,44 @@ impl Parker {
     }
 }
 
-/// The result of a try; or, if it is to be made again though nobody rings, from which moment on.
+/// The result of a try; or, if it is to be made again though nobody notifies, from which moment on.
 pub type Try<R> = Result<R, Option<Instant>>;
 
-/// It is made again once it is rung for.
-pub const AT_A_RING: Option<Instant> = None;
+/// It is made again once it is notified.
+pub const WHEN_NOTIFIED: Option<Instant> = None;
 
 /// It is made again after a millisecond.
 pub fn soon() -> Option<Instant> {
     Some(Instant::now() + Duration::from_millis(1))
 }
 
-/// Tries until it is done, or until this moment: then None. Between the tries it waits for rings.
+/// Polls until it is ready, or until this moment: then None. Between the polls it parks.
+pub fn poll_until<R>(until: Option<Instant>, mut poll: impl FnMut(&Waker) -> Poll<R>) -> Option<R> {
+    Parker::with(|parker| {
+        let waker = parker.clone().into();
+        loop {
+            match poll(&waker) {
+                Poll::Ready(done) => return Some(done),
+                Poll::Pending if until.is_some_and(|it| it <= Instant::now()) => return None,
+                Poll::Pending => {}
+            }
+            parker.spin();
+            parker.park(until);
+        }
+    })
+}
+
+/// Tries until it is done, or until this moment: then None. After these rounds it waits for notifications between
+/// its tries.
 pub fn wait<R>(
     event: &Event,
+    rounds: Rounds,
     until: Option<Instant>,
     mut attempt: impl FnMut() -> Try<R>,
 ) -> Option<R> {
-    let mut backoff = Backoff::default();
-    for _ in 0..TRIES {
-        if let Ok(done) = attempt() {
-            return Some(done);
-        }
-        backoff.between_turns();
+    let done = rounds.try_until(|| attempt().ok());
+    if done.is_some() {
+        return done;
     }
     Parker::with(|parker| {
         loop {

@@ -1,0 +1,14 @@
+//! `Debug` and `Display` of types that have fixed texts.
+
+/// Implements `Debug` or `Display` by a text for each of these patterns. No item needs the trait.
+macro_rules! fmt_by_text {
+    (impl$(<$item:ident>)? $trait:ident for $type:ty: $($pattern:pat => $text:literal),+ $(,)?) => {
+        impl$(<$item>)? std::fmt::$trait for $type {
+            fn fmt(&self, f: &mut std::fmt::Formatter<'_>) -> std::fmt::Result {
+                f.pad(match self {
+                    $($pattern => $text),+
+                })
+            }
+        }
+    };
+}
