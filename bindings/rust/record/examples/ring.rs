@@ -11,7 +11,7 @@ use std::sync::Barrier;
 use std::sync::atomic::{AtomicU64, Ordering};
 use std::thread;
 use std::time::Duration;
-use vahepito::record::{Log, Recorder, Sent, Taken};
+use vahepito_record::{Log, Recorder, Sent, Taken};
 
 /// The time until a call that found no room or no item is made again: each such call is a line of the log.
 const PAUSE: Duration = Duration::from_micros(20);

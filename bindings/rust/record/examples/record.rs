@@ -3,40 +3,19 @@
 //!     cargo run --release --example record QUEUE LOG [CALLS]
 //!     ccq judge LOG
 //!
-//! The queue is `channel`, this crate's; `mpsc`, std's; or `fault`, one that gives each thousandth item
-//! to two threads. Each thread does this number of calls (10,000): two send, and two take.
+//! The queue is `mpsc`, std's channel, or `fault`, one that gives each thousandth item to two threads. Each thread does this number of calls (10,000): two send, and two take.
 use std::collections::VecDeque;
 use std::io;
 use std::sync::atomic::{AtomicU64, Ordering};
 use std::sync::{Barrier, Mutex, mpsc};
 use std::thread;
-use vahepito::record::Log;
-pub use vahepito::record::{Sent, Taken};
-use vahepito::{TryRecvError, TrySendError};
+use vahepito_record::Log;
+pub use vahepito_record::{Sent, Taken};
 
 /// A queue of numbers that many threads share.
 pub trait Queue: Sync {
     fn send(&self, item: u64) -> Sent;
     fn take(&self) -> Taken;
-}
-
-/// This crate's channel.
-impl Queue for (vahepito::Sender<u64>, vahepito::Receiver<u64>) {
-    fn send(&self, item: u64) -> Sent {
-        match self.0.try_send(item) {
-            Ok(()) => Sent::Accepted,
-            Err(TrySendError::Full(_)) => Sent::Full,
-            Err(TrySendError::Disconnected(_)) => Sent::Closed,
-        }
-    }
-
-    fn take(&self) -> Taken {
-        match self.1.try_recv() {
-            Ok(item) => Taken::Item(item),
-            Err(TryRecvError::Empty) => Taken::None,
-            Err(TryRecvError::Disconnected) => Taken::Ended,
-        }
-    }
 }
 
 /// Std's channel, whose receiver is shared under a lock.
@@ -117,12 +96,11 @@ pub fn write_record(queue: &dyn Queue) -> io::Result<()> {
 
 pub fn main() -> io::Result<()> {
     match std::env::args().nth(1).as_deref() {
-        Some("channel") => write_record(&vahepito::channel::<u64>(64).expect("64 is in range")),
         Some("mpsc") => {
             let (sender, receiver) = mpsc::channel();
             write_record(&(sender, Mutex::new(receiver)))
         }
         Some("fault") => write_record(&Fault::default()),
-        _ => Err(io::Error::other("the queue is channel, mpsc, or fault")),
+        _ => Err(io::Error::other("the queue is mpsc or fault")),
     }
 }
