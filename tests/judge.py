@@ -5,10 +5,11 @@ of recorded queues.
 Usage: tests/judge.py [LOGS [FIRST]]
 
 Half of the logs are those of a real queue, half are altered; in one of two some calls haven't returned, and some sends are
-refused. The log with the number N is always the same. Without words it makes 1,500 logs, from number 0 on. The search knows
-nothing of the program's: it tries every call that began before each call that is left had ended. `judge undecided` is a
-failure. Without words it also records 80,000 calls each of this crate's channel, of std's, of crossbeam's and flume's where
-Debian's packages of them are, and of a queue with a fault, which has to be found, and is drawn. And it records a ring of
+refused. Some queues are closed, or have a capacity; some logs have coarse stamps, are judged with a skew, or begin late. The
+log with the number N is always the same. Without words it makes 1,500 logs, from number 0 on. The search knows nothing of the
+program's: it tries every call that began before each call that is left had ended. `judge undecided` is a failure, unless calls
+of one thread share a stamp. Without words it also records 80,000 calls each of this crate's channel, of std's, of crossbeam's and flume's where
+Debian's packages of them are, and of a queue with a fault, which has to be found. And it records a ring of
 one's own by a program in Rust and by one in C: as it is, with a planted fault, which has to be found, and while the program is
 killed.
 """
@@ -25,28 +26,35 @@ from concurrent.futures import ThreadPoolExecutor
 from pathlib import Path
 
 TOP = Path(__file__).resolve().parent.parent
-PROGRAM = TOP / "crates/ccq/out/ccq"
+PROGRAM = Path(os.environ.get("CCQ", TOP / "crates/ccq/out/ccq"))
 REGISTRY = Path("/usr/share/cargo/registry")
 NEVER = 1 << 62
 
 
-def play(rng):
+def play(rng, capacity, closes):
     """The calls of one to four threads on a queue, each of which takes effect at a moment between its begin and its end."""
     threads = rng.randint(1, 4)
     free = [0] * threads
-    queue, calls, item, moment = [], [], 0, 0
+    queue, calls, item, moment, closed = [], [], 0, 0, False
     for _ in range(rng.randint(1, 9)):
         thread = rng.randrange(threads)
         moment = max(moment + rng.randint(4, 12), free[thread] + 1)
         begin = max(free[thread] + 1, moment - rng.randint(0, 14))
         free[thread] = moment + rng.randint(0, 14)
         call = {"thread": str(thread), "begin": begin, "end": free[thread]}
-        if rng.random() < 0.55:
+        if closes and rng.random() < 0.15:
+            closed = True
+            calls.append(call | {"close": True})
+        elif rng.random() < 0.55:
             item += 1
-            queue.append(item)
-            calls.append(call | {"send": [item]})
+            answer = "closed" if closed else "full" if capacity and len(queue) == capacity else None
+            if answer is None:
+                queue.append(item)
+            calls.append(call | {"send": [item]} | ({"answer": answer} if answer else {}))
+        elif queue:
+            calls.append(call | {"take": [queue.pop(0)]})
         else:
-            calls.append(call | {"take": [queue.pop(0)] if queue else None})
+            calls.append(call | {"take": None} | ({"answer": rng.choice(["ended", "closed"])} if closed else {}))
     return calls
 
 
@@ -55,10 +63,14 @@ def alter(rng, calls):
     items = [call["send"] for call in calls if "send" in call]
     for _ in range(rng.randint(1, 2)):
         call, other = rng.choice(calls), rng.choice(calls)
-        if "take" in call:
+        if "take" in call and "answer" not in call:
             call["take"] = rng.choice([None, [99], *items])
-        elif "send" in other:
+        elif "answer" in call:
+            del call["answer"]
+        elif "send" in call and "send" in other:
             call["send"], other["send"] = other["send"], call["send"]
+        elif "send" in call and rng.random() < 0.5:
+            call["answer"] = rng.choice(["full", "closed"])
 
 
 def leave_open(rng, calls):
@@ -67,6 +79,7 @@ def leave_open(rng, calls):
     for call in last.values():
         if rng.random() < 0.5:
             del call["end"]
+            call.pop("answer", None)
             if "take" in call:
                 call["take"] = None
     for number in range(rng.randint(0, 3)):
@@ -82,67 +95,146 @@ def refuse(rng, calls):
         item = rng.choice([[1], [7, 7]])
         calls.append({"thread": f"refused {number}", "begin": begin, "end": begin, "send": item, "answer": answer})
     for call in calls:
-        if "end" in call and call.get("take", True) is None and rng.random() < 0.3:
+        if "end" in call and call.get("take", True) is None and "answer" not in call and rng.random() < 0.3:
             call["answer"] = "ended"
 
 
 def log(number):
+    """The calls of a log, the capacity and the skew by which it is judged, and whether it is said to begin late."""
     rng = random.Random(number)
-    calls = play(rng)
+    capacity = rng.choice([None, None, 1, 2, 3])
+    calls = play(rng, capacity, rng.random() < 0.4)
     if rng.random() < 0.5:
         alter(rng, calls)
     if rng.random() < 0.5:
         leave_open(rng, calls)
         refuse(rng, calls)
-    return calls
+    skew = rng.choice([0, 0, 0, 2])
+    if rng.random() < 0.2:
+        unit = rng.choice([4, 8])
+        for call in calls:
+            call.update({key: call[key] // unit for key in ("begin", "end") if key in call})
+    late = rng.random() < 0.15
+    if late:
+        calls = calls[rng.randrange(len(calls)) :]
+    return calls, capacity, skew, late
 
 
-def has_order(calls):
-    """Whether the calls have a legal order, by trying all."""
+def padded(calls, skew, late):
+    """The calls as they are judged: wider by the skew; and with those that a log which begins late may lack."""
+    wide = [
+        call | {"begin": max(0, call["begin"] - skew)} | ({"end": call["end"] + skew} if "end" in call else {})
+        for call in calls
+    ]
+    if late:
+        sent = [call["send"] for call in calls if "send" in call and "answer" not in call]
+        taken = [list(item) for item in {tuple(call["take"]) for call in calls if call.get("take")}]
+        wide += [{"begin": 0, "send": item} for item in taken if item not in sent]
+        wide += [{"begin": 0, "take": None} for item in sent if item not in taken]
+    return wide
+
+
+def ties_of(calls, skew):
+    """Of each call the call of its thread that ended when it began, by their places."""
+    last, ties = {}, {}
+    for place, call in enumerate(calls):
+        before = last.get(call["thread"])
+        if before is not None and skew == 0 and calls[before].get("end") == call["begin"]:
+            ties[place] = before
+        last[call["thread"]] = place
+    return ties
+
+
+def may_be_full(calls, call, capacity):
+    """Whether at a moment of the call as many items as the queue holds may be in it."""
+    for moment in range(call["begin"], call["end"] + 1):
+        sends = sum("send" in c and "answer" not in c and c["begin"] <= moment for c in calls)
+        takes = sum(bool(c.get("take")) and c["end"] < moment for c in calls)
+        if sends - takes >= capacity:
+            return True
+    return False
+
+
+def has_order(calls, ties, capacity):
+    """Whether the calls have a legal order, by trying all. Of a queue of whatever capacity if none is given."""
+    closes = any("close" in call for call in calls)
     returned = sum(1 << i for i, call in enumerate(calls) if "end" in call)
     tried = set()
 
-    def after(call, queue):
-        """What the queue holds behind the call, or None if it wouldn't answer so."""
+    def after(call, queue, closed):
+        """What the queue holds behind the call and whether it is closed, or None if it wouldn't answer so."""
+        answer = call.get("answer")
+        if "close" in call:
+            return queue, True
+        if "send" in call and answer == "closed":
+            return None if closes and not closed else (queue, closed)
+        if "send" in call and answer == "full":
+            return None if closes and closed or capacity and len(queue) != capacity else (queue, closed)
         if "send" in call:
-            return (*queue, call["send"][0])
+            return None if closes and closed or capacity and len(queue) >= capacity else ((*queue, tuple(call["send"])), closed)
         if "end" in call and call["take"] is None:
-            return None if queue else queue
-        if not queue or ("end" in call and queue[0] != call["take"][0]):
+            return None if queue or answer and closes and not closed else (queue, closed)
+        if not queue or ("end" in call and queue[0] != tuple(call["take"])):
             return None
-        return queue[1:]
+        return queue[1:], closed
 
-    def go(done, queue):
+    def go(done, queue, closed):
         if done & returned == returned:
             return True
-        if (done, queue) in tried:
+        if (done, queue, closed) in tried:
             return False
-        tried.add((done, queue))
+        tried.add((done, queue, closed))
         left = [(i, call) for i, call in enumerate(calls) if not done >> i & 1]
         due = min(call.get("end", NEVER) for _, call in left)
         for i, call in left:
-            rest = after(call, queue) if call["begin"] <= due else None
-            if rest is not None and go(done | 1 << i, rest):
+            if call["begin"] > due or i in ties and not done >> ties[i] & 1:
+                continue
+            rest = after(call, queue, closed)
+            if rest is not None and go(done | 1 << i, *rest):
                 return True
         return False
 
-    return go(0, ())
+    return go(0, (), False)
+
+
+def line_of(rng, call):
+    """A line of the log: some items stand without their brackets, and some threads are numbers."""
+    call = dict(call)
+    for key in ("send", "take"):
+        if call.get(key) and len(call[key]) == 1 and rng.random() < 0.5:
+            call[key] = call[key][0]
+    if call["thread"].isdigit() and rng.random() < 0.5:
+        call["thread"] = int(call["thread"])
+    return json.dumps(call) + "\n"
 
 
 def judged(number):
-    """The number, whether the log has an order, whether the program says the same, and what it says."""
-    calls = log(number)
-    text = "".join(json.dumps(call) + "\n" for call in calls)
-    run = subprocess.run([PROGRAM, "judge"], input=text, capture_output=True, text=True, check=False)
-    refused = [call["answer"] for call in calls if "send" in call and "answer" in call]
-    told = [call for call in calls if "take" in call or "answer" not in call]
-    right = has_order(told)
-    clean = f"judge clean: {len(told)} calls have a legal order, {len(refused)} not judged"
-    if refused:
-        clean += f": {refused.count('full')} full, {refused.count('closed')} closed"
+    """The number, whether the log has an order, whether the program says the same, whether it says that it doesn't know though
+    calls share a stamp, and what it says."""
+    calls, capacity, skew, late = log(number)
+    rng = random.Random(number)
+    text = ('{"begins":"late"}\n' if late else "") + "".join(line_of(rng, call) for call in calls)
+    options = ["--capacity", str(capacity)] * bool(capacity) + ["--skew", str(skew)] * bool(skew)
+    run = subprocess.run([PROGRAM, "judge", *options], input=text, capture_output=True, text=True, check=False)
+    wide, ties = padded(calls, skew, late), ties_of(calls, skew)
+    closes = any("close" in call for call in calls)
+    answers = [call["answer"] for call in calls if "send" in call and "answer" in call]
+    full = 0 if capacity else answers.count("full")
+    closed = 0 if closes else answers.count("closed")
+    ordered = has_order(wide, ties, None)
+    possible = not capacity or all(
+        may_be_full(wide, call, capacity) for call in wide if call.get("answer") == "full" and "end" in call
+    )
+    right = ordered and possible
+    clean = f"judge clean: {len(calls) - answers.count('full') - closed} calls have a legal order, {full + closed} not judged"
+    clean += f": {full} full, {closed} closed" * bool(full + closed)
+    clean += f"; {answers.count('full')} may have found {capacity} in the queue" * bool(capacity)
     same = run.stdout == clean + "\n" if right else run.stdout.startswith("judge fault: ")
-    said = f"{run.returncode}, {run.stdout or run.stderr}"
-    return number, right, same and run.returncode == (0 if right else 1), said
+    same &= run.returncode == (0 if right else 1)
+    # A fault of the capacity leaves no order of a queue with it.
+    same &= possible or not ordered or not has_order(wide, ties, capacity)
+    open_tie = bool(ties) and run.stdout == "judge undecided\n"
+    return number, right, same, open_tie, f"{run.returncode}, {run.stdout or run.stderr}"
 
 
 def build(folder):
@@ -152,8 +244,9 @@ def build(folder):
     (folder / "Cargo.toml").write_text(
         '[package]\nname = "recorded"\nversion = "0.1.0"\nedition = "2024"\n\n[workspace]\n\n'
         f'[[bin]]\nname = "recorded"\npath = "{TOP}/tests/recorded/main.rs"\n\n'
-        f'[[bin]]\nname = "ring"\npath = "{TOP}/bindings/rust/examples/ring.rs"\n\n'
-        f'[dependencies]\nvahepito = {{ path = "{TOP}/bindings/rust" }}\n{needs}'
+        f'[[bin]]\nname = "ring"\npath = "{TOP}/bindings/rust/record/examples/ring.rs"\n\n'
+        f'[dependencies]\nvahepito = {{ path = "{TOP}/bindings/rust" }}\n'
+        f'vahepito-record = {{ path = "{TOP}/bindings/rust/record" }}\n{needs}'
     )
     debian = ["--config", 'source.crates-io.replace-with = "debian"', "--config", f'source.debian.directory = "{REGISTRY}"']
     command = ["cargo", *(debian if peers else []), "--quiet", "--offline", "build", "--release", "--features", ",".join(peers)]
@@ -207,12 +300,8 @@ def judge_recorded():
             log = Path(name, queue)
             subprocess.run([recorder, queue, log, "20000"], check=True)
             said = judged_file(log)
-            picture = subprocess.run(
-                [TOP / "tools/fault_picture.py", log], input=said, capture_output=True, text=True, check=False
-            ).stdout
-            print(f"judge: {queue}: {picture}", end="")
-            fault, calls = queue == "fault", len(picture.splitlines()) - 1
-            right &= said.startswith("judge fault: taken twice: " if fault else "judge clean: ") and calls == 2 * fault
+            print(f"judge: {queue}: {said}", end="")
+            right &= said.startswith("judge fault: taken twice: " if queue == "fault" else "judge clean: ")
         right &= judge_ring("Rust", recorder.with_name("ring"), Path(name, "ring.log"))
     return right
 
@@ -234,14 +323,16 @@ def main(count=None, first=0):
         return 1
     recorded = count is not None or all([judge_recorded(), judge_ring_in_c()])
     count = count or 1500
-    clean = wrong = 0
+    clean = wrong = unknown = 0
     with ThreadPoolExecutor(os.cpu_count()) as pool:
-        for number, right, same, said in pool.map(judged, range(first, first + count)):
+        for number, right, same, open_tie, said in pool.map(judged, range(first, first + count)):
             clean += right
-            if not same:
+            unknown += open_tie
+            if not same and not open_tie:
                 wrong += 1
                 print(f"judge: log {number} has {'an' if right else 'no'} order, and the program says {said}", end="")
-    print(f"judge: {count - wrong} of {count} verdicts are those of a search over all orders; {clean} logs have an order")
+    print(f"judge: {count - wrong - unknown} of {count} verdicts are those of a search over all orders; {clean} logs have an order")
+    print(f"judge: {unknown} logs in which calls of a thread share a stamp are undecided")
     return 1 if wrong or not recorded or not 0 < clean < count else 0
 
 

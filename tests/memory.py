@@ -1,5 +1,5 @@
 #!/usr/bin/env python3
-"""Gives `ccq play` and `ccq audit` inputs near the limits in the memory that docs/FORMATS.md says they take at most, and no more.
+"""Gives `ccq play`, `ccq audit` and `ccq why` inputs near the limits in the memory that docs/FORMATS.md says they take at most, and no more.
 
 Usage: tests/memory.py
 
@@ -14,7 +14,6 @@ from pathlib import Path
 
 TOP = Path(__file__).resolve().parent.parent
 sys.dont_write_bytecode = True
-sys.path.insert(0, str(TOP / "tools"))
 from rows import Row, does, refused
 
 PROGRAM = "crates/ccq/out/ccq"
@@ -43,16 +42,28 @@ def audit(verdict, status, accepted, taken):
 TWO_WORDS = plan("[1,1]", 32800, 64, 2)
 
 
+def place(text, at, said):
+    """The row of `ccq why` for an input of one line that is refused there."""
+    return Row(["why"], 1, f"1:{text.index(at) + 1} {said}\n".encode(), input=text)
+
+
 def rows():
     """What an input has, and its row."""
     yield "bodies of one word", clean(plan("[1]", 65536, 63, 2))
     yield "bodies of two words, half of the room to spare", clean(TWO_WORDS)
     yield "numbers, half of the room to spare", clean(plan("1", 32800, 64))
-    yield "a stranger in the schedule", refused("play", plan("[1]", 65536, 63, 2, '["s99",1]'), "P4 at 0")
+    strange = plan("[1]", 65536, 63, 2, '["s99",1]')
+    yield "a stranger in the schedule", refused("play", strange, "P4 at 0")
+    yield "the place of the stranger", place(strange, b'"s99"', 'schedule[0][0]: "s99" names no pass (s1 to s63, r1)')
+    yield "no place", Row(["why"], 0, b"no fault: this plan isn't refused\n", input=TWO_WORDS)
     long = plan("1", 1, 1, schedule=",".join(['["s1",1]'] * 1800000))
     yield "a schedule past its limit", refused("play", long, "P3 schedule")
     body = plan("[" + ",".join("1" * 8300000) + "]", 1, 1, 2)
     yield "a body of too many words", refused("play", body, "P3 senders")
+    words = "senders[0][0]: an array of 8300000 elements is no array of 1 to 4 elements"
+    yield "the place of the body", place(body, b"[1,1", words)
+    end = f"1:{len(body)}: the text ends too early\n"
+    yield "the place where a text ends", Row(["why"], 1, end.encode(), input=body[:-1])
     often = plan("1", 1, 1, receivers=",".join("1" * 8300000))
     yield "receivers past their limit", refused("play", often, "P3 receivers")
     items = range(330000)

@@ -1,13 +1,12 @@
 #!/usr/bin/env python3
-"""Compares traces of ccq_show, as `rt run` built it, with the steps that a second program makes of the same plan.
+"""Compares traces of `ccq show`, as `rt run` built it, with the steps that a second program makes of the same plan.
 
-    tests/trace.py              the program in crates/ccq_show/out
+    tests/trace.py              the program in crates/ccq/out
     tests/trace.py PROGRAM      another one
 
-The plans are those of examples/ and of tests/corpus, refused ones too. The second program is tests/derive.py, which knows
+The plans are those of examples/ and of tests/rows.py, refused ones too. The second program is tests/derive.py, which knows
 the algorithm from the documents alone; the status, standard error and each line have to be the same. Before that the script
-shows that it finds each value of a line that is wrong, a line too few and one too many. At the end it looks that other words
-than --trace are refused. Exit status 0 if all is so.
+shows that it finds each value of a line that is wrong, a line too few and one too many. Exit status 0 if all is so.
 """
 import json
 import pathlib
@@ -16,14 +15,15 @@ import sys
 
 sys.dont_write_bytecode = True
 import derive
+import rows
 
 TOP = pathlib.Path(__file__).resolve().parent.parent
-PROGRAM = TOP / "crates/ccq_show/out/ccq_show"
+PROGRAM = TOP / "crates/ccq/out/ccq"
 
 
-def told(program, words, data):
+def told(program, data):
     """The status, standard error and standard output of the program."""
-    ran = subprocess.run([program, *words], input=data, capture_output=True, timeout=120)
+    ran = subprocess.run([program, "show", "--trace"], input=data, capture_output=True, timeout=120)
     return ran.returncode, ran.stderr.decode(), ran.stdout.decode()
 
 
@@ -60,8 +60,9 @@ def plans():
     """The plans by their names."""
     for path in sorted(TOP.glob("examples/*.json")):
         yield path.name, path.read_bytes()
-    for path in sorted(TOP.glob("tests/corpus/*.in")):
-        yield path.name, path.read_bytes()
+    for name, row in [*rows.by_hand("worked_rows"), *rows.derived()]:
+        if row.words[0] in ("play", "audit") and not row.words[1:]:
+            yield name, row.input
 
 
 def finds_what_is_wrong():
@@ -75,28 +76,17 @@ def finds_what_is_wrong():
     return not misjudged
 
 
-def refuses(program, words):
-    """Whether a line with these words is refused: nothing goes to standard output, and the usage to standard error."""
-    status, error, output = told(program, words, b"{}")
-    if (status, output) == (64, "") and "Usage: ccq_show [--trace]" in error:
-        return True
-    print(f"trace: {words}: status {status}, {output!r:.100} and {error!r:.200}")
-    return False
-
-
 def main(program):
     if not finds_what_is_wrong():
         return 1
     wrong, events, played = 0, 0, 0
     for name, data in plans():
         due = derived(data)
-        found = difference(told(program, ["--trace"], data), due)
+        found = difference(told(program, data), due)
         events, played, wrong = events + due[2].count("\n"), played + (due[0] == 0), wrong + bool(found)
         if found:
             print(f"trace: {name}: {found}")
-    lines = [["--help"], ["--trace", "--trace"], ["--trace", "x"], ["x"], [""], ["--trac"]]
-    wrong += sum(not refuses(program, words) for words in lines)
-    print(f"trace: {played} traces with {events} events, each as tests/derive.py derives it, and {len(lines)} lines refused; {wrong} wrong")
+    print(f"trace: {played} traces with {events} events, each as tests/derive.py derives it; {wrong} wrong")
     return wrong > 0
 
 

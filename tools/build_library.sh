@@ -104,7 +104,7 @@ relax() {
 }
 
 # The toolchain's three names for memory, as the library's own: of the same lengths, so that no other byte changes.
-renamed='s/rattle_alloc/vahepito_new/g; s/rattle_realloc/vahepito_renew/g; s/rattle_dealloc/vahepito_freed/g'
+renamed='s/rattle_alloc/vahepito_mem/g; s/rattle_realloc/vahepito_renew/g; s/rattle_dealloc/vahepito_freed/g'
 
 sources=$(sum_of_sources "${crates[@]}")
 "$build" || { echo "library: FAILED after $SECONDS s" >&2 && exit 1; }
@@ -116,7 +116,7 @@ fi
 LC_ALL=C sed "$renamed" crates/cc_binding/out/libcc_binding.a >"$made/libvahepito_strict.a"
 relax || { echo 'library: FAILED: the stores that are plain are not shown to be right' >&2 && exit 1; }
 # `realloc` shares bytes with a name there, so that one is renamed by its table. Large blocks begin where a line of the cache does.
-objcopy -D --redefine-sym rattle_alloc=vahepito_new --redefine-sym rattle_realloc=vahepito_renew \
+objcopy -D --redefine-sym rattle_alloc=vahepito_mem --redefine-sym rattle_realloc=vahepito_renew \
     --redefine-sym rattle_dealloc=vahepito_freed --redefine-sym malloc=vahepito_block "$kit/c/liblibc_c.a" "$made/libvahepito_heap.a" &&
     "$kit/toolchain/bin/clang" --target=$target -std=c11 -O2 -fPIC -g0 -c bindings/c/blocks.c -o "$made/blocks.o" &&
     "$kit/toolchain/bin/llvm-ar" rcsD "$made/libvahepito_heap.a" "$made/blocks.o" && rm "$made/blocks.o" || exit 1

@@ -1,5 +1,5 @@
 #!/usr/bin/env python3
-"""The machine in the page of ccq_show, as JavaScript, written from the definitions in crates/cc_runs/specs: the table of
+"""The machine in the page of `ccq show`, as JavaScript, written from the definitions in crates/cc_runs/specs: the table of
 steps (`line` of Lines, which names SendLines, TakeLines and CountLines), and all definitions that it names; and the broken
 tables of VARIANTS, each of which is that table with some lines changed.
 
@@ -40,15 +40,15 @@ WANTED = [
 # Broken tables: a name, and each changed definition with the text that is in one of its lines and the text in its place.
 VARIANTS = {
     "marked_early": [
-        ("Lines", "line", "(after_done c.config.bound job)", "(Place.FollowNext job)"),
-        ("Lines", "line", "line (Place.HandOver at) _ =",
-         "line (Place.FollowNext was) next = load Kind.ReadNext (Word.Node x was.round.at NodeField.Next) (if next == 0 then Place.HandOver "
-         "was.round.at else after_done c.config.bound (record was { next = next - 1 }))\nline (Place.HandOver at) _ ="),
+        ("Lines", "line", "(after_done c.config.bound job)", "(Phase.FollowNext job)"),
+        ("Lines", "line", "line (Phase.HandOver at) _ =",
+         "line (Phase.FollowNext was) next = load Kind.ReadNext (Word.Node x was.round.at NodeField.Next) (if next == 0 then Phase.HandOver "
+         "was.round.at else after_done c.config.bound (record was { next = next - 1 }))\nline (Phase.HandOver at) _ ="),
     ],
     "handed_past": [
-        ("Lines", "after_done", "if job.round.served + 1 == bound then Place.HandOver job.next else Place.ReadNext", "Place.ReadNext"),
+        ("Lines", "after_done", "if job.round.served + 1 == bound then Phase.HandOver job.next else Phase.ReadNext", "Phase.ReadNext"),
         ("Lines", "line", "(after_next c.served x round next)",
-         "(if round.served == c.config.bound then (if next == 0 then Place.HandOver round.at else Place.HandOver (next - 1)) else "
+         "(if round.served == c.config.bound then (if next == 0 then Phase.HandOver round.at else Phase.HandOver (next - 1)) else "
          "after_next c.served x round next)"),
     ],
     "freed_dummy": [("TakeLines", "line", "(On (WriteTaken dummy parcel))", "(On (WriteTaken at parcel))")],
@@ -349,7 +349,7 @@ def changed(names):
 
 def shown(text):
     """A text of the definitions as docs/ALGORITHM.md shows it: without the enums of its variants."""
-    return re.sub(r"\b(?:Place|Kind|Word|NodeField|ItemField|Object|Answer|SendAnswer|TakeAnswer)\.", "", text)
+    return re.sub(r"\b(?:Phase|Kind|Word|NodeField|ItemField|Object|Answer|SendAnswer|TakeAnswer)\.", "", text)
 
 
 def machine():

@@ -1,22 +1,22 @@
-# What ./play and ./show share: which plan is read, and the program: the one in bin/, or one that is proved and built here, or
-# tried. Each says before it reads this by `.`: `top`, the top of the repository; `name`, what its lines begin with; `crate`, the crate of
-# its program; `words`, its arguments; `build`, the command of rt that builds it; `costs`, what a build from nothing takes.
+# What ./play and ./show share: which plan is read, and the program `ccq`: the one in bin/, or one that is proved and built here,
+# or tried. Each says before it reads this by `.`: `top`, the top of the repository, and `name`, its name and the task of `ccq`.
 . "$top/tools/building.sh" || exit 69
-program=$top/crates/$crate/out/$crate
-prebuilt=$top/bin/x86_64-unknown-linux-gnu/$crate
+program=$top/crates/ccq/out/ccq
+prebuilt=$top/bin/x86_64-unknown-linux-gnu/ccq
+words=("$name")
 
 say() { echo "$name: $*" >&2; }
 
 # Whether the program in bin/ runs on this machine, and is of the sources as they stand.
 is_prebuilt() {
     [ "$(uname -sm)" = 'Linux x86_64' ] && [ -x "$prebuilt" ] &&
-        grep -qxF "sha256 of the sources of $crate: $(sum_of_sources $(crates_of "$crate"))" "${prebuilt%/*}/PROOF"
+        grep -qxF "sha256 of the sources of ccq: $(sum_of_sources $(crates_of ccq))" "${prebuilt%/*}/PROOF"
 }
 
 # Whether a source of the program is newer than it is.
 is_old() {
     local one sources=()
-    for one in $(crates_of "$crate"); do
+    for one in $(crates_of ccq); do
         sources+=("$top/crates/$one"/{src,specs,proofs})
     done
     [ -n "$(find "${sources[@]}" "$top/crates.txt" -type f -newer "$program" -print -quit 2>/dev/null)" ]
@@ -34,9 +34,11 @@ have_program() {
     if [ -x "$program" ]; then
         say 'sources are newer than the program: building it again'
     else
-        say "proving and building the program, this once: $costs. With --try it answers sooner, without proofs"
+        say 'proving and building the program, this once: 25 minutes of one fast processor, or 15 on four, up to three times'
+        say 'that on slow ones; and 2.9 GB. With --try it answers sooner, without proofs'
     fi
-    build_with_those_below "$crate" "${build[@]}" <"$top/crates/ccq_show/stdin" || exit 69
+    # The help is asked for since rt has no other way to build a program than to run it
+    build_with_those_below ccq rt run -- --help </dev/null || exit 69
     # Sources that are newer, but the same, lead to no new file
     touch "$program"
     clean_up
@@ -47,11 +49,11 @@ have_program() {
 try_program() {
     local status start=$SECONDS told=0
     command -v rt >/dev/null || { say 'the command rt is not on the path, which compiles and runs the sources' && exit 69; }
-    say "compiling $(functions_of $(crates_of "$crate")) functions with checks at each index and each sum, without their proofs"
+    say "compiling $(functions_of $(crates_of ccq)) functions with checks at each index and each sum, without their proofs"
     scratch=$(mktemp -d) || exit 69
     trap clean_up EXIT
     trap 'exit 130' INT TERM HUP
-    (cd "$top/crates/$crate" && TMPDIR=$scratch exec rt try -- "${words[@]}") <&0 2>"$scratch/log" &
+    (cd "$top/crates/ccq" && TMPDIR=$scratch exec rt try -- "${words[@]}") <&0 2>"$scratch/log" &
     running=$!
     while kill -0 "$running" 2>/dev/null; do
         sleep 0.2
@@ -77,7 +79,7 @@ run_plan() {
     --prove | --try) how=$1 && shift ;;
     esac
     if [ "$name" = show ] && [ "${1-}" = --trace ]; then
-        words=(--trace) && shift
+        words+=(--trace) && shift
     fi
     if [ "$#" -gt 1 ]; then
         echo "usage: ./$name [--prove | --try] [PLAN], or with the plan on standard input; ./$name --help says more" >&2
@@ -90,7 +92,7 @@ run_plan() {
         fi
         exec <"$1"
     fi
-    if [ "$name" = show ] && [ "${#words[@]}" -eq 0 ] && [ -t 1 ]; then
+    if [ "$name" = show ] && [ "${#words[@]}" -eq 1 ] && [ -t 1 ]; then
         say 'the page goes to standard output, for a browser: ./show PLAN > page.html'
         exit 64
     fi

@@ -1,7 +1,7 @@
 #!/bin/bash
-# The pictures of docs/pictures that show a run: docs/pages/index.html at one event of a scenario, as a browser without a window
-# draws it. docs/pictures/show.sums tells of each which scenario and event it shows, its size, and a sum of the page that it was
-# drawn from; so a picture that isn't of today's page is found without a browser.
+# The pictures of docs/pictures that show a page as a browser without a window draws it: docs/pages/index.html at one event of a
+# scenario, and docs/pages/fault.html. docs/pictures/show.sums tells of each its page, the part of it, its size, and a sum of the
+# page that it was drawn from; so a picture that isn't of today's page is found without a browser.
 #
 # Usage: tools/show_pictures.sh [--write]
 #
@@ -12,32 +12,31 @@ room=$(mktemp -d) || exit 1
 trap 'rm -rf "$room"' EXIT
 folder=docs/pictures
 record=$folder/show.sums
-page=docs/pages/index.html
 
-# The pictures: the name, the scenario of the page, the event, and how high the window is.
-pictures='combining bodies_of_words 75 830
-freed full 85 800
-close close_and_drain 44 800
-groups two_groups 101 800'
+# The pictures: the name, the page, the part of it, and how high the window is.
+pictures='show-combining index.html #lesson=bodies_of_words&event=75&view=run 830
+show-freed index.html #lesson=full&event=85&view=run 800
+show-close index.html #lesson=close_and_drain&event=44&view=run 800
+show-groups index.html #lesson=two_groups&event=101&view=run 800
+judge-fault fault.html # 468'
 
 # What the record has to be.
 record_of() {
-    local picture lesson event height sum
-    sum=$(sha256sum <"$page" | cut -d' ' -f1)
-    while read -r picture lesson event height; do
-        printf '%s %s %s %s %s\n' "$picture" "$lesson" "$event" "$height" "$sum"
+    local picture page part height
+    while read -r picture page part height; do
+        printf '%s %s %s %s %s\n' "$picture" "$page" "$part" "$height" "$(sha256sum <"docs/pages/$page" | cut -d' ' -f1)"
     done <<<"$pictures"
 }
 
 # Draws all pictures.
 draw() {
-    local picture lesson event height
-    while read -r picture lesson event height; do
+    local picture page part height
+    while read -r picture page part height; do
         "$1" --headless --no-sandbox --disable-gpu --hide-scrollbars --force-device-scale-factor=1 \
             --user-data-dir="$room/profile" --window-size="1366,$height" --virtual-time-budget=2000 \
-            --screenshot="$PWD/$folder/show-$picture.png" "file://$PWD/$page#lesson=$lesson&event=$event&view=run" \
+            --screenshot="$PWD/$folder/$picture.png" "file://$PWD/docs/pages/$page$part" \
             >"$room/log" 2>&1 </dev/null || return 1
-        echo "$folder/show-$picture.png: event $event of $lesson"
+        echo "$folder/$picture.png: $page$part"
     done <<<"$pictures"
 }
 
@@ -50,8 +49,8 @@ case ${1-} in
     ;;
 '')
     while read -r picture _; do
-        if [ ! -s "$folder/show-$picture.png" ]; then
-            echo "show_pictures: $folder/show-$picture.png isn't there" >&2
+        if [ ! -s "$folder/$picture.png" ]; then
+            echo "show_pictures: $folder/$picture.png isn't there" >&2
             exit 1
         fi
     done <<<"$pictures"

@@ -1,6 +1,6 @@
 """Reads the sources of the crates without a prover: the items of a .rt file, the definitions of an .antt file of specs/.
 
-Other scripts of tools/ import it. All texts that it gives are in one form: comments are left out, and a text reads the
+Other scripts of tools/ and tests/ import it. All texts that it gives are in one form: comments are left out, and a text reads the
 same however its lines were broken.
 """
 import functools

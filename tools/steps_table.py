@@ -84,7 +84,7 @@ def section(file, title):
     named = re.findall(r"^(--.*\n)abbrev pub (?:mark|after|serves|by_).*\n((?:.+\n)+)", functions, flags=re.M)
     table = "".join(row(line) for line in rows.splitlines() if re.match(" *line .* = ", line))
     shown = "".join("\n" + "".join(f"    {line}\n" for line in (comment + lines).splitlines()) for comment, lines in named)
-    return f"\n### {title}\n\n| place | kind | operation | next place |\n|---|---|---|---|\n{table}{shown}"
+    return f"\n### {title}\n\n| phase | kind | operation | next phase |\n|---|---|---|---|\n{table}{shown}"
 
 
 if __name__ == "__main__":

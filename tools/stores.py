@@ -30,7 +30,7 @@ import sys
 sys.dont_write_bytecode = True
 try:
     from x86.decode import decode
-    from x86.discipline import Checked, is_shared
+    from x86.discipline import Checked, is_shared, may_call_turns
     from x86.flow import Function
     from x86.module import counts as module_counts
     from x86.module import functions as module_functions
@@ -56,7 +56,8 @@ class Library:
         self.shared = [Checked(function, self.others) for function in functions if is_shared(function.name)]
         for function in functions:
             called = {reference.name for reference in function.code.references.values()}
-            if not is_shared(function.name) and any(name in self.others and is_shared(name) for name in called):
+            known = is_shared(function.name) or may_call_turns(function.name)
+            if not known and any(name in self.others and is_shared(name) for name in called):
                 raise Refused(f"{function.name}: refers to a function that does the steps of calls")
 
     def exchanges(self) -> int:

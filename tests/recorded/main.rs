@@ -1,7 +1,26 @@
-//! Records the channels of crossbeam and flume, as `bindings/rust/examples/record.rs` records its queues, which are here too.
+//! Records the channels of this repository, of crossbeam and of flume, as `bindings/rust/record/examples/record.rs` records its
+//! queues, which are here too.
 #[allow(dead_code)]
-#[path = "../../bindings/rust/examples/record.rs"]
+#[path = "../../bindings/rust/record/examples/record.rs"]
 mod record;
+
+impl record::Queue for (vahepito::Sender<u64>, vahepito::Receiver<u64>) {
+    fn send(&self, item: u64) -> record::Sent {
+        match self.0.try_send(item) {
+            Ok(()) => record::Sent::Accepted,
+            Err(vahepito::TrySendError::Full(_)) => record::Sent::Full,
+            Err(vahepito::TrySendError::Disconnected(_)) => record::Sent::Closed,
+        }
+    }
+
+    fn take(&self) -> record::Taken {
+        match self.1.try_recv() {
+            Ok(item) => record::Taken::Item(item),
+            Err(vahepito::TryRecvError::Empty) => record::Taken::None,
+            Err(vahepito::TryRecvError::Disconnected) => record::Taken::Ended,
+        }
+    }
+}
 
 #[cfg(feature = "crossbeam-channel")]
 impl record::Queue
@@ -48,6 +67,9 @@ impl record::Queue for (flume::Sender<u64>, flume::Receiver<u64>) {
 
 fn main() -> std::io::Result<()> {
     match std::env::args().nth(1).as_deref() {
+        Some("channel") => {
+            record::write_record(&vahepito::channel::<u64>(64).expect("64 is in range"))
+        }
         #[cfg(feature = "crossbeam-channel")]
         Some("crossbeam-channel") => record::write_record(&crossbeam_channel::bounded(64)),
         #[cfg(feature = "flume")]

@@ -1,0 +1,320 @@
+#!/usr/bin/env python3
+"""Gives `ccq`, as the gate left it by each compiler, every row: those of tests/worked_rows and tests/command_lines, which are
+written by hand, and those of tests/derive.py, each also to `ccq why`.
+
+    tests/rows.py            the programs in crates/ccq/out
+    tests/rows.py --try      the program that `rt try` compiles, on the first row of each task and status and each 250th after
+                             it, since a row there costs half a second: statuses and standard outputs alone
+    tests/rows.py --derived  no program: tests/derive.py on the rows of tests/worked_rows, and the sums of its own rows
+    tests/rows.py --sums     prints these sums, which tests/derived.sums has: so a change of a row is seen in the tree
+
+The head of tests/command_lines says how the rows by hand are written.
+
+After the rows: every strict prefix of two plans; inputs of 16 MiB, at the limit and one byte past it; lists of a plan at
+their limit and one item past it; a large input in little memory; a word that is no text; outputs without room, at once or
+after a prefix of the text; and the width of each text of help. Before them, the script shows that it finds a wrong status, a
+wrong text, a wrong prefix, one on the other output, a word too many, and an input that was read. Exit status 0 if all did so.
+It proves and builds nothing: `rt ci` does.
+"""
+import collections
+import dataclasses
+import hashlib
+import os
+import pathlib
+import pty
+import re
+import resource
+import signal
+import subprocess
+import sys
+import tempfile
+
+sys.dont_write_bytecode = True
+import derive
+
+TOP = pathlib.Path(__file__).resolve().parent.parent
+LIMIT = 16777216
+UNREAD = b"untouched"
+CLEAN = b"E 0 s1 send 7 -> accepted 0\naudit clean\n"
+SUMS = TOP / "tests/derived.sums"
+TASKS = ["play", "audit", "judge", "why", "show", "drive"]
+HELPS = ["ccq", *(f"ccq {task}" for task in TASKS)]
+
+
+@dataclasses.dataclass(frozen=True)
+class Row:
+    """Arguments and input of the program, and what has to come of them. With `more` the output that has text may go on;
+    `is_read` says whether the whole input is read or all of it left, and None that it isn't looked at."""
+
+    words: list
+    status: int
+    out: bytes = b""
+    err: bytes = b""
+    input: bytes = UNREAD
+    is_read: bool | None = None
+    more: bool = False
+
+
+def by_hand(name):
+    """The rows of tests/command_lines or tests/worked_rows, by their names: the line above the row, or its number."""
+    blocks = re.split(r"\n{2,}", (TOP / "tests" / name).read_text())
+    for number, block in enumerate(it for it in blocks if re.search(r"^\$ ccq", it, flags=re.M)):
+        title = re.search(r"^# (.*)\n\$ ccq", block, flags=re.M)
+        lines = [it for it in block.split("\n") if not it.startswith("#")]
+        words = ["" if it == "''" else it for it in lines[0].split()[2:]]
+        given = b"\n".join(it[2:].encode() for it in lines if it.startswith("< "))
+        status, output = next(it.split() for it in lines if re.match(r"\d", it))
+        due = "".join(it[2:] + "\n" for it in lines if it == "|" or it.startswith("| ")).encode()
+        more = "..." in lines
+        due = due[:-1] if more else due
+        out, err = (due, b"") if output == "output" else (b"", due)
+        yield re.sub(r"\W+", "_", title[1]) if title else f"line_{number}", Row(words, int(status), out, err, given or UNREAD, bool(given), more)
+
+
+def derived():
+    """The rows of tests/derive.py, by their names."""
+    for name, task, data, (status, told, lines) in derive.derived():
+        out = "".join(f"{it}\n" for it in lines)
+        yield name, Row([task], status, out.encode(), f"{told}\n".encode() if told else b"", data)
+
+
+def sums():
+    """The lines of tests/derived.sums: of each task and status how many rows there are, and a sum of them all."""
+    parts = collections.defaultdict(list)
+    for name, row in derived():
+        parts[row.words[0], row.status].append(b"\0".join([name.encode(), row.input, row.out, row.err]))
+    for (task, status), rows in sorted(parts.items()):
+        yield f"{task} {status}: {len(rows)} rows, sha256 {hashlib.sha256(repr(sorted(rows)).encode()).hexdigest()}\n"
+
+
+def is_derived():
+    """Whether the second program derives what tests/worked_rows has, and its own rows are those of tests/derived.sums."""
+    wrong, number = 0, 0
+    for number, (name, row) in enumerate(by_hand("worked_rows"), 1):
+        task, *files = row.words
+        status, told, lines = derive.outcome_of(task, (TOP / files[0]).read_bytes() if files else row.input)
+        texts = "".join(f"{it}\n" for it in lines).encode(), f"{told}\n".encode() if told else b""
+        if (status, *texts) != (row.status, row.out, row.err):
+            wrong += 1
+            print(f"rows: tests/worked_rows, {name}: by hand {row.out or row.err}, and derived {texts}")
+    now, kept = list(sums()), SUMS.read_text().splitlines(keepends=True)
+    for line in now:
+        if line not in kept:
+            print(f"rows: other rows are derived than tests/derived.sums has (tests/rows.py --sums): {line}", end="")
+    print(f"rows: {number} worked rows by the second program, {wrong} of them wrong; and the sums of its own {sum(1 for _ in derived())}")
+    return wrong == 0 and now == kept
+
+
+def run(program, row, seconds=120, memory=None):
+    """What the program does of a row: the row as it should have been written."""
+    bounds = (lambda: resource.setrlimit(resource.RLIMIT_AS, (memory, memory))) if memory else None
+    with tempfile.TemporaryFile() as given:
+        given.write(row.input)
+        given.seek(0)
+        ran = subprocess.run([program, *row.words], stdin=given, capture_output=True, timeout=seconds, preexec_fn=bounds, cwd=TOP)
+        at = os.lseek(given.fileno(), 0, os.SEEK_CUR)
+    is_read = True if at == len(row.input) else False if at == 0 else None
+    return dataclasses.replace(row, status=ran.returncode, out=ran.stdout, err=ran.stderr, is_read=is_read)
+
+
+def does(program, row, **how):
+    """Whether the program does what the row says; tells what it did if it doesn't."""
+    seen = run(program, row, **how)
+    compared = seen if row.is_read is not None else dataclasses.replace(seen, is_read=None)
+    if row.more:
+        compared = dataclasses.replace(compared, out=seen.out[: len(row.out)], err=seen.err[: len(row.err)])
+    if compared == row and (not row.more or bool(seen.out) != bool(seen.err)):
+        return True
+    told = [f"{name}: {getattr(seen, name)!r:.400} and not {getattr(row, name)!r:.400}" for name in ("status", "out", "err", "is_read")]
+    print(f"{program} {row.words} <{row.input!r:.200}:", *told, sep="\n    ")
+    return False
+
+
+def refused(task, input, why):
+    return Row([task], 2, err=f"ccq: plan refused: {why}\n".encode(), input=input)
+
+
+def others():
+    """Rows that are too many or too large for a file: fronts of plans, inputs and lists at their limits and one past them."""
+    for name in ("one_item", "bodies_of_words"):
+        plan = (TOP / f"examples/{name}.json").read_bytes().rstrip(b"\n")
+        yield from (refused("play", plan[:length], "P1") for length in range(len(plan)))
+    for task in ("play", "audit"):
+        yield refused(task, b" " * LIMIT, "P1")
+        yield refused(task, b" " * (LIMIT + 1), "P3 input")
+    yield Row(["why"], 1, b"1:16777217: the text ends too early\n", input=b" " * LIMIT)
+    yield Row(["why"], 1, b"input is out of its range\n", input=b" " * (LIMIT + 1))
+    yield Row(["why"], 1, b"1:1: an array of 8388607 elements is no object\n", input=b"[" + b"0," * (LIMIT // 2 - 2) + b"0]")
+    front = b'{"capacity":2,"bound":2,"life":10,"receivers":[0],"schedule":['
+    for length in (65536, 65537):
+        sends = front + b'["s1",28]],"senders":[[7' + b",7" * (length - 1) + b"]]}"
+        entries = front + b'["r1",1],' * (length - 1) + b'["s1",28]],"senders":[[7]]}'
+        for name, plan in (("senders", sends), ("schedule", entries)):
+            yield Row(["play"], 0, CLEAN, input=plan) if length == 65536 else refused("play", plan, f"P3 {name}")
+
+
+def is_told(program, words, status, err, **outputs):
+    """Whether a program ends with this status if an output has no room, and writes this on standard error."""
+    ran = subprocess.run([program, *words], stdin=subprocess.DEVNULL, **outputs)
+    if (ran.returncode, ran.stderr or b"") == (status, err):
+        return True
+    print(f"{program} {words}: status {ran.returncode} and {ran.stderr!r} in place of {status} and {err!r}")
+    return False
+
+
+def fills(program, words, text):
+    """Whether a program whose output takes this text and no byte more writes it, and ends with status 4 and its line."""
+
+    def bounds():
+        # A write past the limit fails, and doesn't stop the program.
+        signal.signal(signal.SIGXFSZ, signal.SIG_IGN)
+        resource.setrlimit(resource.RLIMIT_FSIZE, (len(text), len(text)))
+
+    with tempfile.TemporaryFile() as output:
+        well = is_told(program, words, 4, b"ccq: writing failed\n", stdout=output, stderr=subprocess.PIPE, preexec_fn=bounds)
+        output.seek(0)
+        seen = output.read()
+    if seen != text:
+        print(f"{program} {words}: {seen!r} on an output that takes {text!r}")
+    return well and seen == text
+
+
+def without_room(program):
+    """A large input in little memory, a word that is no text, and outputs that are full, at once or after some bytes."""
+    objects = b"[" + (b'{"a":0},' * (LIMIT // 8))[: LIMIT - 8] + b"0]"
+    for task in ("play", "audit", "why"):
+        yield does(program, Row([task], 3, err=b"ccq: out of memory\n", input=objects), memory=20000 * 1024)
+    no_text = (b"error: invalid UTF-8 was detected in one or more arguments; a file of such a name is read by `ccq TASK < FILE`\n\n"
+               b"Usage: ccq <COMMAND>\n\nFor more information, try '--help'.\n")
+    yield is_told(program, [b"\xff"], 64, no_text, stdout=subprocess.DEVNULL, stderr=subprocess.PIPE)
+    with open("/dev/full", "wb") as full:
+        for line in ("--help", "drive --help", "drive --items 5"):
+            yield is_told(program, line.split(), 4, b"ccq: writing failed\n", stdout=full, stderr=subprocess.PIPE)
+        yield is_told(program, ["drive", "--senders", "64"], 64, b"", stdout=subprocess.DEVNULL, stderr=full)
+        yield is_told(program, ["drive", "--items", "5"], 4, b"", stdout=full, stderr=full)
+    for text in (b"", b"sent 20\n", b"sent 20\ntaken 20\n", b"sent 20\ntaken 20\naudit clean"):
+        yield fills(program, ["drive", "--items", "5"], text)
+    yield fills(program, ["drive", "--help"], b"Drives")
+
+
+def hints(program):
+    """At a terminal a second line after a refusal names `ccq why`, for the tasks whose inputs it explains."""
+    hint = "ccq: `ccq why INPUT` reports the place of the fault\r\n"
+    due = {"play": "ccq: plan refused: P1\r\n" + hint, "show": "ccq: plan refused: P1\r\n" + hint, "audit": "ccq: plan refused: P1\r\n" + hint,
+           "why": "", "judge": "ccq: log refused: line 1: no JSON object\r\n"}
+    for task, text in due.items():
+        ours, theirs = pty.openpty()
+        subprocess.run([program, task], input=b"x\n", stdout=subprocess.DEVNULL, stderr=theirs)
+        os.close(theirs)
+        said = b""
+        try:
+            while part := os.read(ours, 4096):
+                said += part
+        except OSError: # the end, as Linux has it
+            pass
+        os.close(ours)
+        if said.decode() != text:
+            print(f"{program} {task}: {said!r} at a terminal")
+        yield said.decode() == text
+
+
+def is_narrow(program):
+    """Whether no line of the texts of help has more than 100 columns."""
+    texts = [subprocess.run([program, *it.split()[1:], "--help"], capture_output=True, text=True, check=True).stdout for it in HELPS]
+    wide = [line for line, said in zip(HELPS, texts) if any(len(it) > 100 for it in said.split("\n"))]
+    for line in wide:
+        print(f"{program} {line} --help: a line of more than 100 columns")
+    return not wide
+
+
+def programs():
+    """What the gate left of the program, by each compiler."""
+    built = [it for it in (TOP / "crates/ccq/out/ccq", TOP / "crates/ccq/out/ccq.by-rattle") if os.access(it, os.X_OK)]
+    if not built:
+        print("rows: there is no crates/ccq/out/ccq: run `rt ci` first, or `rt run` in crates/ccq")
+    return built
+
+
+def finds_what_is_wrong(program):
+    """Whether each of these wrong rows, and none of the right ones, is one that the program doesn't do."""
+    worked = dict(by_hand("worked_rows"))
+    item, place = worked["words_for_two_groups"], worked["why_of_a_pass_that_isn_t_there"]
+    plan = Row(["play"], 2, err=b"ccq: plan refused: P1\n", input=b"{")
+    line = Row(["play", "x", "y"], 64, err=b"error:", is_read=False, more=True)
+    wrong = [
+        dataclasses.replace(item, status=1),
+        dataclasses.replace(item, err=b"ccq: reading failed\n"),
+        dataclasses.replace(item, out=item.out.replace(b"accepted 0", b"accepted 1")),
+        dataclasses.replace(item, out=item.out.replace(b"D 2 0", b"D 1 1")),
+        dataclasses.replace(item, out=item.out.replace(b"1 7 8\n", b"1 7\n")),
+        dataclasses.replace(plan, out=plan.err, err=b""),
+        dataclasses.replace(place, out=place.out.replace(b"[1]", b"[0]")),
+        dataclasses.replace(place, out=place.out.replace(b"3:", b"2:")),
+        dataclasses.replace(line, words=["play"]),
+        dataclasses.replace(line, input=b"x", is_read=True),
+        dataclasses.replace(line, err=b"error: no"),
+    ]
+    if not all(does(program, it) for it in (item, plan, line, place)):
+        return False
+    with open(os.devnull, "w") as quiet:
+        shown, sys.stdout = sys.stdout, quiet
+        found = [*(not does(program, it) for it in wrong), not fills(program, ["drive", "--items", "5"], b"sent 21\n")]
+        sys.stdout = shown
+    if not all(found):
+        print(f"rows: wrong row {found.index(False)} was let through, so this script finds nothing")
+    return all(found)
+
+
+def on_programs():
+    built = programs()
+    for program in built:
+        rows = [[it for _, it in part] for part in (by_hand("worked_rows"), derived(), by_hand("command_lines"))] + [list(others())]
+        well = finds_what_is_wrong(program)
+        for row in (it for part in rows for it in part):
+            well &= does(program, row)
+        well &= all([*without_room(program), *hints(program)]) and is_narrow(program)
+        if not well:
+            return False
+        worked, corpus, lines, large = map(len, rows)
+        print(f"{program}: {worked} worked rows, {corpus} derived ones, {lines} command lines, and {large + 14} prefixes of plans, large inputs and full outputs")
+    return bool(built)
+
+
+def on_tried():
+    """The rows as the cases of one `rt try`, whose lines tell each one's status, and whether its output is the expected one."""
+    rows = [*by_hand("worked_rows"), *derived(), *by_hand("command_lines")]
+    alike = collections.defaultdict(list)
+    for name, row in rows:
+        task, *others = row.words or [""]
+        # `rt try` runs the program in a folder of its own
+        if not any((TOP / word).exists() for word in others):
+            alike[task if task in TASKS else "", row.status].append((name, row))
+    rows = dict(it for part in alike.values() for it in part[::250])
+    with tempfile.TemporaryDirectory() as folder:
+        for name, row in rows.items():
+            case = pathlib.Path(folder, name)
+            case.write_bytes(row.input)
+            if row.words:
+                case.with_suffix(".args").write_text("".join(it + "\n" for it in row.words))
+            if not (row.more and row.out):
+                case.with_suffix(".stdout").write_bytes(row.out)
+        ran = subprocess.run(["rt", "try", "--cases", folder], cwd=TOP / "crates/ccq", stdin=subprocess.DEVNULL, capture_output=True, text=True)
+    told = dict(re.findall(r"^case=(\S+) (run=.*)$", ran.stdout + ran.stderr, flags=re.M))
+    wrong = 0
+    for name, row in rows.items():
+        said = told.get(name, "no line")
+        if f" status={row.status} " not in said or "output=differs" in said:
+            wrong += 1
+            print(f"rows: {name}: {said}, and status {row.status} is due")
+    if len(told) != len(rows):
+        print((ran.stdout + ran.stderr)[-2000:])
+    print(f"rows: {len(rows)} rows on the program that was tried, {wrong} of them wrong; what stands on standard error wasn't compared")
+    return wrong == 0
+
+
+if __name__ == "__main__":
+    does_it = {"": on_programs, "--try": on_tried, "--derived": is_derived, "--sums": lambda: print(*sums(), sep="", end="")}.get(" ".join(sys.argv[1:]))
+    if does_it is None:
+        print(__doc__)
+        sys.exit(0 if sys.argv[1:] in (["-h"], ["--help"]) else 64)
+    sys.exit(does_it() is False)

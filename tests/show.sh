@@ -1,0 +1,50 @@
+#!/bin/bash
+# Tests `ccq show`: its traces are what tests/derive.py derives; the page in docs/pages is what the program writes of the plan
+# beside it; the page reads plans as `ccq play` does; its tour, scenarios and broken queues are what they say; random steps by hand lead to
+# the plan and the report of the page; and in a browser without a window, Chromium, each page is stepped through, driven and
+# looked at (tests/show/pages.py says how). So are pages of `ccq judge --page`.
+#
+# Usage: tests/show.sh
+#
+# `rt run` in crates/ccq builds the program first. Prints a line for each step; what the machine
+# doesn't have is skipped, and its line says so. The exit status is 0 where no step failed.
+set -u
+cd "$(dirname "$0")/.." || exit 1
+case ${1-} in
+'') ;;
+-h | --help) sed -n '2,/^[^#]/s/^# \{0,1\}//p' tests/show.sh && exit ;;
+*) echo 'usage: tests/show.sh' >&2 && exit 64 ;;
+esac
+tests=show
+. tests/steps.sh
+
+step 'the pages are the texts of the program' tools/page_text.py
+if has node; then step 'the plans of tests/rows.py, read by the page' tests/show/pages.py plans; fi
+if [ ! -x crates/ccq/out/ccq ]; then
+    skip 'traces and pages' "crates/ccq/out/ccq isn't there"
+    end_steps
+fi
+step 'traces of examples/ and of the rows' tests/trace.py
+is_page() { crates/ccq/out/ccq show docs/pages/plan.json | cmp - docs/pages/index.html; }
+export -f is_page
+step 'docs/pages has the page that the program writes' bash -c is_page
+
+if has node; then
+    step '1,000 steps by hand of the machine alone' tests/show/pages.py by_node
+    step 'the tour, the scenarios and the broken queues' tests/show/pages.py lessons
+else
+    skip 'steps by hand of the machine alone' "node isn't on this machine"
+fi
+. tools/browser.sh
+export browser
+if [ -z "$browser" ]; then
+    skip 'pages in a browser' 'neither chromium nor chromium-browser nor google-chrome is on this machine'
+    end_steps
+fi
+step 'the pages of examples/, step by step' tests/show/pages.py walks
+step '1,000 steps by hand' tests/show/pages.py by_hand
+step 'lessons, own plans, links and keys' tests/show/pages.py learns
+step 'pages of judged logs' tests/show/pages.py judged
+step 'views, keys, sizes and contrasts' tests/show/pages.py looks
+step '20,000 events' tests/show/pages.py many
+end_steps

@@ -1,0 +1,454 @@
+// The tests of pages in a browser: each of `jobs` opens a page in a frame of its size, does one of these tests on it, and posts
+// what it returned to tests/show/pages.py. A test clicks and presses keys as a reader does, and looks at what is shown.
+'use strict';
+
+const assert = (holds, what) => { if (!holds) throw new Error(what); };
+const visible = element => element.getClientRects().length > 0;
+const key = (target, name) => {
+  const event = new target.ownerDocument.defaultView.KeyboardEvent('keydown', { key: name, bubbles: true, cancelable: true });
+  target.dispatchEvent(event);
+  return event.defaultPrevented;
+};
+const whereOf = $ => Number(/^event (\d+) of/.exec($('where').textContent)[1]);
+
+// The luminance of a colour and the contrast of two, by WCAG 2.
+const luminance = ([r, g, b]) => [r, g, b].map(v => v / 255).map(v => v <= 0.04045 ? v / 12.92 : ((v + 0.055) / 1.055) ** 2.4).reduce((sum, v, i) => sum + v * [0.2126, 0.7152, 0.0722][i], 0);
+const contrast = (a, b) => { const [low, high] = [luminance(a), luminance(b)].sort((x, y) => x - y); return (high + 0.05) / (low + 0.05); };
+const colour = text => { const of = text.match(/[\d.]+/g).map(Number); return of.length < 4 ? [...of.slice(0, 3), 1] : of; };
+const over = (front, back) => front.slice(0, 3).map((v, i) => v * front[3] + back[i] * (1 - front[3]));
+
+// Each text that is seen has a contrast of 4.5 to its background. Returns how many there are.
+function contrasted(page, view, when) {
+  let texts = 0;
+  const back = colour(view.getComputedStyle(page.body).backgroundColor);
+  const background = element => {
+    const layers = [];
+    for (let at = element; at && at !== page.documentElement; at = at.parentElement) {
+      const style = view.getComputedStyle(at);
+      assert(style.opacity === '1', 'a text is pale: ' + element.textContent);
+      if (at.tagName === 'g') {
+        const rect = at.querySelector('rect');
+        const fill = rect && view.getComputedStyle(rect).fill;
+        if (fill && fill !== 'none') layers.push(colour(fill));
+      } else if (!(at instanceof view.SVGElement)) layers.push(colour(style.backgroundColor));
+    }
+    return layers.reverse().reduce((under, layer) => over(layer, under), back.slice(0, 3));
+  };
+  const walker = page.createTreeWalker(page.body, view.NodeFilter.SHOW_TEXT);
+  while (walker.nextNode()) {
+    const element = walker.currentNode.parentElement;
+    if (!walker.currentNode.textContent.trim() || ['SCRIPT', 'NOSCRIPT', 'title', 'OPTION'].includes(element.tagName) || !visible(element)) continue;
+    const style = view.getComputedStyle(element);
+    const front = element instanceof view.SVGElement ? style.fill : style.color;
+    const ratio = contrast(colour(front), background(element));
+    assert(ratio >= 4.5, element.textContent + ' has the contrast ' + ratio.toFixed(2) + when());
+    texts++;
+  }
+  return texts;
+}
+
+const tests = {
+  // Steps to the end by keys, back to the opening, and returns the history, the plan and the report of the end.
+  walk({ $, player, job }) {
+    // The lanes are as wide as the frame, and that has a scroll bar where the page is long
+    const shown = () => ['event', 'names', 'chains', 'list', 'history'].map(id => $(id).innerHTML).join();
+    const opening = shown();
+    const events = Number($('slider').max);
+    // Of a long run the first two hundred events and the last two hundred, one by one, each with its layout
+    const some = Math.min(events, 200);
+    const took = [];
+    const steps = name => {
+      for (let i = 0; i < some; i++) {
+        const begun = performance.now();
+        key(player, name);
+        void player.ownerDocument.body.offsetHeight;
+        took.push(performance.now() - begun);
+      }
+    };
+    steps('ArrowRight');
+    key(player, 'End');
+    for (let round = 1; round < job.rounds; round++) steps(round % 2 ? 'ArrowLeft' : 'ArrowRight');
+    key(player, 'End');
+    assert(whereOf($) === events, 'it ends at ' + $('where').textContent);
+    const lines = [...$('history').querySelectorAll('tr')].map(row => { const [place, call, answer] = [...row.children].map(cell => cell.textContent); return place + ' ' + call + ' -> ' + answer; });
+    $('export').click();
+    const texts = { plan: $('plan').value, report: $('whole').textContent };
+    $('texts').open = false;
+    key(player, 'Home');
+    assert(shown() === opening, 'back at the opening it looks otherwise');
+    took.sort((a, b) => a - b);
+    return { events, lines, took: took[took.length >> 1], ...texts };
+  },
+
+  // Random steps by clicks, and the plan and the report after them.
+  drive({ $, job }) {
+    const rows = $('caller').options.length;
+    const senders = [...$('caller').options].filter(option => option.text[0] === 's').length;
+    driveAtRandom({
+      rows,
+      senders,
+      step(row) {
+        const before = $('where').textContent;
+        $('names').querySelector('.step[data-row="' + row + '"]').click();
+        return $('where').textContent !== before;
+      },
+      back: () => $('back').click(),
+      add(row, words) {
+        $('names').querySelector('.more[data-row="' + row + '"]').click();
+        if (row < senders && words) { $('body').value = words.join(' '); $('add-send').click(); }
+        else if (row < senders) $('add-close').click();
+        assert($('hint').hidden, 'a call is refused: ' + $('hint').textContent);
+      },
+    }, job.seed, job.steps, job.words);
+    $('export').click();
+    return { events: whereOf($), plan: $('plan').value, report: $('whole').textContent };
+  },
+
+  // A run by hand: branches, folded waits, what is refused, and what the player's buttons and keys do.
+  hands({ $ }) {
+    const step = (row, times = 1) => { for (let i = 0; i < times; i++) $('names').querySelector('.step[data-row="' + row + '"]').click(); };
+    const add = (row, text) => { $('caller').value = row; $('caller').dispatchEvent(new Event('change')); $('body').value = text; $('add-send').click(); };
+    const cells = () => [...$('cells').querySelectorAll('.cell')].filter(cell => /waits/.test(cell.textContent)).map(cell => cell.querySelector('text').textContent);
+    step(0);
+    assert(whereOf($) === 0 && /no call left/.test($('hint').textContent), 'a pass without a call steps');
+    for (const body of ['', 'x', '-1', '18446744073709551616', '1 2 3 4 5']) {
+      add(0, body);
+      assert(/one to four words/.test($('hint').textContent), 'the body ' + body + ' is accepted');
+    }
+    add(0, '7');
+    add(1, '8');
+    assert($('hint').hidden, 'a body is refused');
+    step(0, 3);
+    // reset the link and the state, exchange, two words of the request, link, and six reads of a state that waits
+    step(1, 12);
+    assert(whereOf($) === 15, 'fifteen clicks lead to ' + $('where').textContent);
+    assert(cells().join() === '6\u00d7St', 'the waits are ' + cells().join());
+    $('back').click();
+    step(0);
+    step(1, 3);
+    assert(cells().length === 1 && /^St 8\u00d7$/.test(cells()[0]), 'the waits around a step of another pass are ' + cells().join());
+    assert($('branches').options.length === 3 && $('branches').value === '2', 'there are ' + $('branches').options.length + ' runs');
+    $('branches').value = '1';
+    $('branches').dispatchEvent(new Event('change'));
+    assert($('where').textContent === 'event 15 of 15' && cells().join() === '6\u00d7St', 'the first branch is at ' + $('where').textContent);
+    $('branches').value = '0';
+    $('branches').dispatchEvent(new Event('change'));
+    assert($('where').textContent === 'event 0 of 0', 'the run of the plan is at ' + $('where').textContent);
+    return true;
+  },
+
+  // Buttons, keys, the turns and the badges, on the page of examples/bodies_of_words.json.
+  async player({ $, player, page, wait }) {
+    for (const name of ['PageDown', 'PageUp', 'Home', 'End']) assert(!key(page.body, name) && whereOf($) === 0, name + ' outside of the player moves');
+    assert(key(page.body, 'ArrowRight') && whereOf($) === 1 && key(page.body, 'ArrowLeft') && whereOf($) === 0, 'the arrows do not step');
+    for (const name of ['ArrowRight', ' ', 'd', '1']) assert(!key($('body'), name) && !key($('plan'), name) && whereOf($) === 0, name + ' in a text is taken');
+    for (const place of [page.body, $('next'), $('speed'), $('names').querySelector('.step'), $('lanes'), $('slider')]) {
+      assert(key(place, ' ') && $('play').textContent === 'stop' && key(place, ' ') && $('play').textContent === 'play', 'space does not play at ' + place.id);
+    }
+    assert(key(player, 'PageDown') && /Decided: accepted 0/.test($('event').textContent), 'Page down leads to ' + $('event').textContent);
+    const first = whereOf($);
+    $('after').click();
+    assert(/Decided: accepted 1/.test($('event').textContent), 'the next decision is ' + $('event').textContent);
+    $('before').click();
+    assert(whereOf($) === first, 'back to a decision leads elsewhere');
+    assert(/tail/.test($('chain-1').textContent) && /served/.test($('chain-1').querySelector('.end.serves').textContent), 'no node is being served');
+    // s3 serves its own call first, then that of s2, and then that of s1 (examples/README.md)
+    assert(key(page.body, 'D') || key(page.body, 'd'), 'the keys of decisions do nothing');
+    key(player, 'Home');
+    for (let k = 0; k < 3; k++) key(player, 'PageDown');
+    for (let k = 0; k < 9; k++) key(page.body, 'ArrowRight');
+    const turns = [...$('turns').querySelectorAll('.turn text')].map(text => text.textContent);
+    assert(turns.includes('s3 for s3, s2, s1'), 'the turns are ' + turns.join('; '));
+    key(player, 'Home');
+    assert(/dummy: no item to take/.test($('list').textContent) && /passed by 0 of 1/.test($('list').textContent) && !/taken by all/.test($('list').textContent), 'the dummy is ' + $('list').textContent);
+    for (const [speed, least] of [[1000, 1], [33, 8]]) {
+      $('speed').value = speed;
+      key(player, 'Home');
+      const begun = performance.now();
+      assert(key(player, ' '), 'space in the player does not play');
+      await wait(1500);
+      const went = whereOf($), most = (performance.now() - begun) / speed + 1;
+      assert(key(player, ' ') && $('play').textContent === 'play', 'space does not stop the play');
+      assert(went >= least && went <= most, 'at an event each ' + speed + ' ms it went to ' + went + ' in 1.5 s');
+    }
+    return true;
+  },
+
+  // A turn that isn't over reaches to now, and turns and lanes have one scale.
+  turns({ $ }) {
+    const step = (row, times) => { for (let i = 0; i < times; i++) $('names').querySelector('.step[data-row="' + row + '"]').click(); };
+    const bars = () => [...$('turns').querySelectorAll('.turn')].map(turn => ({ name: turn.querySelector('text').textContent, from: turn.dataset.event,
+      left: turn.querySelector('rect').getBoundingClientRect().left, right: Math.max(...[...turn.querySelectorAll('rect')].map(rect => rect.getBoundingClientRect().right)) }));
+    step(1, 6);
+    step(0, 12);
+    for (let round = 0; round < 8; round++) {
+      const now = $('turns').querySelector('line.now').getBoundingClientRect().right, mine = bars().find(bar => bar.name.startsWith('r1'));
+      assert(mine && Math.abs(mine.right - now) <= 4, 'the turn of r1 ends at ' + (mine && mine.right) + ', and now is at ' + now);
+      for (const bar of bars()) {
+        const cell = $('cells').querySelector('.cell[data-event="' + bar.from + '"] rect');
+        assert(!cell || Math.abs(cell.getBoundingClientRect().left - bar.left) <= 2, 'the turn of event ' + bar.from + ' begins beside its cell');
+      }
+      step(0, 4);
+    }
+    return true;
+  },
+
+  // Each lesson by its link, its moments by keys, and the line that is lit; a broken queue breaks a law, and the right one doesn't.
+  async lessons({ $, page, view, wait }) {
+    for (const link of [...page.querySelectorAll('#choose a[data-id]')]) {
+      link.click();
+      assert(link.classList.contains('here') && $('lesson-title').textContent.includes(link.textContent), 'the link opens ' + $('lesson-title').textContent);
+      const moments = $('moments').querySelectorAll('button').length;
+      for (let k = 0; k < moments; k++) {
+        assert(key(page.body, 'm'), 'm is not taken');
+        assert($('moments').querySelector('.here').textContent === String(k + 1) && $('moment-text').textContent.length > 20, 'moment ' + (k + 1) + ' of ' + link.textContent + ' is not shown');
+        assert($('program').querySelectorAll('.lit').length === 1 && $('holds').textContent.length > 60, 'no line is lit at ' + $('event').textContent);
+      }
+      key($('player'), 'End');
+      const is_broken = link.closest('#broken') !== null;
+      assert(($('breaks').textContent !== '') === is_broken, link.textContent + ' says of laws: ' + $('breaks').textContent);
+      if (is_broken) {
+        assert(/Lost|Got twice|Refused/.test($('law').textContent) && $('law').querySelector('ins'), 'the law and the change are not shown');
+        $('compare').click();
+        key($('player'), 'End');
+        assert($('breaks').textContent === '' && /no law is broken/.test($('law').textContent), 'the right table breaks a law');
+      }
+      // each step of the run has its line
+      key($('player'), 'Home');
+      for (let i = Number($('slider').max); i > 0; i--) {
+        key(page.body, 'ArrowRight');
+        assert($('program').querySelectorAll('.lit').length === 1, 'no line is lit at ' + $('event').textContent);
+      }
+    }
+    return true;
+  },
+
+  // A queue of one's own, and plans that are pasted: driven, and exported.
+  own({ $, page }) {
+    const found = [], form = $('own-form').elements;
+    const exported = () => { $('export').click(); found.push({ plan: $('plan').value, report: $('whole').textContent }); };
+    Object.entries({ senders: 3, receivers: 2, groups: 2, capacity: 2, bound: 2, life: 50, sends: 2, words: 3, takes: 2 }).forEach(([name, value]) => { form[name].value = value; });
+    $('own-form').querySelector('button').click();
+    assert(/3 senders, 2 groups of 2 receivers/.test($('config').textContent), 'the queue is ' + $('config').textContent);
+    for (let k = 0; k < 300; k++) key(page.body, String(1 + k * 5 % 7));
+    assert(whereOf($) > 150, 'it went to ' + $('where').textContent);
+    exported();
+    $('import').value = found[0].plan;
+    $('open-plan').click();
+    assert($('import-hint').textContent === '', 'a plan that was exported is refused: ' + $('import-hint').textContent);
+    key($('player'), 'End');
+    exported();
+    assert(found[1].plan === found[0].plan && found[1].report === found[0].report, 'a plan that was exported and opened is another one');
+    for (const [text, why] of [['{', /JSON/], ['[]', /object/], ['{"capacity":0}', /key/], [found[0].plan.replace('"capacity":2', '"capacity":4097'), /1 to 4096/]]) {
+      $('import').value = text;
+      $('open-plan').click();
+      assert(why.test($('import-hint').textContent), text + ' is refused by: ' + $('import-hint').textContent);
+    }
+    // a broken table for one's own queue
+    Object.assign(form.table, { value: 'one_group' });
+    $('own-form').querySelector('button').click();
+    assert(/breaks no law yet/.test($('law').textContent), 'the broken table is not used');
+    return found;
+  },
+
+  // Keys all over the page, words of the glossary, and that each step is a sentence for a screen reader.
+  keys({ $, page }) {
+    assert(key(page.body, 'n') && /^Stop 1 of 10/.test($('lesson-title').textContent), 'n leads to ' + $('lesson-title').textContent);
+    for (let k = 2; k <= 10; k++) key(page.body, 'n');
+    assert(/^Stop 10 of 10/.test($('lesson-title').textContent) && key(page.body, 'p') && /^Stop 9/.test($('lesson-title').textContent), 'p leads to ' + $('lesson-title').textContent);
+    assert(key(page.body, 'm') && key(page.body, 'm') && key(page.body, 'M') && $('moments').querySelector('.here').textContent === '1', 'M does not go back');
+    const terms = [...page.querySelectorAll('.term')];
+    assert(terms.length > 5, 'there are ' + terms.length + ' words with an explanation');
+    for (const term of terms) {
+      term.focus();
+      assert(!$('tip').hidden && $('tip').textContent.length > 20, term.textContent + ' has no explanation by the focus');
+      key(term, 'Escape');
+      assert($('tip').hidden, 'Escape leaves the explanation');
+      term.dispatchEvent(new term.ownerDocument.defaultView.MouseEvent('mouseover', { bubbles: true }));
+      assert(!$('tip').hidden, term.textContent + ' has no explanation by the pointer');
+      term.blur();
+    }
+    const event = $('event');
+    assert(event.getAttribute('role') === 'status' && event.getAttribute('aria-live') === 'polite' && event.getAttribute('aria-atomic') === 'true', 'a step is not read out');
+    key($('player'), 'Home');
+    for (let i = 0; i < 60; i++) {
+      key(page.body, 'ArrowRight');
+      assert(/^[sr]\d (reads|changes|writes|swaps|adds) .*\. \(\w\w \w+\)$/.test(event.textContent), 'the sentence of a step is ' + event.textContent);
+    }
+    key($('player'), 'Home');
+    assert(key(page.body, '2') && $('branches').options.length === 2 && whereOf($) === 1, 'the key of a pass does not step');
+    for (const element of page.querySelectorAll('button, select, input, textarea, a[href], summary')) assert(element.tabIndex >= 0, 'no key reaches ' + element.outerHTML.slice(0, 80));
+    assert([...page.querySelectorAll('button, select, input, textarea')].every(element => element.textContent.trim() || element.getAttribute('aria-label') || element.closest('label')), 'a control has no name');
+    return true;
+  },
+
+  // A link holds the plan: the page opens it.
+  async link({ $, view, job, wait }) {
+    $('import').value = job.text;
+    $('open-plan').click();
+    key($('player'), 'End');
+    $('export').click();
+    const link = $('link').value, was = { event: whereOf($), plan: $('plan').value, report: $('whole').textContent };
+    assert(/#plan=/.test(link), 'the link is ' + link);
+    $('first').click();
+    view.location.hash = '';
+    await wait(50);
+    view.location.hash = link.slice(link.indexOf('#'));
+    await wait(50);
+    $('texts').open = true;
+    await wait(50);
+    assert(whereOf($) === was.event && $('plan').value === was.plan && $('whole').textContent === was.report && $('lesson-title').textContent === 'A plan from a link', 'the link opens another run, at ' + $('where').textContent);
+    return true;
+  },
+
+  // Targets have 32 pixels, and texts 12.
+  sizes({ $, page, view }) {
+    for (const details of page.querySelectorAll('details')) details.open = true;
+    $('player').classList.add('open');
+    for (const link of [null, ...page.querySelectorAll('#choose a[data-id]')]) {
+      if (link) link.click();
+      key($('player'), 'End');
+      for (const target of page.querySelectorAll('button, select, input:not([type=checkbox]), summary, nav a, .pick')) {
+        if (!visible(target)) continue;
+        const { width, height } = target.getBoundingClientRect();
+        assert(height >= 31.5 && width >= 31.5, (target.id || target.textContent) + ' has ' + width + ' by ' + height + ' pixels');
+      }
+      const walker = page.createTreeWalker(page.body, view.NodeFilter.SHOW_TEXT);
+      while (walker.nextNode()) {
+        const element = walker.currentNode.parentElement;
+        if (!walker.currentNode.textContent.trim() || ['SCRIPT', 'NOSCRIPT', 'title'].includes(element.tagName) || !visible(element)) continue;
+        const scale = element instanceof view.SVGElement ? element.getScreenCTM().a : 1;
+        const size = parseFloat(view.getComputedStyle(element).fontSize) * scale;
+        assert(size >= 12, element.textContent + ' has letters of ' + size + ' pixels');
+      }
+      assert(page.scrollingElement.scrollWidth <= page.documentElement.clientWidth, 'the page is wider than the screen, at ' + $('lesson-title').textContent);
+    }
+    return true;
+  },
+
+  // The acting lane, the turns, the first nodes of the list and the lit line are in view at the run, and not under the player, all
+  // over the run.
+  in_view({ $, page }) {
+    const height = page.documentElement.clientHeight;
+    const events = Number($('slider').max);
+    $('stage').scrollIntoView();
+    for (let part = 0; part <= 20; part++) {
+      $('slider').value = Math.round(events * part / 20);
+      $('slider').dispatchEvent(new Event('input'));
+      if (part % 2) $('after').click();
+      const bar = $('player').getBoundingClientRect().bottom;
+      const parts = { turns: $('turns'), lane: $('names').querySelector('.pass.moved'), 'lit line': $('program').querySelector('.lit'), 'list': $('list').querySelector('.box'), 'what holds': $('holds') };
+      for (const [name, element] of Object.entries(parts)) {
+        if (!element) continue;
+        const { top, bottom } = element.getBoundingClientRect();
+        assert(top >= bar - 1 && bottom <= height, name + ' is at ' + top + ' to ' + bottom + ' of ' + height + ', under the player to ' + bar + ', at event ' + $('slider').value);
+      }
+      for (const boxes of page.querySelectorAll('.boxes')) assert(new Set([...boxes.children].map(box => Math.round(box.getBoundingClientRect().bottom))).size <= 1, 'the nodes wrap at event ' + $('slider').value);
+      const fresh = $('history').querySelector('tr.touch');
+      if (fresh) {
+        const [line, card] = [fresh, fresh.closest('.list')].map(of => of.getBoundingClientRect());
+        assert(line.top >= card.top - 1 && line.bottom <= card.bottom + 1, 'the newest line of the history is out of view at event ' + $('slider').value);
+      }
+    }
+    const names = new Set([...$('kinds').querySelectorAll('dt')].map(line => line.textContent.split(' ')[1]));
+    assert(names.size === 21, 'a kind has no name');
+    return true;
+  },
+
+  // On a phone eight cells are in a row, and nothing is wider than the screen.
+  phone({ $, page }) {
+    const width = page.documentElement.clientWidth;
+    const events = Number($('slider').max);
+    $('slider').value = Math.round(events / 2);
+    $('slider').dispatchEvent(new Event('input'));
+    const seen = [...$('cells').querySelectorAll('.cell rect')].map(rect => rect.getBoundingClientRect()).filter(of => of.left >= 0 && of.right <= width);
+    const places = new Set(seen.map(of => Math.round(of.left)));
+    assert(places.size >= 8, 'there are ' + places.size + ' cells in a row');
+    assert(page.scrollingElement.scrollWidth <= width, 'the page is ' + page.scrollingElement.scrollWidth + ' wide on a screen of ' + width);
+    return true;
+  },
+
+  // Each text has a contrast of 4.5 to its background, in this scheme.
+  contrasts({ $, page, view, job }) {
+    assert(view.matchMedia('(prefers-color-scheme: dark)').matches === job.dark, 'the scheme is not the one that was asked for');
+    const events = Number($('slider').max);
+    for (const details of page.querySelectorAll('details')) details.open = true;
+    let texts = 0;
+    for (let part = 0; part <= 12; part++) {
+      $('slider').value = Math.round(events * part / 12);
+      $('slider').dispatchEvent(new Event('input'));
+      texts += contrasted(page, view, () => ' at event ' + $('slider').value);
+    }
+    assert(texts > 500, 'only ' + texts + ' texts were looked at');
+    return true;
+  },
+
+  // The page of a judged log: its lanes, the calls that are lit, its keys, its width and its contrasts.
+  judged({ $, page, view, job }) {
+    assert(view.matchMedia('(prefers-color-scheme: dark)').matches === job.dark, 'the scheme is not the one that was asked for');
+    assert($('verdict').textContent === job.line, 'the verdict is ' + $('verdict').textContent);
+    const calls = () => [...page.querySelectorAll('.call')];
+    const label = element => /^Line (\d+), thread (.*?), /.exec(element.getAttribute('aria-label'));
+    const lines = kind => calls().filter(element => element.classList.contains(kind)).map(element => Number(label(element)[1])).sort((a, b) => a - b);
+    const same = (found, due, what) => assert(JSON.stringify(found) === JSON.stringify(due), what + ': ' + JSON.stringify(found) + ', and not ' + JSON.stringify(due));
+    for (const scale of ['order', 'clock']) {
+      const input = page.querySelector('input[value=' + scale + ']');
+      input.click();
+      assert(input.checked, 'the scale is not chosen: ' + scale);
+      same(calls().map(element => Number(label(element)[1])).sort((a, b) => a - b), job.shown, 'shown');
+      same(lines('fault'), job.named, 'lit');
+      same(lines('same'), job.same, 'of the same items');
+      same([...$('names').querySelectorAll('div')].slice(-job.threads.length).map(name => name.textContent).sort(), job.threads, 'lanes');
+      assert((page.querySelectorAll('.never').length > 0) === job.never, 'shaded moments');
+      assert(page.documentElement.scrollWidth <= view.innerWidth, 'the page is ' + page.documentElement.scrollWidth + ' wide');
+      assert(contrasted(page, view, () => ' by ' + scale) > 10, 'the page has few texts');
+    }
+    // The keys go through all calls, and between threads
+    const told = () => $('call').textContent;
+    const press = name => { const at = page.activeElement.closest('.call'); assert(at, 'no call has the focus'); return key(at, name); };
+    calls()[0].focus();
+    assert(press('Home'), 'Home is no key');
+    const seen = new Set([told()]);
+    for (let k = 1; k < calls().length; k++) { press('ArrowRight'); seen.add(told()); }
+    assert(seen.size === calls().length, seen.size + ' of ' + calls().length + ' calls were reached by keys');
+    const last = told();
+    press('Home');
+    press('End');
+    assert(told() === last, 'End is not the last call');
+    if (job.threads.length > 1) {
+      const thread = () => / thread (.*?), /.exec(told())[1], from = thread();
+      press('ArrowDown');
+      if (thread() === from) press('ArrowUp');
+      assert(thread() !== from, 'no key leads to another thread');
+    }
+    return true;
+  },
+};
+
+// Does a job in a frame of its size.
+const done = job => new Promise(resolve => {
+  const frame = document.createElement('iframe');
+  Object.assign(frame, { width: job.width, height: job.height }, job.src ? { src: job.src } : { srcdoc: job.page.replace('<head>', '<head><script>window.errors_of_the_page = []; addEventListener("error", e => errors_of_the_page.push(e.message));</script>') });
+  const errors = view => view.errors_of_the_page || [];
+  frame.style.border = '0';
+  frame.addEventListener('load', async () => {
+    const view = frame.contentWindow, page = frame.contentDocument;
+    const $ = id => page.getElementById(id);
+    let result;
+    try {
+      assert(errors(view).length === 0, 'the page has an error: ' + errors(view)[0]);
+      assert(job.test === 'judged' || page.body.dataset.check === 'agrees', $('alarm') && $('alarm').textContent);
+      result = await tests[job.test]({ $, player: $('player'), page, view, job, wait: ms => new Promise(go => setTimeout(go, ms)) });
+      assert(errors(view).length === 0, 'the page has an error: ' + errors(view)[0]);
+    } catch (error) {
+      result = { error: String(error) };
+    }
+    frame.remove();
+    resolve(result);
+  }, { once: true });
+  document.body.prepend(frame);
+});
+
+(async () => {
+  for (const job of jobs) await fetch('/', { method: 'POST', body: JSON.stringify(await done(job)) });
+})();
