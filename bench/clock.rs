@@ -1,4 +1,4 @@
-//! How much time processors gave, which std doesn't tell.
+//! The processors' time for this process, which std doesn't report.
 
 #[repr(C)]
 struct Timespec {

@@ -9,7 +9,7 @@ the driver by hand over std's Mutex with Condvars, which has no bound; --beside 
 round goes over all shapes of a part; no further round of a part begins when it has had its share of --seconds. With --write
 `crowd` writes the table `driver` of docs/BENCH.md, and `memory` the table `memory`.
 
-  crowd   4, 16, 32 and 63 or 64 threads on each side, bounds 1, 8 and 64, capacity 64; and capacity 1
+  crowd   4 and 63 or 64 threads on each side, bounds 1, 8 and 64, capacity 64; and capacity 1
   few     one thread, two and four on each side, capacities 64 and 1024
   twice   a sender and a receiver for each processor: twice as many threads as processors
   memory  one million items, four million, and none: what a run keeps for each item at its peak
@@ -36,8 +36,8 @@ LIMIT = 30.0
 PROCESSORS = os.cpu_count() or 4
 
 # Senders, receivers, capacity, bound, items of each sender.
-CROWD = [(s, r, 64, b, n // s) for s, r, n in ((4, 4, 8000), (16, 16, 8000), (32, 32, 8000), (63, 64, 6300)) for b in (1, 8, 64)]
-CROWD += [(4, 4, 1, 8, 2000), (16, 16, 1, 8, 500), (63, 64, 1, 8, 100)]
+CROWD = [(s, r, 64, b, n // s) for s, r, n in ((4, 4, 8000), (63, 64, 6300)) for b in (1, 8, 64)]
+CROWD += [(4, 4, 1, 8, 2000), (63, 64, 1, 8, 100)]
 FEW = [(s, s, c, 8, 200_000 // s) for s in (1, 2, 4) for c in (64, 1024)] + [(1, 1, 1, 8, 20_000)]
 TWICE = [(PROCESSORS, PROCESSORS, 64, b, 40_000 // PROCESSORS) for b in (1, 2, 8, 64)]
 MEMORY = [(4, 4, 64, 8, n) for n in (0, 250_000, 1_000_000)]

@@ -16,8 +16,8 @@ from picture import draw
 
 DOCS = os.path.join(os.path.dirname(os.path.dirname(os.path.abspath(__file__))), "docs")
 IMAGE = re.compile(r"!\[(.*)\]\((pictures/bench-\w+\.svg)\)")
-LABELS = {"capacity": "c ", "bound": "b "}
-LEFT_OUT = {"queue / steps"}
+LABELS = {"capacity": "c ", "bound": "b ", "senders": "s "}
+LEFT_OUT = {"strict / by hand"}
 NUMBER = r"([\d,.]+)"
 
 
@@ -40,7 +40,7 @@ def value_of(cell):
 
 def row_name(head, row):
     """A row's first cell in short, and on lines below it the values of the columns that name it too."""
-    name = re.sub(r", (and then )?", "\n", row[0]) if head[0] == "part" else re.sub(r",(?! ?\d).*", "", row[0]).replace(" and ", "/")
+    name = re.sub(r",(?! ?\d).*", "", row[0]).replace(" and ", "/")
     return "\n".join([name, *(LABELS[column] + cell for column, cell in zip(head, row) if column in LABELS)])
 
 

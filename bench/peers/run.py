@@ -1,7 +1,7 @@
 #!/usr/bin/env python3
 """Times the proved queue beside its peers, in one run, and writes the tables and pictures of docs/BENCH.md.
 
-    bench/peers/run.py [--seconds N] [--print | --busy | --tail] [--again]
+    bench/peers/run.py [--seconds N] [--print | --busy | --tail | --steps] [--again]
 
 One command, in some N seconds (420 where no number is given; 120 are a short form, and 20 a trial), after the build. It
 takes crossbeam's, flume's and smol's queues from Debian's packages: those that aren't there it installs, where it is root
@@ -11,7 +11,8 @@ A run is some rounds of bursts: each round runs each queue in each shape once, a
 process of its own. The medians of the rounds are told, and their quartiles. What others took of the processors
 meanwhile is measured and written beside them. --print writes nothing into docs, --again takes the figures of the last run.
 With --busy a process is busy on each processor meanwhile, and the table `busy` of docs/BENCH.md is written. With --tail
-the slowest calls are measured, and the table `tail` is written.
+the slowest calls are measured, and the table `tail` is written. With --steps the exports are timed with the same atomic steps
+by hand, and the table `steps` is written.
 """
 import argparse
 import glob
@@ -176,7 +177,7 @@ def cell(mode, queue, it, length=1.0):
 
 def tables(queues):
     """Name, title, whether columns are joined in the picture, unit, what is told of it, and {row: {column: (cell, which number)}}."""
-    waiting = [queue for queue in queues if queue not in POLLED]
+    waiting = [queue for queue in queues if queue not in [*POLLED, "words"]]
     at = lambda n: f"{n[0]}/{n[1]}"
     return [
         ("clock", "An item's time, by the clock", True, "ns an item",
@@ -192,8 +193,8 @@ def tables(queues):
          {q: {f"{at(n)} {name}": (cell("calls", q, shape(*n)), k) for n in ((2, 2), (4, 4))
               for k, name in enumerate(("send p50", "send p99", "take p50", "take p99"))} for q in queues}),
         ("paced", "A receiver that waits, an item a millisecond", False, "us",
-         "p50 and p99 from before the send to after the take, and the processors' time of both threads for an item. Queues that don't wait "
-         "aren't in it.",
+         "p50 and p99 from before the send to after the take, and the processors' time of both threads for an item. Queues that don't wait, "
+         "and the exports (*words*), aren't in it.",
          {q: {name: (cell("paced", q, shape(1, 1), 5), k) for k, name in enumerate(("p50", "p99", "receiver's processor", "sender's processor"))}
           for q in waiting}),
         ("idle", "Receivers that wait for nothing", False, "thousandths of a processor, each",
@@ -209,7 +210,7 @@ def tables(queues):
 
 
 def measure(programs, all_tables, seconds):
-    """The numbers of each cell's bursts, round by round, in some so many seconds."""
+    """The numbers of each cell's bursts, round by round, in about this number of seconds."""
     cells = list({one: None for *_, rows in all_tables for columns in rows.values() for one, _ in columns.values()})
     rounds = 3 if seconds < 60 else 9 if seconds < 300 else 15
     start, watch, numbers, took = time.time(), Watch(), {one: [] for one in cells}, 0.0
@@ -321,10 +322,33 @@ def slowest_calls(programs, queues, seconds):
         rounds += 1
     load = ", ".join(f"{one:.2f}" for one in os.getloadavg())
     print(f"peers: {rounds} rounds of the slowest calls, and a load of {load} at their end")
-    medians = lambda bursts: [statistics.median(column) for column in zip(*bursts)]
-    shown = {cell: [short(value) for value in medians(bursts)] for cell, bursts in cells.items()}
-    rows = [[str(count), queue, *shown[count, queue]] for count in counts for queue in queues]
-    return [["senders", "queue", "p50", "p99", "p99.9", "p99.99", "over 0.5 ms, of a million"], *rows]
+    median = lambda count, queue, at: short(statistics.median(burst[at] for burst in cells[count, queue]))
+    parts = {"p99": 1, "p99.9": 2, "p99.99": 3}
+    rows = [[part, str(count), *(median(count, queue, at) for queue in queues)] for count in counts for part, at in parts.items()]
+    return [["part", "senders", *queues], *rows]
+
+
+# The same steps by hand.
+
+def by_hand(programs, seconds):
+    """The rows of the table `steps`: an item's time by the exports over both archives and by the same steps by hand, and the
+    median of the rounds' quotients."""
+    relaxed, strict = programs
+    queues = {"words": (relaxed, "words"), "words, strict": (strict, "words"), "by hand": (relaxed, "steps")}
+    shapes = {"one thread": ("alone", shape(1, 1)), **{f"{n[0]}/{n[1]}": ("pass", shape(*n)) for n in PAIRS[:4]}}
+    times, start = {(name, queue): [] for name in shapes for queue in queues}, time.time()
+    while time.time() - start < seconds:
+        for name, queue in random.sample(list(times), len(times)):
+            (mode, it), (program, called) = shapes[name], queues[queue]
+            command = [program, mode, called, *map(str, it), "100"]
+            done = subprocess.run(command, capture_output=True, text=True, check=True, timeout=60)
+            times[name, queue].append(float(done.stdout.split()[0]))
+    print(f"peers: {len(times['1/1', 'words'])} rounds of the steps by hand")
+    rows = [["senders/receivers", *queues, "strict / by hand"]]
+    for name in shapes:
+        of = [times[name, queue] for queue in queues]
+        rows.append([name, *map(spread, of), f"{statistics.median(ours / steps for ours, steps in zip(*of[1:])):.2f}"])
+    return rows
 
 
 # The pictures.
@@ -343,16 +367,19 @@ def main():
     parser.add_argument("--again", action="store_true")
     parser.add_argument("--busy", action="store_true")
     parser.add_argument("--tail", action="store_true")
+    parser.add_argument("--steps", action="store_true")
     options = parser.parse_args()
     kept = os.path.join(OUT, "last.json")
     if options.again:
         with open(kept) as file:
             told = json.load(file)
     else:
-        there = install()
+        there = [] if options.steps else install()
         programs = build(there)
         if options.busy:
             return write("busy", beside_busy(programs, options.seconds))
+        if options.steps:
+            return write("steps", by_hand(programs, options.seconds))
         if options.tail:
             queues = ["typed", *(queue for queue in there if queue not in POLLED), "Mutex+Condvar"]
             return write("tail", slowest_calls(programs, queues, options.seconds))

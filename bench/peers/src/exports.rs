@@ -94,10 +94,10 @@ unsafe extern "C" {
 
 /// The crate's back-off: 7 rounds that spin, then yields, and between two tries after 256 of these sleeps.
 #[derive(Default)]
-struct Backoff(u32);
+pub struct Backoff(u32);
 
 impl Backoff {
-    fn between_turns(&mut self) {
+    pub fn between_turns(&mut self) {
         match self.0 {
             0..7 => (0..1 << self.0).for_each(|_| std::hint::spin_loop()),
             _ => thread::yield_now(),
@@ -105,7 +105,7 @@ impl Backoff {
         self.0 = self.0.saturating_add(1);
     }
 
-    fn between_tries(&mut self) {
+    pub fn between_tries(&mut self) {
         let Some(slept) = self.0.checked_sub(7 + 256) else {
             return self.between_turns();
         };

@@ -6,6 +6,7 @@ mod exports;
 #[cfg(any(feature = "crossbeam-queue", feature = "concurrent-queue"))]
 mod polled;
 mod queues;
+mod steps;
 
 use clock::processors;
 use queues::*;
@@ -146,82 +147,76 @@ fn timed(seed: u64, mut call: impl FnMut() -> Option<bool>) -> Vec<f64> {
     }
 }
 
-/// Single calls that don't wait: the median and the 99th percentile of a send that is accepted, and of a take that gets
-/// an item, in nanoseconds.
-fn calls<Q: Queue>(it: &Burst) -> Vec<f64> {
+/// Senders that don't wait, timed, and receivers that do this with their receiver, the number of their thread, and what
+/// says whether the burst goes on: the nanoseconds of each accepted send, and what each receiver returned.
+fn timed_sends<Q: Queue, R: Send>(
+    it: &Burst,
+    receives: impl Fn(&mut Q::Receiver, u64, &dyn Fn() -> bool) -> R + Sync,
+) -> (Vec<f64>, Vec<R>) {
     let (senders, receivers) = it.open::<Q>();
-    let (stop, start) = (
-        &AtomicBool::new(false),
-        &Barrier::new(it.senders + it.receivers + 1),
-    );
-    let until_stop = move |passed: bool| (!stop.load(Relaxed)).then_some(passed);
+    let stop = AtomicBool::new(false);
+    let goes_on = || !stop.load(Relaxed);
+    let start = Barrier::new(it.senders + it.receivers + 1);
     thread::scope(|scope| {
-        let receiving = receivers.into_iter().zip(1..).map(|(mut receiver, seed)| {
-            scope.spawn(move || {
-                start.wait();
-                timed(seed, || {
-                    until_stop(black_box(Q::try_recv(&mut receiver)).is_some())
+        let (start, goes_on, receives) = (&start, &goes_on, &receives);
+        let receiving = receivers
+            .into_iter()
+            .zip(1..)
+            .map(|(mut receiver, number)| {
+                scope.spawn(move || {
+                    start.wait();
+                    receives(&mut receiver, number, goes_on)
                 })
-            })
-        });
+            });
         let receiving: Vec<_> = receiving.collect();
         let sending = senders.into_iter().zip(1001..).map(|(mut sender, seed)| {
             scope.spawn(move || {
                 start.wait();
-                timed(seed, || until_stop(Q::try_send(&mut sender, seed)))
+                timed(seed, || {
+                    let sent = Q::try_send(&mut sender, seed);
+                    goes_on().then_some(sent)
+                })
             })
         });
         let sending: Vec<_> = sending.collect();
         start.wait();
         thread::sleep(it.time);
         stop.store(true, Relaxed);
-        [sending, receiving].map(|threads| {
-            threads
-                .into_iter()
-                .flat_map(|thread| thread.join().unwrap())
-                .collect()
-        })
+        let sends = sending.into_iter().map(|thread| thread.join().unwrap());
+        let sends = sends.flatten().collect();
+        let received = receiving.into_iter().map(|thread| thread.join().unwrap());
+        (sends, received.collect())
     })
-    .into_iter()
-    .flat_map(|mut times: Vec<f64>| [0.5, 0.99].map(|part| percentile(&mut times, part)))
-    .collect()
+}
+
+/// Single calls that don't wait: the median and the 99th percentile of a send that is accepted, and of a take that gets
+/// an item, in nanoseconds.
+fn calls<Q: Queue>(it: &Burst) -> Vec<f64> {
+    let takes = |receiver: &mut Q::Receiver, seed, goes_on: &dyn Fn() -> bool| {
+        timed(seed, || {
+            let taken = black_box(Q::try_recv(receiver)).is_some();
+            goes_on().then_some(taken)
+        })
+    };
+    let (sends, takes) = timed_sends::<Q, _>(it, takes);
+    let both = [sends, takes.into_iter().flatten().collect()].into_iter();
+    both.flat_map(|mut times| [0.5, 0.99].map(|part| percentile(&mut times, part)))
+        .collect()
 }
 
 /// Sends that don't wait, with 0 to 10 us of other work before each, and receivers that block: the nanoseconds of an
 /// accepted send at four percentiles (50, 99, 99.9, 99.99), and how many of a million took longer than 0.5 ms.
 fn tail<Q: Queue>(it: &Burst) -> Vec<f64> {
-    let (senders, receivers) = it.open::<Q>();
-    let (stop, start) = (
-        &AtomicBool::new(false),
-        &Barrier::new(it.senders + it.receivers + 1),
-    );
-    let until_stop = move |passed: bool| (!stop.load(Relaxed)).then_some(passed);
-    thread::scope(|scope| {
-        for mut receiver in receivers {
-            scope.spawn(move || {
-                start.wait();
-                while let Some(body) = Q::recv(&mut receiver) {
-                    black_box(body);
-                }
-            });
+    let takes_all = |receiver: &mut Q::Receiver, _, _: &dyn Fn() -> bool| {
+        while let Some(body) = Q::recv(receiver) {
+            black_box(body);
         }
-        let sending = senders.into_iter().zip(1..).map(|(mut sender, seed)| {
-            scope.spawn(move || {
-                start.wait();
-                timed(seed, || until_stop(Q::try_send(&mut sender, seed)))
-            })
-        });
-        let sending: Vec<_> = sending.collect();
-        start.wait();
-        thread::sleep(it.time);
-        stop.store(true, Relaxed);
-        let times = sending.into_iter().map(|thread| thread.join().unwrap());
-        let mut times: Vec<f64> = times.flatten().collect();
-        let long = times.iter().filter(|time| **time > 500_000.0).count();
-        let parts = [0.5, 0.99, 0.999, 0.9999].map(|part| percentile(&mut times, part));
-        let long = long as f64 * 1e6 / times.len() as f64;
-        parts.into_iter().chain([long]).collect()
-    })
+    };
+    let (mut times, _) = timed_sends::<Q, _>(it, takes_all);
+    let long = times.iter().filter(|time| **time > 500_000.0).count();
+    let parts = [0.5, 0.99, 0.999, 0.9999].map(|part| percentile(&mut times, part));
+    let long = long as f64 * 1e6 / times.len() as f64;
+    parts.into_iter().chain([long]).collect()
 }
 
 /// A receiver that waits, and an item each millisecond: the median and the 99th percentile of the microseconds from
@@ -313,6 +308,7 @@ fn main() {
     let told = match queue.as_str() {
         "words" => burst::<Words>(mode, it),
         "typed" => burst::<Typed>(mode, it),
+        "steps" => burst::<steps::ByHand>(mode, it),
         #[cfg(feature = "crossbeam-channel")]
         "crossbeam-channel" => burst::<Crossbeam>(mode, it),
         #[cfg(feature = "crossbeam-queue")]

@@ -62,7 +62,7 @@ macro_rules! polled {
             fn recv(receiver: &mut Self::Receiver) -> Option<u64> {
                 until(|| match Self::try_recv(receiver) {
                     Some(body) => Some(Some(body)),
-                    // What was sent before the last sender went is found by a look after that.
+                    // An item that was sent before the last sender's drop is found by a look after the drop.
                     None if receiver.0.left.load(Acquire) == 0 => Some(Self::try_recv(receiver)),
                     None => None,
                 })

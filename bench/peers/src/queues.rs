@@ -10,7 +10,7 @@ pub type Ends<Q> = (Vec<<Q as Queue>::Sender>, Vec<<Q as Queue>::Receiver>);
 pub trait Queue: Sized {
     type Sender: Send;
     type Receiver: Send;
-    /// So many of each. The bound is for those alone that have one.
+    /// This number of each. The bound is for those alone that have one.
     fn open(senders: usize, receivers: usize, capacity: usize, bound: u32) -> Ends<Self>;
     fn send(sender: &mut Self::Sender, body: u64);
     /// None where the queue is closed and empty.

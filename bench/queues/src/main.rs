@@ -1,28 +1,22 @@
-//! The crate and the library with other queues, interleaved in one run: each round passes the items
-//! through each queue once, and the medians of the rounds are printed, in nanoseconds an item of the clock,
-//! and in brackets of all processors.
+//! One queue with groups of one receiver each, and as many separate queues to which the same senders send each item: each
+//! round passes the items through both once, and the medians of the rounds are printed, in nanoseconds an item of the
+//! clock, and in brackets of all processors.
 //!
 //!     cargo run --release --offline [-- --rounds N] [--items N]
 //!
-//! `vahepito` are the exports of the library and `typed` the crate's channel of any type. `steps`
-//! are the queue's atomic steps by hand in plain Rust, `mutex` std's `Mutex` with two
-//! `Condvar`s round a `VecDeque`, and `channel` std's `sync_channel`, whose one receiver is shared
-//! under a lock: all three are those of `bench/plain`. A second table has groups of receivers: one
-//! queue with a number of groups of one receiver, and as many queues with one receiver each, to all of
-//! which the same senders send each item.
+//! The queues are those of the library, by its exports.
 #[path = "../../clock.rs"]
 mod clock;
 #[path = "../../peers/src/exports.rs"]
+#[expect(dead_code, reason = "bench/peers uses all of it")]
 mod exports;
-#[path = "../../plain/src/queues.rs"]
-mod plain;
 
 use clock::processors;
 use exports::{Config, open};
-use std::sync::atomic::{AtomicU64, Ordering};
+use std::hint::black_box;
 use std::thread;
 use std::time::Instant;
-use vahepito::{Receiver, Sender, channel};
+use vahepito as _;
 
 /// The numbers of senders and receivers, the capacity, and how many items pass.
 #[derive(Clone, Copy)]
@@ -36,72 +30,15 @@ struct Shape {
 /// A queue's name, and what passes the items through it and says how many were taken.
 type Queue = (&'static str, fn(Shape) -> u64);
 
-const ALONE: [Queue; 3] = [
-    ("vahepito", alone),
-    ("typed", typed_alone),
-    ("steps", |it| plain::alone(it.capacity, it.items)),
-];
-const SHARED: [Queue; 5] = [
-    ("vahepito", shared),
-    ("typed", typed_shared),
-    ("steps", |it| {
-        plain::steps(it.senders, it.receivers, it.capacity, it.items)
-    }),
-    ("mutex", |it| {
-        plain::mutex(it.senders, it.receivers, it.capacity, it.items)
-    }),
-    ("channel", |it| {
-        plain::sync_channel(it.senders, it.receivers, it.capacity, it.items)
-    }),
-];
-
 /// The receivers are as many groups of one, or on a queue each.
 const IN_GROUPS: [Queue; 2] = [("groups", groups), ("queues", queues)];
 
 /// The bound of the crate.
 const BOUND: u32 = 64;
 
-fn config(it: Shape) -> Config {
-    Config::new(it.senders, it.receivers, it.capacity, BOUND)
-}
-
 /// With one receiver in each group.
 fn one_each(it: Shape) -> Config {
     Config::new(it.senders, 1, it.capacity, BOUND)
-}
-
-/// One thread sends an item and takes it, again and again.
-fn alone(it: Shape) -> u64 {
-    let (mut senders, mut receivers) = open(config(it), 1);
-    let (sender, receiver) = (&mut senders[0], &mut receivers[0]);
-    let mut bodies = 0..it.items;
-    plain::take_all(|| {
-        assert!(sender.try_send(bodies.next()?));
-        receiver.try_recv()
-    })
-}
-
-/// All senders and receivers at work, each on a thread of its own.
-fn shared(it: Shape) -> u64 {
-    let (senders, receivers) = open(config(it), 1);
-    let passed = AtomicU64::new(0);
-    thread::scope(|scope| {
-        for mut receiver in receivers {
-            let passed = &passed;
-            scope.spawn(move || {
-                let got = plain::take_all(|| receiver.recv());
-                passed.fetch_add(got, Ordering::SeqCst);
-            });
-        }
-        for mut sender in senders {
-            scope.spawn(move || {
-                for body in 0..it.items / it.senders as u64 {
-                    sender.send(body);
-                }
-            });
-        }
-    });
-    passed.into_inner()
 }
 
 /// Each item to every group of one queue; how many items each of them got.
@@ -140,9 +77,11 @@ fn copied(it: Shape, senders: Vec<Vec<exports::Sender>>, receivers: Vec<exports:
         }
         let takers: Vec<_> = receivers
             .into_iter()
-            .map(|mut receiver| scope.spawn(move || plain::take_all(|| receiver.recv())))
+            .map(|mut receiver| {
+                scope.spawn(move || std::iter::from_fn(|| receiver.recv().map(black_box)).count())
+            })
             .collect();
-        let got: Vec<u64> = takers
+        let got: Vec<usize> = takers
             .into_iter()
             .map(|taker| taker.join().unwrap())
             .collect();
@@ -150,43 +89,8 @@ fn copied(it: Shape, senders: Vec<Vec<exports::Sender>>, receivers: Vec<exports:
             got.iter().all(|count| *count == got[0]),
             "a receiver lost items"
         );
-        got[0]
+        got[0] as u64
     })
-}
-
-/// As `alone`, by a channel.
-fn typed_alone(it: Shape) -> u64 {
-    let (sender, receiver) = channel(it.capacity).unwrap();
-    let mut bodies = 0..it.items;
-    plain::take_all(|| {
-        sender.try_send(bodies.next()?).unwrap();
-        Some(receiver.try_recv().unwrap())
-    })
-}
-
-/// As `shared`, by a channel whose ends are cloned.
-fn typed_shared(it: Shape) -> u64 {
-    let (sender, receiver) = channel(it.capacity).unwrap();
-    let senders: Vec<Sender<u64>> = (1..it.senders).map(|_| sender.clone()).collect();
-    let receivers: Vec<Receiver<u64>> = (1..it.receivers).map(|_| receiver.clone()).collect();
-    let passed = AtomicU64::new(0);
-    thread::scope(|scope| {
-        for receiver in receivers.into_iter().chain([receiver]) {
-            let passed = &passed;
-            scope.spawn(move || {
-                let got = plain::take_all(|| receiver.recv().ok());
-                passed.fetch_add(got, Ordering::SeqCst);
-            });
-        }
-        for sender in senders.into_iter().chain([sender]) {
-            scope.spawn(move || {
-                for body in 0..it.items / it.senders as u64 {
-                    sender.send(body).unwrap();
-                }
-            });
-        }
-    });
-    passed.into_inner()
 }
 
 /// The nanoseconds an item, of the clock and of all processors.
@@ -237,37 +141,14 @@ fn main() {
     println!(
         "{rounds} rounds of {items} items: nanoseconds an item of the clock (of all processors)"
     );
-    println!(
-        "| senders and receivers | capacity | {} |",
-        SHARED.map(|queue| queue.0).join(" | ")
-    );
-    println!("|---|---|---|---|---|---|---|");
-    let it = Shape {
-        senders: 1,
-        receivers: 1,
-        capacity: 64,
-        items,
-    };
-    compare("one thread, a send and a take", &ALONE, it, rounds);
-    for passes in [1, 4, 8] {
-        for capacity in [64, 1024] {
-            let it = Shape {
-                senders: passes,
-                receivers: passes,
-                capacity,
-                ..it
-            };
-            compare(&format!("{passes} and {passes}"), &SHARED, it, rounds);
-        }
-    }
-    println!("\n| senders and groups | capacity | groups | queues |\n|---|---|---|---|");
+    println!("| senders and groups | capacity | groups | queues |\n|---|---|---|---|");
     for senders in [1, 4] {
         for receivers in [2, 4, 8] {
             let it = Shape {
                 senders,
                 receivers,
+                capacity: 64,
                 items: items / 4,
-                ..it
             };
             let title = format!("{senders} and {receivers}");
             compare(&title, &IN_GROUPS, it, rounds);

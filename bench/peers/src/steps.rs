@@ -1,6 +1,10 @@
-//! The queue's atomic steps by hand: the same words in the same slots, sequentially consistent, with nothing proved.
-use super::Backoff;
-use std::sync::atomic::{AtomicU64, Ordering::SeqCst};
+//! The queue's atomic steps by hand: the same words in the same slots, sequentially consistent, with nothing proved; and the
+//! queue of them that is timed, which waits as that of the exports does.
+use crate::exports::Backoff;
+use crate::queues::{self, Ends};
+use std::hint::black_box;
+use std::sync::Arc;
+use std::sync::atomic::{AtomicU64, AtomicUsize, Ordering::SeqCst};
 
 const LAST: usize = 32;
 const SHUT: usize = 33;
@@ -21,7 +25,7 @@ pub struct Queue {
     life: u64,
 }
 
-/// The fields of a chain's node, which stand in another order on the other side.
+/// The fields of a chain's node, which have another order on the other side.
 #[derive(Clone, Copy)]
 struct Chain {
     tail: usize,
@@ -137,11 +141,11 @@ impl Queue {
     /// Waits for the state of the node, and serves where it is 0.
     fn wait(&self, chain: Chain, node: u64, serve: impl Fn(&Self, usize)) {
         let at = chain.nodes + 16 * node as usize;
-        let backoff = Backoff::new();
+        let mut backoff = Backoff::default();
         loop {
             match self.load(at + 1) {
                 0 => return self.combine(chain, node, serve),
-                1 => backoff.snooze(),
+                1 => backoff.between_turns(),
                 _ => return,
             }
         }
@@ -270,11 +274,81 @@ impl Queue {
             1 => {
                 let tag = self.load(at + chain.tag);
                 let body = self.load(at + chain.body);
-                std::hint::black_box(tag);
+                black_box(tag);
                 Taken::Got(body)
             }
             2 => Taken::Empty,
             _ => Taken::Ended,
+        }
+    }
+}
+
+/// The queue of these steps.
+pub struct ByHand;
+
+/// A sender of it. The last one that is dropped closes the queue.
+pub struct HandSender {
+    queue: Arc<Queue>,
+    pass: Sender,
+    left: Arc<AtomicUsize>,
+}
+
+pub struct HandReceiver {
+    queue: Arc<Queue>,
+    pass: Receiver,
+}
+
+impl Drop for HandSender {
+    fn drop(&mut self) {
+        if self.left.fetch_sub(1, SeqCst) == 1 {
+            self.queue.close(&mut self.pass);
+        }
+    }
+}
+
+impl queues::Queue for ByHand {
+    type Sender = HandSender;
+    type Receiver = HandReceiver;
+    fn open(senders: usize, receivers: usize, capacity: usize, bound: u32) -> Ends<Self> {
+        let (queue, sends, takes) = Queue::open(senders, receivers, capacity as u64, bound);
+        let (queue, left) = (Arc::new(queue), Arc::new(AtomicUsize::new(senders)));
+        let sender = |pass| HandSender {
+            queue: queue.clone(),
+            pass,
+            left: left.clone(),
+        };
+        let receiver = |pass| HandReceiver {
+            queue: queue.clone(),
+            pass,
+        };
+        (
+            sends.into_iter().map(sender).collect(),
+            takes.into_iter().map(receiver).collect(),
+        )
+    }
+    fn send(sender: &mut HandSender, body: u64) {
+        let mut backoff = Backoff::default();
+        while !Self::try_send(sender, body) {
+            backoff.between_tries();
+        }
+    }
+    fn recv(receiver: &mut HandReceiver) -> Option<u64> {
+        let mut backoff = Backoff::default();
+        loop {
+            match receiver.queue.take(&mut receiver.pass) {
+                Taken::Got(body) => return Some(body),
+                Taken::Empty => backoff.between_tries(),
+                Taken::Ended => return None,
+            }
+        }
+    }
+    fn try_send(sender: &mut HandSender, body: u64) -> bool {
+        sender.queue.send(&mut sender.pass, body) == Sent::Accepted
+    }
+    fn try_recv(receiver: &mut HandReceiver) -> Option<u64> {
+        match receiver.queue.take(&mut receiver.pass) {
+            Taken::Got(body) => Some(body),
+            Taken::Empty | Taken::Ended => None,
         }
     }
 }
