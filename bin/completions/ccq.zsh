@@ -1,0 +1,43 @@
+#compdef ccq
+# Completions of `ccq` for zsh.
+_ccq() {
+  local -a commands
+  commands=(
+    'play:play a plan and write the report of its whole history'
+    'audit:audit receipts and write the verdict on them'
+    'judge:judge whether the calls of a log are linearizable'
+    'why:report the place at which a plan or receipts are refused'
+    'show:show the run of a plan as a page or a trace'
+    'drive:drive a queue by threads and audit their receipts'
+  )
+  local help='(- *)'{-h,--help}'[print help]'
+  _arguments -C $help '(- *)'{-V,--version}'[print the version]' '1: :->command' '*:: :->words'
+  case $state in
+    command) _describe command commands -- '(help:print the help of a command)' ;;
+    words)
+      case $words[1] in
+        help) _describe command commands ;;
+        play) _arguments $help '1:plan:_files' ;;
+        audit) _arguments $help '1:receipts:_files' ;;
+        judge)
+          _arguments $help \
+            '--page[write a page that draws the calls]' \
+            '--capacity[items that the queue holds]:1 to 4294967295:' \
+            '--skew[by how much clocks may differ]:a number:' \
+            '1:log:_files'
+          ;;
+        why) _arguments $help '1:plan or receipts:_files' ;;
+        show) _arguments $help '--trace[write a line of JSON for each event]' '1:plan:_files' ;;
+        drive)
+          _arguments $help \
+            '--senders[threads that send]:1 to 63:' \
+            '--receivers[threads that take]:1 to 64:' \
+            '--items[items that each sender sends]:0 to 1000000:' \
+            '--capacity[items that may wait in the queue]:1 to 4096:' \
+            '--bound[calls that one combiner serves in a row]:1 to 1024:'
+          ;;
+      esac
+      ;;
+  esac
+}
+_ccq "$@"
