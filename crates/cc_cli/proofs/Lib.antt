@@ -1,4 +1,3 @@
 pub mod Lines
 pub mod Declined
 pub mod Explained
-pub mod Judged

@@ -6,4 +6,3 @@ pub mod Run
 pub mod Drive
 pub mod Hint
 pub mod Line
-pub mod Judged

@@ -2,8 +2,8 @@
 //! a page.
 ghost use Rattle.std.specs.Prelude.{◌<◌, ◌-◌, ◌^◌};
 
-use crate::log::{Options, judge_input};
 use cc_io::{Sink, Source, told};
+use cc_log::{Options, judge_input};
 use std::alloc::Global;
 
 /// A line of `judge` that has options.

@@ -3,8 +3,7 @@
 //!
 //! `words` has the file that a line names, `--trace`, and help by its word. `run` does any line without these. A line whose first word
 //! is `drive` is read by `drive_line` and done by `driving`; any other line is read by `command_line` and done by `reading`,
-//! without threads. `log` reads the text of a log, and writes the line of the verdict; `judging` reads a line of `judge` with
-//! options.
+//! without threads. `judging` reads a line of `judge` with options.
 #![tactic(auto)]
 
 mod command_line;
@@ -13,7 +12,6 @@ mod driving;
 mod gate;
 pub mod hint;
 pub mod judging;
-pub mod log;
 pub mod reading;
 pub mod run;
 mod why;

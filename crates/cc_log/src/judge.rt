@@ -1,14 +1,15 @@
 //! Judging the log on an input.
 ghost use Rattle.std.specs.Prelude.{◌≡◌, ◌<◌, ◌-◌, ◌^◌, IfOk};
 ghost use Rattle.cc_judge.specs.Verdict.{IsVerdict};
-ghost use Rattle.cc_cli.specs.Judged.{IsJudged, told_status, verdict_status};
+ghost use Rattle.cc_log.specs.Judged.{IsJudged, told_status, verdict_status};
 
-use crate::log::fault::LogFault;
-use crate::log::page::{AnswerFault, write_page};
-use crate::log::parse::{Log, Options, read_log};
-use crate::log::verdict_line::text_of;
+use crate::fault::LogFault;
+use crate::page::{AnswerFault, write_page};
+use crate::parse::{Log, Options, read_log};
+use crate::verdict_line::text_of;
 use cc_io::{Sink, Source, out_of_memory, told, write_bytes};
 use cc_judge::{Verdict, judge};
+use cc_play::{PlayFault, tell};
 use std::alloc::{AllocError, Global};
 
 /// A verdict, and its line.
@@ -45,7 +46,7 @@ fn refused<E: Sink>(alloc: Global, errors: &mut E, fault: &LogFault) -> u8
 {
     match (fault, format!(in alloc; "ccq: log refused: {fault}\n")) {
         (LogFault::Memory, _) | (_, Err(_)) => out_of_memory(errors),
-        (LogFault::Read, _) => told(errors, b"ccq: reading failed\n", 4),
+        (LogFault::Read, _) => tell(errors, Err(PlayFault::Read)),
         (_, Ok(line)) => told(errors, line.as_bytes(), 2),
     }
 }
@@ -74,7 +75,7 @@ fn tell_written<E: Sink>(errors: &mut E, status: u8, outcome: Result<(), AnswerF
     match outcome {
         Ok(()) => status,
         Err(AnswerFault::Memory) => out_of_memory(errors),
-        Err(AnswerFault::Write) => told(errors, b"ccq: writing failed\n", 4),
+        Err(AnswerFault::Write) => tell(errors, Err(PlayFault::Write)),
     }
 }
 

@@ -2,9 +2,9 @@
 
 ghost use Rattle.std.specs.Prelude.{◌<◌, ◌-◌, ◌^◌};
 
-use crate::log::fault::{LineFault, LogFault};
-use crate::log::line::{Body, Line, Said, begins_late, read_line};
-use crate::log::lines::Lines;
+use crate::fault::{LineFault, LogFault};
+use crate::line::{Body, Line, Said, begins_late, body_text, read_line};
+use crate::lines::Lines;
 use cc_io::Source;
 use cc_judge::{Act, Call, Rules, Tie};
 use indexmap::IndexSet;
@@ -130,18 +130,6 @@ fn item(known: &mut Known, body: Body) -> Result<u32, LogFault> {
     narrow(place)
 }
 
-/// A body as the lines write it.
-fn body_text(alloc: Global, body: Body) -> Result<String, LogFault> {
-    let (count, a, b, c, d) = body;
-    let text = match count {
-        1 => format!(in alloc; "[{a}]")?,
-        2 => format!(in alloc; "[{a},{b}]")?,
-        3 => format!(in alloc; "[{a},{b},{c}]")?,
-        _ => format!(in alloc; "[{a},{b},{c},{d}]")?,
-    };
-    Ok(text)
-}
-
 /// Notes that the call of the line that comes next sends an item; no other may have sent it.
 fn note_send(
     alloc: Global,
@@ -157,7 +145,7 @@ fn note_send(
         Some(Some(first)) => Err(LogFault::SentTwice {
             first: log.line_of(first as usize),
             second: line,
-            item: body_text(alloc, body)?,
+            item: body_text(alloc, body, "")?,
         }),
         Some(None) => {
             known.sends[item] = Some(place);

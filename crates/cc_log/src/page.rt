@@ -2,13 +2,14 @@
 //! each shown call, and a text. `choice` has which calls are shown.
 ghost use Rattle.std.specs.Prelude.{◌≡◌, ◌<◌, ◌-◌, ◌^◌, OnOk};
 
-use crate::log::choice::{Choice, beside_fault, first_calls};
-use crate::log::fault_page::{BACK, FRONT, MIDDLE};
-use crate::log::line::{Body, Said};
-use crate::log::parse::{Log, Shown};
+use crate::choice::{Choice, beside_fault, first_calls};
+use crate::fault_page::{BACK, FRONT, MIDDLE};
+use crate::line::{Said, body_text};
+use crate::parse::{Log, Shown};
 use cc_io::{Sink, WriteFault, write_bytes};
 use cc_judge::{Fault, Stay, Verdict};
 use std::alloc::{AllocError, Global};
+use std::slice::from_ref;
 
 /// Why an answer isn't written, or not whole.
 #[derive(Clone, Copy, Debug, PartialEq, Eq)]
@@ -150,9 +151,7 @@ fn push_fault(
                 ("send", *later_send),
                 ("take", *later_take),
             )?;
-            text.push_str(",\"stays\":[")?;
-            push_stay(alloc, text, log, stay)?;
-            text.push_str("]")
+            push_stays(alloc, text, log, from_ref(stay))
         }
         Fault::NotEmpty { call, stays } => {
             text.push_str(",\"kind\":\"not empty\"")?;
@@ -201,31 +200,23 @@ fn verdict_json(
     Ok(text)
 }
 
-/// A body as an array of texts of numbers.
-fn body_json(alloc: Global, body: Body) -> Result<String, AllocError> {
-    let (count, a, b, c, d) = body;
-    match count {
-        1 => format!(in alloc; "[\"{a}\"]"),
-        2 => format!(in alloc; "[\"{a}\",\"{b}\"]"),
-        3 => format!(in alloc; "[\"{a}\",\"{b}\",\"{c}\"]"),
-        _ => format!(in alloc; "[\"{a}\",\"{b}\",\"{c}\",\"{d}\"]"),
-    }
-}
-
 /// The act of a call, as JSON.
 fn act_json(alloc: Global, said: Said) -> Result<String, AllocError> {
     match said {
-        Said::Send(body) => format!(in alloc; "\"send\":{}", body_json(alloc, body)?),
+        Said::Send(body) => format!(in alloc; "\"send\":{}", body_text(alloc, body, "\"")?),
         Said::Full(body) => {
-            format!(in alloc; "\"send\":{},\"answer\":\"full\"", body_json(alloc, body)?)
+            format!(in alloc;
+                "\"send\":{},\"answer\":\"full\"",
+                body_text(alloc, body, "\"")?
+            )
         }
         Said::Closed(body) => {
             format!(in alloc;
                 "\"send\":{},\"answer\":\"closed\"",
-                body_json(alloc, body)?
+                body_text(alloc, body, "\"")?
             )
         }
-        Said::Took(body) => format!(in alloc; "\"take\":{}", body_json(alloc, body)?),
+        Said::Took(body) => format!(in alloc; "\"take\":{}", body_text(alloc, body, "\"")?),
         Said::FoundNone | Said::Taking => String::from_str(alloc, "\"take\":null"),
         Said::Ended => String::from_str(alloc, "\"take\":null,\"answer\":\"ended\""),
         Said::Close => String::from_str(alloc, "\"close\":true"),

@@ -1,7 +1,7 @@
 //! Which calls the page of a judged log shows: those that the fault names, those of the same items, and some at the same times.
 
-use crate::log::line::{Body, Said};
-use crate::log::parse::Log;
+use crate::line::{Body, Said};
+use crate::parse::Log;
 use cc_judge::{Fault, Stay};
 use indexmap::IndexSet;
 use std::alloc::{AllocError, Global};
@@ -135,19 +135,9 @@ fn spans(alloc: Global, log: &Log, marks: &[bool]) -> Result<Vec<Span>, AllocErr
 
 /// Whether a call of these times overlaps one of the spans.
 fn overlaps(spans: &[Span], begin: u64, end: u64) -> bool {
-    let (mut low, mut high) = (0usize, spans.len());
-    for _ in 0..64 {
-        if high <= low {
-            break;
-        }
-        let middle = low.saturating_add((high - low) / 2);
-        match spans.get(middle) {
-            Some(span) if span.begin <= end => low = middle.saturating_add(1),
-            _ => high = middle,
-        }
-    }
-    match spans.get(low.saturating_sub(1)) {
-        Some(span) => low != 0 && begin <= span.end,
+    let begun = spans.partition_point(|span| span.begin <= end);
+    match spans.get(begun.wrapping_sub(1)) {
+        Some(span) => begin <= span.end,
         None => false,
     }
 }

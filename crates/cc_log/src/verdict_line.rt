@@ -1,20 +1,15 @@
 //! The line of a verdict.
 
-use crate::log::parse::Log;
+use crate::parse::Log;
 use cc_judge::{Fault, Stay, Verdict};
 use std::alloc::{AllocError, Global};
-
-/// The number of the line of the call at a place.
-fn line_at(log: &Log, place: usize) -> usize {
-    log.line_of(place)
-}
 
 /// The numbers of the lines of the calls at these places.
 fn lines_at(alloc: Global, log: &Log, places: &[usize]) -> Result<String, AllocError> {
     let mut text = String::from_str(alloc, if places.len() == 1 { "line" } else { "lines" })?;
     for (at, place) in places.iter().enumerate() {
         text.push_str(if at == 0 { " " } else { ", " })?;
-        let line = format!(in alloc; "{}", line_at(log, *place))?;
+        let line = format!(in alloc; "{}", log.line_of(*place))?;
         text.push_str(line.as_str())?;
     }
     Ok(text)
@@ -23,7 +18,7 @@ fn lines_at(alloc: Global, log: &Log, places: &[usize]) -> Result<String, AllocE
 /// The lines of the sends of a stay.
 fn sends(alloc: Global, log: &Log, stay: &Stay) -> Result<String, AllocError> {
     match stay {
-        Stay::Taken { send, take: _ } => format!(in alloc; "line {}", line_at(log, *send)),
+        Stay::Taken { send, take: _ } => format!(in alloc; "line {}", log.line_of(*send)),
         Stay::Left { sends, next: _ } => lines_at(alloc, log, sends.as_slice()),
     }
 }
@@ -32,12 +27,12 @@ fn sends(alloc: Global, log: &Log, stay: &Stay) -> Result<String, AllocError> {
 fn leaves(alloc: Global, log: &Log, stay: &Stay) -> Result<String, AllocError> {
     match stay {
         Stay::Taken { send: _, take } => {
-            format!(in alloc; "taken by line {}", line_at(log, *take))
+            format!(in alloc; "taken by line {}", log.line_of(*take))
         }
         Stay::Left {
             sends: _,
             next: Some(next),
-        } => format!(in alloc; "not taken before line {} began", line_at(log, *next)),
+        } => format!(in alloc; "not taken before line {} began", log.line_of(*next)),
         Stay::Left {
             sends: _,
             next: None,
@@ -70,17 +65,17 @@ fn fault_text(alloc: Global, log: &Log, fault: &Fault) -> Result<String, AllocEr
         Fault::NeverSent { take } => {
             format!(in alloc;
                 "judge fault: never sent: line {} took an item that no line sent\n",
-                line_at(log, *take)
+                log.line_of(*take)
             )
         }
         Fault::TakenBeforeSent { send, take } => {
-            let (take, send) = (line_at(log, *take), line_at(log, *send));
+            let (take, send) = (log.line_of(*take), log.line_of(*send));
             format!(in alloc;
                 "judge fault: taken before sent: line {take} had ended before line {send} began\n"
             )
         }
         Fault::TakenTwice { first, second } => {
-            let (first, second) = (line_at(log, *first), line_at(log, *second));
+            let (first, second) = (log.line_of(*first), log.line_of(*second));
             format!(in alloc;
                 "judge fault: taken twice: lines {first} and {second} took one item\n"
             )
@@ -91,34 +86,34 @@ fn fault_text(alloc: Global, log: &Log, fault: &Fault) -> Result<String, AllocEr
             later_take,
         } => {
             let (sends, leaves) = (sends(alloc, log, stay)?, leaves(alloc, log, stay)?);
-            let (second, later) = (line_at(log, *later_send), line_at(log, *later_take));
+            let (second, later) = (log.line_of(*later_send), log.line_of(*later_take));
             format!(in alloc;
                 "judge fault: overtaken: {sends} had ended before line {second} began; {} of {sends} is {leaves}, after line {later} took the other\n",
                 item(stay)
             )
         }
         Fault::Reopened { closed, send } => {
-            let (closed, send) = (line_at(log, *closed), line_at(log, *send));
+            let (closed, send) = (log.line_of(*closed), log.line_of(*send));
             format!(in alloc;
                 "judge fault: open after closed: line {closed} closed the queue or found it closed, and had ended before line {send} began, which found it open\n"
             )
         }
         Fault::ClosedEarly { call } => format!(in alloc;
             "judge fault: closed early: line {} found the queue closed, and had ended before a close began\n",
-            line_at(log, *call)
+            log.line_of(*call)
         ),
         Fault::NotFull { call } => {
             let capacity = log.rules.capacity.unwrap_or(0);
             format!(in alloc;
                 "judge fault: not full: line {} found the queue full, and at none of its times can it have held {capacity}\n",
-                line_at(log, *call)
+                log.line_of(*call)
             )
         }
         Fault::NotEmpty { call, stays } => {
             let items = items(alloc, log, stays.as_slice())?;
             format!(in alloc;
                 "judge fault: not empty: line {} found none, and at all its times the queue held an item{items}\n",
-                line_at(log, *call)
+                log.line_of(*call)
             )
         }
     }
@@ -177,12 +172,12 @@ pub fn text_of(alloc: Global, log: &Log, verdict: &Verdict) -> Result<String, Al
         }
         Verdict::Fault(fault) => fault_text(alloc, log, fault),
         Verdict::SentTwice(first, second) => {
-            let (first, second) = (line_at(log, *first), line_at(log, *second));
+            let (first, second) = (log.line_of(*first), log.line_of(*second));
             format!(in alloc; "ccq: log refused: lines {first} and {second} sent one item\n")
         }
         Verdict::Stray(place) => format!(in alloc;
             "ccq: log refused: line {}\n",
-            line_at(log, *place)
+            log.line_of(*place)
         ),
         Verdict::Undecided => String::from_str(alloc, "judge undecided\n"),
     }

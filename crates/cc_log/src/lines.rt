@@ -2,7 +2,7 @@
 
 ghost use Rattle.std.specs.Prelude.{◌≡◌, ◌<◌, ◌-◌, ◌^◌, OnOk};
 
-use crate::log::fault::{LineFault, LogFault};
+use crate::fault::{LineFault, LogFault};
 use cc_io::Source;
 use std::alloc::{AllocError, Global};
 

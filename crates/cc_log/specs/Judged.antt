@@ -4,7 +4,7 @@ use Rattle.cc_judge.specs.declared.log.Rules.{Rules}
 use Rattle.cc_judge.specs.declared.log.Call.{Call}
 use Rattle.cc_judge.specs.declared.decide.Verdict.{Verdict}
 use Rattle.cc_judge.specs.Verdict.{IsVerdict}
-use Rattle.cc_cli.specs.declared.log.page.AnswerFault.{AnswerFault}
+use Rattle.cc_log.specs.declared.page.AnswerFault.{AnswerFault}
 
 -- the status of a verdict: clean, a fault, a log that can't be judged, or undecided
 abbrev pub verdict_status : Verdict → ℕ

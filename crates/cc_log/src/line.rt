@@ -1,10 +1,22 @@
 //! One line of a log.
 
-use crate::log::fault::LineFault;
+use crate::fault::LineFault;
 use serde_json::Value;
+use std::alloc::{AllocError, Global};
 
 /// The words of a body, and how many they are.
 pub type Body = (usize, u64, u64, u64, u64);
+
+/// A body as an array of JSON, each word between two marks: none, or the quotes of a text.
+pub fn body_text(alloc: Global, body: Body, mark: &str) -> Result<String, AllocError> {
+    let (count, a, b, c, d) = body;
+    match count {
+        1 => format!(in alloc; "[{mark}{a}{mark}]"),
+        2 => format!(in alloc; "[{mark}{a}{mark},{mark}{b}{mark}]"),
+        3 => format!(in alloc; "[{mark}{a}{mark},{mark}{b}{mark},{mark}{c}{mark}]"),
+        _ => format!(in alloc; "[{mark}{a}{mark},{mark}{b}{mark},{mark}{c}{mark},{mark}{d}{mark}]"),
+    }
+}
 
 /// The call that a line describes.
 #[derive(Clone, Copy, Debug, PartialEq, Eq)]
