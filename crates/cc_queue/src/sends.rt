@@ -8,7 +8,7 @@ use crate::bodies;
 use crate::queue::Queue;
 use crate::tell::tell;
 use cc_model::{Answer, CloseAnswer, SendAnswer};
-use cc_runs::{Chain, ItemField, Job, NodeField, Object, Parcel, Request, node_after};
+use cc_runs::{Chain, ItemField, Job, Object, Parcel, Request, further_words, node_after};
 use cc_steps::seats::PassSeat;
 use cc_steps::steps;
 use cc_steps::words::Words;
@@ -20,14 +20,12 @@ pub fn serve_request(queue: &Queue, seat: &mut PassSeat, job: Job)
     ensures { Serves seat.old (Phase.MarkDone job) (seat.old.setting.config.capacity + 1) seat.new }
 {
     let words = queue.words();
-    let tag = steps::read_request(words, seat, job.round.at, NodeField::Tag);
-    let body = bodies::read_request(words, seat, job, tag);
+    let request = bodies::read_request(words, seat, job);
     let shut = steps::read_object(words, seat, Object::Shut);
     if shut != 0 {
-        refuse_after_close(words, seat, job, tag);
+        refuse_after_close(words, seat, job, request.tag);
         return;
     }
-    let request = Request { tag, body };
     serve_open(queue, seat, job, request);
 }
 
@@ -44,13 +42,8 @@ fn serve_open(queue: &Queue, seat: &mut PassSeat, job: Job, request: Request)
     if request.tag == 0 {
         link_mark(queue, seat, job, count);
     } else if count == queue.config().life {
-        tell(
-            words,
-            seat,
-            Chain::Send,
-            job,
-            Answer::Send(SendAnswer::Spent),
-        );
+        let answer = Answer::Send(SendAnswer::Spent);
+        tell(words, seat, Chain::Send, job, answer);
     } else {
         let parcel = Parcel {
             place: count,
@@ -127,7 +120,12 @@ fn prepare(queue: &Queue, seat: &mut PassSeat, job: Job, parcel: Parcel, node: u
     steps::reset_list_node(words, seat, node, ItemField::Passed);
     steps::reset_list_node(words, seat, node, ItemField::Next);
     steps::write_item(words, seat, node, ItemField::Tag, parcel.tag);
-    bodies::write_item(words, seat, job, parcel, node);
+    steps::write_item(words, seat, node, ItemField::Body(0), parcel.body.first);
+    for done in 0..further_words(parcel.tag) {
+        let index = done + 1;
+        let word = parcel.body.word(index);
+        steps::write_item(words, seat, node, ItemField::Body(index), word);
+    }
     append(queue, seat, job, parcel.place, node);
 }
 

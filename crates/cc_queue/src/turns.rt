@@ -10,7 +10,7 @@ use crate::bodies;
 use crate::combine::combine;
 use crate::queue::Queue;
 use cc_model::{CloseAnswer, SendAnswer, TakeAnswer};
-use cc_runs::{CODE, Chain, NodeField, item_of};
+use cc_runs::{CODE, Chain, NodeField};
 use cc_steps::seats::PassSeat;
 use cc_steps::steps;
 use cc_steps::words::Words;
@@ -75,12 +75,7 @@ pub fn read_take_answer(words: &Words, seat: &mut PassSeat, group: u32, node: u6
     let chain = Chain::Take(group);
     let ret = steps::read_answer(words, seat, chain, node, NodeField::Ret);
     match ret / CODE {
-        1 => {
-            let tag = steps::read_answer(words, seat, chain, node, NodeField::Tag);
-            let place = ret % CODE;
-            let body = bodies::read_answer(words, seat, group, node, place, tag);
-            TakeAnswer::Got(item_of(place, tag, body))
-        }
+        1 => TakeAnswer::Got(bodies::read_answer(words, seat, group, node, ret % CODE)),
         2 => TakeAnswer::Empty,
         _ => TakeAnswer::Ended { total: ret % CODE },
     }
