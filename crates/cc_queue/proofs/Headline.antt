@@ -1,6 +1,6 @@
 -- All that a pass has seen is one history.
-use Rattle.std.proofs.Common.{◌/◌, arith, ◌≡◌, ◌≢◌, ℕ, ◌+◌, ◌*◌, ◌≤◌, if◌then◌else◌, List, [], ◌∷◌, ◌++◌, map, refl, sym, ap, ◌∙◌, subst, append-nil, append_assoc, Bool, true, false, nat_lt, ◌-◌}
-use Rattle.cc_queue.specs.Names.{Config, Answer, Call, TakeAnswer, Entry, Move, Setting, Served, Stand, Phase, Chain, Pass}
+use Rattle.std.proofs.Common.{◌/◌, arith, ◌≡◌, ◌≢◌, ℕ, ◌+◌, ◌≤◌, if◌then◌else◌, List, [], ◌∷◌, ◌++◌, map, refl, sym, ap, ◌∙◌, subst, append-nil, append_assoc, Bool, true, false, nat_lt, ◌-◌}
+use Rattle.cc_queue.specs.Names.{Answer, Call, TakeAnswer, Entry, Move, Setting, Served, Stand, Phase, Chain, Pass}
 use Rattle.std.specs.List.{AllByRecursion}
 use Rattle.cc_model.specs.Items.{HasAnswer, Begins, calls_of}
 use Rattle.cc_runs.specs.ChainLaws.{IsLastAnswer}
@@ -13,12 +13,11 @@ use Rattle.cc_runs.proofs.RunPrefixes.{prefixes_begin}
 use Rattle.cc_runs.proofs.ListRuns.Laws.{history_is_legal, history_is_fifo}
 use Rattle.cc_runs.proofs.Linear.Orders.{linearizable as runs_linearizable}
 use Rattle.cc_steps.specs.Seen.{Onward, GoesOn, stand_in, made_in}
-use Rattle.cc_steps.specs.Topic.{Topic}
-use Rattle.cc_steps.specs.Walk.{Walk, IsOf, IsSameSeat, IsSound, IsPendingIn}
+use Rattle.cc_steps.specs.Walk.{Walk, IsSameSeat, IsSound, IsPendingIn}
 use Rattle.cc_runs.specs.Lines.{group_of}
 use Rattle.cc_queue.specs.Group.{IsGroupOf, Ranked}
 use Rattle.cc_queue.specs.Headline.{StandsInOne, entry_of, name, history}
-use Rattle.cc_queue.specs.Work.{IsOn, Works, Waits, Enters, turned, worked_to, tally, scans}
+use Rattle.cc_queue.specs.Work.{IsOn, Works, Waits, Enters, turned, worked_to}
 use Rattle.cc_queue.specs.Calls.{Begun, Waited, Answered, Ended, Completed, IsSettled}
 use Rattle.cc_queue.specs.Codes.{IsSendAnswer, IsCloseAnswer}
 use Rattle.cc_queue.specs.Passes.{MadeLast, IsSend, IsClose, IsStill, HasStopped}
@@ -83,19 +82,18 @@ waited_so u v w begun node is list stand s e = subst (λ (x : Walk). Waited x w)
   did = e.did;
 })
 
--- a turn that is done, of a pass and a queue of one list with this configuration
-pub answered_so : (q z : Topic) (u v w : Walk) (c : Config) (told : Answer) (n : ℕ) → q ≡ z → q.setting ≡ record { served = Served.List; config = c } → IsOf z u → v ≡ u → IsSound w → Works v Phase.Idle (turned c n) w → IsLastAnswer (name w) (history w) told → n ≤ c.bound → Answered u told n w
-answered_so q z u v w c told n same its here is s e last few =
-    let list : v.setting ≡ record { served = Served.List; config = c } = ap (λ (x : Walk). x.setting) is ∙ here.1 ∙ sym (ap (λ (x : Topic). x.setting) same) ∙ its in
+-- a turn that is done, of a pass of a list
+pub answered_so : (u v w : Walk) (told : Answer) (n : ℕ) → v ≡ u → v.setting.served ≡ Served.List → IsSound w → Works v Phase.Idle (turned v.setting.config n) w → IsLastAnswer (name w) (history w) told → n ≤ v.setting.config.bound → Answered u told n w
+answered_so u v w told n is list s e last few =
     subst (λ (x : Walk). Answered x told n w) is (record {
-      stands = stands_on v w [] v.stand.begun v.stand.node Phase.Idle (ap (λ (x : Walk). x.stand) e.worked) refl s (ap (λ (x : Setting). x.served) list) (seat_of v w Phase.Idle e.worked) e.later (made_of v w Phase.Idle e.worked);
+      stands = stands_on v w [] v.stand.begun v.stand.node Phase.Idle (ap (λ (x : Walk). x.stand) e.worked) refl s list (seat_of v w Phase.Idle e.worked) e.later (made_of v w Phase.Idle e.worked);
       last = last;
       begun = ap (λ (x : Walk). x.stand.begun) e.worked;
       reads = e.reads;
       marks = e.marks;
       hands = e.hands;
-      few = subst (λ (x : Setting). n ≤ x.config.bound) (sym list) few;
-      scans = subst (λ (x : Setting). tally scans w.did ≤ n * (x.config.capacity + 1) + tally scans v.did) (sym list) e.scans;
+      few = few;
+      scans = e.scans;
     })
 
 -- the answer of a send is one of a send

@@ -1,5 +1,5 @@
 -- A round of the combining loop, as the seat sees it: the look for the next call, the service of this one, and its mark.
-use Rattle.std.proofs.Common.{◌≡◌, ◌≢◌, ℕ, zero, suc, ◌+◌, ◌-◌, ◌<◌, ◌==◌, Bool, true, false, cond, List, ◌∷◌, None, refl, sym, ap, ◌∙◌, subst, arith}
+use Rattle.std.proofs.Common.{◌≡◌, ◌≢◌, ℕ, zero, suc, ◌+◌, ◌-◌, ◌<◌, ◌≤◌, ◌==◌, Bool, true, false, cond, List, ◌∷◌, None, refl, sym, ap, ◌∙◌, subst, arith}
 use Rattle.std.proofs.lemmas.Bool.{eq-eqb, ne_eqb}
 use Rattle.cc_queue.specs.Names.{Config, Setting, Served, Chain, Kind, Job, Round, Phase, Stand}
 use Rattle.cc_runs.specs.State.{chain_of}
@@ -7,7 +7,11 @@ use Rattle.cc_runs.specs.Lines.{after_next, after_done, serves}
 use Rattle.cc_steps.specs.Seen.{Onward, settled}
 use Rattle.cc_steps.specs.Topic.{Topic}
 use Rattle.cc_steps.specs.Walk.{Walk, walked_to}
-use Rattle.cc_queue.specs.Work.{IsListWith, IsServing, Serves, Works, worked_to, round_phase, combined, tally, reads, marks, hands, scans}
+use Rattle.cc_queue.specs.Work.{IsOnList, Serves, Works, worked_to, round_phase, combined, tally, reads, marks, hands, scans}
+
+-- the configuration of the pass
+abbrev config_of : Walk → Config
+config_of v = v.setting.config
 
 -- neither of its steps ends the call
 stays_next : (what : Served) (x : Chain) (k : Round) (n : ℕ) (z : Stand) → settled (record z { phase = after_next what x k n }) ≡ record z { phase = after_next what x k n }
@@ -55,8 +59,8 @@ module _ (r w u : Walk) (job : Job) (at : w ≡ worked_to r (Phase.MarkDone job)
       ∙ ap (λ (did : List Kind). record r { seen = u.seen; did = did; stand = record r.stand { phase = on } }) (sym marked_did)
 
 -- the whole round, by a pass that has served so many
-module _ (v s r w u : Walk) (c : Config) (at served next : ℕ) (list : IsListWith v c) (below : served < c.bound) (so : Works v (round_phase c.bound at served) (combined c served 0) s)
-    (look : r ≡ walked_to s None next r.seen) (serves : Serves r (Phase.MarkDone record { round = record { at = at; served = served }; next = next - 1 }) (c.capacity + 1) w) (mark : u ≡ walked_to w None 0 u.seen) where
+module _ (v s r w u : Walk) (at served next : ℕ) (below : served < (config_of v).bound) (so : Works v (round_phase (config_of v).bound at served) (combined (config_of v) served 0) s)
+    (look : r ≡ walked_to s None next r.seen) (serves : Serves r (Phase.MarkDone record { round = record { at = at; served = served }; next = next - 1 }) (r.setting.config.capacity + 1) w) (mark : u ≡ walked_to w None 0 u.seen) where
   abbrev k : Round
   k = record { at = at; served = served }
 
@@ -64,13 +68,15 @@ module _ (v s r w u : Walk) (c : Config) (at served next : ℕ) (list : IsListWi
   job = record { round = k; next = next - 1 }
 
   here : s ≡ worked_to v (Phase.ReadNext k) s
-  here = so.worked ∙ ap (λ (b : Bool). worked_to v (cond b (Phase.HandOver at) (Phase.ReadNext k)) s) (ne_eqb served c.bound (λ e. omega (arith, e, below)))
+  here = so.worked ∙ ap (λ (b : Bool). worked_to v (cond b (Phase.HandOver at) (Phase.ReadNext k)) s) (ne_eqb served (config_of v).bound (λ e. omega (arith, e, below)))
 
-  round_to : u ≡ worked_to v (round_phase c.bound (next - 1) (served + 1)) u
+  round_to : u ≡ worked_to v (round_phase (config_of v).bound (next - 1) (served + 1)) u
   round_to =
       marked_to r w u job serves.worked mark
       ∙ ap (λ (z : Walk). worked_to z (after_done z.setting.config.bound job) u) (looked_to v s r k next here look)
-      ∙ ap (λ (z : Setting). worked_to v (after_done z.config.bound job) u) list
+
+  few : tally scans w.did ≤ (config_of v).capacity + 1 + tally scans r.did
+  few = subst (λ (z : Setting). tally scans w.did ≤ z.config.capacity + 1 + tally scans r.did) (ap (λ (z : Walk). z.setting) (looked_to v s r k next here look)) serves.scans
 
   did : (f : Kind → ℕ) → tally f u.did ≡ f Kind.MarkDone + tally f w.did
   did f = ap (tally f) (marked_did r w u job serves.worked mark)
@@ -78,29 +84,29 @@ module _ (v s r w u : Walk) (c : Config) (at served next : ℕ) (list : IsListWi
   look_did : (f : Kind → ℕ) → tally f r.did ≡ f Kind.ReadNext + tally f s.did
   look_did f = ap (tally f) (looked_did v s r k next here look)
 
-  pub one_round : Onward s.seen r.seen → Onward w.seen u.seen → Works v (round_phase c.bound (next - 1) (served + 1)) (combined c (served + 1) 0) u
+  pub one_round : Onward s.seen r.seen → Onward w.seen u.seen → Works v (round_phase (config_of v).bound (next - 1) (served + 1)) (combined (config_of v) (served + 1) 0) u
   one_round looked marked = record {
     worked = round_to;
     reads = omega (arith, did reads, serves.reads, look_did reads, so.reads);
     marks = omega (arith, did marks, serves.marks, look_did marks, so.marks);
     hands = omega (arith, did hands, serves.hands, look_did hands, so.hands);
-    scans = omega (arith, did scans, serves.scans, look_did scans, so.scans);
+    scans = omega (arith, did scans, few, look_did scans, so.scans);
     later = λ first goes. marked first (serves.later first (looked first (so.later first goes)));
   }
 
 -- the places after the look for the next call, in a chain of a list
-module _ (v s r : Walk) (t : Topic) (c : Config) (x : Chain) (is : IsServing t c x v) (at served next : ℕ) (below : served < c.bound) (so : Works v (round_phase c.bound at served) (combined c served 0) s) where
+module _ (v s r : Walk) (t : Topic) (x : Chain) (is : IsOnList t x v) (at served next : ℕ) (below : served < (config_of v).bound) (so : Works v (round_phase (config_of v).bound at served) (combined (config_of v) served 0) s) where
   abbrev round : Round
   round = record { at = at; served = served }
 
   pub looks : s ≡ worked_to v (Phase.ReadNext round) s
-  looks = so.worked ∙ ap (λ (b : Bool). worked_to v (cond b (Phase.HandOver at) (Phase.ReadNext round)) s) (ne_eqb served c.bound (λ e. omega (arith, e, below)))
+  looks = so.worked ∙ ap (λ (b : Bool). worked_to v (cond b (Phase.HandOver at) (Phase.ReadNext round)) s) (ne_eqb served (config_of v).bound (λ e. omega (arith, e, below)))
 
   module _ (look : r ≡ walked_to s None next r.seen) where
     leads : (to : Phase) → after_next Served.List x round next ≡ to → r ≡ worked_to v to r
     leads to e =
         looked_to v s r round next looks look
-        ∙ ap (λ (z : Setting). worked_to v (after_next z.served (chain_of v.setting.config v.number) round next) r) is.list
+        ∙ ap (λ (z : Served). worked_to v (after_next z (chain_of v.setting.config v.number) round next) r) is.list
         ∙ ap (λ (y : Chain). worked_to v (after_next Served.List y round next) r) is.chain
         ∙ ap (λ (p : Phase). worked_to v p r) e
 
@@ -114,7 +120,7 @@ module _ (v s r : Walk) (t : Topic) (c : Config) (x : Chain) (is : IsServing t c
     once : (f : Kind → ℕ) → tally f r.did ≡ f Kind.ReadNext + tally f s.did
     once f = ap (tally f) (looked_did v s r round next looks look)
 
-    pub found_none : next ≡ 0 → Onward s.seen r.seen → Works v (Phase.HandOver at) (combined c served 0) r
+    pub found_none : next ≡ 0 → Onward s.seen r.seen → Works v (Phase.HandOver at) (combined (config_of v) served 0) r
     found_none e looked = record {
       worked = leads (Phase.HandOver at) (ap (after_next Served.List x round) e);
       reads = omega (arith, once reads, so.reads);

@@ -1,5 +1,5 @@
 -- A step within a call, as its seat sees it, after the earlier steps of its pass.
-use Rattle.std.proofs.Common.{◌≡◌, ◌≢◌, ℕ, ◌+◌, ◌-◌, ◌≤◌, ◌==◌, Bool, cond, List, ◌∷◌, None, refl, sym, ap, ◌∙◌, subst, arith}
+use Rattle.std.proofs.Common.{◌≡◌, ◌≢◌, ℕ, ◌+◌, ◌<◌, ◌==◌, Bool, true, false, cond, List, ◌∷◌, None, refl, sym, ap, ◌∙◌, subst, arith}
 use Rattle.std.proofs.lemmas.Bool.{eq-eqb, ne_eqb}
 use Rattle.cc_queue.specs.Names.{Answer, Config, Event, Job, Kind, Parcel, Phase, SendAnswer, Sending, Setting, Stand}
 use Rattle.cc_runs.specs.Lines.{event_at, operation}
@@ -11,7 +11,7 @@ use Rattle.cc_runs.specs.Step.{advanced}
 use Rattle.cc_steps.specs.Seen.{Onward, settled}
 use Rattle.cc_steps.specs.Topic.{Topic}
 use Rattle.cc_steps.specs.Walk.{IsOf, Steps, Walk, walked_to}
-use Rattle.cc_queue.specs.Work.{IsListWith, Serves, worked_to, tally, reads, marks, hands, scans}
+use Rattle.cc_queue.specs.Work.{Serves, scan_phase, worked_to, tally, reads, marks, hands, scans}
 
 -- a step that reads no state, marks nothing and hands nothing over
 abbrev pub IsWithin : Kind → Type 0
@@ -53,43 +53,50 @@ looks_free : (c : Config) (job : Job) (parcel : Parcel) (at nodes passed : ℕ) 
 looks_free c job parcel at nodes passed free =
     ap (λ (b : Bool). phase_of Phase.Sending job (cond b (On (Sending.ResetPassed parcel at)) (cond (nodes == c.capacity + 1) (Decides (Answer.Send SendAnswer.Full)) (On (Sending.ReadPassed parcel (after c at) (nodes + 1)))))) (eq-eqb passed c.groups free)
 
--- to the next one, if it isn't free and isn't the last one
-looks_on : (c : Config) (job : Job) (parcel : Parcel) (at nodes passed : ℕ) → passed ≢ c.groups → nodes ≢ c.capacity + 1 → looks_to c job parcel at nodes passed ≡ Phase.Sending job (Sending.ReadPassed parcel (after c at) (nodes + 1))
-looks_on c job parcel at nodes passed used more =
+-- to the next one or, after the last one, to the answer, if it isn't free
+looks_on : (c : Config) (job : Job) (parcel : Parcel) (at nodes passed : ℕ) → passed ≢ c.groups → looks_to c job parcel at nodes passed ≡ scan_phase c job parcel (after c at) nodes
+looks_on c job parcel at nodes passed used =
     ap (λ (b : Bool). phase_of Phase.Sending job (cond b (On (Sending.ResetPassed parcel at)) (cond (nodes == c.capacity + 1) (Decides (Answer.Send SendAnswer.Full)) (On (Sending.ReadPassed parcel (after c at) (nodes + 1)))))) (ne_eqb passed c.groups used)
-    ∙ ap (λ (b : Bool). phase_of Phase.Sending job (cond b (Decides (Answer.Send SendAnswer.Full)) (On (Sending.ReadPassed parcel (after c at) (nodes + 1))))) (ne_eqb nodes (c.capacity + 1) more)
+    ∙ either (nodes == c.capacity + 1)
+  where
+    either : (b : Bool) → phase_of Phase.Sending job (cond b (Decides (Answer.Send SendAnswer.Full)) (On (Sending.ReadPassed parcel (after c at) (nodes + 1)))) ≡ cond b (Phase.WriteAnswer job (Answer.Send SendAnswer.Full)) (Phase.Sending job (Sending.ReadPassed parcel (after c at) (nodes + 1)))
+    either true = refl
+    either false = refl
 
--- to the answer, if it is the last one and isn't free
-looks_full : (c : Config) (job : Job) (parcel : Parcel) (at nodes passed : ℕ) → passed ≢ c.groups → nodes ≡ c.capacity + 1 → looks_to c job parcel at nodes passed ≡ Phase.WriteAnswer job (Answer.Send SendAnswer.Full)
-looks_full c job parcel at nodes passed used last =
-    ap (λ (b : Bool). phase_of Phase.Sending job (cond b (On (Sending.ResetPassed parcel at)) (cond (nodes == c.capacity + 1) (Decides (Answer.Send SendAnswer.Full)) (On (Sending.ReadPassed parcel (after c at) (nodes + 1)))))) (ne_eqb passed c.groups used)
-    ∙ ap (λ (b : Bool). phase_of Phase.Sending job (cond b (Decides (Answer.Send SendAnswer.Full)) (On (Sending.ReadPassed parcel (after c at) (nodes + 1))))) (eq-eqb nodes (c.capacity + 1) last)
+-- neither of which ends the call
+scan_stays : (c : Config) (job : Job) (parcel : Parcel) (at looked : ℕ) (z : Stand) → settled (record z { phase = scan_phase c job parcel at looked }) ≡ record z { phase = scan_phase c job parcel at looked }
+scan_stays c job parcel at looked z = either (looked == c.capacity + 1)
+  where
+    either : (b : Bool) → settled (record z { phase = cond b (Phase.WriteAnswer job (Answer.Send SendAnswer.Full)) (Phase.Sending job (Sending.ReadPassed parcel at (looked + 1))) }) ≡ record z { phase = cond b (Phase.WriteAnswer job (Answer.Send SendAnswer.Full)) (Phase.Sending job (Sending.ReadPassed parcel at (looked + 1))) }
+    either true = refl
+    either false = refl
 
--- such a look, of a pass of a list
-one_look : (v s r : Walk) (c : Config) (job : Job) (parcel : Parcel) (at nodes passed most : ℕ) (on : Phase) → IsListWith v c → Serves v (Phase.Sending job (Sending.ReadPassed parcel at nodes)) most s → r ≡ walked_to s None passed r.seen → Onward s.seen r.seen
-    → looks_to c job parcel at nodes passed ≡ on → ((z : Stand) → settled (record z { phase = on }) ≡ record z { phase = on }) → Serves v on (1 + most) r
-one_look v s r c job parcel at nodes passed most on list before step later leads stays =
-    one_step v s r Kind.ReadPassed (Phase.Sending job (Sending.ReadPassed parcel at nodes)) on most passed before step later refl (refl, refl, refl)
-    (λ z. ap (λ (x : Setting). settled (record z { phase = looks_to x.config job parcel at nodes passed })) list ∙ ap (λ (p : Phase). settled (record z { phase = p })) leads ∙ stays z)
+-- a look at a list node, after this number of others, none of which was free
+module _ (v s r : Walk) (job : Job) (parcel : Parcel) (at looked passed : ℕ) (below : looked < v.setting.config.capacity + 1) (before : Serves v (scan_phase v.setting.config job parcel at looked) looked s) (step : r ≡ walked_to s None passed r.seen)
+    (later : Onward s.seen r.seen) where
+  abbrev c : Config
+  c = v.setting.config
 
--- at most this number of looks are at most as many and more
-pub at_most : (v r : Walk) (on : Phase) (few most : ℕ) → few ≤ most → Serves v on few r → Serves v on most r
-at_most v r on few most le at = record { worked = at.worked; reads = at.reads; marks = at.marks; hands = at.hands; scans = omega (arith, at.scans, le); later = at.later }
+  unless_all : Serves v (Phase.Sending job (Sending.ReadPassed parcel at (looked + 1))) looked s
+  unless_all = subst (λ (b : Bool). Serves v (cond b (Phase.WriteAnswer job (Answer.Send SendAnswer.Full)) (Phase.Sending job (Sending.ReadPassed parcel at (looked + 1)))) looked s) (ne_eqb looked (c.capacity + 1) (λ e. omega (arith, e, below))) before
 
--- such a look, as the scan's number `nodes`
-module _ (v s r : Walk) (c : Config) (job : Job) (parcel : Parcel) (at nodes passed most : ℕ) (list : IsListWith v c) (before : Serves v (Phase.Sending job (Sending.ReadPassed parcel at nodes)) (nodes - 1) s) (step : r ≡ walked_to s None passed r.seen)
-    (later : Onward s.seen r.seen) (some : 1 ≤ nodes) (few : nodes ≤ most) where
-  look : (on : Phase) → looks_to c job parcel at nodes passed ≡ on → ((z : Stand) → settled (record z { phase = on }) ≡ record z { phase = on }) → Serves v on most r
-  look on leads stays = at_most v r on (1 + (nodes - 1)) most (omega (arith, some, few)) (one_look v s r c job parcel at nodes passed (nodes - 1) on list before step later leads stays)
+  look : (on : Phase) → looks_to c job parcel at (looked + 1) passed ≡ on → ((z : Stand) → settled (record z { phase = on }) ≡ record z { phase = on }) → Serves v on (1 + looked) r
+  look on leads stays =
+      one_step v s r Kind.ReadPassed (Phase.Sending job (Sending.ReadPassed parcel at (looked + 1))) on looked passed unless_all step later refl (refl, refl, refl)
+      (λ z. ap (λ (p : Phase). settled (record z { phase = p })) leads ∙ stays z)
 
-  pub finds_free : passed ≡ c.groups → Serves v (Phase.Sending job (Sending.ResetPassed parcel at)) most r
-  finds_free free = look (Phase.Sending job (Sending.ResetPassed parcel at)) (looks_free c job parcel at nodes passed free) (λ z. refl)
+  pub finds_free : passed ≡ c.groups → Serves v (Phase.Sending job (Sending.ResetPassed parcel at)) (1 + looked) r
+  finds_free free = look (Phase.Sending job (Sending.ResetPassed parcel at)) (looks_free c job parcel at (looked + 1) passed free) (λ z. refl)
 
-  pub finds_none : passed ≢ c.groups → nodes ≡ c.capacity + 1 → Serves v (Phase.WriteAnswer job (Answer.Send SendAnswer.Full)) most r
-  finds_none used last = look (Phase.WriteAnswer job (Answer.Send SendAnswer.Full)) (looks_full c job parcel at nodes passed used last) (λ z. refl)
+  pub looks_further : (next : ℕ) → passed ≢ c.groups → next ≡ after c at → Serves v (scan_phase c job parcel next (looked + 1)) (looked + 1) r
+  looks_further next used is =
+      subst (λ (n : ℕ). Serves v (scan_phase c job parcel n (looked + 1)) (looked + 1) r) (sym is)
+      (subst (λ (n : ℕ). Serves v (scan_phase c job parcel (after c at) (looked + 1)) n r) (omega arith) (look (scan_phase c job parcel (after c at) (looked + 1)) (looks_on c job parcel at (looked + 1) passed used) (scan_stays c job parcel (after c at) (looked + 1))))
 
-  pub looks_further : (next : ℕ) → passed ≢ c.groups → nodes ≢ c.capacity + 1 → next ≡ after c at → Serves v (Phase.Sending job (Sending.ReadPassed parcel next (nodes + 1))) most r
-  looks_further next used more is = look (Phase.Sending job (Sending.ReadPassed parcel next (nodes + 1))) (looks_on c job parcel at nodes passed used more ∙ ap (λ (n : ℕ). Phase.Sending job (Sending.ReadPassed parcel n (nodes + 1))) (sym is)) (λ z. refl)
+-- all of them were looked at
+pub looked_at_all : (v s : Walk) (job : Job) (parcel : Parcel) (at looked : ℕ) → looked ≡ v.setting.config.capacity + 1 → Serves v (scan_phase v.setting.config job parcel at looked) looked s → Serves v (Phase.WriteAnswer job (Answer.Send SendAnswer.Full)) looked s
+looked_at_all v s job parcel at looked all so =
+    subst (λ (b : Bool). Serves v (cond b (Phase.WriteAnswer job (Answer.Send SendAnswer.Full)) (Phase.Sending job (Sending.ReadPassed parcel at (looked + 1)))) looked s) (eq-eqb looked (v.setting.config.capacity + 1) all) so
 
 -- it can do the step of its place
 pub can_step : (v s : Walk) (here : Phase) (k : Kind) (op : Operation) → s ≡ worked_to v here s → event_at here ≡ Event.Did k → operation v.setting (chain_of v.setting.config v.number) v.stand.node here ≡ op → Steps s k op
@@ -98,3 +105,7 @@ can_step v s here k op at event does = subst (λ (z : Walk). Steps z k op) (sym 
 -- and its seat is still of that topic
 pub of_still : (t : Topic) (v s : Walk) (here : Phase) → IsOf t v → s ≡ worked_to v here s → IsOf t s
 of_still t v s here is at = subst (IsOf t) (sym at) is
+
+-- and the configuration that its queue has is that of the pass
+pub own_config : (t : Topic) (v : Walk) (c : Config) → IsOf t v → c ≡ t.setting.config → c ≡ v.setting.config
+own_config t v c here is = is ∙ sym (ap (λ (x : Setting). x.config) here.1)

@@ -1,6 +1,6 @@
 -- A part of a call, as its seat sees it: the phase that its pass has come to, and the steps that it did.
-use Rattle.std.specs.Prelude.{◌≡◌, ℕ, ◌<◌, ◌≤◌, ◌+◌, ◌==◌, if◌then◌else◌, ◌*◌, List, [], ◌∷◌, ◌++◌}
-use Rattle.cc_queue.specs.Names.{Call, Config, Served, Chain, Phase, Stand, Kind}
+use Rattle.std.specs.Prelude.{◌≡◌, ℕ, ◌≤◌, ◌+◌, ◌==◌, if◌then◌else◌, ◌*◌, List, [], ◌∷◌, ◌++◌}
+use Rattle.cc_queue.specs.Names.{Answer, Call, Config, Served, Chain, Job, Kind, Parcel, Phase, SendAnswer, Sending, Stand}
 use Rattle.cc_runs.specs.State.{chain_of}
 use Rattle.cc_steps.specs.Seen.{Onward}
 use Rattle.cc_steps.specs.Topic.{Topic}
@@ -11,27 +11,16 @@ use Rattle.cc_queue.specs.Headline.{entry_of}
 abbrev pub IsOn : Walk → Chain → Type 0
 IsOn w x = chain_of w.setting.config w.number ≡ x
 
--- its topic is a list with this configuration
-abbrev pub IsListWith : Walk → Config → Type 0
-IsListWith w c = w.setting ≡ record { served = Served.List; config = c }
-
 -- the pass of this seat is on this chain of a list, whose words these are
 pub record IsOnList (z : Topic) (x : Chain) (w : Walk) : Type 0 where
   pub here : IsOf z w
   pub list : w.setting.served ≡ Served.List
   pub chain : IsOn w x
 
--- the same of a list with this configuration
-pub record IsServing (z : Topic) (c : Config) (x : Chain) (w : Walk) : Type 0 where
-  pub here : IsOf z w
-  pub list : IsListWith w c
-  pub chain : IsOn w x
-
--- the pass of this seat can do a turn: it is on this chain of a list with this configuration, and reads the state of this node next
-pub record CanTurn (z : Topic) (c : Config) (x : Chain) (n : ℕ) (w : Walk) : Type 0 where
-  pub here : IsServing z c x w
+-- the pass of this seat can do a turn: it is on this chain of a list, and reads the state of this node next
+pub record CanTurn (z : Topic) (x : Chain) (n : ℕ) (w : Walk) : Type 0 where
+  pub here : IsOnList z x w
   pub at : w.stand ≡ record { begun = w.stand.begun; node = n; phase = Phase.ReadState }
-  pub bound : 0 < c.bound
 
 -- how often it did such steps
 abbrev pub tally : (Kind → ℕ) → List Kind → ℕ
@@ -65,6 +54,12 @@ worked_to v at w = record v { seen = w.seen; did = w.did; stand = record v.stand
 -- the phase of a combiner at the end of a round
 abbrev pub round_phase : ℕ → ℕ → ℕ → Phase
 round_phase bound at served = if served == bound then Phase.HandOver at else Phase.ReadNext record { at = at; served = served }
+
+-- the phase of the senders' combiner that has found this number of list nodes in use: unless these are all, it looks at this one next
+abbrev pub scan_phase : Config → Job → Parcel → (node looked : ℕ) → Phase
+scan_phase c job parcel node looked =
+    if looked == c.capacity + 1 then Phase.WriteAnswer job (Answer.Send SendAnswer.Full)
+    else Phase.Sending job (Sending.ReadPassed parcel node (looked + 1))
 
 -- Of the steps that are counted: how many states a pass read, requests it marked, hand-overs it made, and at most how often it
 -- looked whether a list node is free.

@@ -11,7 +11,7 @@ ghost use Rattle.cc_queue.specs.Headline.{entry_of};
 
 use crate::bodies;
 use cc_model::Call;
-use cc_runs::{Chain, NodeField, Request};
+use cc_runs::{Chain, Request};
 use cc_steps::seats::PassSeat;
 use cc_steps::steps;
 use cc_steps::words::Words;
@@ -50,9 +50,7 @@ pub fn begin_request(
     ensures pending { IsPendingIn seat.new }
 {
     let got = exchange(words, seat, Chain::Send, node, call);
-    steps::write_request(words, seat, got, NodeField::Tag, request.tag);
     bodies::write_request(words, seat, got, node, request);
-    steps::link_next(words, seat, Chain::Send, got, node + 1);
     got
 }
 

@@ -199,6 +199,23 @@ impl Queue {
         })
     }
 
+    /// The words that its passes share.
+    #[inline(always)]
+    pub(crate) fn words(&self) -> &Words
+        ensures { result.now ≡ self.now }
+    {
+        &self.words
+    }
+
+    /// Its configuration, which was checked.
+    #[inline(always)]
+    pub(crate) fn config(&self) -> &Config
+        ensures config { result.now ≡ self.now.setting.config }
+        ensures bound { 0 < self.now.setting.config.bound }
+    {
+        &self.config
+    }
+
     /// Its configuration was checked: a fact for proofs, and no work.
     pub(crate) fn is_sound(&self)
         ensures { config_fault self.now.setting.config ≡ Ok tt }

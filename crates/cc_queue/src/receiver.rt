@@ -16,7 +16,7 @@ pub fn begin_take(queue: &Queue, receiver: Receiver) -> PendingTake
     ensures { Begun receiver Call.Take result }
 {
     let Receiver { mut at } = receiver;
-    at.node = begins::begin_take(&queue.words, &mut at.seat, at.group, at.node);
+    at.node = begins::begin_take(queue.words(), &mut at.seat, at.group, at.node);
     at.seat.is_sound();
     PendingTake { at }
 }
@@ -29,7 +29,7 @@ pub fn turn_take(queue: &Queue, pending: PendingTake) -> TakeTurn
     ensures { TurnedTake pending result }
 {
     let PendingTake { mut at } = pending;
-    let turn = turns::turn_take(&queue.words, &mut at.seat, &queue.config, at.group, at.node);
+    let turn = turns::turn_take(queue, &mut at.seat, at.group, at.node);
     at.seat.is_sound();
     match turn {
         None => TakeTurn::Waiting(PendingTake { at }),

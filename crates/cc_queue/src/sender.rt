@@ -30,7 +30,7 @@ pub fn begin_send(queue: &Queue, sender: Sender, body: Body) -> Result<PendingSe
         body: words_in(body),
     };
     at.node = begin_request(
-        &queue.words,
+        queue.words(),
         &mut at.seat,
         at.node,
         Call::Send(body),
@@ -50,7 +50,7 @@ pub fn begin_close(queue: &Queue, sender: Sender) -> PendingClose
         tag: 0,
         body: BodyWords::none(),
     };
-    at.node = begin_request(&queue.words, &mut at.seat, at.node, Call::Close, request);
+    at.node = begin_request(queue.words(), &mut at.seat, at.node, Call::Close, request);
     at.seat.is_sound();
     PendingClose { at }
 }
@@ -63,7 +63,7 @@ pub fn turn_send(queue: &Queue, pending: PendingSend) -> SendTurn
     ensures { TurnedSend pending result }
 {
     let PendingSend { mut at } = pending;
-    let turn = turn_request(&queue.words, &mut at.seat, &queue.config, at.node);
+    let turn = turn_request(queue, &mut at.seat, at.node);
     at.seat.is_sound();
     match turn {
         None => SendTurn::Waiting(PendingSend { at }),
@@ -81,7 +81,7 @@ pub fn turn_close(queue: &Queue, pending: PendingClose) -> CloseTurn
     ensures { TurnedClose pending result }
 {
     let PendingClose { mut at } = pending;
-    let turn = turn_request(&queue.words, &mut at.seat, &queue.config, at.node);
+    let turn = turn_request(queue, &mut at.seat, at.node);
     at.seat.is_sound();
     match turn {
         None => CloseTurn::Waiting(PendingClose { at }),

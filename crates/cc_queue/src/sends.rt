@@ -1,60 +1,56 @@
 //! The service of a sender's request: CC-Queue's enqueue, by the combiner of the senders' chain.
-ghost use Rattle.std.specs.Prelude.{◌≡◌, ◌+◌, ◌<◌, ◌≤◌, ◌^◌, ◌==◌, if◌then◌else◌, IfSome, IfNone, Some, None};
+ghost use Rattle.std.specs.Prelude.{◌≡◌, ◌+◌, ◌<◌, ◌≤◌, ◌^◌, ◌==◌, if◌then◌else◌, Some, None};
 ghost use Rattle.cc_queue.specs.Names.{Answer, SendAnswer, Chain, Phase, Sending};
 ghost use Rattle.cc_steps.specs.Walk.{IsReadyToStep};
-ghost use Rattle.cc_queue.specs.Work.{IsOnList, IsServing, Serves};
+ghost use Rattle.cc_queue.specs.Work.{IsOnList, Serves};
 
 use crate::bodies;
+use crate::queue::Queue;
 use crate::tell::tell;
-use cc_model::{Answer, CloseAnswer, Config, SendAnswer};
-use cc_runs::{Chain, ItemField, Job, NodeField, Object, Parcel, Request, node_after};
+use cc_model::{Answer, CloseAnswer, SendAnswer};
+use cc_runs::{Chain, ItemField, Job, Object, Parcel, Request, further_words, node_after};
 use cc_steps::seats::PassSeat;
 use cc_steps::steps;
 use cc_steps::words::Words;
 
 /// Serves one request up to its mark: reads it, and decides why not if the queue is closed.
-pub fn serve_request(words: &Words, seat: &mut PassSeat, config: &Config, job: Job)
-    requires here { IsServing words.now config.now Chain.Send seat.old }
+pub fn serve_request(queue: &Queue, seat: &mut PassSeat, job: Job)
+    requires here { IsOnList queue.now Chain.Send seat.old }
     requires at { seat.old.stand.phase ≡ Phase.Sending job Sending.ReadTag }
-    ensures { Serves seat.old (Phase.MarkDone job) (config.now.capacity + 1) seat.new }
+    ensures { Serves seat.old (Phase.MarkDone job) (seat.old.setting.config.capacity + 1) seat.new }
 {
-    let tag = steps::read_request(words, seat, job.round.at, NodeField::Tag);
-    let body = bodies::read_request(words, seat, job, tag);
+    let words = queue.words();
+    let request = bodies::read_request(words, seat, job);
     let shut = steps::read_object(words, seat, Object::Shut);
     if shut != 0 {
-        refuse_after_close(words, seat, job, tag);
+        refuse_after_close(words, seat, job, request.tag);
         return;
     }
-    let request = Request { tag, body };
-    serve_open(words, seat, config, job, request);
+    serve_open(queue, seat, job, request);
 }
 
 /// Serves a request of a queue that isn't closed: closes the list, or looks for a free node, or decides that `life` items
 /// were accepted.
 #[inline(always)]
-fn serve_open(words: &Words, seat: &mut PassSeat, config: &Config, job: Job, request: Request)
-    requires here { IsServing words.now config.now Chain.Send seat.old }
+fn serve_open(queue: &Queue, seat: &mut PassSeat, job: Job, request: Request)
+    requires here { IsOnList queue.now Chain.Send seat.old }
     requires at { seat.old.stand.phase ≡ Phase.Sending job (Sending.ReadCount request) }
-    ensures { Serves seat.old (Phase.MarkDone job) (config.now.capacity + 1) seat.new }
+    ensures { Serves seat.old (Phase.MarkDone job) (seat.old.setting.config.capacity + 1) seat.new }
 {
+    let words = queue.words();
     let count = steps::read_object(words, seat, Object::Count);
     if request.tag == 0 {
-        link_mark(words, seat, config, job, count);
-    } else if count == config.life {
-        tell(
-            words,
-            seat,
-            Chain::Send,
-            job,
-            Answer::Send(SendAnswer::Spent),
-        );
+        link_mark(queue, seat, job, count);
+    } else if count == queue.config().life {
+        let answer = Answer::Send(SendAnswer::Spent);
+        tell(words, seat, Chain::Send, job, answer);
     } else {
         let parcel = Parcel {
             place: count,
             tag: request.tag,
             body: request.body,
         };
-        scan(words, seat, config, job, parcel);
+        scan(queue, seat, job, parcel);
     }
 }
 
@@ -75,12 +71,13 @@ fn refuse_after_close(words: &Words, seat: &mut PassSeat, job: Job, tag: u64)
 }
 
 /// Closes: links the reserved node after the last one, and sets `shut`.
-fn link_mark(words: &Words, seat: &mut PassSeat, config: &Config, job: Job, total: u64)
-    requires here { IsServing words.now config.now Chain.Send seat.old }
+fn link_mark(queue: &Queue, seat: &mut PassSeat, job: Job, total: u64)
+    requires here { IsOnList queue.now Chain.Send seat.old }
     requires at { seat.old.stand.phase ≡ Phase.Sending job (Sending.ReadLastToClose total) }
     ensures { Serves seat.old (Phase.MarkDone job) 0 seat.new }
 {
-    let mark = config.capacity as u64 + 1;
+    let words = queue.words();
+    let mark = queue.config().capacity as u64 + 1;
     let last = steps::read_object(words, seat, Object::Last) - 1;
     steps::link_last(words, seat, last, mark + 1);
     steps::write_object(words, seat, Object::Last, mark + 1);
@@ -89,82 +86,62 @@ fn link_mark(words: &Words, seat: &mut PassSeat, config: &Config, job: Job, tota
     tell(words, seat, Chain::Send, job, answer);
 }
 
-/// Appends the item in the first free node from the cursor on, or decides that the queue is full.
-fn scan(words: &Words, seat: &mut PassSeat, config: &Config, job: Job, parcel: Parcel)
-    requires here { IsServing words.now config.now Chain.Send seat.old }
+/// Appends the item in the first free node from the cursor on, or decides that the queue is full if none of the nodes is
+/// free.
+fn scan(queue: &Queue, seat: &mut PassSeat, job: Job, parcel: Parcel)
+    requires here { IsOnList queue.now Chain.Send seat.old }
     requires at { seat.old.stand.phase ≡ Phase.Sending job (Sending.ReadCursor parcel) }
-    ensures { Serves seat.old (Phase.MarkDone job) (config.now.capacity + 1) seat.new }
+    ensures { Serves seat.old (Phase.MarkDone job) (seat.old.setting.config.capacity + 1) seat.new }
 {
-    match find_free(words, seat, config, job, parcel) {
-        Some(node) => prepare(words, seat, config, job, parcel, node),
-        None => tell(
-            words,
-            seat,
-            Chain::Send,
-            job,
-            Answer::Send(SendAnswer::Full),
-        ),
-    }
-}
-
-/// Looks for a free node from the cursor on, once round. `job` and `parcel` are here for the clauses alone.
-#[inline(always)]
-fn find_free(
-    words: &Words,
-    seat: &mut PassSeat,
-    config: &Config,
-    job: Job,
-    parcel: Parcel,
-) -> Option<u64>
-    requires here { IsServing words.now config.now Chain.Send seat.old }
-    requires at { seat.old.stand.phase ≡ Phase.Sending job (Sending.ReadCursor parcel) }
-    ensures free { IfSome result (λ node. Serves seat.old (Phase.Sending job (Sending.ResetPassed parcel node)) (config.now.capacity + 1) seat.new) }
-    ensures full { IfNone result (Serves seat.old (Phase.WriteAnswer job (Answer.Send SendAnswer.Full)) (config.now.capacity + 1) seat.new) }
-    ensures ready { IsReadyToStep seat.new }
-{
-    let _ = (job, parcel);
+    let words = queue.words();
+    let config = queue.config();
     let nodes = config.capacity as u64 + 1;
     let groups = config.groups as u64;
     let mut node = steps::read_object(words, seat, Object::Cursor);
-    for _reads in 1..nodes {
+    for _looked in 0..nodes {
         if steps::read_passed(words, seat, node) == groups {
-            return Some(node);
+            prepare(queue, seat, job, parcel, node);
+            return;
         }
         node = node_after(node, nodes);
     }
-    if steps::read_passed(words, seat, node) == groups {
-        Some(node)
-    } else {
-        None
-    }
+    let answer = Answer::Send(SendAnswer::Full);
+    tell(words, seat, Chain::Send, job, answer);
 }
 
 /// Resets a free node, writes the item into it, and appends it.
 #[inline(always)]
-fn prepare(words: &Words, seat: &mut PassSeat, config: &Config, job: Job, parcel: Parcel, node: u64)
-    requires here { IsServing words.now config.now Chain.Send seat.old }
+fn prepare(queue: &Queue, seat: &mut PassSeat, job: Job, parcel: Parcel, node: u64)
+    requires here { IsOnList queue.now Chain.Send seat.old }
     requires at { seat.old.stand.phase ≡ Phase.Sending job (Sending.ResetPassed parcel node) }
     ensures { Serves seat.old (Phase.MarkDone job) 0 seat.new }
 {
+    let words = queue.words();
     steps::reset_list_node(words, seat, node, ItemField::Passed);
     steps::reset_list_node(words, seat, node, ItemField::Next);
     steps::write_item(words, seat, node, ItemField::Tag, parcel.tag);
-    bodies::write_item(words, seat, job, parcel, node);
-    append(words, seat, config, job, parcel.place, node);
+    steps::write_item(words, seat, node, ItemField::Body(0), parcel.body.first);
+    for done in 0..further_words(parcel.tag) {
+        let index = done + 1;
+        let word = parcel.body.word(index);
+        steps::write_item(words, seat, node, ItemField::Body(index), word);
+    }
+    append(queue, seat, job, parcel.place, node);
 }
 
 /// Links the prepared node after the last one: here the item is accepted.
 #[inline(always)]
-fn append(words: &Words, seat: &mut PassSeat, config: &Config, job: Job, count: u64, node: u64)
-    requires here { IsServing words.now config.now Chain.Send seat.old }
+fn append(queue: &Queue, seat: &mut PassSeat, job: Job, count: u64, node: u64)
+    requires here { IsOnList queue.now Chain.Send seat.old }
     requires at { seat.old.stand.phase ≡ Phase.Sending job (Sending.ReadLast count node) }
     ensures { Serves seat.old (Phase.MarkDone job) 0 seat.new }
 {
+    let words = queue.words();
     let last = steps::read_object(words, seat, Object::Last) - 1;
     steps::link_last(words, seat, last, node + 1);
     steps::write_object(words, seat, Object::Last, node + 1);
     steps::write_object(words, seat, Object::Count, count + 1);
-    let cursor = node_after(node, config.capacity as u64 + 1);
+    let cursor = node_after(node, queue.config().capacity as u64 + 1);
     steps::write_object(words, seat, Object::Cursor, cursor);
     let answer = Answer::Send(SendAnswer::Accepted { place: count });
     tell(words, seat, Chain::Send, job, answer);

@@ -1,23 +1,26 @@
 //! The service of a take: CC-Queue's dequeue, by the combiner of a group's chain.
 ghost use Rattle.std.specs.Prelude.{◌≡◌, ◌+◌, ◌<◌, ◌^◌, Some, None};
 ghost use Rattle.cc_queue.specs.Names.{Chain, Phase, Taking};
+ghost use Rattle.cc_runs.specs.Codes as codes;
 ghost use Rattle.cc_steps.specs.Walk.{IsReadyToStep};
 ghost use Rattle.cc_queue.specs.Work.{IsOnList, Serves};
 
 use crate::bodies;
 use crate::tell::tell;
 use cc_model::{Answer, TakeAnswer};
-use cc_runs::{CODE, Chain, ItemField, Job, NodeField, Object, Parcel};
+use cc_runs::{BodyWords, CODE, Chain, ItemField, Job, NodeField, Object, Parcel, further_words};
 use cc_steps::seats::PassSeat;
 use cc_steps::steps;
 use cc_steps::words::Words;
 
-/// The head of a group as a take finds it: the dummy, how many items the group was handed, and the node after the dummy.
+/// The head of a group, from 0, as a take finds it: the dummy, how many items the group was handed, and the node after the
+/// dummy.
 #[derive(Clone, Copy)]
-pub struct Head {
-    pub dummy: u64,
-    pub taken: u64,
-    pub node: u64,
+struct Head {
+    group: u32,
+    dummy: u64,
+    taken: u64,
+    node: u64,
 }
 
 /// Serves one take up to its mark: reads the dummy's next and the item there, or decides that there is none.
@@ -35,16 +38,17 @@ pub fn serve_take(words: &Words, seat: &mut PassSeat, group: u32, job: Job)
         return;
     }
     let head = Head {
+        group,
         dummy,
         taken,
         node: next - 1,
     };
-    take_item(words, seat, group, job, head);
+    take_item(words, seat, job, head);
 }
 
-/// Reads the item of the node after the dummy and hands it out, or decides the end if that node is the close mark.
-fn take_item(words: &Words, seat: &mut PassSeat, group: u32, job: Job, head: Head)
-    requires here { IsOnList words.now (Chain.Take group) seat.old }
+/// Reads the tag of the node after the dummy, and takes the item there, or decides the end if that node is the close mark.
+fn take_item(words: &Words, seat: &mut PassSeat, job: Job, head: Head)
+    requires here { IsOnList words.now (Chain.Take head.group) seat.old }
     requires at { seat.old.stand.phase ≡ Phase.Taking job (Taking.ReadItemTag head.dummy head.taken head.node) }
     requires ready { IsReadyToStep seat.old }
     ensures { Serves seat.old (Phase.MarkDone job) 0 seat.new }
@@ -52,26 +56,46 @@ fn take_item(words: &Words, seat: &mut PassSeat, group: u32, job: Job, head: Hea
     let tag = steps::read_item(words, seat, head.node, ItemField::Tag);
     if tag == 0 {
         let answer = Answer::Take(TakeAnswer::Ended { total: head.taken });
-        tell(words, seat, Chain::Take(group), job, answer);
+        tell(words, seat, Chain::Take(head.group), job, answer);
         return;
     }
-    let parcel = bodies::read_item(words, seat, group, job, head, tag);
-    hand_out(words, seat, group, job, head, parcel);
+    take_body(words, seat, job, head, tag);
+}
+
+/// Reads the body of the item with this tag, and hands the item out.
+#[inline(always)]
+fn take_body(words: &Words, seat: &mut PassSeat, job: Job, head: Head, tag: u64)
+    requires here { IsOnList words.now (Chain.Take head.group) seat.old }
+    requires at { seat.old.stand.phase ≡ Phase.Taking job (Taking.ReadItemBody head.dummy head.node (codes.parcel head.taken tag codes.no_words) 0) }
+    ensures { Serves seat.old (Phase.MarkDone job) 0 seat.new }
+{
+    let first = steps::read_item(words, seat, head.node, ItemField::Body(0));
+    let mut body = BodyWords::one(first);
+    for done in 0..further_words(tag) {
+        let index = done + 1;
+        let found = steps::read_item(words, seat, head.node, ItemField::Body(index));
+        body = body.with_word(index, found);
+    }
+    let parcel = Parcel {
+        place: head.taken,
+        tag,
+        body,
+    };
+    hand_out(words, seat, job, head, parcel);
 }
 
 /// Makes the item's node the new dummy, frees the old one, and decides the item.
-fn hand_out(words: &Words, seat: &mut PassSeat, group: u32, job: Job, head: Head, parcel: Parcel)
-    requires here { IsOnList words.now (Chain.Take group) seat.old }
+fn hand_out(words: &Words, seat: &mut PassSeat, job: Job, head: Head, parcel: Parcel)
+    requires here { IsOnList words.now (Chain.Take head.group) seat.old }
     requires at { seat.old.stand.phase ≡ Phase.Taking job (Taking.WriteHead head.dummy head.node parcel) }
     requires ready { IsReadyToStep seat.old }
     ensures { Serves seat.old (Phase.MarkDone job) 0 seat.new }
 {
-    let chain = Chain::Take(group);
-    let at = job.round.at;
-    steps::write_object(words, seat, Object::Head(group), head.node + 1);
-    steps::write_object(words, seat, Object::Taken(group), parcel.place + 1);
+    let chain = Chain::Take(head.group);
+    steps::write_object(words, seat, Object::Head(head.group), head.node + 1);
+    steps::write_object(words, seat, Object::Taken(head.group), parcel.place + 1);
     steps::add_passed(words, seat, head.dummy);
-    steps::write_answer(words, seat, chain, at, NodeField::Ret, CODE + parcel.place);
-    steps::write_answer(words, seat, chain, at, NodeField::Tag, parcel.tag_of_item());
+    let ret = CODE + parcel.place;
+    steps::write_answer(words, seat, chain, job.round.at, NodeField::Ret, ret);
     bodies::write_answer(words, seat, chain, job, parcel);
 }

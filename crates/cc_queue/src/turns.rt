@@ -8,8 +8,9 @@ ghost use Rattle.cc_queue.specs.Work.{CanTurn, IsOnList, Works, Waits, looked, t
 
 use crate::bodies;
 use crate::combine::combine;
-use cc_model::{CloseAnswer, Config, SendAnswer, TakeAnswer};
-use cc_runs::{CODE, Chain, NodeField, item_of};
+use crate::queue::Queue;
+use cc_model::{CloseAnswer, SendAnswer, TakeAnswer};
+use cc_runs::{CODE, Chain, NodeField};
 use cc_steps::seats::PassSeat;
 use cc_steps::steps;
 use cc_steps::words::Words;
@@ -17,20 +18,14 @@ use cc_steps::words::Words;
 /// Reads the state of the current node once. If it is 1 the call waits; if it is 0 the pass combines; and then its
 /// answer may be read, and this is how many calls it served.
 #[inline(always)]
-pub fn await_answer(
-    words: &Words,
-    seat: &mut PassSeat,
-    config: &Config,
-    chain: Chain,
-    node: u64,
-) -> Option<u32>
-    requires { CanTurn words.now config.now chain node seat.old }
+pub fn await_answer(queue: &Queue, seat: &mut PassSeat, chain: Chain, node: u64) -> Option<u32>
+    requires { CanTurn queue.now chain node seat.old }
     ensures waits { IfNone result (Waits seat.old seat.new) }
-    ensures done { IfSome result (λ n. Works seat.old Phase.ReadAnswer (turned config.now n) seat.new) }
-    ensures few { IfSome result (λ n. n ≤ config.now.bound) }
+    ensures done { IfSome result (λ n. Works seat.old Phase.ReadAnswer (turned seat.old.setting.config n) seat.new) }
+    ensures few { IfSome result (λ n. n ≤ seat.old.setting.config.bound) }
 {
-    match steps::read_state(words, seat, chain, node) {
-        0 => Some(combine(words, seat, config, chain, node)),
+    match steps::read_state(queue.words(), seat, chain, node) {
+        0 => Some(combine(queue, seat, chain, node)),
         1 => None,
         _ => Some(0),
     }
@@ -38,30 +33,24 @@ pub fn await_answer(
 
 /// `await_answer` on the senders' chain: compiled for it alone, and once for all who call.
 #[inline(never)]
-fn await_request(words: &Words, seat: &mut PassSeat, config: &Config, node: u64) -> Option<u32>
-    requires { CanTurn words.now config.now Chain.Send node seat.old }
+fn await_request(queue: &Queue, seat: &mut PassSeat, node: u64) -> Option<u32>
+    requires { CanTurn queue.now Chain.Send node seat.old }
     ensures waits { IfNone result (Waits seat.old seat.new) }
-    ensures done { IfSome result (λ n. Works seat.old Phase.ReadAnswer (turned config.now n) seat.new) }
-    ensures few { IfSome result (λ n. n ≤ config.now.bound) }
+    ensures done { IfSome result (λ n. Works seat.old Phase.ReadAnswer (turned seat.old.setting.config n) seat.new) }
+    ensures few { IfSome result (λ n. n ≤ seat.old.setting.config.bound) }
 {
-    await_answer(words, seat, config, Chain::Send, node)
+    await_answer(queue, seat, Chain::Send, node)
 }
 
 /// `await_answer` on a group's chain, in the same way.
 #[inline(never)]
-fn await_item(
-    words: &Words,
-    seat: &mut PassSeat,
-    config: &Config,
-    group: u32,
-    node: u64,
-) -> Option<u32>
-    requires { CanTurn words.now config.now (Chain.Take group) node seat.old }
+fn await_item(queue: &Queue, seat: &mut PassSeat, group: u32, node: u64) -> Option<u32>
+    requires { CanTurn queue.now (Chain.Take group) node seat.old }
     ensures waits { IfNone result (Waits seat.old seat.new) }
-    ensures done { IfSome result (λ n. Works seat.old Phase.ReadAnswer (turned config.now n) seat.new) }
-    ensures few { IfSome result (λ n. n ≤ config.now.bound) }
+    ensures done { IfSome result (λ n. Works seat.old Phase.ReadAnswer (turned seat.old.setting.config n) seat.new) }
+    ensures few { IfSome result (λ n. n ≤ seat.old.setting.config.bound) }
 {
-    await_answer(words, seat, config, Chain::Take(group), node)
+    await_answer(queue, seat, Chain::Take(group), node)
 }
 
 /// Reads the answer word of a send or a close.
@@ -86,12 +75,7 @@ pub fn read_take_answer(words: &Words, seat: &mut PassSeat, group: u32, node: u6
     let chain = Chain::Take(group);
     let ret = steps::read_answer(words, seat, chain, node, NodeField::Ret);
     match ret / CODE {
-        1 => {
-            let tag = steps::read_answer(words, seat, chain, node, NodeField::Tag);
-            let place = ret % CODE;
-            let body = bodies::read_answer(words, seat, group, node, place, tag);
-            TakeAnswer::Got(item_of(place, tag, body))
-        }
+        1 => TakeAnswer::Got(bodies::read_answer(words, seat, group, node, ret % CODE)),
         2 => TakeAnswer::Empty,
         _ => TakeAnswer::Ended { total: ret % CODE },
     }
@@ -99,39 +83,33 @@ pub fn read_take_answer(words: &Words, seat: &mut PassSeat, group: u32, node: u6
 
 /// A turn of a send or a close: its answer word, and how many calls were served, if it doesn't wait.
 #[inline(always)]
-pub fn turn_request(
-    words: &Words,
-    seat: &mut PassSeat,
-    config: &Config,
-    node: u64,
-) -> Option<(u64, u32)>
-    requires { CanTurn words.now config.now Chain.Send node seat.old }
+pub fn turn_request(queue: &Queue, seat: &mut PassSeat, node: u64) -> Option<(u64, u32)>
+    requires { CanTurn queue.now Chain.Send node seat.old }
     ensures waits { IfNone result (Waits seat.old seat.new) }
-    ensures done { IfSome result (λ r. Works seat.old Phase.Idle (turned config.now r.1) seat.new) }
-    ensures few { IfSome result (λ r. r.1 ≤ config.now.bound) }
+    ensures done { IfSome result (λ r. Works seat.old Phase.Idle (turned seat.old.setting.config r.1) seat.new) }
+    ensures few { IfSome result (λ r. r.1 ≤ seat.old.setting.config.bound) }
     ensures told { IfSome result (λ r. IsToldAt seat.new (Phase.Finished (list_reads r.0))) }
 {
-    let served = await_request(words, seat, config, node)?;
-    Some((read_request_answer(words, seat, node), served))
+    let served = await_request(queue, seat, node)?;
+    Some((read_request_answer(queue.words(), seat, node), served))
 }
 
 /// A turn of a take: its answer, and how many calls were served, if it doesn't wait.
 #[inline(always)]
 pub fn turn_take(
-    words: &Words,
+    queue: &Queue,
     seat: &mut PassSeat,
-    config: &Config,
     group: u32,
     node: u64,
 ) -> Option<(TakeAnswer, u32)>
-    requires { CanTurn words.now config.now (Chain.Take group) node seat.old }
+    requires { CanTurn queue.now (Chain.Take group) node seat.old }
     ensures waits { IfNone result (Waits seat.old seat.new) }
-    ensures done { IfSome result (λ r. Works seat.old Phase.Idle (turned config.now r.1) seat.new) }
-    ensures few { IfSome result (λ r. r.1 ≤ config.now.bound) }
+    ensures done { IfSome result (λ r. Works seat.old Phase.Idle (turned seat.old.setting.config r.1) seat.new) }
+    ensures few { IfSome result (λ r. r.1 ≤ seat.old.setting.config.bound) }
     ensures told { IfSome result (λ r. IsToldAt seat.new (Phase.Finished (Answer.Take r.0))) }
 {
-    let served = await_item(words, seat, config, group, node)?;
-    Some((read_take_answer(words, seat, group, node), served))
+    let served = await_item(queue, seat, group, node)?;
+    Some((read_take_answer(queue.words(), seat, group, node), served))
 }
 
 /// The answer of a send that an answer word is.

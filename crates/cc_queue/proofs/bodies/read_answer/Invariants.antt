@@ -7,5 +7,5 @@ use Rattle.cc_queue.proofs.bodies.read_answer.Given as goal
 
 abbrev pub invariant-loop-done : goal.invariant-loop-done
 invariant-loop-done l =
-    Serves l.fn.seat (behind (further_words l.fn.tag) l.done (Phase.ReadAnswerBody (parcel l.fn.at l.fn.tag l.body) (l.done + 1)) (Phase.Idle)) 0 l.seat
-    × IsToldAt l.seat (behind (further_words l.fn.tag) l.done (Phase.ReadAnswerBody (parcel l.fn.at l.fn.tag l.body) (l.done + 1)) (Phase.Finished (Answer.Take (TakeAnswer.Got (item_in (parcel l.fn.at l.fn.tag l.body))))))
+    Serves l.fn.seat (behind (further_words l.tag) l.done (Phase.ReadAnswerBody (parcel l.fn.place l.tag l.body) (l.done + 1)) (Phase.Idle)) 0 l.seat
+    × IsToldAt l.seat (behind (further_words l.tag) l.done (Phase.ReadAnswerBody (parcel l.fn.place l.tag l.body) (l.done + 1)) (Phase.Finished (Answer.Take (TakeAnswer.Got (item_in (parcel l.fn.place l.tag l.body))))))

@@ -7,5 +7,5 @@ use Rattle.cc_queue.proofs.bodies.read_request.Given as goal
 
 abbrev pub invariant-loop-done : goal.invariant-loop-done
 invariant-loop-done l =
-    Serves l.fn.seat (behind (further_words l.fn.tag) l.done (Phase.Sending l.fn.job (Sending.ReadBody record { tag = l.fn.tag; body = l.body } (l.done + 1))) (Phase.Sending l.fn.job (Sending.ReadShut record { tag = l.fn.tag; body = l.body }))) 0 l.seat
+    Serves l.fn.seat (behind (further_words l.tag) l.done (Phase.Sending l.fn.job (Sending.ReadBody record { tag = l.tag; body = l.body } (l.done + 1))) (Phase.Sending l.fn.job (Sending.ReadShut record { tag = l.tag; body = l.body }))) 0 l.seat
     × IsReadyToStep l.seat

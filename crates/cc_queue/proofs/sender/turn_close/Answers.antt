@@ -10,4 +10,4 @@ returns-in-None c = waited_so _ _ _ _ _ c.pending.view_is c.pending.invariant.0.
 pub returns-in-Some : goal.returns-in-Some
 returns-in-Some c =
     let e = c.in-Some.ensures in
-    rw (← c.close_answer.ensures) (answered_so _ _ _ _ _ _ _ _ c.queue.view_is c.queue.invariant.list c.requires c.pending.view_is c.is_sound.ensures e.done e.told e.few)
+    rw (← c.close_answer.ensures) (answered_so _ _ _ _ _ c.pending.view_is c.pending.invariant.0.list c.is_sound.ensures e.done e.told e.few)

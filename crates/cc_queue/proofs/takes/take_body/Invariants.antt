@@ -3,7 +3,7 @@ use Rattle.cc_queue.specs.Names.{Phase, Taking}
 use Rattle.cc_runs.specs.Codes.{further_words, behind, parcel}
 use Rattle.cc_steps.specs.Walk.{IsReadyToStep}
 use Rattle.cc_queue.specs.Work.{Serves}
-use Rattle.cc_queue.proofs.bodies.read_item.Given as goal
+use Rattle.cc_queue.proofs.takes.take_body.Given as goal
 
 abbrev pub invariant-loop-done : goal.invariant-loop-done
 invariant-loop-done l =
