@@ -1,0 +1,6 @@
+//! The judge of logs and the laws of runs agree: they speak of one queue, and the log of each run has a legal order.
+#![tactic(auto)]
+
+mod laws;
+
+pub use laws::{answered_orders_are_exact, exact_orders_are_answered};
