@@ -1,3 +1,4 @@
 pub mod Lines
 pub mod Declined
 pub mod Explained
+pub mod JudgeOptions

@@ -1,6 +1,7 @@
 pub mod Names
 pub mod CommandLine
 pub mod Words
+pub mod JudgeOptions
 pub mod Why
 pub mod Run
 pub mod Drive

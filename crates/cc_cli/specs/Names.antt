@@ -5,3 +5,6 @@ pub use Rattle.cc_play.specs.declared.fault.PlayFault.{PlayFault}
 pub use Rattle.cc_show.specs.declared.fault.ShowFault.{ShowFault}
 pub use Rattle.cc_show.specs.declared.form.Form.{Form}
 pub use Rattle.cc_cli.specs.declared.command_line.Task.{Task}
+pub use Rattle.cc_log.specs.declared.parse.Options.{Options}
+pub use Rattle.cc_cli.specs.declared.judge_options.Numbered.{Numbered}
+pub use Rattle.cc_cli.specs.declared.judge_options.Reading.{Reading}

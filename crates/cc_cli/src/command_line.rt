@@ -247,7 +247,7 @@ A log has a JSON object for each call, one a line, 65536 bytes at most:
   close   true
   answer  full or closed of a send; ended or closed of a take of null
 
-Options, before the file:
+Options:
   --page        writes the answer as a page for a browser that draws the calls; needs no network
   --capacity N  the queue holds N items: judges the answer full
   --skew N      clocks may differ by N: a call may have begun N earlier and ended N later

@@ -3,7 +3,7 @@
 //!
 //! `words` has the file that a line names, `--trace`, and help by its word. `run` does any line without these. A line whose first word
 //! is `drive` is read by `drive_line` and done by `driving`; any other line is read by `command_line` and done by `reading`,
-//! without threads. `judging` reads a line of `judge` with options.
+//! without threads. `judge_options` reads the options of `judge`.
 #![tactic(auto)]
 
 mod command_line;
@@ -11,7 +11,7 @@ pub mod drive_line;
 mod driving;
 mod gate;
 pub mod hint;
-pub mod judging;
+pub mod judge_options;
 pub mod reading;
 pub mod run;
 mod why;

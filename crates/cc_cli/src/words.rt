@@ -3,6 +3,7 @@
 ghost use Rattle.std.specs.Prelude.{◌≡◌, IfOk, map, option_map, string_bytes};
 ghost use Rattle.cc_cli.specs.Words.{file_named, file_of, form_of, is_option, line_without_file, line_without_form, reads_input, spelled};
 
+use cc_log::Options;
 use cc_show::Form;
 use std::alloc::{AllocError, Global};
 
@@ -110,11 +111,13 @@ pub fn without_file(words: &[String]) -> WithoutFile<'_>
     }
 }
 
-/// A command line, without the program's name, `--trace` and the file of its input.
+/// A command line, without the program's name, its options and the file of its input.
 #[derive(Clone, Copy)]
 pub struct CommandLine<'a> {
     /// Its words.
     pub words: &'a [String],
     /// The form in which it shows a run, if it shows one.
     pub form: Form,
+    /// The options by which it judges a log, if it judges one.
+    pub options: Options,
 }

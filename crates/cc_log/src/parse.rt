@@ -1,6 +1,6 @@
 //! The lines of a log, one after another.
 
-ghost use Rattle.std.specs.Prelude.{◌<◌, ◌-◌, ◌^◌};
+ghost use Rattle.std.specs.Prelude.{◌≡◌, ◌<◌, ◌-◌, ◌^◌, None, false};
 
 use crate::fault::{LineFault, LogFault};
 use crate::line::{Body, Line, Said, begins_late, body_text, read_line};
@@ -24,7 +24,9 @@ pub struct Options {
 
 impl Options {
     /// Nothing is said.
-    pub fn none() -> Options {
+    pub fn none() -> Options
+        ensures { result ≡ record { capacity = None; skew = 0; page = false } }
+    {
         Options {
             capacity: None,
             skew: 0,

@@ -4,10 +4,11 @@
 ghost use Rattle.std.specs.Prelude.{◌<◌, ◌-◌, ◌^◌};
 
 use cc_cli::hint::{hint, is_explained};
+use cc_cli::judge_options::{decline_options, without_options};
+use cc_cli::not_text;
 use cc_cli::reading::{decline, decline_file};
 use cc_cli::run::run;
 use cc_cli::words::{CommandLine, spelled, without_file, without_form};
-use cc_cli::{judging, not_text};
 use cc_io::{Device, Sink, Source};
 use clap::Error;
 use std::alloc::{AllocError, Global};
@@ -58,14 +59,15 @@ fn answer<R: Threads + Wait + Sync + Files, S: Source, W: Sink, E: Sink>(
     requires writes { W.write_failures sink.old < 2 ^ 64 - 1 }
     requires errors { E.write_failures errors.old < 2 ^ 64 - 1 }
 {
-    if judging::has_options(words.as_slice()) {
-        return judge(rt, alloc, words.as_slice(), standard, sink, errors);
-    }
-    let formed = without_form(words);
+    let Some(judging) = without_options(words) else {
+        return decline_options(errors);
+    };
+    let formed = without_form(judging.words);
     let parted = without_file(formed.words.as_slice());
     let line = CommandLine {
         words: parted.words,
         form: formed.form,
+        options: judging.options,
     };
     let Some(name) = parted.file else {
         return run(rt, alloc, line, standard, sink, errors);
@@ -75,32 +77,6 @@ fn answer<R: Threads + Wait + Sync + Files, S: Source, W: Sink, E: Sink>(
             let mut source = Device::new(file);
             run(rt, alloc, line, &mut source, sink, errors)
         }
-        Err(error) => decline_file(alloc, errors, name.as_bytes(), &error),
-    }
-}
-
-/// Judges a log by options, over the file that the line names, or over standard input if it names none, and answers the exit
-/// status.
-fn judge<R: Files, S: Source, W: Sink, E: Sink>(
-    rt: &R,
-    alloc: Global,
-    words: &[String],
-    standard: &mut S,
-    sink: &mut W,
-    errors: &mut E,
-) -> u8
-    requires reads { S.read_failures standard.old < 2 ^ 64 - 1 }
-    requires writes { W.write_failures sink.old < 2 ^ 64 - 1 }
-    requires errors { E.write_failures errors.old < 2 ^ 64 - 1 }
-{
-    let Some(asked) = judging::asked(words) else {
-        return judging::decline_options(errors);
-    };
-    let Some(name) = asked.file else {
-        return judging::judge(alloc, asked, standard, sink, errors);
-    };
-    match File::open(rt, name) {
-        Ok(file) => judging::judge(alloc, asked, &mut Device::new(file), sink, errors),
         Err(error) => decline_file(alloc, errors, name.as_bytes(), &error),
     }
 }

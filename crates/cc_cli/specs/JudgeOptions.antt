@@ -1,0 +1,88 @@
+-- The options of a line of `judge`, which the parser of command lines doesn't see. They are anywhere before the mark `--`, in any
+-- order, each once.
+use Rattle.std.specs.Prelude.{ℕ, ◌==◌, ◌+◌, ◌*◌, ◌-◌, ◌^◌, ◌&&◌, true, false, List, [], ◌∷◌, ◌++◌, codes, if◌then◌else◌, Option, Some, None, nat_le, nat_lt, is_none, length}
+use Rattle.std.specs.Str.{bytes_eq}
+use Rattle.std.specs.List.{before_first, after_first, position_or_len}
+use Rattle.cc_cli.specs.Names.{Numbered, Options, Reading}
+
+-- the number below 2 ^ 64 that these digits write behind those of n
+abbrev pub digits_after : ℕ → List ℕ → Option ℕ
+digits_after n [] = Some n
+digits_after n (c ∷ rest) = if nat_le 48 c && nat_le c 57 && nat_lt (n * 10 + (c - 48)) (2 ^ 64) then digits_after (n * 10 + (c - 48)) rest else None
+
+-- the number below 2 ^ 64 that a text of digits alone writes
+abbrev pub number_in : List ℕ → Option ℕ
+number_in [] = None
+number_in (c ∷ rest) = digits_after 0 (c ∷ rest)
+
+-- no option is given
+abbrev pub no_options : Options
+no_options = record { capacity = None; skew = 0; page = false }
+
+-- the options with a number more: one in its range, of an option that isn't given yet
+abbrev pub with_number : Options → Numbered → Option ℕ → Option Options
+with_number o option None = None
+with_number o Numbered.Capacity (Some n) = if is_none o.capacity && nat_lt 0 n && nat_lt n (2 ^ 32) then Some (record o { capacity = Some n }) else None
+with_number o Numbered.Skew (Some n) = if o.skew == 0 then Some (record o { skew = n }) else None
+
+-- the options with that of a page more, if it isn't given yet
+abbrev pub with_page : Options → Option Options
+with_page o = if o.page then None else Some (record o { page = true })
+
+-- the option of this name that takes a number
+abbrev pub option_named : List ℕ → Option Numbered
+option_named name = if bytes_eq name (codes "--capacity") then Some Numbered.Capacity else (if bytes_eq name (codes "--skew") then Some Numbered.Skew else None)
+
+-- the reading of an option: these options, unless the option is wrong
+abbrev pub given_or_wrong : Option Options → Reading
+given_or_wrong None = Reading.Wrong
+given_or_wrong (Some o) = Reading.Given o
+
+-- a word with the name of this option before its `=`, and a number behind it
+abbrev pub read_valued : Options → Option Numbered → (value : List ℕ) → Reading
+read_valued o None value = Reading.Word
+read_valued o (Some option) value = given_or_wrong (with_number o option (number_in value))
+
+-- a word that is the name of this option
+abbrev pub read_name : Option Numbered → Reading
+read_name None = Reading.Word
+read_name (Some option) = Reading.Wants option
+
+-- the kind of a word: the mark, an option, or none
+abbrev pub read_word : Options → List ℕ → Reading
+read_word o word = if bytes_eq word (codes "--") then Reading.Mark
+    else (if bytes_eq word (codes "--page") then given_or_wrong (with_page o)
+    else (if position_or_len (λ b. b == 61) word == length word then read_name (option_named word)
+    else read_valued o (option_named (before_first (λ b. b == 61) word)) (after_first (λ b. b == 61) word)))
+
+-- the kind of the next word; `wanted` is the option whose number comes next, if there is one
+abbrev pub read_next : Options → (wanted : Option Numbered) → List ℕ → Reading
+read_next o None word = read_word o word
+read_next o (Some option) word = given_or_wrong (with_number o option (number_in word))
+
+-- one of these by the kind of a word: of another word, of the mark, of options, of an option that wants a number
+abbrev pub by_reading : {Y : Type 0} → Reading → Option Y → Option Y → (Options → Option Y) → (Numbered → Option Y) → Option Y
+by_reading Reading.Word word mark given wants = word
+by_reading Reading.Mark word mark given wants = mark
+by_reading (Reading.Given o) word mark given wants = given o
+by_reading (Reading.Wants option) word mark given wants = wants option
+by_reading Reading.Wrong word mark given wants = None
+
+-- The options, and the words that are none, of a line whose first words gave these options and kept these words. None if an option is
+-- wrong, or its number is missing.
+abbrev pub read_options : Options → (wanted : Option Numbered) → (kept : List (List ℕ)) → List (List ℕ) → Option (Options × List (List ℕ))
+read_options o wanted kept [] = if is_none wanted then Some (o, kept) else None
+read_options o wanted kept (word ∷ rest) = by_reading (read_next o wanted word)
+    (read_options o wanted (kept ++ word ∷ []) rest)
+    (Some (o, kept ++ word ∷ rest))
+    (λ more. read_options more None kept rest)
+    (λ option. read_options o (Some option) kept rest)
+
+-- the options of a line, and the line without them; a line of another task has none
+abbrev pub line_without_options : List (List ℕ) → Option (Options × List (List ℕ))
+line_without_options [] = Some (no_options, [])
+line_without_options (task ∷ rest) = if bytes_eq task (codes "judge") then read_options no_options None (task ∷ []) rest else Some (no_options, task ∷ rest)
+
+-- the line if the options are wrong
+abbrev pub options_line : List ℕ
+options_line = codes "error: judge takes --page, --capacity N (1 to 4294967295) and --skew N, once each, and a file\n"

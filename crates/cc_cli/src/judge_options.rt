@@ -1,0 +1,206 @@
+//! The options of a line of `judge`, which the parser of command lines doesn't see: how many items the queue holds, by how much
+//! clocks may differ, and whether the answer is a page.
+ghost use Rattle.std.specs.Prelude.{◌≡◌, ◌<◌, ◌-◌, ◌^◌, map, option_map, slice_get, string_bytes};
+ghost use Rattle.cc_io.specs.FaultLine.{Told};
+ghost use Rattle.cc_cli.specs.JudgeOptions.{line_without_options, options_line, no_options, number_in, option_named, read_next, read_word, given_or_wrong, with_number, with_page};
+
+use cc_io::{Sink, told};
+use cc_log::Options;
+
+/// An option that takes a number.
+#[derive(Clone, Copy, Debug, PartialEq, Eq)]
+pub enum Numbered {
+    /// How many items the queue holds.
+    Capacity,
+    /// By how much clocks may differ.
+    Skew,
+}
+
+/// The kind of a word of a line.
+#[derive(Clone, Copy, Debug, PartialEq, Eq)]
+pub enum Reading {
+    /// No option.
+    Word,
+    /// The mark behind which no word is an option.
+    Mark,
+    /// An option, with which the options are these.
+    Given(Options),
+    /// An option whose number is the next word.
+    Wants(Numbered),
+    /// An option that is wrong, or was given before.
+    Wrong,
+}
+
+/// The number below 2^64 that a text of digits alone writes.
+fn number(text: &[u8]) -> Option<u64>
+    ensures { result ≡ number_in text.now }
+{
+    if text.is_empty() {
+        return None;
+    }
+    let mut number: u64 = 0;
+    for digit in text {
+        if !digit.is_ascii_digit() {
+            return None;
+        }
+        number = number
+            .checked_mul(10)?
+            .checked_add(u64::from(*digit - b'0'))?;
+    }
+    Some(number)
+}
+
+/// The option of this name that takes a number.
+fn option_named(name: &str) -> Option<Numbered>
+    ensures { result ≡ option_named name.now }
+{
+    match name {
+        "--capacity" => Some(Numbered::Capacity),
+        "--skew" => Some(Numbered::Skew),
+        _ => None,
+    }
+}
+
+/// The options with a number more: one in its range, of an option that isn't given yet.
+fn with_number(options: Options, option: Numbered, number: Option<u64>) -> Option<Options>
+    ensures { result ≡ with_number options option number }
+{
+    let number = number?;
+    match option {
+        Numbered::Capacity if options.capacity.is_none() && number != 0 => Some(Options {
+            capacity: Some(u32::try_from(number).ok()?),
+            ..options
+        }),
+        Numbered::Skew if options.skew == 0 => Some(Options {
+            skew: number,
+            ..options
+        }),
+        _ => None,
+    }
+}
+
+/// The options with that of a page more, if it isn't given yet.
+fn with_page(options: Options) -> Option<Options>
+    ensures { result ≡ with_page options }
+{
+    if options.page {
+        return None;
+    }
+    Some(Options {
+        page: true,
+        ..options
+    })
+}
+
+/// The reading of an option: these options, unless the option is wrong.
+fn given_or_wrong(options: Option<Options>) -> Reading
+    ensures { result ≡ given_or_wrong options }
+{
+    match options {
+        Some(options) => Reading::Given(options),
+        None => Reading::Wrong,
+    }
+}
+
+/// The kind of a word behind words that gave these options.
+fn read_word(options: Options, word: &str) -> Reading
+    ensures { result ≡ read_word options word.now }
+{
+    match word {
+        "--" => return Reading::Mark,
+        "--page" => return given_or_wrong(with_page(options)),
+        _ => {}
+    }
+    match word.split_once('=') {
+        Some((name, value)) => match option_named(name) {
+            Some(option) => given_or_wrong(with_number(options, option, number(value.as_bytes()))),
+            None => Reading::Word,
+        },
+        None => match option_named(word) {
+            Some(option) => Reading::Wants(option),
+            None => Reading::Word,
+        },
+    }
+}
+
+/// The kind of the next word. `wanted` is the option whose number comes next, if there is one.
+fn read_next(options: Options, wanted: Option<Numbered>, word: &str) -> Reading
+    ensures { result ≡ read_next options wanted word.now }
+{
+    match wanted {
+        Some(option) => given_or_wrong(with_number(options, option, number(word.as_bytes()))),
+        None => read_word(options, word),
+    }
+}
+
+/// The word at a place of a line.
+fn word_at(words: &[String], place: usize) -> Option<&str>
+    ensures { option_map (λ word. word.now) result ≡ slice_get (map string_bytes words.now) place }
+{
+    match words.get(place) {
+        Some(word) => Some(word.as_str()),
+        None => None,
+    }
+}
+
+/// A line without its options.
+#[derive(Drop)]
+pub struct WithoutOptions {
+    /// Its words, but the options.
+    pub words: Vec<String>,
+    /// The options by which it judges a log, if it judges one.
+    pub options: Options,
+}
+
+/// The line, and the options by which it judges a log; none of them if it has another task. Or None if an option is wrong: it has no
+/// number in its range, or is given twice.
+#[tactic(auto, using(crate::proofs::JudgeOptions::step, crate::proofs::JudgeOptions::kept_without, crate::proofs::JudgeOptions::rest_without, crate::proofs::JudgeOptions::of_judge, crate::proofs::JudgeOptions::of_another_task))]
+pub fn without_options(words: Vec<String>) -> Option<WithoutOptions>
+    ensures { option_map (λ line. (line.options, map string_bytes line.words.items)) result ≡ line_without_options (map string_bytes words.items) }
+{
+    let mut words = words;
+    let mut options = Options::none();
+    match word_at(words.as_slice(), 0) {
+        Some("judge") => {}
+        _ => return Some(WithoutOptions { words, options }),
+    }
+    let mut wanted = None;
+    let mut kept = 1;
+    for _ in 1..words.len() {
+        let Some(word) = word_at(words.as_slice(), kept) else {
+            break;
+        };
+        match read_next(options, wanted, word) {
+            Reading::Wrong => return None,
+            Reading::Mark => return Some(WithoutOptions { words, options }),
+            Reading::Word => kept += 1,
+            Reading::Given(more) => {
+                options = more;
+                wanted = None;
+                let _option = words.remove(kept);
+            }
+            Reading::Wants(option) => {
+                wanted = Some(option);
+                let _option = words.remove(kept);
+            }
+        }
+    }
+    if wanted.is_some() {
+        return None;
+    }
+    Some(WithoutOptions { words, options })
+}
+
+/// Refuses a line of `judge` whose options are wrong, and returns the status.
+pub fn decline_options<E: Sink>(errors: &mut E) -> u8
+    requires { E.write_failures errors.old < 2 ^ 64 - 1 }
+    ensures status { result ≡ 64 }
+    ensures told { Told (E.bytes_written errors.old) (E.bytes_written errors.new)
+        (E.write_failures errors.old) (E.write_failures errors.new) options_line }
+{
+    told(
+        errors,
+        b"error: judge takes --page, --capacity N (1 to 4294967295) and --skew N, once each, and a file\n",
+        64,
+    )
+}
