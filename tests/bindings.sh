@@ -52,7 +52,7 @@ step 'Rust: the pipeline' bash -c "prints '77031 takes 350 steps' cargo ${option
 step 'Rust: the tasks' bash -c "prints 'the sum of the squares up to 10000 is 333383335000' cargo ${options[*]} run --example tasks"
 step 'Rust: the log' bash -c "prints '40000 events in the archive, 4000 alarms' cargo ${options[*]} run --example log"
 for archive in "$room"/c/*/libvahepito.a; do
-    # The crate has no vahepito_call, whose size alone is another in the wider one
+    # In the wider archive only the size of a vahepito_call differs, which the crate doesn't use.
     [ -f "$archive" ] && [[ $archive != */wider/* ]] || continue
     linked=$("$(dirname "$archive")/version" | sed 's/.*library \([0-9]*\),.*/\1/')
     step "Rust: an archive of another version is refused ($linked)" env "VAHEPITO_LINKED=$linked" "VAHEPITO_LIB=$archive" \
