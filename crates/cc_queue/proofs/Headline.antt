@@ -1,5 +1,5 @@
 -- All that a pass has seen is one history.
-use Rattle.std.proofs.Common.{◌/◌, arith, ◌≡◌, ◌≢◌, ℕ, ◌+◌, ◌≤◌, if◌then◌else◌, List, [], ◌∷◌, ◌++◌, map, refl, sym, ap, ◌∙◌, subst, append-nil, append_assoc, Bool, true, false, nat_lt, ◌-◌}
+use Rattle.std.proofs.Common.{◌/◌, arith, ◌≡◌, ◌≢◌, ℕ, ◌+◌, if◌then◌else◌, List, [], ◌∷◌, ◌++◌, map, refl, sym, ap, ◌∙◌, subst, append-nil, append_assoc, Bool, true, false, nat_lt, ◌-◌}
 use Rattle.cc_queue.specs.Names.{Answer, Call, TakeAnswer, Entry, Move, Setting, Served, Stand, Phase, Chain, Pass}
 use Rattle.std.specs.List.{AllByRecursion}
 use Rattle.cc_model.specs.Items.{HasAnswer, Begins, calls_of}
@@ -17,7 +17,7 @@ use Rattle.cc_steps.specs.Walk.{Walk, IsSameSeat, IsSound, IsPendingIn}
 use Rattle.cc_runs.specs.Lines.{group_of}
 use Rattle.cc_queue.specs.Group.{IsGroupOf, Ranked}
 use Rattle.cc_queue.specs.Headline.{StandsInOne, entry_of, name, history}
-use Rattle.cc_queue.specs.Work.{IsOn, Works, Waits, Enters, turned, worked_to}
+use Rattle.cc_queue.specs.Work.{IsOn, Turns, Waits, Enters, worked_to}
 use Rattle.cc_queue.specs.Calls.{Begun, Waited, Answered, Ended, Completed, IsSettled}
 use Rattle.cc_queue.specs.Codes.{IsSendAnswer, IsCloseAnswer}
 use Rattle.cc_queue.specs.Passes.{MadeLast, IsSend, IsClose, IsStill, HasStopped}
@@ -83,8 +83,9 @@ waited_so u v w begun node is list stand s e = subst (λ (x : Walk). Waited x w)
 })
 
 -- a turn that is done, of a pass of a list
-pub answered_so : (u v w : Walk) (told : Answer) (n : ℕ) → v ≡ u → v.setting.served ≡ Served.List → IsSound w → Works v Phase.Idle (turned v.setting.config n) w → IsLastAnswer (name w) (history w) told → n ≤ v.setting.config.bound → Answered u told n w
-answered_so u v w told n is list s e last few =
+pub answered_so : (u v w : Walk) (told : Answer) (n : ℕ) → v ≡ u → v.setting.served ≡ Served.List → IsSound w → Turns v Phase.Idle n w → IsLastAnswer (name w) (history w) told → Answered u told n w
+answered_so u v w told n is list s turn last =
+    let e = turn.works in
     subst (λ (x : Walk). Answered x told n w) is (record {
       stands = stands_on v w [] v.stand.begun v.stand.node Phase.Idle (ap (λ (x : Walk). x.stand) e.worked) refl s list (seat_of v w Phase.Idle e.worked) e.later (made_of v w Phase.Idle e.worked);
       last = last;
@@ -92,7 +93,7 @@ answered_so u v w told n is list s e last few =
       reads = e.reads;
       marks = e.marks;
       hands = e.hands;
-      few = few;
+      few = turn.few;
       scans = e.scans;
     })
 

@@ -1,6 +1,6 @@
 -- A step within a call, as its seat sees it, after the earlier steps of its pass.
 use Rattle.std.proofs.Common.{◌≡◌, ◌≢◌, ℕ, ◌+◌, ◌<◌, ◌==◌, Bool, true, false, cond, List, ◌∷◌, None, refl, sym, ap, ◌∙◌, subst, arith}
-use Rattle.std.proofs.lemmas.Bool.{eq-eqb, ne_eqb}
+use Rattle.std.proofs.lemmas.Bool.{ne_eqb}
 use Rattle.cc_queue.specs.Names.{Answer, Config, Event, Job, Kind, Parcel, Phase, SendAnswer, Sending, Setting, Stand}
 use Rattle.cc_runs.specs.Lines.{event_at, operation}
 use Rattle.cc_runs.specs.Passes.{then_did}
@@ -48,11 +48,6 @@ module _ (v s r : Walk) (k : Kind) (here on : Phase) (most found : ℕ) (at : Se
 abbrev looks_to : Config → Job → Parcel → (at nodes passed : ℕ) → Phase
 looks_to c job parcel at nodes passed = phase_of Phase.Sending job (by_passed c parcel at nodes passed)
 
--- to its use, if it is free
-looks_free : (c : Config) (job : Job) (parcel : Parcel) (at nodes passed : ℕ) → passed ≡ c.groups → looks_to c job parcel at nodes passed ≡ Phase.Sending job (Sending.ResetPassed parcel at)
-looks_free c job parcel at nodes passed free =
-    ap (λ (b : Bool). phase_of Phase.Sending job (cond b (On (Sending.ResetPassed parcel at)) (cond (nodes == c.capacity + 1) (Decides (Answer.Send SendAnswer.Full)) (On (Sending.ReadPassed parcel (after c at) (nodes + 1)))))) (eq-eqb passed c.groups free)
-
 -- to the next one or, after the last one, to the answer, if it isn't free
 looks_on : (c : Config) (job : Job) (parcel : Parcel) (at nodes passed : ℕ) → passed ≢ c.groups → looks_to c job parcel at nodes passed ≡ scan_phase c job parcel (after c at) nodes
 looks_on c job parcel at nodes passed used =
@@ -71,32 +66,28 @@ scan_stays c job parcel at looked z = either (looked == c.capacity + 1)
     either true = refl
     either false = refl
 
--- a look at a list node, after this number of others, none of which was free
-module _ (v s r : Walk) (job : Job) (parcel : Parcel) (at looked passed : ℕ) (below : looked < v.setting.config.capacity + 1) (before : Serves v (scan_phase v.setting.config job parcel at looked) looked s) (step : r ≡ walked_to s None passed r.seen)
-    (later : Onward s.seen r.seen) where
+-- a look at a list node that isn't free, after this number of others
+module _ (v s r : Walk) (job : Job) (parcel : Parcel) (at looked passed next : ℕ) (below : looked < v.setting.config.capacity + 1) (before : Serves v (scan_phase v.setting.config job parcel at looked) looked s) (step : r ≡ walked_to s None passed r.seen)
+    (later : Onward s.seen r.seen) (used : passed ≢ v.setting.config.groups) (is : next ≡ after v.setting.config at) where
   abbrev c : Config
   c = v.setting.config
+
+  abbrev on : Phase
+  on = scan_phase c job parcel (after c at) (looked + 1)
 
   unless_all : Serves v (Phase.Sending job (Sending.ReadPassed parcel at (looked + 1))) looked s
   unless_all = subst (λ (b : Bool). Serves v (cond b (Phase.WriteAnswer job (Answer.Send SendAnswer.Full)) (Phase.Sending job (Sending.ReadPassed parcel at (looked + 1)))) looked s) (ne_eqb looked (c.capacity + 1) (λ e. omega (arith, e, below))) before
 
-  look : (on : Phase) → looks_to c job parcel at (looked + 1) passed ≡ on → ((z : Stand) → settled (record z { phase = on }) ≡ record z { phase = on }) → Serves v on (1 + looked) r
-  look on leads stays =
+  look : Serves v on (1 + looked) r
+  look =
       one_step v s r Kind.ReadPassed (Phase.Sending job (Sending.ReadPassed parcel at (looked + 1))) on looked passed unless_all step later refl (refl, refl, refl)
-      (λ z. ap (λ (p : Phase). settled (record z { phase = p })) leads ∙ stays z)
+      (λ z. ap (λ (p : Phase). settled (record z { phase = p })) (looks_on c job parcel at (looked + 1) passed used) ∙ scan_stays c job parcel (after c at) (looked + 1) z)
 
-  pub finds_free : passed ≡ c.groups → Serves v (Phase.Sending job (Sending.ResetPassed parcel at)) (1 + looked) r
-  finds_free free = look (Phase.Sending job (Sending.ResetPassed parcel at)) (looks_free c job parcel at (looked + 1) passed free) (λ z. refl)
-
-  pub looks_further : (next : ℕ) → passed ≢ c.groups → next ≡ after c at → Serves v (scan_phase c job parcel next (looked + 1)) (looked + 1) r
-  looks_further next used is =
-      subst (λ (n : ℕ). Serves v (scan_phase c job parcel n (looked + 1)) (looked + 1) r) (sym is)
-      (subst (λ (n : ℕ). Serves v (scan_phase c job parcel (after c at) (looked + 1)) n r) (omega arith) (look (scan_phase c job parcel (after c at) (looked + 1)) (looks_on c job parcel at (looked + 1) passed used) (scan_stays c job parcel (after c at) (looked + 1))))
-
--- all of them were looked at
-pub looked_at_all : (v s : Walk) (job : Job) (parcel : Parcel) (at looked : ℕ) → looked ≡ v.setting.config.capacity + 1 → Serves v (scan_phase v.setting.config job parcel at looked) looked s → Serves v (Phase.WriteAnswer job (Answer.Send SendAnswer.Full)) looked s
-looked_at_all v s job parcel at looked all so =
-    subst (λ (b : Bool). Serves v (cond b (Phase.WriteAnswer job (Answer.Send SendAnswer.Full)) (Phase.Sending job (Sending.ReadPassed parcel at (looked + 1)))) looked s) (eq-eqb looked (v.setting.config.capacity + 1) all) so
+  pub looks_further : Serves v (scan_phase c job parcel next (looked + 1)) (looked + 1) r
+  looks_further = subst (λ (n : ℕ × ℕ). Serves v (scan_phase c job parcel n.0 (looked + 1)) n.1 r) (λ i. (sym is i, count i)) look
+    where
+      count : 1 + looked ≡ looked + 1
+      count = omega arith
 
 -- it can do the step of its place
 pub can_step : (v s : Walk) (here : Phase) (k : Kind) (op : Operation) → s ≡ worked_to v here s → event_at here ≡ Event.Did k → operation v.setting (chain_of v.setting.config v.number) v.stand.node here ≡ op → Steps s k op

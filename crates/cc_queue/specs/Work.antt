@@ -94,6 +94,11 @@ pub record Works (v : Walk) (at : Phase) (done : Tally) (w : Walk) : Type 0 wher
 abbrev pub Serves : Walk → Phase → (most : ℕ) → Walk → Type 0
 Serves v at most w = Works v at (looked most) w
 
+-- the same within a turn, which has served this number of requests
+pub record Turns (v : Walk) (at : Phase) (served : ℕ) (w : Walk) : Type 0 where
+  pub works : Works v at (turned v.setting.config served) w
+  pub few : served ≤ v.setting.config.bound
+
 -- the pass read its state once, which says that its call waits
 pub record Waits (v w : Walk) : Type 0 where
   pub worked : w ≡ worked_to v Phase.ReadState w

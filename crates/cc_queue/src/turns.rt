@@ -4,7 +4,7 @@ ghost use Rattle.cc_queue.specs.Names.{Chain, Phase, Served, Answer};
 ghost use Rattle.cc_runs.specs.Codes.{list_reads};
 ghost use Rattle.cc_steps.specs.Walk.{IsToldAt};
 ghost use Rattle.cc_queue.specs.Codes.{IsSendAnswer, IsCloseAnswer};
-ghost use Rattle.cc_queue.specs.Work.{CanTurn, IsOnList, Works, Waits, looked, turned};
+ghost use Rattle.cc_queue.specs.Work.{CanTurn, IsOnList, Turns, Works, Waits, looked};
 
 use crate::bodies;
 use crate::combine::combine;
@@ -21,8 +21,7 @@ use cc_steps::words::Words;
 pub fn await_answer(queue: &Queue, seat: &mut PassSeat, chain: Chain, node: u64) -> Option<u32>
     requires { CanTurn queue.now chain node seat.old }
     ensures waits { IfNone result (Waits seat.old seat.new) }
-    ensures done { IfSome result (λ n. Works seat.old Phase.ReadAnswer (turned seat.old.setting.config n) seat.new) }
-    ensures few { IfSome result (λ n. n ≤ seat.old.setting.config.bound) }
+    ensures done { IfSome result (λ n. Turns seat.old Phase.ReadAnswer n seat.new) }
 {
     match steps::read_state(queue.words(), seat, chain, node) {
         0 => Some(combine(queue, seat, chain, node)),
@@ -36,8 +35,7 @@ pub fn await_answer(queue: &Queue, seat: &mut PassSeat, chain: Chain, node: u64)
 fn await_request(queue: &Queue, seat: &mut PassSeat, node: u64) -> Option<u32>
     requires { CanTurn queue.now Chain.Send node seat.old }
     ensures waits { IfNone result (Waits seat.old seat.new) }
-    ensures done { IfSome result (λ n. Works seat.old Phase.ReadAnswer (turned seat.old.setting.config n) seat.new) }
-    ensures few { IfSome result (λ n. n ≤ seat.old.setting.config.bound) }
+    ensures done { IfSome result (λ n. Turns seat.old Phase.ReadAnswer n seat.new) }
 {
     await_answer(queue, seat, Chain::Send, node)
 }
@@ -47,8 +45,7 @@ fn await_request(queue: &Queue, seat: &mut PassSeat, node: u64) -> Option<u32>
 fn await_item(queue: &Queue, seat: &mut PassSeat, group: u32, node: u64) -> Option<u32>
     requires { CanTurn queue.now (Chain.Take group) node seat.old }
     ensures waits { IfNone result (Waits seat.old seat.new) }
-    ensures done { IfSome result (λ n. Works seat.old Phase.ReadAnswer (turned seat.old.setting.config n) seat.new) }
-    ensures few { IfSome result (λ n. n ≤ seat.old.setting.config.bound) }
+    ensures done { IfSome result (λ n. Turns seat.old Phase.ReadAnswer n seat.new) }
 {
     await_answer(queue, seat, Chain::Take(group), node)
 }
@@ -86,8 +83,7 @@ pub fn read_take_answer(words: &Words, seat: &mut PassSeat, group: u32, node: u6
 pub fn turn_request(queue: &Queue, seat: &mut PassSeat, node: u64) -> Option<(u64, u32)>
     requires { CanTurn queue.now Chain.Send node seat.old }
     ensures waits { IfNone result (Waits seat.old seat.new) }
-    ensures done { IfSome result (λ r. Works seat.old Phase.Idle (turned seat.old.setting.config r.1) seat.new) }
-    ensures few { IfSome result (λ r. r.1 ≤ seat.old.setting.config.bound) }
+    ensures done { IfSome result (λ r. Turns seat.old Phase.Idle r.1 seat.new) }
     ensures told { IfSome result (λ r. IsToldAt seat.new (Phase.Finished (list_reads r.0))) }
 {
     let served = await_request(queue, seat, node)?;
@@ -104,8 +100,7 @@ pub fn turn_take(
 ) -> Option<(TakeAnswer, u32)>
     requires { CanTurn queue.now (Chain.Take group) node seat.old }
     ensures waits { IfNone result (Waits seat.old seat.new) }
-    ensures done { IfSome result (λ r. Works seat.old Phase.Idle (turned seat.old.setting.config r.1) seat.new) }
-    ensures few { IfSome result (λ r. r.1 ≤ seat.old.setting.config.bound) }
+    ensures done { IfSome result (λ r. Turns seat.old Phase.Idle r.1 seat.new) }
     ensures told { IfSome result (λ r. IsToldAt seat.new (Phase.Finished (Answer.Take r.0))) }
 {
     let served = await_item(queue, seat, group, node)?;

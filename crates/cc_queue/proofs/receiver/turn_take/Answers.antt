@@ -7,4 +7,4 @@ returns-in-None c = waited_so _ _ _ _ _ c.pending.view_is c.pending.invariant.li
 pub returns-in-Some : goal.returns-in-Some
 returns-in-Some c =
     let e = c.in-Some.ensures in
-    answered_so _ _ _ _ _ c.pending.view_is c.pending.invariant.list c.is_sound.ensures e.done e.told e.few
+    answered_so _ _ _ _ _ c.pending.view_is c.pending.invariant.list c.is_sound.ensures e.done e.told
