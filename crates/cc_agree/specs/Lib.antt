@@ -1,2 +1,3 @@
 pub mod Names
 pub mod OneQueue
+pub mod LogOfRun

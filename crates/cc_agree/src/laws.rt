@@ -1,4 +1,5 @@
-//! The judge's queue is the sequential queue of the laws on runs.
+//! The judge's queue is the sequential queue of the laws on runs, and the log of each run has a legal order.
+ghost use Rattle.cc_agree.specs.LogOfRun.{LogsOfRunsAreLinearizable, LogsOfRunsHaveNoFault};
 ghost use Rattle.cc_agree.specs.OneQueue.{ExactOrdersAreAnswered, AnsweredOrdersAreExact};
 
 /// The judge's queue answers all steps that report calls which a sequential queue with one group answers exactly so.
@@ -10,4 +11,16 @@ pub fn exact_orders_are_answered()
 /// All steps that the judge's queue answers report calls which a sequential queue with one group answers exactly so.
 pub fn answered_orders_are_exact()
     ensures { AnsweredOrdersAreExact }
+{}
+
+/// The log of each run of the queue with one group has a legal order, as the judge defines it.
+#[tactic(auto, using(crate::proofs::LogOrder::logs_of_runs_are_linearizable))]
+pub fn logs_of_runs_are_linearizable()
+    ensures { LogsOfRunsAreLinearizable }
+{}
+
+/// No right verdict on the log of a run of the queue with one group is a fault.
+#[tactic(auto, using(crate::proofs::LogOrder::logs_of_runs_have_no_fault))]
+pub fn logs_of_runs_have_no_fault()
+    ensures { LogsOfRunsHaveNoFault }
 {}
