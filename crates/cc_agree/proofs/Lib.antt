@@ -5,3 +5,4 @@ pub mod Lists
 pub mod Log
 pub mod Placed
 pub mod LogOrder
+pub mod Small

@@ -1,6 +1,7 @@
 //! The judge's queue is the sequential queue of the laws on runs, and the log of each run has a legal order.
 ghost use Rattle.cc_agree.specs.LogOfRun.{LogsOfRunsAreLinearizable, LogsOfRunsHaveNoFault};
 ghost use Rattle.cc_agree.specs.OneQueue.{ExactOrdersAreAnswered, AnsweredOrdersAreExact};
+ghost use Rattle.cc_agree.specs.SmallOrders.{SmallOrders};
 
 /// The judge's queue answers all steps that report calls which a sequential queue with one group answers exactly so.
 #[tactic(auto, using(crate::proofs::Answered::exact_orders_are_answered))]
@@ -23,4 +24,11 @@ pub fn logs_of_runs_are_linearizable()
 #[tactic(auto, using(crate::proofs::LogOrder::logs_of_runs_have_no_fault))]
 pub fn logs_of_runs_have_no_fault()
     ensures { LogsOfRunsHaveNoFault }
+{}
+
+/// The judge's queue answers two small orders of steps, and not others: Full comes neither too early nor too late, FoundNone
+/// only without an item, and no send is accepted after a close.
+#[tactic(auto, using(crate::proofs::Small::small_orders))]
+pub fn small_orders_are_told_apart()
+    ensures { SmallOrders }
 {}

@@ -5,5 +5,5 @@ mod laws;
 
 pub use laws::{
     answered_orders_are_exact, exact_orders_are_answered, logs_of_runs_are_linearizable,
-    logs_of_runs_have_no_fault,
+    logs_of_runs_have_no_fault, small_orders_are_told_apart,
 };
