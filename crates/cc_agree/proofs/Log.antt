@@ -12,13 +12,14 @@ use Rattle.cc_runs.specs.Lines.{event_at}
 use Rattle.cc_runs.specs.Run.{IsRun, IsFinished, reached, passes, history_of, number_of}
 use Rattle.cc_runs.specs.CallsMade.{made, to_exchange}
 use Rattle.cc_runs.specs.ChainLaws.{IsLastAnswer}
+use Rattle.cc_runs.proofs.RunPrefixes.{prefixes_begin}
 use Rattle.cc_runs.proofs.CallsMade.{calls_made}
 use Rattle.cc_runs.proofs.Chains.Frame.{hold_here, hold_apart}
 use Rattle.cc_runs.proofs.ListRuns.Ready.{list_answers_told}
 use Rattle.cc_judge.proofs.Turns.{set_at, set_elsewhere}
 use Rattle.cc_agree.specs.Names.{Body, Call, Entry, Answer, Setting, Served, Phase, Stand, Move, Act, Line}
 use Rattle.cc_agree.specs.OneQueue.{begun, returned}
-use Rattle.cc_agree.specs.LogOfRun.{threads, last_of, no_line, with_end, ended, log_of}
+use Rattle.cc_agree.specs.LogOfRun.{threads, last_of, no_line, with_end, ended, log_of, IsLogged, AnswersAreLogged}
 use Rattle.cc_agree.proofs.Lists.{get_snoc, first_same, second_same}
 
 -- ---- whose call each line is: the pass, and how many calls it had begun before
@@ -148,6 +149,19 @@ last_is c (Move.Begin q call known ∷ earlier) p m some = elim (cases_eq q p) [
 ]
 last_is c (Move.Step q ∷ earlier) p m some = last_is c earlier p m some
 last_is c (Move.Take q ∷ earlier) p m some = last_is c earlier p m some
+
+-- and the other way round
+pub thread_of : (c : Setting) (moves : List Move) (k p n : ℕ) → slice_get (who c moves) k ≡ Some (p, n) → slice_get (threads moves) k ≡ Some p
+thread_of c [] k p n is = absurd (cc)
+thread_of c (Move.Begin q call known ∷ earlier) k p n is = elim (get_snoc (who c earlier) (q, length (made c earlier q)) k (p, n) is) [
+  | inl old ↦ get_front (threads earlier) (q ∷ []) k p (thread_of c earlier k p n old)
+  | inr new ↦
+      let pair : ◌≡◌ {A = Option (ℕ × ℕ)} (Some (q, length (made c earlier q))) (Some (p, n)) = ap Some new.1 in
+      let at : k ≡ length (threads earlier) = new.0 ∙ length-who c earlier in
+      ap (slice_get (threads earlier ++ q ∷ [])) at ∙ get_last (threads earlier) q ∙ ap Some (first_same q p (length (made c earlier q)) n pair)
+]
+thread_of c (Move.Step q ∷ earlier) k p n is = thread_of c earlier k p n is
+thread_of c (Move.Take q ∷ earlier) k p n is = thread_of c earlier k p n is
 
 -- the calls of a thread are those of its pass
 pub of_thread : (c : Setting) (moves : List Move) (k p : ℕ) → slice_get (threads moves) k ≡ Some p → (n : ℕ) × (slice_get (who c moves) k ≡ Some (p, n))
@@ -331,16 +345,20 @@ module _ (c : Setting) (number : Body → ℕ) (clock : ℕ → ℕ) where
         },
       )
 
+      -- the line of the call whose answer is taken has no end
+      open_line : (n : ℕ) (told : Answer) → ((reached c earlier).stand q).phase ≡ Phase.Finished told → length (made c earlier q) ≡ n + 1 → (h : Has earlier at q n) → Open h.2.call h.0
+      open_line n told phase_is last h = elim (h.2.state) [
+        | inl still ↦ still
+        | inr e ↦ let no : Phase.Idle ≡ Phase.Finished told = sym (e.idle last) ∙ phase_is in absurd (cc)
+      ]
+
       mine : (n : ℕ) (told : Answer) → ((reached c earlier).stand q).phase ≡ Phase.Finished told → length (made c earlier q) ≡ n + 1 → Has earlier at q n → Has (Move.Take q ∷ earlier) at q n
       mine n told phase_is last h =
           let line : Line = h.0 in
           let old : slice_index_or log at no_line ≡ h.0 = get_or_from_slice_get log at h.0 no_line h.1 in
           let is : new ≡ with_end time h.0 (returned number h.0.act told) = λ i. ended number time (phase_is i) (old i) in
           let now : slice_get (slice_set log at new) at ≡ Some (with_end time h.0 (returned number h.0.act told)) = set_at log at h.0 new h.1 ∙ ap Some is in
-          elim (h.2.state) [
-            | inl still ↦ by_act n told h.0 phase_is last h.1 h.2 still (returned number h.0.act told) refl now
-            | inr e ↦ let no : Phase.Idle ≡ Phase.Finished told = sym (e.idle last) ∙ phase_is in absurd (cc)
-          ]
+          by_act n told h.0 phase_is last h.1 h.2 (open_line n told phase_is last h) (returned number h.0.act told) refl now
 
       taken : (k p n : ℕ) → slice_get (who c earlier) k ≡ Some (p, n) → Has earlier k p n → Has (Move.Take q ∷ earlier) k p n
       taken k p n is h = elim (cases_eq k at) [
@@ -388,3 +406,59 @@ module _ (c : Setting) (number : Body → ℕ) (clock : ℕ → ℕ) where
     all_logged (Move.Step q ∷ earlier) run k p n is =
         let h : Has earlier k p n = all_logged earlier run.0 k p n is in (h.0, h.1, lift (Move.Step q) earlier run k p n h.0 h.2)
     all_logged (Move.Take q ∷ earlier) run k p n is = taken q earlier run k p n is (all_logged earlier run.0 k p n is)
+
+    -- ---- answers stay in the log
+
+    -- the line of the call whose answer is taken
+    record Line_at (q : ℕ) (earlier : List Move) : Type 0 where
+      line : Line
+      mine : slice_get (threads earlier) (last_of q earlier) ≡ Some q
+      had : slice_get (log_of c number clock earlier) (last_of q earlier) ≡ Some line
+      waited : line.end ≡ None
+
+    line_taken : (q : ℕ) (earlier : List Move) → IsRun c (Move.Take q ∷ earlier) → Line_at q earlier
+    line_taken q earlier run =
+        let f : (told : Answer) × (((reached c earlier).stand q).phase ≡ Phase.Finished told) = finished q earlier run ((reached c earlier).stand q).phase run.1.1 in
+        let l : IsLast earlier q f.0 = is_last earlier run.0 q run.1.0 f.0 f.1 in
+        let who_is : slice_get (who c earlier) (last_of q earlier) ≡ Some (q, length l.before) = last_is c earlier q (length l.before) l.many in
+        let h : Has earlier (last_of q earlier) q (length l.before) = all_logged earlier run.0 (last_of q earlier) q (length l.before) who_is in
+        let still : Open h.2.call h.0 = open_line q earlier run (length l.before) f.0 f.1 l.many h in
+        record { line = h.0; mine = thread_of c earlier (last_of q earlier) q (length l.before) who_is; had = h.1; waited = still.end_is }
+
+    -- a line with an end stays
+    stays : (m : Move) (earlier : List Move) → IsRun c (m ∷ earlier) → (k t : ℕ) (line : Line) → line.end ≡ Some t → slice_get (log_of c number clock earlier) k ≡ Some line → slice_get (log_of c number clock (m ∷ earlier)) k ≡ Some line
+    stays (Move.Begin q call known) earlier run k t line end_is is = get_front (log_of c number clock earlier) _ k line is
+    stays (Move.Step q) earlier run k t line end_is is = is
+    stays (Move.Take q) earlier run k t line end_is is = elim (cases_eq k (last_of q earlier)) [
+      | inl same ↦
+          let w : Line_at q earlier = line_taken q earlier run in
+          let both : Some w.line ≡ Some line = sym w.had ∙ ap (slice_get (log_of c number clock earlier)) (sym same) ∙ is in
+          let one : w.line ≡ line = cc in
+          let no : None ≡ Some t = sym w.waited ∙ ap (λ (z : Line). z.end) one ∙ end_is in
+          absurd (cc)
+      | inr ne ↦ set_elsewhere (log_of c number clock earlier) (last_of q earlier) k _ ne ∙ is
+    ]
+
+    stay : (later seen : List Move) → IsRun c (later ++ seen) → (k t : ℕ) (line : Line) → line.end ≡ Some t → slice_get (log_of c number clock seen) k ≡ Some line → slice_get (log_of c number clock (later ++ seen)) k ≡ Some line
+    stay [] seen run k t line end_is is = is
+    stay (m ∷ later) seen run k t line end_is is = stays m (later ++ seen) run k t line end_is (stay later seen run.0 k t line end_is is)
+
+    pub logged : (later seen : List Move) (p : ℕ) (told : Answer) → IsRun c (later ++ Move.Take p ∷ seen) → ((reached c seen).stand p).phase ≡ Phase.Finished told → IsLogged c number clock later seen p told
+    logged later seen p told run phase_is = record { place = last_of p seen; old = w.line; mine = w.mine; had = w.had; waited = w.waited; has = has }
+      where
+        taken_run : IsRun c (Move.Take p ∷ seen)
+        taken_run = (prefixes_begin c later (Move.Take p ∷ seen) run).0
+
+        w : Line_at p seen
+        w = line_taken p seen taken_run
+
+        has : (act : Act) → returned number w.line.act told ≡ Some act → slice_get (log_of c number clock (later ++ Move.Take p ∷ seen)) (last_of p seen) ≡ Some (record { begin = w.line.begin; end = Some (clock (length seen)); act = act })
+        has act is =
+            let old : slice_index_or (log_of c number clock seen) (last_of p seen) no_line ≡ w.line = get_or_from_slice_get (log_of c number clock seen) (last_of p seen) w.line no_line w.had in
+            let new : ended number (clock (length seen)) ((reached c seen).stand p).phase (slice_index_or (log_of c number clock seen) (last_of p seen) no_line) ≡ with_end (clock (length seen)) w.line (returned number w.line.act told) =
+            (λ i. ended number (clock (length seen)) (phase_is i) (old i)) in
+            stay later (Move.Take p ∷ seen) run (last_of p seen) (clock (length seen)) (record { begin = w.line.begin; end = Some (clock (length seen)); act = act }) refl
+            (set_at (log_of c number clock seen) (last_of p seen) w.line _ w.had ∙ ap Some (new ∙ ap (with_end (clock (length seen)) w.line) is))
+
+pub answers_are_logged : AnswersAreLogged
+answers_are_logged c later seen number clock p told serves checked run phase_is = logged c number clock serves checked later seen p told run phase_is

@@ -5,7 +5,7 @@ use Rattle.cc_model.specs.Config.{config_fault}
 use Rattle.cc_runs.specs.Run.{IsRun, reached}
 use Rattle.cc_judge.specs.Order.{IsLinearizable}
 use Rattle.cc_judge.specs.Verdict.{IsVerdict}
-use Rattle.cc_agree.specs.Names.{Body, Setting, Served, Phase, Move, Act, Line, Rules, Tie, Fault, Verdict}
+use Rattle.cc_agree.specs.Names.{Body, Answer, Setting, Served, Phase, Move, Act, Line, Rules, Tie, Fault, Verdict}
 use Rattle.cc_agree.specs.OneQueue.{begun, returned}
 
 -- the time after this number of moves: a clock may show one time at several moves, and never goes back
@@ -70,3 +70,18 @@ LogsOfRunsAreLinearizable = (c : Setting) (moves : List Move) (number : Body →
 abbrev pub LogsOfRunsHaveNoFault : Type 0
 LogsOfRunsHaveNoFault = (c : Setting) (moves : List Move) (number : Body → ℕ) (clock : ℕ → ℕ) (rules : Rules) → c.served ≡ Served.List → config_fault c.config ≡ Ok tt → c.config.groups ≡ 1 → IsRun c moves
     → IsClock clock → AreRules c moves rules → (fault : Fault) → IsVerdict rules (log_of c number clock moves) (Verdict.Fault fault) → ⊥
+
+-- The answer that pass p takes after the moves `seen` is in the log from then on, unless logs have no word for it: the line of a
+-- call of the pass had no end, and has the time and the act of the answer.
+pub record IsLogged (c : Setting) (number : Body → ℕ) (clock : ℕ → ℕ) (later seen : List Move) (p : ℕ) (told : Answer) : Type 0 where
+  pub place : ℕ
+  pub old : Line
+  pub mine : slice_get (threads seen) place ≡ Some p
+  pub had : slice_get (log_of c number clock seen) place ≡ Some old
+  pub waited : old.end ≡ None
+  pub has : (act : Act) → returned number old.act told ≡ Some act → slice_get (log_of c number clock (later ++ Move.Take p ∷ seen)) place ≡ Some (record { begin = old.begin; end = Some (clock (length seen)); act = act })
+
+-- so is each answer that was taken
+abbrev pub AnswersAreLogged : Type 0
+AnswersAreLogged = (c : Setting) (later seen : List Move) (number : Body → ℕ) (clock : ℕ → ℕ) (p : ℕ) (told : Answer) → c.served ≡ Served.List → config_fault c.config ≡ Ok tt → IsRun c (later ++ Move.Take p ∷ seen)
+    → ((reached c seen).stand p).phase ≡ Phase.Finished told → IsLogged c number clock later seen p told

@@ -1,5 +1,5 @@
 //! The judge's queue is the sequential queue of the laws on runs, and the log of each run has a legal order.
-ghost use Rattle.cc_agree.specs.LogOfRun.{LogsOfRunsAreLinearizable, LogsOfRunsHaveNoFault};
+ghost use Rattle.cc_agree.specs.LogOfRun.{AnswersAreLogged, LogsOfRunsAreLinearizable, LogsOfRunsHaveNoFault};
 ghost use Rattle.cc_agree.specs.OneQueue.{ExactOrdersAreAnswered, AnsweredOrdersAreExact};
 ghost use Rattle.cc_agree.specs.SmallOrders.{SmallOrders};
 
@@ -12,6 +12,12 @@ pub fn exact_orders_are_answered()
 /// All steps that the judge's queue answers report calls which a sequential queue with one group answers exactly so.
 pub fn answered_orders_are_exact()
     ensures { AnsweredOrdersAreExact }
+{}
+
+/// Each answer that was taken in a run is in its log, with its time, unless logs have no word for it.
+#[tactic(auto, using(crate::proofs::Log::answers_are_logged))]
+pub fn answers_are_logged()
+    ensures { AnswersAreLogged }
 {}
 
 /// The log of each run of the queue with one group has a legal order, as the judge defines it.
