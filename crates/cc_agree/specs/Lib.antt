@@ -1,2 +1,4 @@
 pub mod Names
 pub mod OneQueue
+pub mod LogOfRun
+pub mod SmallOrders

@@ -11,6 +11,7 @@ pub use Rattle.cc_model.specs.declared.call.CloseAnswer.{CloseAnswer}
 pub use Rattle.cc_model.specs.declared.call.TakeAnswer.{TakeAnswer}
 pub use Rattle.cc_model.specs.declared.config.Config.{Config}
 pub use Rattle.cc_runs.specs.declared.phase.Phase.{Phase}
+pub use Rattle.cc_runs.specs.declared.phase.Stand.{Stand}
 pub use Rattle.cc_runs.specs.declared.run.Move.{Move}
 pub use Rattle.cc_runs.specs.declared.setting.Served.{Served}
 pub use Rattle.cc_runs.specs.declared.setting.Setting.{Setting}
@@ -18,3 +19,7 @@ pub use Rattle.cc_runs.specs.declared.word.Chain.{Chain}
 pub use Rattle.cc_judge.specs.declared.log.Act.{Act}
 pub use Rattle.cc_judge.specs.declared.log.Step.{Step}
 pub use Rattle.cc_judge.specs.declared.log.Rules.{Rules}
+pub use Rattle.cc_judge.specs.declared.log.Call.{Call as Line}
+pub use Rattle.cc_judge.specs.declared.log.Tie.{Tie}
+pub use Rattle.cc_judge.specs.declared.decide.Fault.{Fault}
+pub use Rattle.cc_judge.specs.declared.decide.Verdict.{Verdict}

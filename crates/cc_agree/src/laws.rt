@@ -1,5 +1,7 @@
-//! The judge's queue is the sequential queue of the laws on runs.
+//! The judge's queue is the sequential queue of the laws on runs, and the log of each run has a legal order.
+ghost use Rattle.cc_agree.specs.LogOfRun.{AnswersAreLogged, LogsOfRunsAreLinearizable, LogsOfRunsHaveNoFault};
 ghost use Rattle.cc_agree.specs.OneQueue.{ExactOrdersAreAnswered, AnsweredOrdersAreExact};
+ghost use Rattle.cc_agree.specs.SmallOrders.{SmallOrders};
 
 /// The judge's queue answers all steps that report calls which a sequential queue with one group answers exactly so.
 #[tactic(auto, using(crate::proofs::Answered::exact_orders_are_answered))]
@@ -10,4 +12,29 @@ pub fn exact_orders_are_answered()
 /// All steps that the judge's queue answers report calls which a sequential queue with one group answers exactly so.
 pub fn answered_orders_are_exact()
     ensures { AnsweredOrdersAreExact }
+{}
+
+/// Each answer that was taken in a run is in its log, with its time, unless logs have no word for it.
+#[tactic(auto, using(crate::proofs::Log::answers_are_logged))]
+pub fn answers_are_logged()
+    ensures { AnswersAreLogged }
+{}
+
+/// The log of each run of the queue with one group has a legal order, as the judge defines it.
+#[tactic(auto, using(crate::proofs::LogOrder::logs_of_runs_are_linearizable))]
+pub fn logs_of_runs_are_linearizable()
+    ensures { LogsOfRunsAreLinearizable }
+{}
+
+/// No right verdict on the log of a run of the queue with one group is a fault.
+#[tactic(auto, using(crate::proofs::LogOrder::logs_of_runs_have_no_fault))]
+pub fn logs_of_runs_have_no_fault()
+    ensures { LogsOfRunsHaveNoFault }
+{}
+
+/// The judge's queue answers two small orders of steps, and not others: Full comes neither too early nor too late, FoundNone
+/// only without an item, and no send is accepted after a close.
+#[tactic(auto, using(crate::proofs::Small::small_orders))]
+pub fn small_orders_are_told_apart()
+    ensures { SmallOrders }
 {}

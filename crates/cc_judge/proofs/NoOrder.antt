@@ -2,20 +2,16 @@
 use Rattle.std.proofs.Common.{◌≡◌, ◌≢◌, ℕ, false, inl, inr, List, [], ◌∷◌, Option, Some, refl, sym, ap, ◌∙◌, subst, ◌⊎◌}
 use Rattle.cc_judge.specs.Names.{Act, Call, Rules, Step, Stay, Kind, Fault}
 use Rattle.cc_judge.specs.Order.{EndsBefore, IsOrder}
-use Rattle.cc_judge.specs.Faults.{Did, Differ, NeverSent, TakenBeforeSent, TakenTwice, Returned, ShowsClosed, SentBefore, Overtaken, Covers, FindsNone, NotEmpty, WasOpen, Reopened, ClosedEarly}
+use Rattle.cc_judge.specs.Faults.{Did, Differ, NeverSent, TakenBeforeSent, TakenTwice, ShowsClosed, SentBefore, Overtaken, Covers, FindsNone, NotEmpty, WasOpen, Reopened, ClosedEarly}
 use Rattle.cc_judge.specs.Table.{IsTable}
 use Rattle.cc_judge.specs.Verdict.{FaultsHaveNoOrder}
 use Rattle.cc_judge.proofs.Places.{In, Before, before_first, in_order}
 use Rattle.cc_judge.proofs.Turns.{nat_cases}
-use Rattle.cc_judge.proofs.Runs.{Earlier, sent_before, taken_before_none, first_taken_first}
-use Rattle.cc_judge.proofs.Orders.{runs, returned_step, ended_step, sent_in_log, closed_in_log, in_time, on_before, one_take, apart}
-use Rattle.cc_judge.proofs.Shut.{WantsOpen, closed_first, not_after, sent_first, sent_step, shown_step}
+use Rattle.cc_judge.proofs.Runs.{taken_before_none, first_taken_first}
+use Rattle.cc_judge.proofs.Orders.{runs, returned_step, sent_in_log, closed_in_log, in_time, on_before, one_take}
+use Rattle.cc_judge.proofs.Shut.{WantsOpen, closed_first, not_after, send_of, accepted_step, sent_first, sent_step, shown_step}
 use Rattle.cc_judge.proofs.Full.{not_full}
 use Rattle.cc_judge.proofs.Stays.{TakenBy, taken_late}
-
--- the send of an item that a step took
-send_of : (rules : Rules) (calls : List Call) (order : List Step) → IsOrder rules calls order → (t : Step) (item : ℕ) → In t order → t.act ≡ Act.Took item → Earlier order t (Act.Send item)
-send_of rules calls order o t item within took = elim (sent_before [] order t item (runs rules calls order o) within took) [ inl held ↦ absurd held | inr e ↦ e ]
 
 pub never_sent : (rules : Rules) (calls : List Call) (take : ℕ) (order : List Step) → NeverSent calls take → IsOrder rules calls order → ⊥
 never_sent rules calls take order f o =
@@ -43,7 +39,7 @@ taken_by_then : (rules : Rules) (calls : List Call) (order : List Step) → IsOr
 taken_by_then rules calls order o differ later_send later sent t within took send item before = elim (nat_cases item later) [
   | inl same ↦ record { step = t; within = within; act_is = took ∙ ap Act.Took (sym same); holds = inl refl }
   | inr other ↦
-      let s = sent_step rules calls order o send later_send item before in
+      let s = sent_step rules calls order o differ send later_send item before in
       let not_before : (u : Step) → Before u s.step order → u.act ≢ Act.Send later = λ (u : Step) (first : Before u s.step order) (is : u.act ≡ Act.Send later).
       let here : u.place ≡ later_send = differ later u.place later_send (sent_in_log rules calls order o u later (before_first u s.step order first) is) sent in
       sent_first rules calls order o send later_send item before s.step u s.place_is s.act_is here first in
@@ -61,9 +57,9 @@ overtaken rules calls stay later_send later_take order differ f o =
     ]
 
 -- an item that was sent before the call of a step, which is before another that found none or is that, was taken before that
-taken_before : (rules : Rules) (calls : List Call) (order : List Step) → IsOrder rules calls order → (e f : Step) → In f order → FindsNone e.act → ((item : ℕ) → f.act ≢ Act.Send item) → ((s : Step) → Before s f order → Before s e order) → (send item : ℕ) → SentBefore rules calls send f.place item → TakenBy order (λ u. Before u e order) item
-taken_before rules calls order o e f within none no_send on send item before =
-    let s = sent_step rules calls order o send f.place item before in
+taken_before : (rules : Rules) (calls : List Call) (order : List Step) → IsOrder rules calls order → Differ calls → (e f : Step) → In f order → FindsNone e.act → ((item : ℕ) → f.act ≢ Act.Send item) → ((s : Step) → Before s f order → Before s e order) → (send item : ℕ) → SentBefore rules calls send f.place item → TakenBy order (λ u. Before u e order) item
+taken_before rules calls order o differ e f within none no_send on send item before =
+    let s = sent_step rules calls order o differ send f.place item before in
     let first : Before s.step f order = elim (in_order s.step f order s.within within) [
       | inl same ↦ absurd (no_send item (ap (λ (x : Step). x.act) (sym same) ∙ s.act_is))
       | inr placed ↦ elim placed [ inl right ↦ right | inr wrong ↦ absurd (sent_first rules calls order o send f.place item before s.step f s.place_is s.act_is refl wrong) ]
@@ -83,7 +79,7 @@ none_sends act item (inr none) send = let e : Act.Ended ≡ Act.Send item = sym 
 covered : (rules : Rules) (calls : List Call) (order : List Step) → IsOrder rules calls order → Differ calls → (e : Step) → FindsNone e.act → (stays : List Stay) (f : Step) → Before f e order → ((item : ℕ) → f.act ≢ Act.Send item) → Covers rules calls e.place f.place stays → ⊥
 covered rules calls order o differ e none [] f first no_send covers = in_time rules calls order o f e first covers
 covered rules calls order o differ e none (x ∷ rest) f first no_send covers =
-    let late = taken_late rules calls order o differ x f.place (λ take. Covers rules calls e.place take rest) (λ u. Before u e order) (taken_before rules calls order o e f (before_first f e order first) none no_send (λ s before. on_before rules calls order o s f e before first)) covers in
+    let late = taken_late rules calls order o differ x f.place (λ take. Covers rules calls e.place take rest) (λ u. Before u e order) (taken_before rules calls order o differ e f (before_first f e order first) none no_send (λ s before. on_before rules calls order o s f e before first)) covers in
     covered rules calls order o differ e none rest late.by.step late.by.holds (λ item is. cc (late.by.act_is, is)) late.more
 
 pub not_empty : (rules : Rules) (calls : List Call) (call : ℕ) (stays : List Stay) (order : List Step) → Differ calls → NotEmpty rules calls call stays → IsOrder rules calls order → ⊥
@@ -92,7 +88,7 @@ not_empty rules calls call (x ∷ rest) order differ f o =
     let e = returned_step rules calls order o call f.act (none_returns f.act f.finds_none) f.found_none in
     let none : FindsNone e.step.act = subst FindsNone (sym e.act_is) f.finds_none in
     let covers : Covers rules calls e.step.place e.step.place (x ∷ rest) = subst (λ place. Covers rules calls place place (x ∷ rest)) (sym e.place_is) f.covers in
-    let late = taken_late rules calls order o differ x e.step.place (λ take. Covers rules calls e.step.place take rest) (λ u. Before u e.step order) (taken_before rules calls order o e.step e.step e.within none (λ item is. none_sends e.step.act item none is) (λ s before. before)) covers in
+    let late = taken_late rules calls order o differ x e.step.place (λ take. Covers rules calls e.step.place take rest) (λ u. Before u e.step order) (taken_before rules calls order o differ e.step e.step e.within none (λ item is. none_sends e.step.act item none is) (λ s before. before)) covers in
     covered rules calls order o differ e.step none rest late.by.step late.by.holds (λ item is. cc (late.by.act_is, is)) late.more
 
 -- a send that found the queue open has a step that wants it so
@@ -100,15 +96,9 @@ open_step : (rules : Rules) (calls : List Call) (send : ℕ) (order : List Step)
 open_step rules calls send order differ o (inl full) =
     let s = returned_step rules calls order o send Act.Full (λ is. cc) full in
     (s.step, s.within, s.place_is, inr s.act_is)
-open_step rules calls send order differ o (inr (inl sent)) =
-    let s = returned_step rules calls order o send (Act.Send sent.0) (λ is. cc) sent.1 in
-    (s.step, s.within, s.place_is, inl (sent.0, s.act_is))
-open_step rules calls send order differ o (inr (inr taken)) =
-    let p = taken.1 in
-    let t = returned_step rules calls order o taken.0 (Act.Took p.item) (λ is. cc) p.took in
-    let e = send_of rules calls order o t.step p.item t.within t.act_is in
-    let within = before_first e.step t.step order e.before in
-    (e.step, within, differ p.item e.step.place send (sent_in_log rules calls order o e.step p.item within e.act_is) p.sent, inl (p.item, e.act_is))
+open_step rules calls send order differ o (inr sent) =
+    let s = accepted_step rules calls order o differ send sent.0 sent.1 in
+    (s.step, s.within, s.place_is, inl (s.item, s.act_is))
 
 wants_other : (act : Act) → ShowsClosed act → WantsOpen act → ⊥
 wants_other act (inl shows) (inl sends) = let e : Act.Close ≡ Act.Send sends.0 = sym shows ∙ sends.1 in cc

@@ -1,11 +1,12 @@
 -- A queue that was closed stays so: which steps come before which by that.
-use Rattle.std.proofs.Common.{◌≡◌, ◌≢◌, ℕ, ◌⊎◌, inl, inr, List, [], ◌∷◌, Bool, true, false, refl, sym, ap, ◌∙◌, subst}
+use Rattle.std.proofs.Common.{◌≡◌, ◌≢◌, ℕ, ◌⊎◌, inl, inr, List, [], ◌∷◌, Bool, true, false, Some, refl, sym, ap, ◌∙◌, subst}
+use Rattle.std.specs.List.{slice_get}
 use Rattle.cc_judge.specs.Names.{Act, Call, Rules, Step}
 use Rattle.cc_judge.specs.Order.{EndsBefore, Allows, Closes, closed_after, IsOrder}
-use Rattle.cc_judge.specs.Faults.{Did, Returned, ShowsClosed, WasClosed, SentWhileOpen, SentBefore}
-use Rattle.cc_judge.proofs.Places.{In, Before, before_first, before_second, in_order}
-use Rattle.cc_judge.proofs.Orders.{StepOf, returned_step, ended_step, in_time, on_before, apart}
-use Rattle.cc_judge.proofs.Runs.{Earlier}
+use Rattle.cc_judge.specs.Faults.{Did, Differ, ShowsClosed, WasClosed, WasAccepted, SentWhileOpen, SentBefore}
+use Rattle.cc_judge.proofs.Places.{In, Before, before_first, in_order}
+use Rattle.cc_judge.proofs.Orders.{StepOf, runs, returned_step, ended_step, sent_in_log, in_time, on_before, apart}
+use Rattle.cc_judge.proofs.Runs.{Earlier, sent_before}
 
 -- the queue has to be open for this
 abbrev pub WantsOpen : Act → Type 0
@@ -99,11 +100,45 @@ shown_step rules calls order o place w = returned_step rules calls order o place
 sent_open : (act : Act) (item : ℕ) → act ≡ Act.Send item → WantsOpen act
 sent_open act item is = inl (item, is)
 
+-- the send of an item that a step took
+pub send_of : (rules : Rules) (calls : List Call) (order : List Step) → IsOrder rules calls order → (t : Step) (item : ℕ) → In t order → t.act ≡ Act.Took item → Earlier order t (Act.Send item)
+send_of rules calls order o t item within took = elim (sent_before [] order t item (runs rules calls order o) within took) [ inl held ↦ absurd held | inr e ↦ e ]
+
+-- the step of a send that was accepted
+pub record AcceptedStep (order : List Step) (place : ℕ) : Type 0 where
+  pub step : Step
+  pub within : In step order
+  pub place_is : step.place ≡ place
+  pub item : ℕ
+  pub act_is : step.act ≡ Act.Send item
+
+pub accepted_step : (rules : Rules) (calls : List Call) (order : List Step) → IsOrder rules calls order → Differ calls → (send item : ℕ) → WasAccepted calls send item → AcceptedStep order send
+accepted_step rules calls order o differ send item (inl returned) =
+    let s = returned_step rules calls order o send (Act.Send item) (λ is. cc) returned in
+    record { step = s.step; within = s.within; place_is = s.place_is; item = item; act_is = s.act_is }
+accepted_step rules calls order o differ send item (inr taken) =
+    let p = taken.1 in
+    let t = returned_step rules calls order o taken.0 (Act.Took p.item) (λ is. cc) p.took in
+    let e = send_of rules calls order o t.step p.item t.within t.act_is in
+    let within = before_first e.step t.step order e.before in
+    record { step = e.step; within = within; place_is = differ p.item e.step.place send (sent_in_log rules calls order o e.step p.item within e.act_is) p.sent; item = p.item; act_is = e.act_is }
+
+-- a send has one item
+one_item : (rules : Rules) (calls : List Call) (order : List Step) → IsOrder rules calls order → (s : Step) (send item other : ℕ) → In s order → s.place ≡ send → s.act ≡ Act.Send other → Did calls send (Act.Send item) → other ≡ item
+one_item rules calls order o s send item other within place_is act_is sent =
+    let d = sent_in_log rules calls order o s other within act_is in
+    let both : Some d.call ≡ Some sent.call = sym d.call_is ∙ ap (slice_get calls) place_is ∙ sent.call_is in
+    let one : d.call ≡ sent.call = cc in
+    let acts : Act.Send other ≡ Act.Send item = sym d.act_is ∙ ap (λ (c : Call). c.act) one ∙ sent.act_is in
+    cc
+
 -- the step of an accepted send whose call comes before another
-pub sent_step : (rules : Rules) (calls : List Call) (order : List Step) → IsOrder rules calls order → (send from item : ℕ) → SentBefore rules calls send from item → StepOf order send (Act.Send item)
-sent_step rules calls order o send from item s = elim s.before [
+pub sent_step : (rules : Rules) (calls : List Call) (order : List Step) → IsOrder rules calls order → Differ calls → (send from item : ℕ) → SentBefore rules calls send from item → StepOf order send (Act.Send item)
+sent_step rules calls order o differ send from item s = elim s.before [
   | inl ends ↦ ended_step rules calls order o send from (Act.Send item) (λ is. cc) s.sent ends
-  | inr w ↦ returned_step rules calls order o send (Act.Send item) (λ is. cc) w.returned
+  | inr w ↦
+      let a = accepted_step rules calls order o differ send item w.accepted in
+      record { step = a.step; within = a.within; place_is = a.place_is; act_is = a.act_is ∙ ap Act.Send (one_item rules calls order o a.step send item a.item a.within a.place_is a.act_is s.sent) }
 ]
 
 -- no step of the other call comes before it

@@ -4,7 +4,7 @@ use Rattle.std.specs.List.{slice_get}
 use Rattle.std.proofs.lemmas.List.{drop_more}
 use Rattle.cc_judge.specs.Names.{Act, Call, Rules, Step, Stay, Leave}
 use Rattle.cc_judge.specs.Order.{EndsBefore, IsOrder}
-use Rattle.cc_judge.specs.Faults.{Did, Returned, Differ, WasClosed, SentWhileOpen, SentBefore, IsLeft, Fewer, IsRising, Left, Stays, Passed, Follows, Overtaken, Covers}
+use Rattle.cc_judge.specs.Faults.{Did, Returned, Differ, WasClosed, SentBefore, IsLeft, Fewer, IsRising, Left, Stays, Passed, Follows, Overtaken, Covers}
 use Rattle.cc_judge.specs.Checks.{BeginsFrom, Until}
 use Rattle.cc_judge.proofs.Places.{In, in_order, in_at, at_in}
 use Rattle.cc_judge.proofs.Orders.{returned_step, took_in_log, apart, one_take}
@@ -52,7 +52,7 @@ sent_from rules calls send next other item b s = record {
     | inl ends ↦ inl (ends_from calls send next other b ends)
     | inr w ↦ inr (record {
       judged = w.judged;
-      returned = w.returned;
+      accepted = w.accepted;
       closed = w.closed;
       was_closed = w.was_closed;
       by = elim w.by [

@@ -55,11 +55,15 @@ pub record WasClosed (calls : List Call) (place : ℕ) : Type 0 where
   pub shows : ShowsClosed act
   pub returned : Returned calls place act
 
+-- the call at this place sent the item and was accepted: it returned so, or a call took what it sent
+abbrev pub WasAccepted : List Call → (send item : ℕ) → Type 0
+WasAccepted calls send item = Returned calls send (Act.Send item) ⊎ ((take : ℕ) × Passed calls send take)
+
 -- a send that was accepted comes before the call `from`, since the queue was closed by the end of that call, or of one that
 -- had ended before it began
 pub record SentWhileOpen (rules : Rules) (calls : List Call) (send from item : ℕ) : Type 0 where
   pub judged : rules.closes ≡ true
-  pub returned : Returned calls send (Act.Send item)
+  pub accepted : WasAccepted calls send item
   pub closed : ℕ
   pub was_closed : WasClosed calls closed
   pub by : (closed ≡ from) ⊎ EndsBefore calls closed from
@@ -128,9 +132,9 @@ pub record NotEmpty (rules : Rules) (calls : List Call) (call : ℕ) (stays : Li
   pub some : stays ≢ []
   pub covers : Covers rules calls call call stays
 
--- a send that found the queue open: it found it full, or was accepted, as the log says or since its item was taken
+-- a send that found the queue open: it found it full, or was accepted
 abbrev pub WasOpen : List Call → (send : ℕ) → Type 0
-WasOpen calls send = Returned calls send Act.Full ⊎ ((item : ℕ) × Returned calls send (Act.Send item)) ⊎ ((take : ℕ) × Passed calls send take)
+WasOpen calls send = Returned calls send Act.Full ⊎ ((item : ℕ) × WasAccepted calls send item)
 
 -- the queue was closed by the end of one call, and a send that began after that found it open
 pub record Reopened (rules : Rules) (calls : List Call) (closed send : ℕ) : Type 0 where

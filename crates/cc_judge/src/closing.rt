@@ -4,7 +4,7 @@ ghost use Rattle.cc_judge.specs.Names.{Call, Act};
 ghost use Rattle.cc_judge.specs.Order.{EndsBefore};
 ghost use Rattle.cc_judge.specs.Faults.{Did, Returned, WasOpen, Reopened, ClosedEarly};
 
-use crate::faults::{Index, accepted, ends_before, passed, sent, was_closed};
+use crate::faults::{Index, ends_before, was_accepted, was_closed};
 use crate::{Act, Call, Rules};
 
 /// Whether the call at this place is a send that found the queue full, and returned.
@@ -17,30 +17,11 @@ fn found_full(calls: &[Call], place: usize) -> bool
     }
 }
 
-/// The take of the item that the call at this place sent, if one took it.
-fn take_of(calls: &[Call], index: &Index, send: usize) -> Option<usize> {
-    let item = sent(calls, send)?;
-    match index.takes.get(item as usize) {
-        Some(Some(take)) => Some(*take as usize),
-        _ => None,
-    }
-}
-
-/// Whether the item that the call at this place sent was taken.
-fn was_taken(calls: &[Call], index: &Index, send: usize) -> bool
-    ensures { IsTrue result → WasOpen calls.now send }
-{
-    match take_of(calls, index, send) {
-        Some(take) => passed(calls, send, take),
-        None => false,
-    }
-}
-
 /// Whether the call at this place is a send that found the queue open.
 pub fn was_open(calls: &[Call], index: &Index, send: usize) -> bool
     ensures { IsTrue result → WasOpen calls.now send }
 {
-    found_full(calls, send) || accepted(calls, send).is_some() || was_taken(calls, index, send)
+    found_full(calls, send) || was_accepted(calls, index, send).is_some()
 }
 
 /// Whether the queue was closed by the end of one call, and a send that began after that found it open.

@@ -328,10 +328,9 @@ fn sought(alloc: Global, rules: &Rules, view: &View<'_>) -> Result<Verdict, Allo
 /// each take that hasn't returned if one of the others found none though items were left.
 ///
 /// A log has an order exactly if it has none of the faults (after Henzinger, Sezgin and Vafeiadis, CONCUR 2013, for calls that
-/// all returned), and no log without ties is known whose verdict is neither, unless a send of a closed queue hasn't returned,
-/// though its item was taken, or more than a thousand takes haven't: then the items that show the fault may be too many
-/// (`pick`). That isn't proved, so the verdict may be undecided. Of a
-/// capacity only that is judged that a send which found the queue full may have done so.
+/// all returned), and no log without ties is known whose verdict is neither, unless more than a thousand takes haven't
+/// returned: then the items that show the fault may be too many (`pick`). That isn't proved, so the verdict may be undecided.
+/// Of a capacity only that is judged that a send which found the queue full may have done so.
 pub fn judge(
     alloc: Global,
     rules: &Rules,

@@ -2,7 +2,7 @@
 ghost use Rattle.std.specs.Prelude.{◌≡◌, ◌⊎◌, ℕ, IsTrue, IfSome, slice_get, Some, None};
 ghost use Rattle.cc_judge.specs.Names.{Call, Act, Kind, Stay, Leave};
 ghost use Rattle.cc_judge.specs.Order.{EndsBefore};
-ghost use Rattle.cc_judge.specs.Faults.{Did, Returned, Differ, NeverSent, TakenBeforeSent, TakenTwice, ShowsClosed, WasClosed, SentWhileOpen, SentBefore, IsLeft, IsRising, Fewer, Stays, Passed, Overtaken, Covers, FindsNone, NotEmpty};
+ghost use Rattle.cc_judge.specs.Faults.{Did, Returned, Differ, NeverSent, TakenBeforeSent, TakenTwice, ShowsClosed, WasClosed, WasAccepted, SentWhileOpen, SentBefore, IsLeft, IsRising, Fewer, Stays, Passed, Overtaken, Covers, FindsNone, NotEmpty};
 ghost use Rattle.cc_judge.specs.Checks.{BeginsFrom, Until};
 ghost use Rattle.cc_judge.specs.Table.{IsTable, IsIndex};
 
@@ -93,7 +93,7 @@ pub fn is_never_sent(calls: &[Call], index: &Index, take: usize) -> bool
 }
 
 /// Whether the call at one place took the item that the call at the other sent.
-pub fn passed(calls: &[Call], send: usize, take: usize) -> bool
+fn passed(calls: &[Call], send: usize, take: usize) -> bool
     ensures { IsTrue result → Passed calls.now send take }
 {
     match (sent(calls, send), taken(calls, take)) {
@@ -137,13 +137,39 @@ pub fn was_closed(calls: &[Call], place: usize) -> bool
 }
 
 /// The item that the call at this place sent, if it returned.
-pub fn accepted(calls: &[Call], place: usize) -> Option<u32>
+fn accepted(calls: &[Call], place: usize) -> Option<u32>
     ensures { IfSome result (λ item. Returned calls.now place (Act.Send item)) }
 {
     let call = calls.get(place).copied()?;
     match (call.act, call.end) {
         (Act::Send(item), Some(_)) => Some(item),
         _ => None,
+    }
+}
+
+/// Whether a call took the item that the call at this place sent.
+fn was_taken(calls: &[Call], index: &Index, send: usize, item: u32) -> bool
+    ensures { IsTrue result → (take : ℕ) × Passed calls.now send take }
+{
+    match index.takes.get(item as usize) {
+        Some(Some(take)) => passed(calls, send, *take as usize),
+        _ => false,
+    }
+}
+
+/// The item that the call at this place sent, if it was accepted.
+pub fn was_accepted(calls: &[Call], index: &Index, send: usize) -> Option<u32>
+    ensures sent { IfSome result (λ item. Did calls.now send (Act.Send item)) }
+    ensures accepted { IfSome result (WasAccepted calls.now send) }
+{
+    if let Some(item) = accepted(calls, send) {
+        return Some(item);
+    }
+    let item = sent(calls, send)?;
+    if was_taken(calls, index, send, item) {
+        Some(item)
+    } else {
+        None
     }
 }
 
@@ -173,12 +199,13 @@ fn sent_while_open(
     send: usize,
     from: usize,
 ) -> Option<u32>
-    ensures { IfSome result (SentWhileOpen rules.now calls.now send from) }
+    ensures sent { IfSome result (λ item. Did calls.now send (Act.Send item)) }
+    ensures open { IfSome result (SentWhileOpen rules.now calls.now send from) }
 {
     if !rules.closes {
         return None;
     }
-    let item = accepted(calls, send)?;
+    let item = was_accepted(calls, index, send)?;
     match closed_by(calls, index, from) {
         Some(_) => Some(item),
         None => None,

@@ -8,12 +8,13 @@ use crate::times::{ByTime, NEVER, View};
 use crate::{Act, Stay};
 use std::alloc::{AllocError, Global};
 
-/// The calls that sent, sorted by their begins, or by their ends.
+/// The calls that sent, sorted by their begins, or by their ends: by then those that were accepted have to be placed.
 fn sends_by(alloc: Global, view: &View<'_>, by_end: bool) -> Result<ByTime, AllocError> {
     let mut list = Vec::new(alloc);
     for (place, call) in view.calls.iter().enumerate() {
-        if let (Act::Send(_), Some(at)) = (call.act, narrow(place)) {
-            let time = if by_end && call.end.is_none() {
+        if let (Act::Send(item), Some(at)) = (call.act, narrow(place)) {
+            let accepted = call.end.is_some() || place_of(&view.index.takes, item).is_some();
+            let time = if by_end && !accepted {
                 NEVER
             } else if by_end {
                 view.end(call)
