@@ -9,26 +9,26 @@
 
 ghost use Rattle.std.specs.Prelude.{◌≡◌, ◌≢◌, nat_le};
 ghost use Rattle.std.specs.Mem.{type_size};
-ghost use Rattle.cc_handles.specs.contracts.opening.Settings as settings_type;
+ghost use Rattle.cc_handles.specs.contracts.open_handles.Settings as settings_type;
 ghost use Rattle.cc_handles.specs.contracts.handle.Handle as handle_type;
 ghost use Rattle.cc_handles.specs.contracts.items.TakenItem as item_type;
 ghost use Rattle.cc_handles.specs.contracts.items.TakenWords as words_type;
 ghost use Rattle.cc_binding.specs.declared.version.TheConstants.{VERSION};
-ghost use Rattle.cc_handles.specs.declared.codes.TheConstants.{BAD_GROUPS, BAD_WORDS};
+ghost use Rattle.cc_handles.specs.declared.return_codes.TheConstants.{BAD_GROUPS, BAD_WORDS};
 ghost use Rattle.cc_handles.specs.Items.{one_word, all_words};
-ghost use Rattle.cc_handles.specs.Opened.{config_of, refusal, HaveOpened};
+ghost use Rattle.cc_handles.specs.OpenHandles.{config_of, refusal, HaveOpened};
 ghost use Rattle.cc_handles.specs.Handles.{pass_of, longest_of, IsDropped};
 ghost use Rattle.cc_handles.specs.Calls.{single, fitting, IfRoom, BeginsSend, TurnsSend, TriesSend, TellsWorn, BeginsClose, TurnsClose, BeginsTake, TurnsTake, TriesTake, TellsGroup};
 
 mod shared;
 mod version;
 
-use cc_handles::codes::{DONE, NO_MEMORY, NO_PASS};
 use cc_handles::handle::Handle;
 use cc_handles::items::{TakenItem, TakenWords};
-use cc_handles::opening::{Settings, check, open};
+use cc_handles::open_handles::{Settings, check, open};
+use cc_handles::results::SendResult;
+use cc_handles::return_codes::{DONE, NO_MEMORY, NO_PASS};
 use cc_handles::takes::{try_take, turn_take};
-use cc_handles::told::Told;
 use cc_model::Body;
 use std::alloc::Global;
 use std::mem::size_of;
@@ -176,7 +176,7 @@ pub extern "C" fn vahepito_turn_send(
             sender.hold(held);
             told
         }
-        None => Told::only(NO_PASS),
+        None => SendResult::only(NO_PASS),
     };
     *place = told.number;
     *served = told.served;
@@ -201,7 +201,7 @@ pub extern "C" fn vahepito_try_send(
             sender.hold(held);
             told
         }
-        None => Told::only(NO_PASS),
+        None => SendResult::only(NO_PASS),
     };
     *place = told.number;
     *served = told.served;
@@ -227,7 +227,7 @@ pub extern "C" fn vahepito_try_send_words(
             sender.hold(held);
             told
         }
-        None => Told::only(NO_PASS),
+        None => SendResult::only(NO_PASS),
     };
     *place = told.number;
     *served = told.served;
@@ -279,7 +279,7 @@ pub extern "C" fn vahepito_turn_close(
             sender.hold(held);
             told
         }
-        None => Told::only(NO_PASS),
+        None => SendResult::only(NO_PASS),
     };
     *total = told.number;
     *served = told.served;
@@ -402,6 +402,6 @@ pub extern "C" fn vahepito_drop(alloc: Global, pass: &mut Handle) -> u32
     let Some(mut held) = pass.take(alloc) else {
         return NO_PASS;
     };
-    pass.left = held.give_up();
+    pass.abandoned = held.give_up();
     DONE
 }

@@ -1,8 +1,8 @@
 -- A begin, and if it was begun a turn; and a call that is made if there is room.
 use Rattle.std.proofs.Common.{◌≡◌, ◌≢◌, ℕ, Bool, true, false, Option, subst}
-use Rattle.cc_handles.specs.Names.{Pass, Taken}
+use Rattle.cc_handles.specs.Names.{Pass, TakeResult}
 use Rattle.cc_handles.specs.Items.{Form}
-use Rattle.cc_handles.specs.declared.codes.TheConstants.{BEGUN}
+use Rattle.cc_handles.specs.declared.return_codes.TheConstants.{BEGUN}
 use Rattle.cc_handles.specs.Calls.{Tries, IfRoom}
 
 module _ {T : Type 0} (alone : ℕ → T) (Begins : Option Pass → Option Pass → ℕ → Type 0) (Turns : Option Pass → Option Pass → T → Type 0) where
@@ -19,6 +19,6 @@ Apart true = ⊥
 Apart false = Unit {0}
 
 -- there is room
-pub in_room : {I : Type 0} (form : Form I) (Tells : Option Pass → Option Pass → Taken I → Type 0) (room : Bool) (old new : Option Pass) (told : Taken I) → room ≡ true → Tells old new told → IfRoom form room Tells old new told
+pub in_room : {I : Type 0} (form : Form I) (Tells : Option Pass → Option Pass → TakeResult I → Type 0) (room : Bool) (old new : Option Pass) (told : TakeResult I) → room ≡ true → Tells old new told → IfRoom form room Tells old new told
 in_room form Tells true old new told is tells = tells
 in_room form Tells false old new told is tells = absurd (subst Apart is tt)

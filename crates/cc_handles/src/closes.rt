@@ -4,10 +4,10 @@ ghost use Rattle.cc_steps.specs.Walk.{IsOf};
 ghost use Rattle.cc_handles.specs.Passes.{walk_of, StaysOf};
 ghost use Rattle.cc_handles.specs.Calls.{BeginsClose, TurnsClose, TriesClose};
 
-use crate::codes::{BEGUN, NO_PASS, WAITING};
-use crate::held::{Held, Pass, put};
+use crate::handle_inner::{HandleInner, Pass, put};
 use crate::refusals::{no_idle_sender, no_pending_sender};
-use crate::told::Told;
+use crate::results::SendResult;
+use crate::return_codes::{BEGUN, NO_PASS, WAITING};
 use cc_queue::{CloseTurn, Queue, begin_close, turn_close};
 
 /// Begins a close, if the pass can.
@@ -28,28 +28,28 @@ fn begun(queue: &Queue, pass: Pass) -> (Pass, u32)
 
 /// One turn of a close, if the pass has one.
 #[inline(always)]
-fn turned(queue: &Queue, pass: Pass) -> (Pass, Told)
+fn turned(queue: &Queue, pass: Pass) -> (Pass, SendResult)
     requires { IsOf queue.now (walk_of pass) }
     ensures here { IsOf queue.now (walk_of result.0) }
     ensures turns { TurnsClose (Some pass) (Some result.0) result.1 }
 {
     match pass {
         Pass::Closing(pending) => match turn_close(queue, pending) {
-            CloseTurn::Waiting(pending) => (Pass::Closing(pending), Told::only(WAITING)),
+            CloseTurn::Waiting(pending) => (Pass::Closing(pending), SendResult::only(WAITING)),
             CloseTurn::Done {
                 sender,
                 answer,
                 served,
-            } => (Pass::Sender(sender), Told::closed(answer, served)),
+            } => (Pass::Sender(sender), SendResult::closed(answer, served)),
         },
         other => {
             let why = no_pending_sender(&other);
-            (other, Told::only(why))
+            (other, SendResult::only(why))
         }
     }
 }
 
-impl Held {
+impl HandleInner {
     /// Begins a close.
     pub fn begin_close(&mut self) -> u32
         ensures begins { BeginsClose self.old.pass self.new.pass result }
@@ -65,13 +65,13 @@ impl Held {
 
     /// One turn of a close.
     #[inline(always)]
-    pub fn turn_close(&mut self) -> Told
+    pub fn turn_close(&mut self) -> SendResult
         ensures turns { TurnsClose self.old.pass self.new.pass result }
         ensures same { self.new.words ≡ self.old.words }
         ensures stays { StaysOf self.old.pass self.new.pass }
     {
         let Some(pass) = self.pass.take() else {
-            return Told::only(NO_PASS);
+            return SendResult::only(NO_PASS);
         };
         let (pass, told) = turned(&self.queue, pass);
         put(&mut self.pass, pass);
@@ -79,18 +79,18 @@ impl Held {
     }
 
     /// Begins a close, and if it was begun turns it once.
-    pub fn try_close(&mut self) -> Told
+    pub fn try_close(&mut self) -> SendResult
         ensures tries { TriesClose self.old.pass self.new.pass result }
         ensures same { self.new.words ≡ self.old.words }
         ensures stays { StaysOf self.old.pass self.new.pass }
     {
         let Some(pass) = self.pass.take() else {
-            return Told::only(NO_PASS);
+            return SendResult::only(NO_PASS);
         };
         let (pass, code) = begun(&self.queue, pass);
         if code != BEGUN {
             put(&mut self.pass, pass);
-            return Told::only(code);
+            return SendResult::only(code);
         }
         let (pass, told) = turned(&self.queue, pass);
         put(&mut self.pass, pass);

@@ -4,10 +4,10 @@ ghost use Rattle.cc_steps.specs.Walk.{IsOf};
 ghost use Rattle.cc_handles.specs.Passes.{walk_of, StaysOf};
 ghost use Rattle.cc_handles.specs.Calls.{fitting, BeginsSend, TurnsSend, TriesSend, TellsWorn};
 
-use crate::codes::{BAD_WORDS, BEGUN, FRESH, LONG, NO_PASS, WAITING, WORN};
-use crate::held::{Held, Pass, put};
+use crate::handle_inner::{HandleInner, Pass, put};
 use crate::refusals::{no_idle_sender, no_pending_sender};
-use crate::told::Told;
+use crate::results::SendResult;
+use crate::return_codes::{BAD_WORDS, BEGUN, FRESH, LONG, NO_PASS, WAITING, WORN};
 use cc_model::Body;
 use cc_queue::{Queue, SendTurn, begin_send, turn_send};
 
@@ -49,28 +49,28 @@ fn begun(queue: &Queue, pass: Pass, body: Result<Body, u32>) -> (Pass, u32)
 
 /// One turn of a send, if the pass has one.
 #[inline(always)]
-fn turned(queue: &Queue, pass: Pass) -> (Pass, Told)
+fn turned(queue: &Queue, pass: Pass) -> (Pass, SendResult)
     requires { IsOf queue.now (walk_of pass) }
     ensures here { IsOf queue.now (walk_of result.0) }
     ensures turns { TurnsSend (Some pass) (Some result.0) result.1 }
 {
     match pass {
         Pass::Sending(pending) => match turn_send(queue, pending) {
-            SendTurn::Waiting(pending) => (Pass::Sending(pending), Told::only(WAITING)),
+            SendTurn::Waiting(pending) => (Pass::Sending(pending), SendResult::only(WAITING)),
             SendTurn::Done {
                 sender,
                 answer,
                 served,
-            } => (Pass::Sender(sender), Told::sent(answer, served)),
+            } => (Pass::Sender(sender), SendResult::sent(answer, served)),
         },
         other => {
             let why = no_pending_sender(&other);
-            (other, Told::only(why))
+            (other, SendResult::only(why))
         }
     }
 }
 
-impl Held {
+impl HandleInner {
     /// The body of these words, if a body of the queue may have that many; or the code for which there is none.
     pub fn fitting(&self, words: &[u64]) -> Result<Body, u32>
         ensures { result ≡ fitting self.now.words words.now }
@@ -94,13 +94,13 @@ impl Held {
 
     /// One turn of a send.
     #[inline(always)]
-    pub fn turn_send(&mut self) -> Told
+    pub fn turn_send(&mut self) -> SendResult
         ensures turns { TurnsSend self.old.pass self.new.pass result }
         ensures same { self.new.words ≡ self.old.words }
         ensures stays { StaysOf self.old.pass self.new.pass }
     {
         let Some(pass) = self.pass.take() else {
-            return Told::only(NO_PASS);
+            return SendResult::only(NO_PASS);
         };
         let (pass, told) = turned(&self.queue, pass);
         put(&mut self.pass, pass);
@@ -109,18 +109,18 @@ impl Held {
 
     /// Begins a send of this body, if there is one, and if it was begun turns it once.
     #[inline(always)]
-    pub fn try_send(&mut self, body: Result<Body, u32>) -> Told
+    pub fn try_send(&mut self, body: Result<Body, u32>) -> SendResult
         ensures tries { TriesSend body self.old.pass self.new.pass result }
         ensures same { self.new.words ≡ self.old.words }
         ensures stays { StaysOf self.old.pass self.new.pass }
     {
         let Some(pass) = self.pass.take() else {
-            return Told::only(NO_PASS);
+            return SendResult::only(NO_PASS);
         };
         let (pass, code) = begun(&self.queue, pass, body);
         if code != BEGUN {
             put(&mut self.pass, pass);
-            return Told::only(code);
+            return SendResult::only(code);
         }
         let (pass, told) = turned(&self.queue, pass);
         put(&mut self.pass, pass);

@@ -5,12 +5,12 @@ ghost use Rattle.cc_handles.specs.Passes.{walk_of, StaysOf};
 ghost use Rattle.cc_handles.specs.Handles.{pass_of, longest_of};
 ghost use Rattle.cc_handles.specs.Calls.{BeginsTake, TurnsTake, TriesTake, IfRoom, TellsGroup, IsIn};
 
-use crate::codes::{BEGUN, DONE, NO_PASS, WAITING, WIDE};
 use crate::handle::Handle;
-use crate::held::{Held, Pass, put};
+use crate::handle_inner::{HandleInner, Pass, put};
 use crate::items::ItemForm;
 use crate::refusals::{no_idle_receiver, no_pending_take};
-use crate::told::Taken;
+use crate::results::TakeResult;
+use crate::return_codes::{BEGUN, DONE, NO_PASS, WAITING, WIDE};
 use cc_queue::{Queue, TakeTurn, begin_take, turn_take as turn};
 use std::alloc::Global;
 
@@ -32,28 +32,28 @@ fn begun(queue: &Queue, pass: Pass) -> (Pass, u32)
 
 /// One turn of a take, if the pass has one.
 #[inline(always)]
-fn turned<I: ItemForm>(queue: &Queue, pass: Pass) -> (Pass, Taken<I>)
+fn turned<I: ItemForm>(queue: &Queue, pass: Pass) -> (Pass, TakeResult<I>)
     requires { IsOf queue.now (walk_of pass) }
     ensures here { IsOf queue.now (walk_of result.0) }
     ensures turns { TurnsTake I.form (Some pass) (Some result.0) result.1 }
 {
     match pass {
         Pass::Taking(pending) => match turn(queue, pending) {
-            TakeTurn::Waiting(pending) => (Pass::Taking(pending), Taken::only(WAITING)),
+            TakeTurn::Waiting(pending) => (Pass::Taking(pending), TakeResult::only(WAITING)),
             TakeTurn::Done {
                 receiver,
                 answer,
                 served,
-            } => (Pass::Receiver(receiver), Taken::taken(answer, served)),
+            } => (Pass::Receiver(receiver), TakeResult::taken(answer, served)),
         },
         other => {
             let why = no_pending_take(&other);
-            (other, Taken::only(why))
+            (other, TakeResult::only(why))
         }
     }
 }
 
-impl Held {
+impl HandleInner {
     /// Begins a take.
     pub fn begin_take(&mut self) -> u32
         ensures begins { BeginsTake self.old.pass self.new.pass result }
@@ -76,25 +76,25 @@ impl Held {
     }
 
     /// One turn of a take, if its item has room for each body of the queue.
-    pub fn turn_take<I: ItemForm>(&mut self) -> Taken<I>
+    pub fn turn_take<I: ItemForm>(&mut self) -> TakeResult<I>
         ensures turns { IfRoom I.form (nat_le self.old.words I.form.room) (TurnsTake I.form) self.old.pass self.new.pass result }
         ensures same { self.new.words ≡ self.old.words }
     {
         if !self.has_room::<I>() {
-            return Taken::only(WIDE);
+            return TakeResult::only(WIDE);
         }
         self.turn_any()
     }
 
     /// One turn of a take, of whatever room its item has.
     #[inline(always)]
-    pub fn turn_any<I: ItemForm>(&mut self) -> Taken<I>
+    pub fn turn_any<I: ItemForm>(&mut self) -> TakeResult<I>
         ensures turns { TurnsTake I.form self.old.pass self.new.pass result }
         ensures same { self.new.words ≡ self.old.words }
         ensures stays { StaysOf self.old.pass self.new.pass }
     {
         let Some(pass) = self.pass.take() else {
-            return Taken::only(NO_PASS);
+            return TakeResult::only(NO_PASS);
         };
         let (pass, told) = turned(&self.queue, pass);
         put(&mut self.pass, pass);
@@ -102,30 +102,30 @@ impl Held {
     }
 
     /// Begins a take, if its item has room for each body of the queue, and if it was begun turns it once.
-    pub fn try_take<I: ItemForm>(&mut self) -> Taken<I>
+    pub fn try_take<I: ItemForm>(&mut self) -> TakeResult<I>
         ensures tries { IfRoom I.form (nat_le self.old.words I.form.room) (TriesTake I.form) self.old.pass self.new.pass result }
         ensures same { self.new.words ≡ self.old.words }
     {
         if !self.has_room::<I>() {
-            return Taken::only(WIDE);
+            return TakeResult::only(WIDE);
         }
         self.try_any()
     }
 
     /// Begins a take, and if it was begun turns it once, of whatever room its item has.
     #[inline(always)]
-    pub fn try_any<I: ItemForm>(&mut self) -> Taken<I>
+    pub fn try_any<I: ItemForm>(&mut self) -> TakeResult<I>
         ensures tries { TriesTake I.form self.old.pass self.new.pass result }
         ensures same { self.new.words ≡ self.old.words }
         ensures stays { StaysOf self.old.pass self.new.pass }
     {
         let Some(pass) = self.pass.take() else {
-            return Taken::only(NO_PASS);
+            return TakeResult::only(NO_PASS);
         };
         let (pass, code) = begun(&self.queue, pass);
         if code != BEGUN {
             put(&mut self.pass, pass);
-            return Taken::only(code);
+            return TakeResult::only(code);
         }
         let (pass, told) = turned(&self.queue, pass);
         put(&mut self.pass, pass);
@@ -157,7 +157,7 @@ impl Held {
 
 /// One turn of a take, by a handle.
 #[inline(always)]
-pub fn turn_take<I: ItemForm>(alloc: Global, receiver: &mut Handle) -> Taken<I>
+pub fn turn_take<I: ItemForm>(alloc: Global, receiver: &mut Handle) -> TakeResult<I>
     ensures turns { IfRoom I.form (nat_le (longest_of receiver.old) I.form.room) (TurnsTake I.form) (pass_of receiver.old) (pass_of receiver.new) result }
     ensures same { longest_of receiver.new ≡ longest_of receiver.old }
 {
@@ -167,13 +167,13 @@ pub fn turn_take<I: ItemForm>(alloc: Global, receiver: &mut Handle) -> Taken<I>
             receiver.hold(held);
             told
         }
-        None => Taken::only(NO_PASS),
+        None => TakeResult::only(NO_PASS),
     }
 }
 
 /// Begins a take, by a handle, and if it was begun turns it once.
 #[inline(always)]
-pub fn try_take<I: ItemForm>(alloc: Global, receiver: &mut Handle) -> Taken<I>
+pub fn try_take<I: ItemForm>(alloc: Global, receiver: &mut Handle) -> TakeResult<I>
     ensures tries { IfRoom I.form (nat_le (longest_of receiver.old) I.form.room) (TriesTake I.form) (pass_of receiver.old) (pass_of receiver.new) result }
     ensures same { longest_of receiver.new ≡ longest_of receiver.old }
 {
@@ -183,6 +183,6 @@ pub fn try_take<I: ItemForm>(alloc: Global, receiver: &mut Handle) -> Taken<I>
             receiver.hold(held);
             told
         }
-        None => Taken::only(NO_PASS),
+        None => TakeResult::only(NO_PASS),
     }
 }

@@ -1,7 +1,7 @@
 use Rattle.std.proofs.Common.{rules, None}
-use Rattle.cc_handles.specs.declared.codes.TheConstants.{NO_PASS}
+use Rattle.cc_handles.specs.declared.return_codes.TheConstants.{NO_PASS}
 use Rattle.cc_handles.specs.Handles.{pass_of}
-use Rattle.cc_handles.specs.Told.{only}
+use Rattle.cc_handles.specs.Results.{only}
 use Rattle.cc_handles.specs.Calls.{single, BeginsSend, TurnsSend}
 use Rattle.cc_handles.proofs.Trying.{refused}
 use Rattle.cc_binding.proofs.vahepito_try_send.Goals as goal

@@ -1,5 +1,5 @@
 use Rattle.std.proofs.Common.{rules, nat_le, None}
-use Rattle.cc_handles.specs.declared.codes.TheConstants.{NO_PASS}
+use Rattle.cc_handles.specs.declared.return_codes.TheConstants.{NO_PASS}
 use Rattle.cc_handles.specs.Handles.{longest_of}
 use Rattle.cc_handles.proofs.Trying.{refused, in_room}
 use Rattle.cc_handles.proofs.takes.try_take.Goals as goal
