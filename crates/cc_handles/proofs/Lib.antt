@@ -1,7 +1,7 @@
 pub mod Filling
 pub mod HandleBoxValues
-pub mod Trying
 pub mod Values
 pub mod Quiet
 pub mod AbandonedValues
 pub mod Staying
+pub mod Trying

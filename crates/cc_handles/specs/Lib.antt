@@ -5,6 +5,7 @@ pub mod Passes
 pub mod Items
 pub mod Abandoned
 pub mod Results
+pub mod Closures
 pub mod Calls
 pub mod Handles
 pub mod OpenHandles

@@ -1,9 +1,11 @@
 //! A handle, as C holds it.
 ghost use Rattle.std.specs.Prelude.{◌≡◌, Some, None, is_some, MatchOption};
+ghost use Rattle.cc_handles.specs.Closures.{MayRun, RunsWith};
 
 use crate::abandoned::Abandoned;
 use crate::handle_inner::HandleInner;
 use crate::raw_box::{HandleBox, RawBox};
+use crate::return_codes::NO_PASS;
 use std::alloc::Global;
 use std::mem::replace;
 use std::ptr::null_mut;
@@ -54,6 +56,20 @@ impl Handle {
             return Some(boxed.into_box());
         }
         None
+    }
+
+    /// Runs this with the content of the handle: its code. An empty handle has the code NO_PASS.
+    #[inline(always)]
+    pub fn with<F: FnMut(&mut HandleInner) -> u32>(&mut self, alloc: Global, call: &mut F) -> u32
+        requires { MayRun F.FnMut call.old }
+        ensures { RunsWith F.FnMut call.old self.old.boxed.value self.new.boxed.value result call.new }
+    {
+        let Some(mut held) = self.take(alloc) else {
+            return NO_PASS;
+        };
+        let code = call(&mut held);
+        self.hold(held);
+        code
     }
 
     /// A handle that holds nothing.

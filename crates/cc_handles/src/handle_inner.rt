@@ -117,3 +117,20 @@ pub(crate) fn put(place: &mut Option<Pass>, pass: Pass)
         unreachable!()
     }
 }
+
+/// Runs a step with the pass, and puts the pass back that the step returns: the step's code. Without a pass the code is NO_PASS.
+macro_rules! with_pass {
+    ($inner:expr, |$queue:ident, $pass:ident| $step:expr) => {
+        match $inner.pass.take() {
+            Some($pass) => {
+                let $queue = &$inner.queue;
+                let ($pass, code) = $step;
+                $crate::handle_inner::put(&mut $inner.pass, $pass);
+                code
+            }
+            None => $crate::return_codes::NO_PASS,
+        }
+    };
+}
+
+pub(crate) use with_pass;

@@ -1,13 +1,12 @@
-//! The results of a call, and the answers of a queue as these.
+//! The result of a call, and the answers of a queue as codes and numbers.
 ghost use Rattle.std.specs.Prelude.{◌≡◌};
 ghost use Rattle.cc_handles.specs.Results.{only, none_taken, sent_as, closed_as, taken_as};
 
 use crate::items::ItemForm;
 use crate::return_codes::{ACCEPTED, ALREADY, CLOSED, EMPTY, ENDED, FULL, GOT, SHUT, SPENT};
 use cc_model::{CloseAnswer, SendAnswer, TakeAnswer};
-use cc_runs::words_in;
 
-/// The result of a call of a sender.
+/// The result of a send or a close.
 #[derive(Clone, Copy)]
 pub struct SendResult {
     pub code: u32,
@@ -40,38 +39,6 @@ impl SendResult {
             served: 0,
         }
     }
-
-    /// The answer of a send.
-    pub fn sent(answer: SendAnswer, served: u32) -> SendResult
-        ensures { result ≡ sent_as answer served }
-    {
-        let (code, number) = match answer {
-            SendAnswer::Accepted { place } => (ACCEPTED, place),
-            SendAnswer::Full => (FULL, 0),
-            SendAnswer::Closed => (CLOSED, 0),
-            SendAnswer::Spent => (SPENT, 0),
-        };
-        SendResult {
-            code,
-            number,
-            served,
-        }
-    }
-
-    /// The answer of a close.
-    pub fn closed(answer: CloseAnswer, served: u32) -> SendResult
-        ensures { result ≡ closed_as answer served }
-    {
-        let (code, number) = match answer {
-            CloseAnswer::Shut { total } => (SHUT, total),
-            CloseAnswer::Already { total } => (ALREADY, total),
-        };
-        SendResult {
-            code,
-            number,
-            served,
-        }
-    }
 }
 
 impl<I: ItemForm> TakeResult<I> {
@@ -86,21 +53,53 @@ impl<I: ItemForm> TakeResult<I> {
             served: 0,
         }
     }
+}
 
-    /// The answer of a take.
-    pub fn taken(answer: TakeAnswer, served: u32) -> TakeResult<I>
-        ensures { result ≡ taken_as I.form answer served }
-    {
-        let (code, item, total) = match answer {
-            TakeAnswer::Got(item) => (GOT, I::of(item), 0),
-            TakeAnswer::Empty => (EMPTY, I::none(), 0),
-            TakeAnswer::Ended { total } => (ENDED, I::none(), total),
-        };
-        TakeResult {
-            code,
-            item,
-            total,
-            served,
+/// The code of this answer of a send. A send that was accepted writes its place.
+#[inline(always)]
+pub(crate) fn sent_as(answer: SendAnswer, place: &mut u64) -> u32
+    requires { place.old ≡ 0 }
+    ensures { (served : _) → sent_as answer served ≡ record { code = result; number = place.new; served = served } }
+{
+    match answer {
+        SendAnswer::Accepted { place: accepted } => {
+            *place = accepted;
+            ACCEPTED
+        }
+        SendAnswer::Full => FULL,
+        SendAnswer::Closed => CLOSED,
+        SendAnswer::Spent => SPENT,
+    }
+}
+
+/// The code of this answer of a close, which writes the total.
+#[inline(always)]
+pub(crate) fn closed_as(answer: CloseAnswer, total: &mut u64) -> u32
+    ensures { (served : _) → closed_as answer served ≡ record { code = result; number = total.new; served = served } }
+{
+    let (code, all) = match answer {
+        CloseAnswer::Shut { total } => (SHUT, total),
+        CloseAnswer::Already { total } => (ALREADY, total),
+    };
+    *total = all;
+    code
+}
+
+/// The code of this answer of a take. It writes the item, or the total if the queue has ended.
+#[inline(always)]
+pub(crate) fn taken_as<I: ItemForm>(answer: TakeAnswer, item: &mut I, total: &mut u64) -> u32
+    requires { (item.old ≡ I.form.none) × (total.old ≡ 0) }
+    ensures { (served : _) → taken_as I.form answer served ≡ record { code = result; item = item.new; total = total.new; served = served } }
+{
+    match answer {
+        TakeAnswer::Got(got) => {
+            *item = I::of(got);
+            GOT
+        }
+        TakeAnswer::Empty => EMPTY,
+        TakeAnswer::Ended { total: all } => {
+            *total = all;
+            ENDED
         }
     }
 }

@@ -34,7 +34,8 @@ impl Ask<SendResult> for Sending {
 
     #[inline(always)]
     fn ask(&self, held: &mut HandleInner) -> Option<SendResult> {
-        let told = held.try_send(Ok(self.body));
+        let mut told = SendResult::only(WORN);
+        told.code = held.try_send(Ok(self.body), &mut told.number, &mut told.served);
         if told.code == WORN { None } else { Some(told) }
     }
 }
@@ -48,7 +49,9 @@ impl Ask<SendResult> for Closing {
 
     #[inline(always)]
     fn ask(&self, held: &mut HandleInner) -> Option<SendResult> {
-        Some(held.try_close())
+        let mut told = SendResult::only(WORN);
+        told.code = held.try_close(&mut told.number, &mut told.served);
+        Some(told)
     }
 }
 
@@ -64,7 +67,9 @@ impl<I: ItemForm> Ask<TakeResult<I>> for Taking {
     #[inline(always)]
     fn ask(&self, held: &mut HandleInner) -> Option<TakeResult<I>> {
         if held.is_in(self.group) {
-            Some(held.try_any())
+            let mut told = TakeResult::only(WORN);
+            told.code = held.try_any(&mut told.item, &mut told.total, &mut told.served);
+            Some(told)
         } else {
             None
         }

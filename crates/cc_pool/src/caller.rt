@@ -115,7 +115,8 @@ impl Caller {
         let Some(mut held) = self.waits.take() else {
             return SendResult::only(NO_PASS);
         };
-        let told = held.turn_send();
+        let mut told = SendResult::only(NO_PASS);
+        told.code = held.turn_send(&mut told.number, &mut told.served);
         self.settle(pool, held);
         told
     }
@@ -129,7 +130,8 @@ impl Caller {
         let Some(mut held) = self.waits.take() else {
             return SendResult::only(NO_PASS);
         };
-        let told = held.turn_close();
+        let mut told = SendResult::only(NO_PASS);
+        told.code = held.turn_close(&mut told.number, &mut told.served);
         self.settle(pool, held);
         told
     }
@@ -143,7 +145,8 @@ impl Caller {
         let Some(mut held) = self.waits.take() else {
             return TakeResult::only(NO_PASS);
         };
-        let told = held.turn_any();
+        let mut told = TakeResult::only(NO_PASS);
+        told.code = held.turn_any(&mut told.item, &mut told.total, &mut told.served);
         self.settle(pool, held);
         told
     }
