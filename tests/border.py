@@ -75,7 +75,7 @@ def constants(path):
 
 def of_the_library():
     """Codes, version, exports and structs of the library."""
-    codes = constants("cc_handles/src/codes.rt")
+    codes = constants("cc_handles/src/return_codes.rt")
     version = constants("cc_binding/src/version.rt")["VERSION"]
     exports = {}
     for item in items_of("cc_binding/src/lib.rt") + items_of("cc_binding/src/shared.rt"):

@@ -156,7 +156,7 @@ def sorted_derive(attribute):
 
 def item_at(source, at):
     """The item that begins here, or none behind attributes of the whole file, and the token behind it."""
-    whole_file = source.token(at + 1) == "!"
+    whole_file = source.token(at) == "#" and source.token(at + 1) == "!"
     begin = at
     attributes, at = attributes_at(source, at)
     if whole_file:

@@ -21,7 +21,7 @@ UNCHANGED = re.compile(
 TURNS = "cc_queue::turns::"
 # Of those, these call turns: with the queue and the seat of a pass by their types, as the calls of a handle do. No store of a turn
 # is pending when it returns.
-CALLS_TURNS = re.compile(r"vahepito_call_\w+$|cc_pool::|cc_handles::held::Held::turn_\w+$")
+CALLS_TURNS = re.compile(r"vahepito_call_\w+$|cc_pool::|cc_handles::handle_inner::HandleInner::turn_\w+$")
 KEPT_BY_A_RETURN = {"rax", "rdx", "rbx", "rbp", "rsp", "r12", "r13", "r14", "r15"}
 
 

@@ -230,7 +230,7 @@ class Function:
     def must_know(self, i: Instruction) -> None:
         if i.name not in KNOWN or i.prefix not in ("", "lock") or sum(each.memory is not None for each in i.operands) > 1:
             raise Refused(f"{self.where(i)}: does not know {i.text}")
-        if i.memory and i.memory.is_own:
+        if i.memory and i.memory.is_own and i.name != "nop":
             raise Refused(f"{self.where(i)}: reads a thread's own memory")
 
     def follow(self) -> None:

@@ -1,34 +1,32 @@
 //! The queue for C and for what calls C: a static library over `cc_queue`. `bindings/c/vahepito.h` is its header.
 //!
-//! A handle holds one pass with its own share of the queue, or none. It is lent to each call: the call takes the pass out of
-//! it, makes the call of `cc_queue` with it, and puts it back. No export requires anything: each possible mistake is tested,
-//! and reported by a code. No call but the openings takes memory.
+//! A handle holds one pass with its own share of the queue, or none. The handle is lent to each call, which runs with its
+//! content (`Handle::with`). No export requires anything: each possible mistake is tested, and reported by a code. No call but
+//! the openings takes memory.
 //!
 //! `specs/Calls.antt` of `cc_handles` says what each call returns, and `specs/Opened.antt` there what an opening does.
 #![tactic(auto)]
 
 ghost use Rattle.std.specs.Prelude.{◌≡◌, ◌≢◌, nat_le};
 ghost use Rattle.std.specs.Mem.{type_size};
-ghost use Rattle.cc_handles.specs.contracts.opening.Settings as settings_type;
+ghost use Rattle.cc_handles.specs.contracts.open_handles.Settings as settings_type;
 ghost use Rattle.cc_handles.specs.contracts.handle.Handle as handle_type;
 ghost use Rattle.cc_handles.specs.contracts.items.TakenItem as item_type;
 ghost use Rattle.cc_handles.specs.contracts.items.TakenWords as words_type;
 ghost use Rattle.cc_binding.specs.declared.version.TheConstants.{VERSION};
-ghost use Rattle.cc_handles.specs.declared.codes.TheConstants.{BAD_GROUPS, BAD_WORDS};
+ghost use Rattle.cc_handles.specs.declared.return_codes.TheConstants.{BAD_GROUPS, BAD_WORDS};
 ghost use Rattle.cc_handles.specs.Items.{one_word, all_words};
-ghost use Rattle.cc_handles.specs.Opened.{config_of, refusal, HaveOpened};
+ghost use Rattle.cc_handles.specs.OpenHandles.{config_of, refusal, HaveOpened};
 ghost use Rattle.cc_handles.specs.Handles.{pass_of, longest_of, IsDropped};
 ghost use Rattle.cc_handles.specs.Calls.{single, fitting, IfRoom, BeginsSend, TurnsSend, TriesSend, TellsWorn, BeginsClose, TurnsClose, BeginsTake, TurnsTake, TriesTake, TellsGroup};
 
 mod shared;
 mod version;
 
-use cc_handles::codes::{DONE, NO_MEMORY, NO_PASS};
 use cc_handles::handle::Handle;
-use cc_handles::items::{TakenItem, TakenWords};
-use cc_handles::opening::{Settings, check, open};
-use cc_handles::takes::{try_take, turn_take};
-use cc_handles::told::Told;
+use cc_handles::items::{ItemForm, TakenItem, TakenWords};
+use cc_handles::open_handles::{Settings, check, open};
+use cc_handles::return_codes::{DONE, NO_MEMORY, NO_PASS};
 use cc_model::Body;
 use std::alloc::Global;
 use std::mem::size_of;
@@ -132,12 +130,7 @@ pub extern "C" fn vahepito_begin_send(alloc: Global, sender: &mut Handle, body: 
     ensures begins { BeginsSend (single body) (pass_of sender.old) (pass_of sender.new) result }
     ensures same { longest_of sender.new ≡ longest_of sender.old }
 {
-    let Some(mut held) = sender.take(alloc) else {
-        return NO_PASS;
-    };
-    let code = held.begin_send(Ok(Body::one(body)));
-    sender.hold(held);
-    code
+    sender.with(alloc, &mut |held| held.begin_send(Ok(Body::one(body))))
 }
 
 /// Begins a send of these words, if a body of the queue may have that many.
@@ -150,13 +143,7 @@ pub extern "C" fn vahepito_begin_send_words(
     ensures begins { BeginsSend (fitting (longest_of sender.old) words.now) (pass_of sender.old) (pass_of sender.new) result }
     ensures same { longest_of sender.new ≡ longest_of sender.old }
 {
-    let Some(mut held) = sender.take(alloc) else {
-        return NO_PASS;
-    };
-    let body = held.fitting(words);
-    let code = held.begin_send(body);
-    sender.hold(held);
-    code
+    sender.with(alloc, &mut |held| held.begin_send(held.fitting(words)))
 }
 
 /// One turn of a send that was begun.
@@ -170,17 +157,9 @@ pub extern "C" fn vahepito_turn_send(
     ensures turns { TurnsSend (pass_of sender.old) (pass_of sender.new) (record { code = result; number = place.new; served = served.new }) }
     ensures same { longest_of sender.new ≡ longest_of sender.old }
 {
-    let told = match sender.take(alloc) {
-        Some(mut held) => {
-            let told = held.turn_send();
-            sender.hold(held);
-            told
-        }
-        None => Told::only(NO_PASS),
-    };
-    *place = told.number;
-    *served = told.served;
-    told.code
+    *place = 0;
+    *served = 0;
+    sender.with(alloc, &mut |held| held.turn_send(place, served))
 }
 
 /// Begins a send of this body, and if it was begun turns it once.
@@ -195,17 +174,12 @@ pub extern "C" fn vahepito_try_send(
     ensures tries { TriesSend (single body) (pass_of sender.old) (pass_of sender.new) (record { code = result; number = place.new; served = served.new }) }
     ensures same { longest_of sender.new ≡ longest_of sender.old }
 {
-    let told = match sender.take(alloc) {
-        Some(mut held) => {
-            let told = held.try_send(Ok(Body::one(body)));
-            sender.hold(held);
-            told
-        }
-        None => Told::only(NO_PASS),
-    };
-    *place = told.number;
-    *served = told.served;
-    told.code
+    *place = 0;
+    *served = 0;
+    sender.with(
+        alloc,
+        &mut |held| held.try_send(Ok(Body::one(body)), place, served),
+    )
 }
 
 /// Begins a send of these words, if a body of the queue may have that many, and if it was begun turns it once.
@@ -220,18 +194,12 @@ pub extern "C" fn vahepito_try_send_words(
     ensures tries { TriesSend (fitting (longest_of sender.old) words.now) (pass_of sender.old) (pass_of sender.new) (record { code = result; number = place.new; served = served.new }) }
     ensures same { longest_of sender.new ≡ longest_of sender.old }
 {
-    let told = match sender.take(alloc) {
-        Some(mut held) => {
-            let body = held.fitting(words);
-            let told = held.try_send(body);
-            sender.hold(held);
-            told
-        }
-        None => Told::only(NO_PASS),
-    };
-    *place = told.number;
-    *served = told.served;
-    told.code
+    *place = 0;
+    *served = 0;
+    sender.with(
+        alloc,
+        &mut |held| held.try_send(held.fitting(words), place, served),
+    )
 }
 
 /// Whether the sender has begun as many sends as it may.
@@ -240,12 +208,7 @@ pub extern "C" fn vahepito_is_worn(alloc: Global, sender: &mut Handle) -> u32
     ensures tells { TellsWorn (pass_of sender.old) (pass_of sender.new) result }
     ensures same { longest_of sender.new ≡ longest_of sender.old }
 {
-    let Some(mut held) = sender.take(alloc) else {
-        return NO_PASS;
-    };
-    let code = held.is_worn();
-    sender.hold(held);
-    code
+    sender.with(alloc, &mut |held| held.is_worn())
 }
 
 /// Begins a close.
@@ -254,12 +217,7 @@ pub extern "C" fn vahepito_begin_close(alloc: Global, sender: &mut Handle) -> u3
     ensures begins { BeginsClose (pass_of sender.old) (pass_of sender.new) result }
     ensures same { longest_of sender.new ≡ longest_of sender.old }
 {
-    let Some(mut held) = sender.take(alloc) else {
-        return NO_PASS;
-    };
-    let code = held.begin_close();
-    sender.hold(held);
-    code
+    sender.with(alloc, &mut |held| held.begin_close())
 }
 
 /// One turn of a close that was begun.
@@ -273,17 +231,9 @@ pub extern "C" fn vahepito_turn_close(
     ensures turns { TurnsClose (pass_of sender.old) (pass_of sender.new) (record { code = result; number = total.new; served = served.new }) }
     ensures same { longest_of sender.new ≡ longest_of sender.old }
 {
-    let told = match sender.take(alloc) {
-        Some(mut held) => {
-            let told = held.turn_close();
-            sender.hold(held);
-            told
-        }
-        None => Told::only(NO_PASS),
-    };
-    *total = told.number;
-    *served = told.served;
-    told.code
+    *total = 0;
+    *served = 0;
+    sender.with(alloc, &mut |held| held.turn_close(total, served))
 }
 
 /// Begins a take.
@@ -292,12 +242,7 @@ pub extern "C" fn vahepito_begin_take(alloc: Global, receiver: &mut Handle) -> u
     ensures begins { BeginsTake (pass_of receiver.old) (pass_of receiver.new) result }
     ensures same { longest_of receiver.new ≡ longest_of receiver.old }
 {
-    let Some(mut held) = receiver.take(alloc) else {
-        return NO_PASS;
-    };
-    let code = held.begin_take();
-    receiver.hold(held);
-    code
+    receiver.with(alloc, &mut |held| held.begin_take())
 }
 
 /// One turn of a take that was begun.
@@ -312,11 +257,10 @@ pub extern "C" fn vahepito_turn_take(
     ensures turns { IfRoom one_word (nat_le (longest_of receiver.old) one_word.room) (TurnsTake one_word) (pass_of receiver.old) (pass_of receiver.new) (record { code = result; item = item.new; total = total.new; served = served.new }) }
     ensures same { longest_of receiver.new ≡ longest_of receiver.old }
 {
-    let told = turn_take::<TakenItem>(alloc, receiver);
-    *item = told.item;
-    *total = told.total;
-    *served = told.served;
-    told.code
+    *item = TakenItem::none();
+    *total = 0;
+    *served = 0;
+    receiver.with(alloc, &mut |held| held.turn_take(item, total, served))
 }
 
 /// Begins a take, and if it was begun turns it once.
@@ -331,11 +275,10 @@ pub extern "C" fn vahepito_try_take(
     ensures tries { IfRoom one_word (nat_le (longest_of receiver.old) one_word.room) (TriesTake one_word) (pass_of receiver.old) (pass_of receiver.new) (record { code = result; item = item.new; total = total.new; served = served.new }) }
     ensures same { longest_of receiver.new ≡ longest_of receiver.old }
 {
-    let told = try_take::<TakenItem>(alloc, receiver);
-    *item = told.item;
-    *total = told.total;
-    *served = told.served;
-    told.code
+    *item = TakenItem::none();
+    *total = 0;
+    *served = 0;
+    receiver.with(alloc, &mut |held| held.try_take(item, total, served))
 }
 
 /// One turn of a take that was begun, of an item with all words of its body.
@@ -350,11 +293,10 @@ pub extern "C" fn vahepito_turn_take_words(
     ensures turns { IfRoom all_words (nat_le (longest_of receiver.old) all_words.room) (TurnsTake all_words) (pass_of receiver.old) (pass_of receiver.new) (record { code = result; item = item.new; total = total.new; served = served.new }) }
     ensures same { longest_of receiver.new ≡ longest_of receiver.old }
 {
-    let told = turn_take::<TakenWords>(alloc, receiver);
-    *item = told.item;
-    *total = told.total;
-    *served = told.served;
-    told.code
+    *item = TakenWords::none();
+    *total = 0;
+    *served = 0;
+    receiver.with(alloc, &mut |held| held.turn_take(item, total, served))
 }
 
 /// Begins a take, and if it was begun turns it once, of an item with all words of its body.
@@ -369,11 +311,10 @@ pub extern "C" fn vahepito_try_take_words(
     ensures tries { IfRoom all_words (nat_le (longest_of receiver.old) all_words.room) (TriesTake all_words) (pass_of receiver.old) (pass_of receiver.new) (record { code = result; item = item.new; total = total.new; served = served.new }) }
     ensures same { longest_of receiver.new ≡ longest_of receiver.old }
 {
-    let told = try_take::<TakenWords>(alloc, receiver);
-    *item = told.item;
-    *total = told.total;
-    *served = told.served;
-    told.code
+    *item = TakenWords::none();
+    *total = 0;
+    *served = 0;
+    receiver.with(alloc, &mut |held| held.try_take(item, total, served))
 }
 
 /// The group of the receiver, from 1.
@@ -382,16 +323,15 @@ pub extern "C" fn vahepito_group(alloc: Global, receiver: &mut Handle, group: &m
     ensures tells { TellsGroup (pass_of receiver.old) (pass_of receiver.new) result group.new }
     ensures same { longest_of receiver.new ≡ longest_of receiver.old }
 {
-    let (code, number) = match receiver.take(alloc) {
-        Some(held) => {
-            let told = held.group();
-            receiver.hold(held);
-            told
-        }
-        None => (NO_PASS, 0),
-    };
-    *group = number;
-    code
+    *group = 0;
+    receiver.with(
+        alloc,
+        &mut |held| {
+            let (code, number) = held.group();
+            *group = number;
+            code
+        },
+    )
 }
 
 /// Gives up the pass of a handle, with its call if it had begun one. It does nothing more. The last handle of a queue frees it.
@@ -402,6 +342,6 @@ pub extern "C" fn vahepito_drop(alloc: Global, pass: &mut Handle) -> u32
     let Some(mut held) = pass.take(alloc) else {
         return NO_PASS;
     };
-    pass.left = held.give_up();
+    pass.abandoned = held.give_up();
     DONE
 }

@@ -6,20 +6,20 @@
 //! under way then. `specs/Caller.antt` of `cc_pool` says what each call returns.
 ghost use Rattle.std.specs.Prelude.{◌≡◌, ◌≢◌, None, IfSome};
 ghost use Rattle.std.specs.Mem.{type_size};
-ghost use Rattle.cc_handles.specs.declared.codes.TheConstants.{DONE};
+ghost use Rattle.cc_handles.specs.declared.return_codes.TheConstants.{DONE};
 ghost use Rattle.cc_handles.specs.Handles.{pass_of};
 ghost use Rattle.cc_handles.specs.Calls.{fitting, TurnsSend, TurnsClose, TurnsTake};
 ghost use Rattle.cc_handles.specs.Items.{all_words};
-ghost use Rattle.cc_handles.specs.Opened.{config_of};
+ghost use Rattle.cc_handles.specs.OpenHandles.{config_of};
 ghost use Rattle.cc_pool.specs.contracts.call.Call as call_type;
 ghost use Rattle.cc_pool.specs.Call.{IsReady, IsSame};
 ghost use Rattle.cc_pool.specs.Caller.{SendsBy, ClosesBy, TakesBy, TurnsBy};
 ghost use Rattle.cc_pool.specs.Opened.{refusal, IsRefusedAs};
 ghost use Rattle.cc_pool.specs.New.{IsNew, IsWhole};
 
-use cc_handles::codes::DONE;
 use cc_handles::items::TakenWords;
-use cc_handles::opening::Settings;
+use cc_handles::open_handles::Settings;
+use cc_handles::return_codes::DONE;
 use cc_pool::call::Call;
 use cc_pool::opening::open_boxed;
 use cc_pool::root::Root;

@@ -6,7 +6,7 @@ use Rattle.cc_queue.proofs.Seated.{first_seat}
 use Rattle.cc_handles.specs.Names.{Pass}
 use Rattle.cc_handles.specs.Passes.{Holding, holding}
 use Rattle.cc_handles.specs.Handles.{in_box}
-use Rattle.cc_handles.specs.Opened.{HoldFresh}
+use Rattle.cc_handles.specs.OpenHandles.{HoldFresh}
 
 -- it is of the queue
 pub is_of : (z : Topic) (p : ℕ) (ws : List Walk) (w : Walk) → 0 < length ws → fresh_from z p ws → w ≡ slice_index_or ws 0 w → IsOf z w

@@ -1,7 +1,7 @@
 pub mod Filling
-pub mod BoxedValues
-pub mod Trying
+pub mod HandleBoxValues
 pub mod Values
 pub mod Quiet
-pub mod LeftValues
+pub mod AbandonedValues
 pub mod Staying
+pub mod Trying

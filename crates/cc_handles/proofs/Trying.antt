@@ -1,24 +1,14 @@
--- A begin, and if it was begun a turn; and a call that is made if there is room.
-use Rattle.std.proofs.Common.{◌≡◌, ◌≢◌, ℕ, Bool, true, false, Option, subst}
-use Rattle.cc_handles.specs.Names.{Pass, Taken}
-use Rattle.cc_handles.specs.Items.{Form}
-use Rattle.cc_handles.specs.declared.codes.TheConstants.{BEGUN}
-use Rattle.cc_handles.specs.Calls.{Tries, IfRoom}
+-- A try without a pass.
+use Rattle.std.proofs.Common.{◌≡◌, ℕ, sym, subst, rules, Option, None}
+use Rattle.cc_handles.specs.Names.{Pass}
+use Rattle.cc_handles.specs.declared.return_codes.TheConstants.{NO_PASS}
+use Rattle.cc_handles.specs.Calls.{Tries}
 
-module _ {T : Type 0} (alone : ℕ → T) (Begins : Option Pass → Option Pass → ℕ → Type 0) (Turns : Option Pass → Option Pass → T → Type 0) where
-  -- it wasn't begun
-  pub refused : (old mid new : Option Pass) (code : ℕ) (told : T) → Begins old mid code → code ≢ BEGUN → new ≡ mid → told ≡ alone code → Tries alone Begins Turns old new told
-  refused old mid new code told begins not same told_is = record { between = mid; code = code; begins = begins; turns = λ e. absurd (not e); ends = λ n. (same, told_is) }
-
-  -- it was
-  pub turned : (old mid new : Option Pass) (code : ℕ) (told : T) → Begins old mid code → code ≡ BEGUN → Turns mid new told → Tries alone Begins Turns old new told
-  turned old mid new code told begins is turns = record { between = mid; code = code; begins = begins; turns = λ e. turns; ends = λ n. absurd (n is) }
-
-abbrev Apart : Bool → Type 0
-Apart true = ⊥
-Apart false = Unit {0}
-
--- there is room
-pub in_room : {I : Type 0} (form : Form I) (Tells : Option Pass → Option Pass → Taken I → Type 0) (room : Bool) (old new : Option Pass) (told : Taken I) → room ≡ true → Tells old new told → IfRoom form room Tells old new told
-in_room form Tells true old new told is tells = tells
-in_room form Tells false old new told is tells = absurd (subst Apart is tt)
+pub without_pass : {T : Type 0} (alone : ℕ → T) (Begins : Option Pass → Option Pass → ℕ → Type 0) (Turns : Option Pass → Option Pass → T → Type 0) (old new : Option Pass) (told : T) → old ≡ None → new ≡ None → Begins None None NO_PASS → told ≡ alone NO_PASS → Tries alone Begins Turns old new told
+without_pass alone Begins Turns old new told is is' begins told_is = record {
+  between = None;
+  code = NO_PASS;
+  begins = subst (λ (o : Option Pass). Begins o None NO_PASS) (sym is) begins;
+  turns = search rules;
+  ends = λ n. (is', told_is);
+}

@@ -2,13 +2,13 @@
 use Rattle.std.specs.Prelude.{◌≡◌, ◌≢◌, ℕ, ◌≤◌, Bool, true, false, nat_le, if◌then◌else◌, List, [], ◌∷◌, length, Option, Some, None, Ok, Err}
 use Rattle.std.specs.declared.result.Result.{Result}
 use Rattle.cc_model.specs.Body.{body_of}
-use Rattle.cc_handles.specs.Names.{Body, Call, Answer, SendAnswer, CloseAnswer, TakeAnswer, Pass, Told, Taken}
+use Rattle.cc_handles.specs.Names.{Body, Call, Answer, SendAnswer, CloseAnswer, TakeAnswer, Pass, SendResult, TakeResult}
 use Rattle.cc_steps.specs.Walk.{Walk}
 use Rattle.cc_queue.specs.Calls.{Begun, Waited, Answered}
 use Rattle.cc_queue.specs.Group.{Ranked}
-use Rattle.cc_handles.specs.declared.codes.TheConstants.{DONE, NO_PASS, WRONG_SIDE, BUSY, NOT_BEGUN, WORN, BEGUN, WAITING, FRESH, BAD_WORDS, LONG, WIDE}
+use Rattle.cc_handles.specs.declared.return_codes.TheConstants.{DONE, NO_PASS, WRONG_SIDE, BUSY, NOT_BEGUN, WORN, BEGUN, WAITING, FRESH, BAD_WORDS, LONG, WIDE}
 use Rattle.cc_handles.specs.Items.{Form, are_few}
-use Rattle.cc_handles.specs.Told.{only, sent_as, closed_as, none_taken, taken_as}
+use Rattle.cc_handles.specs.Results.{only, sent_as, closed_as, none_taken, taken_as}
 
 -- why a pass that is no idle sender doesn't begin a sender's call
 abbrev pub no_idle_sender : Pass → ℕ
@@ -65,25 +65,25 @@ BeginsSend body (Some p) new code = (new ≡ Some p) × (code ≡ no_idle_sender
 BeginsSend body None new code = (new ≡ None) × (code ≡ NO_PASS)
 
 -- a send was answered in this turn, with this result
-pub record SendIsTold (v w : Walk) (told : Told) : Type 0 where
+pub record SendIsTold (v w : Walk) (told : SendResult) : Type 0 where
   pub given : SendAnswer
   pub told_is : told ≡ sent_as given told.served
   pub answered : Answered v (Answer.Send given) told.served w
 
 -- a pending send waits, or is done
-abbrev pub SendTurns : Walk → Option Pass → Told → Type 0
+abbrev pub SendTurns : Walk → Option Pass → SendResult → Type 0
 SendTurns v (Some (Pass.Sending w)) told = (told ≡ only WAITING) × Waited v w
 SendTurns v (Some (Pass.Sender w)) told = SendIsTold v w told
 SendTurns v _ told = ⊥
 
 -- a turn of a send
-abbrev pub TurnsSend : Option Pass → Option Pass → Told → Type 0
+abbrev pub TurnsSend : Option Pass → Option Pass → SendResult → Type 0
 TurnsSend (Some (Pass.Sending v)) new told = SendTurns v new told
 TurnsSend (Some p) new told = (new ≡ Some p) × (told ≡ only (no_pending_sender p))
 TurnsSend None new told = (new ≡ None) × (told ≡ only NO_PASS)
 
 -- a begin of a send, and if it was begun a turn of it
-abbrev pub TriesSend : Result Body ℕ → Option Pass → Option Pass → Told → Type 0
+abbrev pub TriesSend : Result Body ℕ → Option Pass → Option Pass → SendResult → Type 0
 TriesSend body = Tries only (BeginsSend body) TurnsSend
 
 -- whether a sender is exhausted; nothing changes
@@ -109,25 +109,25 @@ BeginsClose (Some p) new code = (new ≡ Some p) × (code ≡ no_idle_sender p)
 BeginsClose None new code = (new ≡ None) × (code ≡ NO_PASS)
 
 -- a close was answered in this turn, with this result
-pub record CloseIsTold (v w : Walk) (told : Told) : Type 0 where
+pub record CloseIsTold (v w : Walk) (told : SendResult) : Type 0 where
   pub given : CloseAnswer
   pub told_is : told ≡ closed_as given told.served
   pub answered : Answered v (Answer.Close given) told.served w
 
 -- a pending close waits, or is done
-abbrev pub CloseTurns : Walk → Option Pass → Told → Type 0
+abbrev pub CloseTurns : Walk → Option Pass → SendResult → Type 0
 CloseTurns v (Some (Pass.Closing w)) told = (told ≡ only WAITING) × Waited v w
 CloseTurns v (Some (Pass.Sender w)) told = CloseIsTold v w told
 CloseTurns v _ told = ⊥
 
 -- a turn of a close
-abbrev pub TurnsClose : Option Pass → Option Pass → Told → Type 0
+abbrev pub TurnsClose : Option Pass → Option Pass → SendResult → Type 0
 TurnsClose (Some (Pass.Closing v)) new told = CloseTurns v new told
 TurnsClose (Some p) new told = (new ≡ Some p) × (told ≡ only (no_pending_sender p))
 TurnsClose None new told = (new ≡ None) × (told ≡ only NO_PASS)
 
 -- a begin of a close, and if it was begun a turn of it
-abbrev pub TriesClose : Option Pass → Option Pass → Told → Type 0
+abbrev pub TriesClose : Option Pass → Option Pass → SendResult → Type 0
 TriesClose = Tries only BeginsClose TurnsClose
 
 -- ---- a take
@@ -145,29 +145,29 @@ BeginsTake None new code = (new ≡ None) × (code ≡ NO_PASS)
 
 module _ {I : Type 0} (form : Form I) where
   -- a take was answered in this turn, with this result
-  pub record TakeIsTold (v w : Walk) (told : Taken I) : Type 0 where
+  pub record TakeIsTold (v w : Walk) (told : TakeResult I) : Type 0 where
     pub given : TakeAnswer
     pub told_is : told ≡ taken_as form given told.served
     pub answered : Answered v (Answer.Take given) told.served w
 
   -- a pending take waits, or is done
-  abbrev pub TakeTurns : Walk → Option Pass → Taken I → Type 0
+  abbrev pub TakeTurns : Walk → Option Pass → TakeResult I → Type 0
   TakeTurns v (Some (Pass.Taking w)) told = (told ≡ none_taken form WAITING) × Waited v w
   TakeTurns v (Some (Pass.Receiver w)) told = TakeIsTold v w told
   TakeTurns v _ told = ⊥
 
   -- a turn of a take
-  abbrev pub TurnsTake : Option Pass → Option Pass → Taken I → Type 0
+  abbrev pub TurnsTake : Option Pass → Option Pass → TakeResult I → Type 0
   TurnsTake (Some (Pass.Taking v)) new told = TakeTurns v new told
   TurnsTake (Some p) new told = (new ≡ Some p) × (told ≡ none_taken form (no_pending_take p))
   TurnsTake None new told = (new ≡ None) × (told ≡ none_taken form NO_PASS)
 
   -- a begin of a take, and if it was begun a turn of it
-  abbrev pub TriesTake : Option Pass → Option Pass → Taken I → Type 0
+  abbrev pub TriesTake : Option Pass → Option Pass → TakeResult I → Type 0
   TriesTake = Tries (none_taken form) BeginsTake TurnsTake
 
   -- a call that returns an item isn't made if a body of the queue may have more words than the item has room for
-  abbrev pub IfRoom : Bool → (Option Pass → Option Pass → Taken I → Type 0) → Option Pass → Option Pass → Taken I → Type 0
+  abbrev pub IfRoom : Bool → (Option Pass → Option Pass → TakeResult I → Type 0) → Option Pass → Option Pass → TakeResult I → Type 0
   IfRoom true Tells old new told = Tells old new told
   IfRoom false Tells old new told = (new ≡ old) × (told ≡ none_taken form WIDE)
 

@@ -1,9 +1,9 @@
 -- Handles.
 use Rattle.std.specs.Prelude.{◌≡◌, ℕ, Bool, not, IsTrue, if◌then◌else◌, Option, Some, None}
 use Rattle.cc_handles.specs.Names.{Pass}
-use Rattle.cc_handles.specs.Passes.{Holding, left_of}
+use Rattle.cc_handles.specs.Passes.{Holding, abandoned_of}
 use Rattle.cc_handles.specs.declared.handle.Handle.{Handle}
-use Rattle.cc_handles.specs.declared.codes.TheConstants.{DONE, NO_PASS}
+use Rattle.cc_handles.specs.declared.return_codes.TheConstants.{DONE, NO_PASS}
 
 -- what a handle holds: an empty one has no pass, and its bodies no words
 abbrev pub in_box : Option Holding → Holding
@@ -29,4 +29,4 @@ is_empty h = not h.live
 pub record IsDropped (old new : Handle) (code : ℕ) : Type 0 where
   pub empty : IsTrue (is_empty new)
   pub told : code ≡ (if is_empty old then NO_PASS else DONE)
-  pub left : new.left.value ≡ left_of (pass_of old)
+  pub abandoned : new.abandoned.value ≡ abandoned_of (pass_of old)

@@ -1,10 +1,11 @@
 pub mod Names
-pub mod Boxed
-pub mod Codes
+pub mod HandleBox
+pub mod ReturnCodes
 pub mod Passes
 pub mod Items
-pub mod Left
-pub mod Told
+pub mod Abandoned
+pub mod Results
+pub mod Closures
 pub mod Calls
 pub mod Handles
-pub mod Opened
+pub mod OpenHandles

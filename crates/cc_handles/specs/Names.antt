@@ -9,9 +9,9 @@ pub use Rattle.cc_model.specs.declared.call.Answer.{Answer}
 pub use Rattle.cc_model.specs.declared.config.Config.{Config}
 pub use Rattle.cc_model.specs.declared.config.ConfigFault.{ConfigFault}
 pub use Rattle.cc_runs.specs.declared.setting.Served.{Served}
-pub use Rattle.cc_handles.specs.declared.held.Pass.{Pass}
-pub use Rattle.cc_handles.specs.declared.opening.Settings.{Settings}
+pub use Rattle.cc_handles.specs.declared.handle_inner.Pass.{Pass}
+pub use Rattle.cc_handles.specs.declared.open_handles.Settings.{Settings}
 pub use Rattle.cc_handles.specs.declared.items.TakenItem.{TakenItem}
 pub use Rattle.cc_handles.specs.declared.items.TakenWords.{TakenWords}
-pub use Rattle.cc_handles.specs.declared.told.Told.{Told}
-pub use Rattle.cc_handles.specs.declared.told.Taken.{Taken}
+pub use Rattle.cc_handles.specs.declared.results.SendResult.{SendResult}
+pub use Rattle.cc_handles.specs.declared.results.TakeResult.{TakeResult}

@@ -12,10 +12,10 @@ walk_of (Pass.Closing w) = w
 walk_of (Pass.Receiver w) = w
 walk_of (Pass.Taking w) = w
 
--- the remains of a pass that is abandoned, if there is one: the pass as it was
-abbrev pub left_of : Option Pass → Option Walk
-left_of None = None
-left_of (Some p) = Some (walk_of p)
+-- the remains of a pass that was abandoned, if there was one: the pass as it was
+abbrev pub abandoned_of : Option Pass → Option Walk
+abandoned_of None = None
+abandoned_of (Some p) = Some (walk_of p)
 
 -- the pass, if there is one, is of this queue
 abbrev pub IsPassOf : Topic → Option Pass → Type 0

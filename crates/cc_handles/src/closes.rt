@@ -4,10 +4,10 @@ ghost use Rattle.cc_steps.specs.Walk.{IsOf};
 ghost use Rattle.cc_handles.specs.Passes.{walk_of, StaysOf};
 ghost use Rattle.cc_handles.specs.Calls.{BeginsClose, TurnsClose, TriesClose};
 
-use crate::codes::{BEGUN, NO_PASS, WAITING};
-use crate::held::{Held, Pass, put};
+use crate::handle_inner::{HandleInner, Pass, with_pass};
 use crate::refusals::{no_idle_sender, no_pending_sender};
-use crate::told::Told;
+use crate::results::closed_as;
+use crate::return_codes::{BEGUN, WAITING};
 use cc_queue::{CloseTurn, Queue, begin_close, turn_close};
 
 /// Begins a close, if the pass can.
@@ -17,83 +17,83 @@ fn begun(queue: &Queue, pass: Pass) -> (Pass, u32)
     ensures here { IsOf queue.now (walk_of result.0) }
     ensures begins { BeginsClose (Some pass) (Some result.0) result.1 }
 {
+    let why = no_idle_sender(&pass);
     match pass {
         Pass::Sender(sender) => (Pass::Closing(begin_close(queue, sender)), BEGUN),
-        other => {
-            let why = no_idle_sender(&other);
-            (other, why)
-        }
+        other => (other, why),
     }
 }
 
 /// One turn of a close, if the pass has one.
 #[inline(always)]
-fn turned(queue: &Queue, pass: Pass) -> (Pass, Told)
-    requires { IsOf queue.now (walk_of pass) }
+fn turned(queue: &Queue, pass: Pass, total: &mut u64, served: &mut u32) -> (Pass, u32)
+    requires pass { IsOf queue.now (walk_of pass) }
+    requires numbers { (total.old ≡ 0) × (served.old ≡ 0) }
     ensures here { IsOf queue.now (walk_of result.0) }
-    ensures turns { TurnsClose (Some pass) (Some result.0) result.1 }
+    ensures turns { TurnsClose (Some pass) (Some result.0) (record { code = result.1; number = total.new; served = served.new }) }
 {
+    let why = no_pending_sender(&pass);
     match pass {
         Pass::Closing(pending) => match turn_close(queue, pending) {
-            CloseTurn::Waiting(pending) => (Pass::Closing(pending), Told::only(WAITING)),
+            CloseTurn::Waiting(pending) => (Pass::Closing(pending), WAITING),
             CloseTurn::Done {
                 sender,
                 answer,
-                served,
-            } => (Pass::Sender(sender), Told::closed(answer, served)),
+                served: now,
+            } => {
+                *served = now;
+                (Pass::Sender(sender), closed_as(answer, total))
+            }
         },
-        other => {
-            let why = no_pending_sender(&other);
-            (other, Told::only(why))
-        }
+        other => (other, why),
     }
 }
 
-impl Held {
+/// Begins a close, if the pass can, and if the close was begun turns it once.
+#[inline(always)]
+fn tried(queue: &Queue, pass: Pass, total: &mut u64, served: &mut u32) -> (Pass, u32)
+    requires pass { IsOf queue.now (walk_of pass) }
+    requires numbers { (total.old ≡ 0) × (served.old ≡ 0) }
+    ensures here { IsOf queue.now (walk_of result.0) }
+    ensures tries { TriesClose (Some pass) (Some result.0) (record { code = result.1; number = total.new; served = served.new }) }
+{
+    let (pass, code) = begun(queue, pass);
+    if code != BEGUN {
+        return (pass, code);
+    }
+    turned(queue, pass, total, served)
+}
+
+impl HandleInner {
     /// Begins a close.
+    #[inline(always)]
     pub fn begin_close(&mut self) -> u32
         ensures begins { BeginsClose self.old.pass self.new.pass result }
         ensures same { self.new.words ≡ self.old.words }
+        ensures stays { StaysOf self.old.pass self.new.pass }
     {
-        let Some(pass) = self.pass.take() else {
-            return NO_PASS;
-        };
-        let (pass, code) = begun(&self.queue, pass);
-        put(&mut self.pass, pass);
-        code
+        with_pass!(self, |queue, pass| begun(queue, pass))
     }
 
-    /// One turn of a close.
+    /// One turn of a close. An answer alone writes the numbers.
     #[inline(always)]
-    pub fn turn_close(&mut self) -> Told
-        ensures turns { TurnsClose self.old.pass self.new.pass result }
+    pub fn turn_close(&mut self, total: &mut u64, served: &mut u32) -> u32
+        requires { (total.old ≡ 0) × (served.old ≡ 0) }
+        ensures turns { TurnsClose self.old.pass self.new.pass (record { code = result; number = total.new; served = served.new }) }
         ensures same { self.new.words ≡ self.old.words }
         ensures stays { StaysOf self.old.pass self.new.pass }
     {
-        let Some(pass) = self.pass.take() else {
-            return Told::only(NO_PASS);
-        };
-        let (pass, told) = turned(&self.queue, pass);
-        put(&mut self.pass, pass);
-        told
+        with_pass!(self, |queue, pass| turned(queue, pass, total, served))
     }
 
     /// Begins a close, and if it was begun turns it once.
-    pub fn try_close(&mut self) -> Told
-        ensures tries { TriesClose self.old.pass self.new.pass result }
+    #[tactic(auto, using(crate::proofs::Trying::without_pass))]
+    pub fn try_close(&mut self, total: &mut u64, served: &mut u32) -> u32
+        requires { (total.old ≡ 0) × (served.old ≡ 0) }
+        ensures tries { TriesClose self.old.pass self.new.pass (record { code = result; number = total.new; served = served.new }) }
         ensures same { self.new.words ≡ self.old.words }
         ensures stays { StaysOf self.old.pass self.new.pass }
     {
-        let Some(pass) = self.pass.take() else {
-            return Told::only(NO_PASS);
-        };
-        let (pass, code) = begun(&self.queue, pass);
-        if code != BEGUN {
-            put(&mut self.pass, pass);
-            return Told::only(code);
-        }
-        let (pass, told) = turned(&self.queue, pass);
-        put(&mut self.pass, pass);
-        told
+        with_pass!(self, |queue, pass| tried(queue, pass, total, served))
     }
 }

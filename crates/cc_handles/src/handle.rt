@@ -1,10 +1,11 @@
 //! A handle, as C holds it.
 ghost use Rattle.std.specs.Prelude.{◌≡◌, Some, None, is_some, MatchOption};
+ghost use Rattle.cc_handles.specs.Closures.{MayRun, RunsWith};
 
-use crate::boxed::Boxed;
-use crate::held::Held;
-use crate::left::Left;
-use crate::loose::Loose;
+use crate::abandoned::Abandoned;
+use crate::handle_inner::HandleInner;
+use crate::raw_box::{HandleBox, RawBox};
+use crate::return_codes::NO_PASS;
 use std::alloc::Global;
 use std::mem::replace;
 use std::ptr::null_mut;
@@ -13,43 +14,43 @@ use std::ptr::null_mut;
 #[repr(C)]
 #[derive(Drop)]
 pub struct Handle {
-    pub boxed: Boxed,
+    pub boxed: HandleBox,
     pub live: bool,
-    pub left: Left,
+    pub abandoned: Abandoned,
     ghost is_live: { is_some boxed.value ≡ live },
 }
 
 impl Handle {
     /// A handle that holds this.
-    pub fn of(held: Box<Held>) -> Handle
+    pub fn of(held: Box<HandleInner>) -> Handle
         ensures { result.boxed.value ≡ Some held.value }
     {
         Handle {
-            boxed: Boxed::pack(Loose::of(held)),
+            boxed: HandleBox::pack(RawBox::of(held)),
             live: true,
-            left: Left::none(),
+            abandoned: Abandoned::none(),
         }
     }
 
     /// Holds this in place of nothing.
-    pub fn hold(&mut self, held: Box<Held>)
+    pub fn hold(&mut self, held: Box<HandleInner>)
         requires { self.old.boxed.value ≡ None }
         ensures { self.new.boxed.value ≡ Some held.value }
     {
-        self.boxed = Boxed::pack(Loose::of(held));
+        self.boxed = HandleBox::pack(RawBox::of(held));
         self.live = true;
     }
 
     /// The content of the handle, which is empty afterwards.
-    pub fn take(&mut self, alloc: Global) -> Option<Box<Held>>
+    pub fn take(&mut self, alloc: Global) -> Option<Box<HandleInner>>
         ensures after { self.new.boxed.value ≡ None }
-        ensures left { self.new.left.value ≡ None }
+        ensures abandoned { self.new.abandoned.value ≡ None }
         ensures taken { MatchOption result (self.old.boxed.value ≡ None) (λ b. self.old.boxed.value ≡ Some b.value) }
     {
         let Handle {
             boxed,
             live,
-            left: _,
+            abandoned: _,
         } = replace(self, Handle::empty(alloc));
         if live {
             return Some(boxed.into_box());
@@ -57,16 +58,30 @@ impl Handle {
         None
     }
 
+    /// Runs this with the content of the handle: its code. An empty handle has the code NO_PASS.
+    #[inline(always)]
+    pub fn with<F: FnMut(&mut HandleInner) -> u32>(&mut self, alloc: Global, call: &mut F) -> u32
+        requires { MayRun F.FnMut call.old }
+        ensures { RunsWith F.FnMut call.old self.old.boxed.value self.new.boxed.value result call.new }
+    {
+        let Some(mut held) = self.take(alloc) else {
+            return NO_PASS;
+        };
+        let code = call(&mut held);
+        self.hold(held);
+        code
+    }
+
     /// A handle that holds nothing.
     pub fn empty(alloc: Global) -> Handle
         ensures held { result.boxed.value ≡ None }
-        ensures left { result.left.value ≡ None }
+        ensures abandoned { result.abandoned.value ≡ None }
     {
         let at = null_mut();
         Handle {
-            boxed: Boxed::none(at, alloc),
+            boxed: HandleBox::none(at, alloc),
             live: false,
-            left: Left::none(),
+            abandoned: Abandoned::none(),
         }
     }
 }

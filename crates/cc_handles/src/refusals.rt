@@ -2,8 +2,8 @@
 ghost use Rattle.std.specs.Prelude.{◌≡◌};
 ghost use Rattle.cc_handles.specs.Calls.{no_idle_sender, no_idle_receiver, no_pending_sender, no_pending_take};
 
-use crate::codes::{BUSY, NOT_BEGUN, WRONG_SIDE};
-use crate::held::Pass;
+use crate::handle_inner::Pass;
+use crate::return_codes::{BUSY, NOT_BEGUN, WRONG_SIDE};
 
 /// Why a pass that is no idle sender doesn't begin a sender's call.
 pub fn no_idle_sender(pass: &Pass) -> u32

@@ -2,17 +2,14 @@
 ghost use Rattle.std.specs.Prelude.{◌≡◌, true, nat_le, Some};
 ghost use Rattle.cc_steps.specs.Walk.{IsOf};
 ghost use Rattle.cc_handles.specs.Passes.{walk_of, StaysOf};
-ghost use Rattle.cc_handles.specs.Handles.{pass_of, longest_of};
 ghost use Rattle.cc_handles.specs.Calls.{BeginsTake, TurnsTake, TriesTake, IfRoom, TellsGroup, IsIn};
 
-use crate::codes::{BEGUN, DONE, NO_PASS, WAITING, WIDE};
-use crate::handle::Handle;
-use crate::held::{Held, Pass, put};
+use crate::handle_inner::{HandleInner, Pass, with_pass};
 use crate::items::ItemForm;
 use crate::refusals::{no_idle_receiver, no_pending_take};
-use crate::told::Taken;
-use cc_queue::{Queue, TakeTurn, begin_take, turn_take as turn};
-use std::alloc::Global;
+use crate::results::taken_as;
+use crate::return_codes::{BEGUN, DONE, NO_PASS, WAITING, WIDE};
+use cc_queue::{Queue, TakeTurn, begin_take, turn_take};
 
 /// Begins a take, if the pass can.
 #[inline(always)]
@@ -21,50 +18,74 @@ fn begun(queue: &Queue, pass: Pass) -> (Pass, u32)
     ensures here { IsOf queue.now (walk_of result.0) }
     ensures begins { BeginsTake (Some pass) (Some result.0) result.1 }
 {
+    let why = no_idle_receiver(&pass);
     match pass {
         Pass::Receiver(receiver) => (Pass::Taking(begin_take(queue, receiver)), BEGUN),
-        other => {
-            let why = no_idle_receiver(&other);
-            (other, why)
-        }
+        other => (other, why),
     }
 }
 
 /// One turn of a take, if the pass has one.
 #[inline(always)]
-fn turned<I: ItemForm>(queue: &Queue, pass: Pass) -> (Pass, Taken<I>)
-    requires { IsOf queue.now (walk_of pass) }
+fn turned<I: ItemForm>(
+    queue: &Queue,
+    pass: Pass,
+    item: &mut I,
+    total: &mut u64,
+    served: &mut u32,
+) -> (Pass, u32)
+    requires pass { IsOf queue.now (walk_of pass) }
+    requires numbers { (item.old ≡ I.form.none) × (total.old ≡ 0) × (served.old ≡ 0) }
     ensures here { IsOf queue.now (walk_of result.0) }
-    ensures turns { TurnsTake I.form (Some pass) (Some result.0) result.1 }
+    ensures turns { TurnsTake I.form (Some pass) (Some result.0) (record { code = result.1; item = item.new; total = total.new; served = served.new }) }
 {
+    let why = no_pending_take(&pass);
     match pass {
-        Pass::Taking(pending) => match turn(queue, pending) {
-            TakeTurn::Waiting(pending) => (Pass::Taking(pending), Taken::only(WAITING)),
+        Pass::Taking(pending) => match turn_take(queue, pending) {
+            TakeTurn::Waiting(pending) => (Pass::Taking(pending), WAITING),
             TakeTurn::Done {
                 receiver,
                 answer,
-                served,
-            } => (Pass::Receiver(receiver), Taken::taken(answer, served)),
+                served: now,
+            } => {
+                *served = now;
+                (Pass::Receiver(receiver), taken_as(answer, item, total))
+            }
         },
-        other => {
-            let why = no_pending_take(&other);
-            (other, Taken::only(why))
-        }
+        other => (other, why),
     }
 }
 
-impl Held {
+/// Begins a take, if the pass can, and if the take was begun turns it once.
+#[inline(always)]
+fn tried<I: ItemForm>(
+    queue: &Queue,
+    pass: Pass,
+    item: &mut I,
+    total: &mut u64,
+    served: &mut u32,
+) -> (Pass, u32)
+    requires pass { IsOf queue.now (walk_of pass) }
+    requires numbers { (item.old ≡ I.form.none) × (total.old ≡ 0) × (served.old ≡ 0) }
+    ensures here { IsOf queue.now (walk_of result.0) }
+    ensures tries { TriesTake I.form (Some pass) (Some result.0) (record { code = result.1; item = item.new; total = total.new; served = served.new }) }
+{
+    let (pass, code) = begun(queue, pass);
+    if code != BEGUN {
+        return (pass, code);
+    }
+    turned(queue, pass, item, total, served)
+}
+
+impl HandleInner {
     /// Begins a take.
+    #[inline(always)]
     pub fn begin_take(&mut self) -> u32
         ensures begins { BeginsTake self.old.pass self.new.pass result }
         ensures same { self.new.words ≡ self.old.words }
+        ensures stays { StaysOf self.old.pass self.new.pass }
     {
-        let Some(pass) = self.pass.take() else {
-            return NO_PASS;
-        };
-        let (pass, code) = begun(&self.queue, pass);
-        put(&mut self.pass, pass);
-        code
+        with_pass!(self, |queue, pass| begun(queue, pass))
     }
 
     /// Whether an item of this form has room for each body of the queue.
@@ -75,61 +96,53 @@ impl Held {
         self.longest <= I::room()
     }
 
-    /// One turn of a take, if its item has room for each body of the queue.
-    pub fn turn_take<I: ItemForm>(&mut self) -> Taken<I>
-        ensures turns { IfRoom I.form (nat_le self.old.words I.form.room) (TurnsTake I.form) self.old.pass self.new.pass result }
+    /// One turn of a take, if its item has room for each body of the queue. An answer alone writes the item and the numbers.
+    pub fn turn_take<I: ItemForm>(&mut self, item: &mut I, total: &mut u64, served: &mut u32) -> u32
+        requires { (item.old ≡ I.form.none) × (total.old ≡ 0) × (served.old ≡ 0) }
+        ensures turns { IfRoom I.form (nat_le self.old.words I.form.room) (TurnsTake I.form) self.old.pass self.new.pass (record { code = result; item = item.new; total = total.new; served = served.new }) }
         ensures same { self.new.words ≡ self.old.words }
     {
-        if !self.has_room::<I>() {
-            return Taken::only(WIDE);
+        if self.has_room::<I>() {
+            self.turn_any(item, total, served)
+        } else {
+            WIDE
         }
-        self.turn_any()
     }
 
     /// One turn of a take, of whatever room its item has.
     #[inline(always)]
-    pub fn turn_any<I: ItemForm>(&mut self) -> Taken<I>
-        ensures turns { TurnsTake I.form self.old.pass self.new.pass result }
+    pub fn turn_any<I: ItemForm>(&mut self, item: &mut I, total: &mut u64, served: &mut u32) -> u32
+        requires { (item.old ≡ I.form.none) × (total.old ≡ 0) × (served.old ≡ 0) }
+        ensures turns { TurnsTake I.form self.old.pass self.new.pass (record { code = result; item = item.new; total = total.new; served = served.new }) }
         ensures same { self.new.words ≡ self.old.words }
         ensures stays { StaysOf self.old.pass self.new.pass }
     {
-        let Some(pass) = self.pass.take() else {
-            return Taken::only(NO_PASS);
-        };
-        let (pass, told) = turned(&self.queue, pass);
-        put(&mut self.pass, pass);
-        told
+        with_pass!(self, |queue, pass| turned(queue, pass, item, total, served))
     }
 
     /// Begins a take, if its item has room for each body of the queue, and if it was begun turns it once.
-    pub fn try_take<I: ItemForm>(&mut self) -> Taken<I>
-        ensures tries { IfRoom I.form (nat_le self.old.words I.form.room) (TriesTake I.form) self.old.pass self.new.pass result }
+    pub fn try_take<I: ItemForm>(&mut self, item: &mut I, total: &mut u64, served: &mut u32) -> u32
+        requires { (item.old ≡ I.form.none) × (total.old ≡ 0) × (served.old ≡ 0) }
+        ensures tries { IfRoom I.form (nat_le self.old.words I.form.room) (TriesTake I.form) self.old.pass self.new.pass (record { code = result; item = item.new; total = total.new; served = served.new }) }
         ensures same { self.new.words ≡ self.old.words }
     {
-        if !self.has_room::<I>() {
-            return Taken::only(WIDE);
+        if self.has_room::<I>() {
+            self.try_any(item, total, served)
+        } else {
+            WIDE
         }
-        self.try_any()
     }
 
     /// Begins a take, and if it was begun turns it once, of whatever room its item has.
+    #[tactic(auto, using(crate::proofs::Trying::without_pass))]
     #[inline(always)]
-    pub fn try_any<I: ItemForm>(&mut self) -> Taken<I>
-        ensures tries { TriesTake I.form self.old.pass self.new.pass result }
+    pub fn try_any<I: ItemForm>(&mut self, item: &mut I, total: &mut u64, served: &mut u32) -> u32
+        requires { (item.old ≡ I.form.none) × (total.old ≡ 0) × (served.old ≡ 0) }
+        ensures tries { TriesTake I.form self.old.pass self.new.pass (record { code = result; item = item.new; total = total.new; served = served.new }) }
         ensures same { self.new.words ≡ self.old.words }
         ensures stays { StaysOf self.old.pass self.new.pass }
     {
-        let Some(pass) = self.pass.take() else {
-            return Taken::only(NO_PASS);
-        };
-        let (pass, code) = begun(&self.queue, pass);
-        if code != BEGUN {
-            put(&mut self.pass, pass);
-            return Taken::only(code);
-        }
-        let (pass, told) = turned(&self.queue, pass);
-        put(&mut self.pass, pass);
-        told
+        with_pass!(self, |queue, pass| tried(queue, pass, item, total, served))
     }
 
     /// Whether it holds a receiver of this group that has no call.
@@ -152,37 +165,5 @@ impl Held {
             Some(other) => (no_idle_receiver(other), 0),
             None => (NO_PASS, 0),
         }
-    }
-}
-
-/// One turn of a take, by a handle.
-#[inline(always)]
-pub fn turn_take<I: ItemForm>(alloc: Global, receiver: &mut Handle) -> Taken<I>
-    ensures turns { IfRoom I.form (nat_le (longest_of receiver.old) I.form.room) (TurnsTake I.form) (pass_of receiver.old) (pass_of receiver.new) result }
-    ensures same { longest_of receiver.new ≡ longest_of receiver.old }
-{
-    match receiver.take(alloc) {
-        Some(mut held) => {
-            let told = held.turn_take();
-            receiver.hold(held);
-            told
-        }
-        None => Taken::only(NO_PASS),
-    }
-}
-
-/// Begins a take, by a handle, and if it was begun turns it once.
-#[inline(always)]
-pub fn try_take<I: ItemForm>(alloc: Global, receiver: &mut Handle) -> Taken<I>
-    ensures tries { IfRoom I.form (nat_le (longest_of receiver.old) I.form.room) (TriesTake I.form) (pass_of receiver.old) (pass_of receiver.new) result }
-    ensures same { longest_of receiver.new ≡ longest_of receiver.old }
-{
-    match receiver.take(alloc) {
-        Some(mut held) => {
-            let told = held.try_take();
-            receiver.hold(held);
-            told
-        }
-        None => Taken::only(NO_PASS),
     }
 }

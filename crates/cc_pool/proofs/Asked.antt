@@ -1,7 +1,7 @@
 -- A call was made by the pass of a place.
 use Rattle.std.proofs.Common.{◌≡◌, Bool, true, false, Option, Some, None, if◌then◌else◌, sym, ap, ◌∙◌, subst}
 use Rattle.cc_steps.specs.Topic.{Topic}
-use Rattle.cc_handles.specs.declared.held.Pass.{Pass}
+use Rattle.cc_handles.specs.declared.handle_inner.Pass.{Pass}
 use Rattle.cc_handles.specs.Passes.{has_call, HasPassOf}
 use Rattle.cc_pool.specs.Made.{kept_of, IsMade}
 

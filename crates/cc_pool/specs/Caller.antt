@@ -2,13 +2,13 @@
 use Rattle.std.specs.Prelude.{◌≡◌, ◌⊎◌, ℕ, Bool, true, false, ◌&&◌, nat_le, nat_lt, Option, Some, None, Ok, Err}
 use Rattle.std.specs.declared.result.Result.{Result}
 use Rattle.cc_model.specs.declared.body.Body.{Body}
-use Rattle.cc_handles.specs.declared.held.Pass.{Pass}
-use Rattle.cc_handles.specs.declared.told.Told.{Told}
-use Rattle.cc_handles.specs.declared.told.Taken.{Taken}
+use Rattle.cc_handles.specs.declared.handle_inner.Pass.{Pass}
+use Rattle.cc_handles.specs.declared.results.SendResult.{SendResult}
+use Rattle.cc_handles.specs.declared.results.TakeResult.{TakeResult}
 use Rattle.cc_handles.specs.Items.{Form}
-use Rattle.cc_handles.specs.Told.{only, none_taken}
+use Rattle.cc_handles.specs.Results.{only, none_taken}
 use Rattle.cc_handles.specs.Calls.{TriesSend, TriesClose, TriesTake}
-use Rattle.cc_handles.specs.declared.codes.TheConstants.{BUSY, WORN, BAD_GROUPS}
+use Rattle.cc_handles.specs.declared.return_codes.TheConstants.{BUSY, WORN, BAD_GROUPS}
 use Rattle.cc_steps.specs.Topic.{Topic}
 use Rattle.cc_pool.specs.Made.{IsMade, kept_of, TakesIn}
 
@@ -26,23 +26,23 @@ abbrev pub IsBusyOrWorn : ℕ → Type 0
 IsBusyOrWorn code = (code ≡ BUSY) ⊎ (code ≡ WORN)
 
 -- a send of this body, if there is one; else nothing changes
-abbrev pub SendsBy : Topic → Result Body ℕ → Option Pass → Option Pass → Told → Type 0
+abbrev pub SendsBy : Topic → Result Body ℕ → Option Pass → Option Pass → SendResult → Type 0
 SendsBy z (Err why) old new told = (new ≡ old) × (told ≡ only why)
 SendsBy z (Ok body) old new told = MadeBy z only IsBusyOrWorn (TriesSend (Ok body)) old new told
 
 -- a close
-abbrev pub ClosesBy : Topic → Option Pass → Option Pass → Told → Type 0
+abbrev pub ClosesBy : Topic → Option Pass → Option Pass → SendResult → Type 0
 ClosesBy z = MadeBy z only IsBusy TriesClose
 
 -- a take for a group, if there is such a group; else nothing changes
-abbrev pub InRange : {I : Type 0} → Form I → Bool → (Option Pass → Option Pass → Taken I → Type 0) → Option Pass → Option Pass → Taken I → Type 0
+abbrev pub InRange : {I : Type 0} → Form I → Bool → (Option Pass → Option Pass → TakeResult I → Type 0) → Option Pass → Option Pass → TakeResult I → Type 0
 InRange form true Tells old new told = Tells old new told
 InRange form false Tells old new told = (new ≡ old) × (told ≡ none_taken form BAD_GROUPS)
 
 abbrev pub is_group : ℕ → ℕ → Bool
 is_group rows group = nat_le 1 group && nat_lt group rows
 
-abbrev pub TakesBy : {I : Type 0} → Topic → Form I → ℕ → ℕ → Option Pass → Option Pass → Taken I → Type 0
+abbrev pub TakesBy : {I : Type 0} → Topic → Form I → ℕ → ℕ → Option Pass → Option Pass → TakeResult I → Type 0
 TakesBy z form rows group = InRange form (is_group rows group) (MadeBy z (none_taken form) IsBusy (TakesIn form group))
 
 -- a turn of the call that waits; its pass goes back when it has no call any more

@@ -4,18 +4,18 @@ use Rattle.std.specs.declared.alloc.Global.{Global}
 use mathlib.Core.Option.{some}
 use lib.ListN.{get_elem?}
 use Rattle.atomic_table.specs.Table.{State, Me, Step}
-use Rattle.cc_handles.specs.declared.held.Held.{Held}
+use Rattle.cc_handles.specs.declared.handle_inner.HandleInner.{HandleInner}
 use Rattle.cc_handles.specs.Passes.{HasPassOf}
 use Rattle.cc_steps.specs.Topic.{Topic}
 use Rattle.cc_pool.specs.declared.place.Place.{Place}
 
 -- a box lies in the place
 abbrev pub IsFull : Place → Type 0
-IsFull x = (b : Box Held Global) × (x.held ≡ Some b)
+IsFull x = (b : Box HandleInner Global) × (x.held ≡ Some b)
 
 -- a box lies in the place, with a pass of this queue
 abbrev pub HasPass : Topic → Place → Type 0
-HasPass z x = (b : Box Held Global) × (x.held ≡ Some b) × HasPassOf z b.value.pass
+HasPass z x = (b : Box HandleInner Global) × (x.held ≡ Some b) × HasPassOf z b.value.pass
 
 -- the place fits its word: with 2, OUT, nothing lies in it; else a pass of this queue
 abbrev pub Fits : Topic → ℕ → Place → Type 0

@@ -1,6 +1,6 @@
 -- The right to a place.
 use Rattle.std.specs.Prelude.{◌≡◌, ℕ, Option}
-use Rattle.cc_handles.specs.declared.held.Pass.{Pass}
+use Rattle.cc_handles.specs.declared.handle_inner.Pass.{Pass}
 use Rattle.cc_handles.specs.Passes.{HasPassOf}
 use Rattle.cc_steps.specs.Topic.{Topic}
 use Rattle.cc_pool.specs.Kept.{Seized}

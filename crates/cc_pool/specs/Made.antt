@@ -1,11 +1,11 @@
 -- A call by whichever pass of a queue was free.
 use Rattle.std.specs.Prelude.{◌≡◌, ◌⊎◌, ℕ, Option, Some, None, if◌then◌else◌}
-use Rattle.cc_handles.specs.declared.held.Pass.{Pass}
-use Rattle.cc_handles.specs.declared.told.Taken.{Taken}
+use Rattle.cc_handles.specs.declared.handle_inner.Pass.{Pass}
+use Rattle.cc_handles.specs.declared.results.TakeResult.{TakeResult}
 use Rattle.cc_handles.specs.Items.{Form}
 use Rattle.cc_handles.specs.Calls.{IsIn, TriesTake}
 use Rattle.cc_handles.specs.Passes.{walk_of, has_call}
-use Rattle.cc_handles.specs.declared.codes.TheConstants.{BUSY}
+use Rattle.cc_handles.specs.declared.return_codes.TheConstants.{BUSY}
 use Rattle.cc_steps.specs.Topic.{Topic}
 use Rattle.cc_steps.specs.Walk.{IsOf}
 
@@ -24,5 +24,5 @@ pub record IsMade {T : Type 0} (z : Topic) (Tells : Option Pass → Option Pass 
   pub kept : waits ≡ kept_of (Some after)
 
 -- a take by a receiver of this group
-abbrev pub TakesIn : {I : Type 0} → Form I → ℕ → Option Pass → Option Pass → Taken I → Type 0
+abbrev pub TakesIn : {I : Type 0} → Form I → ℕ → Option Pass → Option Pass → TakeResult I → Type 0
 TakesIn form group old new told = IsIn group old × TriesTake form old new told

@@ -1,7 +1,7 @@
 -- A queue that was opened for C.
 use Rattle.std.specs.Prelude.{◌≡◌, ℕ, [], Some, IsTrue, is_some}
 use Rattle.cc_model.specs.declared.config.Config.{Config}
-use Rattle.cc_handles.specs.declared.codes.TheConstants.{DONE}
+use Rattle.cc_handles.specs.declared.return_codes.TheConstants.{DONE}
 use Rattle.cc_pool.specs.Pooled.{Pool}
 use Rattle.cc_pool.specs.Opened.{refusal, HasPool}
 use Rattle.cc_pool.specs.declared.root.Root.{Root}

@@ -4,8 +4,8 @@ use Rattle.cc_model.specs.Config.{config_fault}
 use Rattle.cc_model.specs.declared.config.Config.{Config}
 use Rattle.cc_runs.specs.declared.setting.Served.{Served}
 use Rattle.cc_handles.specs.Items.{are_few}
-use Rattle.cc_handles.specs.Opened.{checked_as}
-use Rattle.cc_handles.specs.declared.codes.TheConstants.{DONE, NO_MEMORY}
+use Rattle.cc_handles.specs.OpenHandles.{checked_as}
+use Rattle.cc_handles.specs.declared.return_codes.TheConstants.{DONE, NO_MEMORY}
 use Rattle.cc_pool.specs.Pooled.{Pool}
 
 -- why a queue isn't opened, memory apart: the first field out of its range, then the words of a body; DONE if nothing is wrong

@@ -2,20 +2,20 @@
 use Rattle.std.specs.Prelude.{Option, Some, None, Box}
 use Rattle.std.specs.declared.alloc.Global.{Global}
 use Rattle.cc_steps.specs.Topic.{Topic}
-use Rattle.cc_handles.specs.declared.held.Pass.{Pass}
+use Rattle.cc_handles.specs.declared.handle_inner.Pass.{Pass}
 use Rattle.cc_handles.specs.Passes.{HasPassOf}
-use Rattle.cc_handles.specs.declared.held.Held.{Held}
+use Rattle.cc_handles.specs.declared.handle_inner.HandleInner.{HandleInner}
 use Rattle.cc_pool.specs.declared.pooled.Tried.{Tried}
 use Rattle.cc_pool.specs.declared.pooled.Made.{Made}
 use Rattle.cc_pool.specs.Made.{IsMade}
 
 -- the pass in a box, if there is a box
-abbrev pub inside : Option (Box Held Global) → Option Pass
+abbrev pub inside : Option (Box HandleInner Global) → Option Pass
 inside None = None
 inside (Some b) = b.value.pass
 
 -- the box, if there is one, has a pass of this queue
-abbrev pub IsKeptOf : Topic → Option (Box Held Global) → Type 0
+abbrev pub IsKeptOf : Topic → Option (Box HandleInner Global) → Type 0
 IsKeptOf z None = Unit {0}
 IsKeptOf z (Some b) = HasPassOf z b.value.pass
 

@@ -13,7 +13,7 @@ use crate::part::Part;
 use crate::pooled::Pooled;
 use cc_handles::handle::Handle;
 use cc_handles::items::ItemForm;
-use cc_handles::told::{Taken, Told};
+use cc_handles::results::{SendResult, TakeResult};
 use std::alloc::Global;
 use std::mem::replace;
 use std::ptr::null;
@@ -70,7 +70,7 @@ impl Call {
 
     /// Sends these words, if a body of the queue may have that many.
     #[inline(always)]
-    pub fn send(&mut self, alloc: Global, words: &[u64]) -> Told
+    pub fn send(&mut self, alloc: Global, words: &[u64]) -> SendResult
         requires { IsReady self.old }
         ensures sends { IfSome self.old.queue.value (λ p. SendsBy p.queue (fitting p.words words.now) (pass_of self.old.waiting) (pass_of self.new.waiting) result) }
         ensures same { IsSame self.old.queue self.new.queue }
@@ -84,7 +84,7 @@ impl Call {
     }
 
     /// One turn of a send that waits.
-    pub fn turn_send(&mut self, alloc: Global) -> Told
+    pub fn turn_send(&mut self, alloc: Global) -> SendResult
         requires { IsReady self.old }
         ensures turns { TurnsBy TurnsSend (pass_of self.old.waiting) (pass_of self.new.waiting) result }
         ensures same { IsSame self.old.queue self.new.queue }
@@ -98,7 +98,7 @@ impl Call {
     }
 
     /// Closes the queue.
-    pub fn close(&mut self, alloc: Global) -> Told
+    pub fn close(&mut self, alloc: Global) -> SendResult
         requires { IsReady self.old }
         ensures closes { IfSome self.old.queue.value (λ p. ClosesBy p.queue (pass_of self.old.waiting) (pass_of self.new.waiting) result) }
         ensures same { IsSame self.old.queue self.new.queue }
@@ -112,7 +112,7 @@ impl Call {
     }
 
     /// One turn of a close that waits.
-    pub fn turn_close(&mut self, alloc: Global) -> Told
+    pub fn turn_close(&mut self, alloc: Global) -> SendResult
         requires { IsReady self.old }
         ensures turns { TurnsBy TurnsClose (pass_of self.old.waiting) (pass_of self.new.waiting) result }
         ensures same { IsSame self.old.queue self.new.queue }
@@ -127,7 +127,7 @@ impl Call {
 
     /// Takes for this group, from 1.
     #[inline(always)]
-    pub fn take<I: ItemForm>(&mut self, alloc: Global, group: u32) -> Taken<I>
+    pub fn take<I: ItemForm>(&mut self, alloc: Global, group: u32) -> TakeResult<I>
         requires { IsReady self.old }
         ensures takes { IfSome self.old.queue.value (λ p. TakesBy p.queue I.form p.rows group (pass_of self.old.waiting) (pass_of self.new.waiting) result) }
         ensures same { IsSame self.old.queue self.new.queue }
@@ -141,7 +141,7 @@ impl Call {
     }
 
     /// One turn of a take that waits.
-    pub fn turn_take<I: ItemForm>(&mut self, alloc: Global) -> Taken<I>
+    pub fn turn_take<I: ItemForm>(&mut self, alloc: Global) -> TakeResult<I>
         requires { IsReady self.old }
         ensures turns { TurnsBy (TurnsTake I.form) (pass_of self.old.waiting) (pass_of self.new.waiting) result }
         ensures same { IsSame self.old.queue self.new.queue }

@@ -5,7 +5,7 @@ ghost use Rattle.cc_pool.specs.Cut.{IsCut, IsJoined, rest_of};
 use crate::part::Part;
 use crate::pooled::Pooled;
 use crate::root::Root;
-use cc_handles::loose::Loose;
+use cc_handles::raw_box::RawBox;
 use std::alloc::Global;
 use std::ptr::null_mut;
 
@@ -14,7 +14,7 @@ impl Root {
     pub fn of(pool: Box<Pooled>) -> Root
         ensures { (result.value ≡ Some pool.value) × (result.part ≡ []) }
     {
-        let whole = Loose::of(pool);
+        let whole = RawBox::of(pool);
         Root::lend(whole)
     }
 

@@ -9,13 +9,13 @@ use crate::kept::{FREE, Kept, Loan, OUT, TAKEN};
 use crate::place::Place;
 use crate::plays::{Grab, Look, Release};
 use atomic_table::{Refused, Seat, Table};
-use cc_handles::held::Held;
+use cc_handles::handle_inner::HandleInner;
 use cc_queue::Queue;
 use std::alloc::{AllocError, Global};
 
 impl Kept {
     /// A place with this pass.
-    pub fn new(alloc: Global, queue: &Queue, held: Box<Held>) -> Result<Kept, AllocError>
+    pub fn new(alloc: Global, queue: &Queue, held: Box<HandleInner>) -> Result<Kept, AllocError>
         requires { HasPassOf queue.now held.value.pass }
         ensures { IfOk result (λ k. k.table.shared.key ≡ queue.now) }
     {
@@ -56,7 +56,7 @@ impl Kept {
 
     /// Takes the box out of the place.
     #[inline(always)]
-    fn empty(&self, seat: &mut Seat<Place, Queue>) -> Box<Held>
+    fn empty(&self, seat: &mut Seat<Place, Queue>) -> Box<HandleInner>
         requires here { seat.old.table_id ≡ self.now.table.shared.table_id }
         requires seized { Seized self.now.table.shared.key FREE seat.old.me }
         ensures here { seat.new.table_id ≡ seat.old.table_id }
@@ -69,7 +69,7 @@ impl Kept {
 
     /// Puts a box into the place.
     #[inline(always)]
-    fn fill(&self, seat: &mut Seat<Place, Queue>, held: Box<Held>)
+    fn fill(&self, seat: &mut Seat<Place, Queue>, held: Box<HandleInner>)
         requires here { seat.old.table_id ≡ self.now.table.shared.table_id }
         requires seized { Seized self.now.table.shared.key OUT seat.old.me }
         requires held { HasPassOf self.now.table.shared.key held.value.pass }
@@ -82,7 +82,7 @@ impl Kept {
 
     /// Takes the place with its pass, if nobody has it.
     #[inline(always)]
-    pub fn lend(&self) -> Option<(Loan, Box<Held>)>
+    pub fn lend(&self) -> Option<(Loan, Box<HandleInner>)>
         ensures { IfSome result (λ r. IsLent self.now r.0 r.1.value.pass) }
     {
         let Some(loan) = self.take(FREE) else {
@@ -95,7 +95,7 @@ impl Kept {
 
     /// Gives the place back with its pass.
     #[inline(always)]
-    pub fn give_back(&self, loan: Loan, held: Box<Held>)
+    pub fn give_back(&self, loan: Loan, held: Box<HandleInner>)
         requires { IsLent self.now loan held.value.pass }
     {
         let Loan { mut seat } = loan;

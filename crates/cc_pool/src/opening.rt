@@ -3,16 +3,16 @@ ghost use Rattle.std.specs.Prelude.{◌≡◌, ◌≢◌, ◌+◌, length, All, 
 ghost use Rattle.cc_queue.specs.Opened.{HasOpened};
 ghost use Rattle.cc_steps.specs.Walk.{IsOf};
 ghost use Rattle.cc_handles.specs.Passes.{walk_of};
-ghost use Rattle.cc_handles.specs.declared.codes.TheConstants.{DONE};
+ghost use Rattle.cc_handles.specs.declared.return_codes.TheConstants.{DONE};
 ghost use Rattle.cc_pool.specs.Loans.{IsPlaceOf, queue_of};
 ghost use Rattle.cc_pool.specs.Pooled.{IsRowOf};
 ghost use Rattle.cc_pool.specs.Opened.{refusal, HasPool, IsRefusedAs};
 
 use crate::kept::Kept;
 use crate::pooled::Pooled;
-use cc_handles::codes::{BAD_WORDS, NO_MEMORY};
-use cc_handles::held::Pass;
-use cc_handles::opening::{are_few, field_code, held};
+use cc_handles::handle_inner::Pass;
+use cc_handles::open_handles::{are_few, field_code, held};
+use cc_handles::return_codes::{BAD_WORDS, NO_MEMORY};
 use cc_model::{CheckedConfig, Config};
 use cc_queue::{Opened, Queue, Receiver, Sender};
 use std::alloc::{AllocError, Global};

@@ -2,7 +2,7 @@
 ghost use Rattle.std.specs.Prelude.{◌≡◌, Some, None};
 ghost use Rattle.cc_pool.specs.Kept.{IsFull};
 
-use cc_handles::held::Held;
+use cc_handles::handle_inner::HandleInner;
 
 /// A line of the processor's memory that nobody uses, 64 bytes.
 type Spare = [u64; 8];
@@ -10,13 +10,13 @@ type Spare = [u64; 8];
 /// A box with a pass, and an unused line after it: the next place is another thread's.
 #[derive(Drop)]
 pub struct Place {
-    pub held: Option<Box<Held>>,
+    pub held: Option<Box<HandleInner>>,
     behind: Spare,
 }
 
 impl Place {
     /// A place with this pass.
-    pub fn of(held: Box<Held>) -> Place
+    pub fn of(held: Box<HandleInner>) -> Place
         ensures { result.held ≡ Some held }
     {
         Place {
@@ -27,7 +27,7 @@ impl Place {
 
     /// Takes the box out.
     #[inline(always)]
-    pub fn take(&mut self) -> Box<Held>
+    pub fn take(&mut self) -> Box<HandleInner>
         requires { IsFull self.old }
         ensures taken { self.old.held ≡ Some result }
         ensures after { self.new.held ≡ None }
@@ -40,7 +40,7 @@ impl Place {
 
     /// Puts a box in.
     #[inline(always)]
-    pub fn put(&mut self, held: Box<Held>)
+    pub fn put(&mut self, held: Box<HandleInner>)
         requires { self.old.held ≡ None }
         ensures { self.new.held ≡ Some held }
     {

@@ -9,8 +9,8 @@ ghost use Rattle.cc_pool.specs.Tried.{IsTriedOf, IsRowMade};
 
 use crate::asks::Ask;
 use crate::kept::Kept;
-use cc_handles::held::{Held, Pass};
-use cc_handles::opening::held;
+use cc_handles::handle_inner::{HandleInner, Pass};
+use cc_handles::open_handles::held;
 use cc_model::Config;
 use cc_queue::{Opened, Queue, Receiver, Sender};
 use std::alloc::{AllocError, Global};
@@ -42,14 +42,14 @@ pub enum Tried<T> {
     /// Its pass is not one for the call.
     PassedOver,
     /// The call was made; the pass, if the call waits.
-    Made(T, Option<Box<Held>>),
+    Made(T, Option<Box<HandleInner>>),
 }
 
 /// A call that was made.
 pub struct Made<T> {
     pub told: T,
     /// The pass, if the call waits.
-    pub waits: Option<Box<Held>>,
+    pub waits: Option<Box<HandleInner>>,
     /// The place of the pass in its row.
     pub at: u32,
 }
@@ -128,7 +128,7 @@ impl Pooled {
     }
 
     /// Puts a pass back into the place that it was taken from. If that place isn't free for it, the pass is given up.
-    pub(crate) fn give_back(&self, row: usize, at: usize, held: Box<Held>)
+    pub(crate) fn give_back(&self, row: usize, at: usize, held: Box<HandleInner>)
         requires { HasPassOf self.now.queue held.value.pass }
     {
         if row >= self.rows.len() || at >= self.rows[row].len() {

@@ -6,7 +6,7 @@ ghost use Rattle.cc_pool.specs.contracts.pooled.Pooled.{the_row};
 ghost use Rattle.cc_pool.specs.Lent.{root_owns};
 
 use crate::pooled::Pooled;
-use cc_handles::loose::Loose;
+use cc_handles::raw_box::RawBox;
 use std::alloc::Global;
 use std::marker::Model;
 
@@ -34,10 +34,10 @@ impl Root {
     }
 
     /// Begins a loan.
-    pub fn lend(whole: Loose<Pooled, Global>) -> Root
+    pub fn lend(whole: RawBox<Pooled, Global>) -> Root
         ensures { (result.value ≡ Some whole.value) × (result.part ≡ []) }
     {
-        let Loose { at, alloc } = whole;
+        let RawBox { at, alloc } = whole;
         Root {
             at: at as *mut (),
             alloc,
@@ -45,12 +45,12 @@ impl Root {
     }
 
     /// Ends the loan, once all its parts are back.
-    pub fn end(self) -> Loose<Pooled, Global>
+    pub fn end(self) -> RawBox<Pooled, Global>
         requires { IsTrue (is_some self.value) × (self.part ≡ []) }
         ensures { Some result.value ≡ self.value }
     {
         let Root { at, alloc } = self;
-        Loose {
+        RawBox {
             at: at as *mut Pooled,
             alloc,
         }

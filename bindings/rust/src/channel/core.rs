@@ -153,37 +153,32 @@ impl<T> Core<T> {
             drop(seat);
             return self.send_beside_reserved(item);
         }
-        let sent = self.send_by(&mut seat, item);
-        drop(seat);
-        match sent {
-            Ok(()) => self.notify_item(),
-            Err(refusal) => return self.send_after_refusal(item, refusal),
+        match self.send_by(&mut seat, item) {
+            code::ACCEPTED => drop(seat),
+            code => return self.send_again(item, code, seat),
         }
+        self.notify_item();
         Ok(true)
     }
 
+    /// Tries once more to send an item that the queue of this seat refused with this code.
     #[cold]
-    pub fn send_after_refusal(&self, item: &mut Unsent<T>, refusal: (u32, u64)) -> Try<bool> {
-        if self.retry_after_refusal(refusal)? {
-            self.try_send(item)
-        } else {
-            Ok(false)
-        }
+    pub fn send_again(&self, item: &mut Unsent<T>, code: u32, seat: SeatGuard) -> Try<bool> {
+        Ok(self.retry_after_refusal(code, seat)? && self.try_send(item)?)
     }
 
-    /// Sends by this seat. If it isn't sent, gives the code, and the number of the queue.
+    /// Sends by this seat. Returns the queue's code.
     #[inline]
-    pub fn send_by(&self, seat: &mut SeatGuard, item: &mut Unsent<T>) -> Result<(), (u32, u64)> {
+    pub fn send_by(&self, seat: &mut SeatGuard, item: &mut Unsent<T>) -> u32 {
         let ((pass, line), groups) = (seat.pass(), self.shares.load(Ordering::Relaxed));
         let code = item.send_by(groups, |words| {
             hands_over(self);
             pass.handle.send(words, words_of(self.copies), line)
         });
-        if code != code::ACCEPTED {
-            return Err((code, pass.queue));
+        if code == code::ACCEPTED {
+            seat.count_one();
         }
-        seat.count_one();
-        Ok(())
+        code
     }
 
     #[inline]
@@ -191,9 +186,11 @@ impl<T> Core<T> {
         self.groups.iter().for_each(|group| group.line.notify_one());
     }
 
-    /// After this queue refused an item. Returns whether a further try is to be made; if not,
+    /// After the queue of this seat refused an item with this code. Returns whether a further try is to be made; if not,
     /// the channel is closed.
-    pub fn retry_after_refusal(&self, (code, queue): (u32, u64)) -> Try<bool> {
+    pub fn retry_after_refusal(&self, code: u32, mut seat: SeatGuard) -> Try<bool> {
+        let queue = seat.pass().0.queue;
+        drop(seat);
         // Whether a lost group is in the queue, and holds up the others.
         let is_stale = self.shares.load(Ordering::SeqCst) != self.alive().count();
         match code {

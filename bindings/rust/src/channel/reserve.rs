@@ -3,6 +3,7 @@ use super::body::Unsent;
 use super::core::{Core, Side};
 use super::pool::Pool;
 use crate::event::{Try, WHEN_NOTIFIED, lock};
+use crate::queue::handle::code;
 use std::sync::atomic::Ordering;
 use std::thread;
 use std::time::Duration;
@@ -94,15 +95,15 @@ impl<T> Core<T> {
     pub fn send_to_room(&self, item: &mut Unsent<T>) -> bool {
         loop {
             let mut seat = self.senders.seats.take();
-            let Err(refusal) = self.send_by(&mut seat, item) else {
+            let code = self.send_by(&mut seat, item);
+            if code == code::ACCEPTED {
                 // While the seat is taken, so that nobody counts both the item and its room.
                 self.reserved.fetch_sub(1, Ordering::SeqCst);
                 drop(seat);
                 self.notify_item();
                 return true;
-            };
-            drop(seat);
-            match self.retry_after_refusal(refusal) {
+            }
+            match self.retry_after_refusal(code, seat) {
                 Ok(true) => {}
                 Ok(false) => {
                     self.give_back_room();
@@ -120,15 +121,15 @@ impl<T> Core<T> {
         let in_queue = lock(&self.in_queue);
         let mut seats = self.senders.seats.take_all();
         self.has_room_beside(self.reserved.load(Ordering::SeqCst))?;
-        let sent = self.send_by(&mut seats[0], item);
+        let mut seat = seats.swap_remove(0);
+        let code = self.send_by(&mut seat, item);
         drop(seats);
         drop(in_queue);
-        match sent {
-            Ok(()) => {
-                self.notify_item();
-                Ok(true)
-            }
-            Err(refusal) => self.send_after_refusal(item, refusal),
+        if code != code::ACCEPTED {
+            return self.send_again(item, code, seat);
         }
+        drop(seat);
+        self.notify_item();
+        Ok(true)
     }
 }

@@ -25,7 +25,7 @@ use Rattle.std.proofs.raw_atomic.Walks.{proved_at, leaves}
 use Rattle.std.specs.contracts.impls.GlobalAllocator.TheImpl.{ghosts}
 use denote.Struct.Lending.{lent_at}
 use Rattle.cc_pool.specs.Lent.{share_at, root_owns, debt_owns}
-use Rattle.cc_handles.proofs.Values.{both, Loose, loose_good, loose_in}
+use Rattle.cc_handles.proofs.Values.{both, RawBox, raw_box_good, raw_box_in}
 use Rattle.cc_pool.proofs.RootValues.{R, some_of, Z, LZ, Root, root_out}
 use Rattle.cc_pool.specs.contracts.root.Root.end.{ended, clauses}
 use Rattle.cc_pool.specs.contracts.root.Root.end.Key.{name as #self}
@@ -34,7 +34,7 @@ use Rattle.cc_pool.proofs.root.Root.end.Code as code
 use Rattle.std.specs.Prelude.{IsTrue, is_some}
 
 abbrev Whole : RattleType
-Whole = Loose R Z LZ ghosts
+Whole = RawBox R Z LZ ghosts
 
 pub end_spec : {M : Type 1} → statement M
 end_spec 𝓤 𝓛 𝓜 𝓡 wired =
@@ -51,14 +51,14 @@ end_spec 𝓤 𝓛 𝓜 𝓡 wired =
     rewrite ! 0 (λ (path : List ℕ). ‵ (flft (v.life ∷ []) (share_at path))) asked.1 refl $ move ! (1 ∷ []) $
     in_a_block ! v.at (λ p. lent_at R p x (v.life ∷ [])) (fst∗ 𝓤 (never 𝓤) (sem 𝓛 (shared_of R x 0 0 (v.life ∷ [])))) (λ b o e. drop ! $
     rewrite ! 1 (λ (p : Ptr). ‵ (debt_owns tok R p v.life x)) e refl $
-    let w : Val = both (vptr b o) h in let typed = loose_good R Z LZ ghosts b o h fits in
+    let w : Val = both (vptr b o) h in let typed = raw_box_good R Z LZ ghosts b o h fits in
     suffices ! (Run (w ∷ [])) (subst (λ (us : List Val). ent 𝓤 (Run (w ∷ [])) (Run us)) (sym (λ i. (subst (λ (p : Ptr). z.0.4.0 ≡ both (ptr_val p) h ∷ []) e ws) i ++ [])) (id⊢ 𝓤 (Run (w ∷ [])))) $
     enter ! 𝓣.C 𝓣.Λ fn (w ∷ []) Post $ alloc_all ! (λ l. pass_all ! refl (typed, tt) $
     sets ! (of_opd ! (get_in ! (fld ! refl (stop !)) (sub ! 0 refl (whole !)))) refl (tt, tt) $ sets ! (of_opd ! (get_in ! (fld ! refl (stop !)) (sub ! 1 refl (whole !)))) refl fits $
     sets ! (of_opd ! (get ! refl)) refl (tt, tt) $ sets ! (agg ! (and_then ! (get ! refl) (and_then ! (get ! refl) (no_more !)))) refl typed $
     -- [the token; the debt; the allocator; ..]
     lft_end ! tt $ move ! (1 ∷ []) $ fsplit ! $ move ! (2 ∷ 0 ∷ []) $ lent_back ! tt $ fjoin ! $
-    loose_in R Z LZ ghosts ! b o h v.alloc x $
+    raw_box_in R Z LZ ghosts ! b o h v.alloc x $
     use0 𝓛 (raw (fact 𝓤 (Some x ≡ v.value))) (fact_i 𝓤 (Some x ≡ v.value) (emp 𝓤) (sym is)) $ nothing ! $ nothing ! $ fjoin ! $
     returns ! (look_at ! 0 refl) $ free_all ! refl $ keep ! (4 ∷ 0 ∷ 2 ∷ 1 ∷ []) $
     by ! (leaves 𝓛 En hs c z w (record { at = block_ptr b o; alloc = v.alloc; value = x }) (tt, tt) (tt, tt)))))))

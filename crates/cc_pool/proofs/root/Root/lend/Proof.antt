@@ -24,7 +24,7 @@ use denote.Triple.Walked.{Stays, stay_dropped, walk_of, Goes-dropped}
 use Rattle.std.proofs.raw_atomic.Walks.{proved_at, leaves}
 use Rattle.std.specs.contracts.impls.GlobalAllocator.TheImpl.{ghosts}
 use Rattle.cc_pool.proofs.pooled.Pooled.TheLaws as pooled_laws
-use Rattle.cc_handles.proofs.Values.{both, Loose, loose_good, loose_out}
+use Rattle.cc_handles.proofs.Values.{both, RawBox, raw_box_good, raw_box_out}
 use Rattle.cc_pool.proofs.RootValues.{R, Z, LZ, root_in}
 use Rattle.cc_pool.specs.contracts.root.Root.lend.{ended, clauses}
 use Rattle.cc_pool.specs.contracts.root.Root.lend.Key.{name as #self}
@@ -32,7 +32,7 @@ use Rattle.cc_pool.proofs.root.Root.lend.Statement.{statement}
 use Rattle.cc_pool.proofs.root.Root.lend.Code as code
 
 abbrev Whole : RattleType
-Whole = Loose R Z LZ ghosts
+Whole = RawBox R Z LZ ghosts
 
 pub lend_spec : {M : Type 1} → statement M
 lend_spec 𝓤 𝓛 𝓜 𝓡 wired =
@@ -41,8 +41,8 @@ lend_spec 𝓤 𝓛 𝓜 𝓡 wired =
     proved_at 𝓛 En hs c 𝓜 𝓡 (Goes-dropped 𝓛 0 (plain (λ _. Whole)) yes (λ κs x f. refl), tt) #self fn (code.unfolded 𝓤 H 𝓜 𝓡 wired) (λ z are.
     let κs = z.0.0 in let qs = z.0.1 in let v = z.0.3.0 in let Post : Val → SProp 𝓤 = (walk_of 𝓛 En hs c).post z in let Run : List Val → SProp 𝓤 = λ ws. WpFn 𝓤 H 𝓣.C 𝓣.Λ fn ws Post in
     qed 𝓛 ((raw (alive 𝓛 En.signature κs qs) ⊛ ‵ (owns (types_at En.signature.params κs) z.0.3 z.0.4)) ∷ raw ((c κs z.0.3).requires z.1) ∷ []) ∵ split ! $ move ! (1 ∷ []) $ fsplit ! $
-    loose_out R Z LZ ghosts ! v z.0.4.0 (λ b o h e ws fits.
-    let w : Val = both (vptr b o) h in let typed = loose_good R Z LZ ghosts b o h fits in
+    raw_box_out R Z LZ ghosts ! v z.0.4.0 (λ b o h e ws fits.
+    let w : Val = both (vptr b o) h in let typed = raw_box_good R Z LZ ghosts b o h fits in
     suffices ! (Run (w ∷ [])) (subst (λ (us : List Val). ent 𝓤 (Run (w ∷ [])) (Run us)) (sym (λ i. ws i ++ [])) (id⊢ 𝓤 (Run (w ∷ [])))) $
     enter ! 𝓣.C 𝓣.Λ fn (w ∷ []) Post $ alloc_all ! (λ l. pass_all ! refl (typed, tt) $
     sets ! (of_opd ! (get_in ! (fld ! refl (stop !)) (sub ! 0 refl (whole !)))) refl (tt, tt) $ sets ! (of_opd ! (get_in ! (fld ! refl (stop !)) (sub ! 1 refl (whole !)))) refl fits $
