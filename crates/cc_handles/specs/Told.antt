@@ -2,6 +2,8 @@
 use Rattle.std.specs.Prelude.{ℕ}
 use Rattle.cc_handles.specs.Items.{Form}
 use Rattle.cc_handles.specs.Names.{SendAnswer, CloseAnswer, TakeAnswer, Told, Taken}
+use Rattle.cc_handles.specs.declared.told.TakeEnd.{TakeEnd}
+use Rattle.cc_handles.specs.declared.told.TakeTold.{TakeTold}
 use Rattle.cc_handles.specs.declared.codes.TheConstants.{ACCEPTED, FULL, CLOSED, SPENT, SHUT, ALREADY, GOT, EMPTY, ENDED}
 
 -- a code alone
@@ -29,3 +31,12 @@ abbrev pub taken_as : {I : Type 0} → Form I → TakeAnswer → ℕ → Taken I
 taken_as form (TakeAnswer.Got item) served = record { code = GOT; item = form.of item; total = 0; served = served }
 taken_as form TakeAnswer.Empty served = record { code = EMPTY; item = form.none; total = 0; served = served }
 taken_as form (TakeAnswer.Ended total) served = record { code = ENDED; item = form.none; total = total; served = served }
+
+-- the end of a turn of a take
+abbrev pub told_as : {I : Type 0} → Form I → TakeEnd → Taken I
+told_as form (TakeEnd.Only code) = none_taken form code
+told_as form (TakeEnd.Answered answer served) = taken_as form answer served
+
+-- an item, and the rest of the result
+abbrev pub with_item : {I : Type 0} → I → TakeTold → Taken I
+with_item item told = record { code = told.code; item = item; total = told.total; served = told.served }

@@ -6,7 +6,7 @@ use cc_model::Item;
 use cc_runs::words_in;
 
 /// A form of items.
-pub trait ItemForm {
+pub trait ItemForm: Drop {
     ghost form: { Form Self };
 
     /// How many words of a body it has room for.

@@ -9,6 +9,7 @@ mod closes;
 pub mod codes;
 pub mod handle;
 pub mod held;
+pub mod in_place;
 pub mod items;
 mod left;
 pub mod loose;

@@ -1,11 +1,12 @@
 //! A send, by the pass of a handle.
 ghost use Rattle.std.specs.Prelude.{◌≡◌, Some};
 ghost use Rattle.cc_steps.specs.Walk.{IsOf};
-ghost use Rattle.cc_handles.specs.Passes.{walk_of, StaysOf};
-ghost use Rattle.cc_handles.specs.Calls.{fitting, BeginsSend, TurnsSend, TriesSend, TellsWorn};
+ghost use Rattle.cc_handles.specs.Passes.{walk_of, IsPassOf, StaysOf};
+ghost use Rattle.cc_handles.specs.Calls.{single, fitting, BeginsSend, TurnsSend, TriesSend, TellsWorn};
 
 use crate::codes::{BAD_WORDS, BEGUN, FRESH, LONG, NO_PASS, WAITING, WORN};
 use crate::held::{Held, Pass, put};
+use crate::in_place::replace_with;
 use crate::refusals::{no_idle_sender, no_pending_sender};
 use crate::told::Told;
 use cc_model::Body;
@@ -70,6 +71,26 @@ fn turned(queue: &Queue, pass: Pass) -> (Pass, Told)
     }
 }
 
+/// Begins a send of a body of this word, and if it was begun turns it once.
+#[inline(always)]
+fn tried(pass: Option<Pass>, with: (&Queue, u64)) -> (Option<Pass>, Told)
+    requires { IsPassOf with.0.now pass }
+    ensures here { IsPassOf with.entry.0.now result.0 }
+    ensures tries { TriesSend (single with.entry.1) pass result.0 result.1 }
+    ensures stays { StaysOf pass result.0 }
+{
+    let (queue, word) = with;
+    let Some(pass) = pass else {
+        return (None, Told::only(NO_PASS));
+    };
+    let (pass, code) = begun(queue, pass, Ok(Body::one(word)));
+    if code != BEGUN {
+        return (Some(pass), Told::only(code));
+    }
+    let (pass, told) = turned(queue, pass);
+    (Some(pass), told)
+}
+
 impl Held {
     /// The body of these words, if a body of the queue may have that many; or the code for which there is none.
     pub fn fitting(&self, words: &[u64]) -> Result<Body, u32>
@@ -127,7 +148,18 @@ impl Held {
         told
     }
 
+    /// The same with a body of this word. The pass stays where it lies.
+    #[inline(always)]
+    pub fn try_word(&mut self, word: u64) -> Told
+        ensures tries { TriesSend (single word) self.old.pass self.new.pass result }
+        ensures same { self.new.words ≡ self.old.words }
+        ensures stays { StaysOf self.old.pass self.new.pass }
+    {
+        replace_with(&mut self.pass, (&self.queue, word), tried)
+    }
+
     /// Whether the sender is exhausted.
+    #[inline(always)]
     pub fn is_worn(&self) -> u32
         ensures { TellsWorn self.now.pass self.now.pass result }
     {

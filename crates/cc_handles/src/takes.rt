@@ -2,6 +2,7 @@
 ghost use Rattle.std.specs.Prelude.{◌≡◌, true, nat_le, Some};
 ghost use Rattle.cc_steps.specs.Walk.{IsOf};
 ghost use Rattle.cc_handles.specs.Passes.{walk_of, StaysOf};
+ghost use Rattle.cc_handles.specs.Told.{told_as, with_item};
 ghost use Rattle.cc_handles.specs.Handles.{pass_of, longest_of};
 ghost use Rattle.cc_handles.specs.Calls.{BeginsTake, TurnsTake, TriesTake, IfRoom, TellsGroup, IsIn};
 
@@ -10,7 +11,7 @@ use crate::handle::Handle;
 use crate::held::{Held, Pass, put};
 use crate::items::ItemForm;
 use crate::refusals::{no_idle_receiver, no_pending_take};
-use crate::told::Taken;
+use crate::told::{TakeEnd, TakeTold, Taken};
 use cc_queue::{Queue, TakeTurn, begin_take, turn_take as turn};
 use std::alloc::Global;
 
@@ -30,6 +31,29 @@ fn begun(queue: &Queue, pass: Pass) -> (Pass, u32)
     }
 }
 
+/// One turn of a take, if the pass has one, before its item has a form.
+#[inline(always)]
+fn ended<I: ItemForm>(queue: &Queue, pass: Pass) -> (Pass, TakeEnd)
+    requires { IsOf queue.now (walk_of pass) }
+    ensures here { IsOf queue.now (walk_of result.0) }
+    ensures turns { TurnsTake I.form (Some pass) (Some result.0) (told_as I.form result.1) }
+{
+    match pass {
+        Pass::Taking(pending) => match turn(queue, pending) {
+            TakeTurn::Waiting(pending) => (Pass::Taking(pending), TakeEnd::Only(WAITING)),
+            TakeTurn::Done {
+                receiver,
+                answer,
+                served,
+            } => (Pass::Receiver(receiver), TakeEnd::Answered(answer, served)),
+        },
+        other => {
+            let why = no_pending_take(&other);
+            (other, TakeEnd::Only(why))
+        }
+    }
+}
+
 /// One turn of a take, if the pass has one.
 #[inline(always)]
 fn turned<I: ItemForm>(queue: &Queue, pass: Pass) -> (Pass, Taken<I>)
@@ -37,20 +61,8 @@ fn turned<I: ItemForm>(queue: &Queue, pass: Pass) -> (Pass, Taken<I>)
     ensures here { IsOf queue.now (walk_of result.0) }
     ensures turns { TurnsTake I.form (Some pass) (Some result.0) result.1 }
 {
-    match pass {
-        Pass::Taking(pending) => match turn(queue, pending) {
-            TakeTurn::Waiting(pending) => (Pass::Taking(pending), Taken::only(WAITING)),
-            TakeTurn::Done {
-                receiver,
-                answer,
-                served,
-            } => (Pass::Receiver(receiver), Taken::taken(answer, served)),
-        },
-        other => {
-            let why = no_pending_take(&other);
-            (other, Taken::only(why))
-        }
-    }
+    let (pass, end) = ended::<I>(queue, pass);
+    (pass, end.told())
 }
 
 impl Held {
@@ -128,6 +140,27 @@ impl Held {
             return Taken::only(code);
         }
         let (pass, told) = turned(&self.queue, pass);
+        put(&mut self.pass, pass);
+        told
+    }
+
+    /// The same, but the item is written where it is wanted.
+    #[inline(always)]
+    pub fn try_into<I: ItemForm>(&mut self, item: &mut I) -> TakeTold
+        ensures tries { TriesTake I.form self.old.pass self.new.pass (with_item item.new result) }
+        ensures same { self.new.words ≡ self.old.words }
+        ensures stays { StaysOf self.old.pass self.new.pass }
+    {
+        let Some(pass) = self.pass.take() else {
+            return TakeTold::none(NO_PASS, item);
+        };
+        let (pass, code) = begun(&self.queue, pass);
+        if code != BEGUN {
+            put(&mut self.pass, pass);
+            return TakeTold::none(code, item);
+        }
+        let (pass, end) = ended::<I>(&self.queue, pass);
+        let told = end.told_into(item);
         put(&mut self.pass, pass);
         told
     }

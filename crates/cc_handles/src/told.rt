@@ -1,6 +1,6 @@
 //! The results of a call, and the answers of a queue as these.
 ghost use Rattle.std.specs.Prelude.{◌≡◌};
-ghost use Rattle.cc_handles.specs.Told.{only, none_taken, sent_as, closed_as, taken_as};
+ghost use Rattle.cc_handles.specs.Told.{only, none_taken, sent_as, closed_as, taken_as, told_as, with_item};
 
 use crate::codes::{ACCEPTED, ALREADY, CLOSED, EMPTY, ENDED, FULL, GOT, SHUT, SPENT};
 use crate::items::ItemForm;
@@ -27,6 +27,78 @@ pub struct Taken<I> {
     pub total: u64,
     /// How many calls the turn served.
     pub served: u32,
+}
+
+/// The result of a take, but for its item.
+#[derive(Clone, Copy)]
+pub struct TakeTold {
+    pub code: u32,
+    /// The total, if the queue has ended; else 0.
+    pub total: u64,
+    /// How many calls the turn served.
+    pub served: u32,
+}
+
+/// How a turn of a take ended, before its item has a form.
+pub enum TakeEnd {
+    /// A code alone.
+    Only(u32),
+    /// The answer, and how many calls the turn served.
+    Answered(TakeAnswer, u32),
+}
+
+impl TakeTold {
+    /// A code alone, and no item.
+    pub fn none<I: ItemForm>(code: u32, item: &mut I) -> TakeTold
+        ensures { with_item item.new result ≡ none_taken I.form code }
+    {
+        *item = I::none();
+        TakeTold {
+            code,
+            total: 0,
+            served: 0,
+        }
+    }
+}
+
+impl TakeEnd {
+    /// The result, with the item in this form.
+    #[inline(always)]
+    pub fn told<I: ItemForm>(self) -> Taken<I>
+        ensures { result ≡ told_as I.form self }
+    {
+        match self {
+            TakeEnd::Only(code) => Taken::only(code),
+            TakeEnd::Answered(answer, served) => Taken::taken(answer, served),
+        }
+    }
+
+    /// The same, with the item written here.
+    #[inline(always)]
+    pub fn told_into<I: ItemForm>(self, item: &mut I) -> TakeTold
+        ensures { with_item item.new result ≡ told_as I.form self }
+    {
+        let (code, total, served) = match self {
+            TakeEnd::Only(code) => return TakeTold::none(code, item),
+            TakeEnd::Answered(TakeAnswer::Got(got), served) => {
+                *item = I::of(got);
+                (GOT, 0, served)
+            }
+            TakeEnd::Answered(TakeAnswer::Empty, served) => {
+                *item = I::none();
+                (EMPTY, 0, served)
+            }
+            TakeEnd::Answered(TakeAnswer::Ended { total }, served) => {
+                *item = I::none();
+                (ENDED, total, served)
+            }
+        };
+        TakeTold {
+            code,
+            total,
+            served,
+        }
+    }
 }
 
 impl Told {
