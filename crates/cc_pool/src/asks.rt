@@ -1,25 +1,39 @@
 //! The calls that a caller asks of whichever pass is free.
-ghost use Rattle.std.specs.Prelude.{◌≡◌, Option, Ok, IfSome, IfNone};
+ghost use Rattle.std.specs.Prelude.{◌≡◌, Option, true, Ok, IfSome, IfNone};
 ghost use Rattle.cc_handles.specs.declared.held.Pass.{Pass};
 ghost use Rattle.cc_handles.specs.declared.told.Told.{Told};
-ghost use Rattle.cc_handles.specs.declared.told.Taken.{Taken};
-ghost use Rattle.cc_handles.specs.Passes.{StaysOf};
-ghost use Rattle.cc_handles.specs.Calls.{TriesSend, TriesClose};
+ghost use Rattle.cc_handles.specs.declared.told.TakeTold.{TakeTold};
+ghost use Rattle.cc_handles.specs.Passes.{StaysOf, has_call};
+ghost use Rattle.cc_handles.specs.Calls.{single, TriesSend, TriesClose};
+ghost use Rattle.cc_handles.specs.Told.{with_item};
 ghost use Rattle.cc_pool.specs.Made.{TakesIn};
 
-use cc_handles::codes::WORN;
+use cc_handles::codes::{ACCEPTED, WORN};
 use cc_handles::held::Held;
 use cc_handles::items::ItemForm;
-use cc_handles::told::{Taken, Told};
+use cc_handles::told::{TakeTold, Told};
 use cc_model::Body;
 
-/// A call.
-pub trait Ask<T> {
-    ghost tells: { Self → Option Pass → Option Pass → T → Type 0 };
+/// A call that was made.
+#[derive(Drop)]
+pub struct Asked<T> {
+    pub told: T,
+    /// Whether the call waits.
+    pub waits: bool,
+}
 
-    /// Makes the call by this pass; or none, if it is not one for the call.
-    fn ask(&self, held: &mut Held) -> Option<T>
-        ensures tells { IfSome result (λ told. tells self.now held.old.pass held.new.pass told) }
+/// A call. It is made once: after that it isn't new.
+pub trait Ask<T, O> {
+    ghost tells: { Self → Option Pass → Option Pass → T → O → Type 0 };
+
+    ghost is_new: { Self → Type 0 };
+
+    /// Makes the call by this pass, and writes its item to `out`; or none, if the pass is not one for the call.
+    fn ask(&mut self, held: &mut Held, out: &mut O) -> Option<Asked<T>>
+        requires { is_new self.old }
+        ensures tells { IfSome result (λ a. tells self.old held.old.pass held.new.pass a.told out.new) }
+        ensures waits { IfSome result (λ a. a.waits ≡ has_call held.new.pass) }
+        ensures passed { IfNone result ((self.new ≡ self.old) × (held.new.pass ≡ held.old.pass)) }
         ensures stays { StaysOf held.old.pass held.new.pass };
 }
 
@@ -27,28 +41,69 @@ pub trait Ask<T> {
 #[derive(Drop)]
 pub struct Sending {
     pub body: Body,
+    pub new: bool,
 }
 
-impl Ask<Told> for Sending {
-    ghost tells = { λ s old new told. TriesSend (Ok s.body) old new told };
+impl Ask<Told, ()> for Sending {
+    ghost tells = { λ s old new told _. TriesSend (Ok s.body) old new told };
+
+    ghost is_new = { λ s. s.new ≡ true };
 
     #[inline(always)]
-    fn ask(&self, held: &mut Held) -> Option<Told> {
+    #[tactic(auto, using(crate::proofs::Asked::send_is_over))]
+    fn ask(&mut self, held: &mut Held, _out: &mut ()) -> Option<Asked<Told>> {
+        if held.is_worn() == WORN {
+            return None;
+        }
+        self.new = false;
         let told = held.try_send(Ok(self.body));
-        if told.code == WORN { None } else { Some(told) }
+        let waits = told.code < ACCEPTED && held.has_call();
+        Some(Asked { told, waits })
+    }
+}
+
+/// A send of a body of one word.
+#[derive(Drop)]
+pub struct SendingWord {
+    pub word: u64,
+    pub new: bool,
+}
+
+impl Ask<Told, ()> for SendingWord {
+    ghost tells = { λ s old new told _. TriesSend (single s.word) old new told };
+
+    ghost is_new = { λ s. s.new ≡ true };
+
+    #[inline(always)]
+    #[tactic(auto, using(crate::proofs::Asked::send_is_over))]
+    fn ask(&mut self, held: &mut Held, _out: &mut ()) -> Option<Asked<Told>> {
+        if held.is_worn() == WORN {
+            return None;
+        }
+        self.new = false;
+        let told = held.try_word(self.word);
+        let waits = told.code < ACCEPTED && held.has_call();
+        Some(Asked { told, waits })
     }
 }
 
 /// A close.
 #[derive(Drop)]
-pub struct Closing;
+pub struct Closing {
+    pub new: bool,
+}
 
-impl Ask<Told> for Closing {
-    ghost tells = { λ _ old new told. TriesClose old new told };
+impl Ask<Told, ()> for Closing {
+    ghost tells = { λ _ old new told _. TriesClose old new told };
+
+    ghost is_new = { λ s. s.new ≡ true };
 
     #[inline(always)]
-    fn ask(&self, held: &mut Held) -> Option<Told> {
-        Some(held.try_close())
+    fn ask(&mut self, held: &mut Held, _out: &mut ()) -> Option<Asked<Told>> {
+        self.new = false;
+        let told = held.try_close();
+        let waits = held.has_call();
+        Some(Asked { told, waits })
     }
 }
 
@@ -56,17 +111,23 @@ impl Ask<Told> for Closing {
 #[derive(Drop)]
 pub struct Taking {
     pub group: u32,
+    pub new: bool,
 }
 
-impl<I: ItemForm> Ask<Taken<I>> for Taking {
-    ghost tells = { λ s old new told. TakesIn I.form s.group old new told };
+impl<I: ItemForm> Ask<TakeTold, I> for Taking {
+    ghost tells = { λ s old new told item. TakesIn I.form s.group old new (with_item item told) };
+
+    ghost is_new = { λ s. s.new ≡ true };
 
     #[inline(always)]
-    fn ask(&self, held: &mut Held) -> Option<Taken<I>> {
-        if held.is_in(self.group) {
-            Some(held.try_any())
-        } else {
-            None
+    #[tactic(auto, using(crate::proofs::Asked::take_is_over))]
+    fn ask(&mut self, held: &mut Held, item: &mut I) -> Option<Asked<TakeTold>> {
+        if !held.is_in(self.group) {
+            return None;
         }
+        self.new = false;
+        let told = held.try_into(item);
+        let waits = told.code < ACCEPTED && held.has_call();
+        Some(Asked { told, waits })
     }
 }
