@@ -6,87 +6,58 @@
 #include "checks.h"
 #include "handles.h"
 
-/* Turns a call that was begun until it is answered. */
+/* The body of a function that makes this turn, with &number and &served, until the call is answered. */
+#define FINISHED(turn, out)                                                                                                    \
+    uint64_t number = 0;                                                                                                       \
+    uint32_t served = 0, code;                                                                                                 \
+    while ((code = (turn)) == VAHEPITO_WAITING) (void)sched_yield();                                                           \
+    if (out) *(out) = number;                                                                                                  \
+    return code
+
 static inline uint32_t finish_send(vahepito_pass *sender, uint64_t *place) {
-    uint64_t number = 0;
-    uint32_t served = 0, code;
-    while ((code = vahepito_turn_send(sender, &number, &served)) == VAHEPITO_WAITING) (void)sched_yield();
-    if (place) *place = number;
-    return code;
+    FINISHED(vahepito_turn_send(sender, &number, &served), place);
 }
 
 static inline uint32_t finish_close(vahepito_pass *sender, uint64_t *total) {
-    uint64_t number = 0;
-    uint32_t served = 0, code;
-    while ((code = vahepito_turn_close(sender, &number, &served)) == VAHEPITO_WAITING) (void)sched_yield();
-    if (total) *total = number;
-    return code;
+    FINISHED(vahepito_turn_close(sender, &number, &served), total);
 }
 
 static inline uint32_t finish_take(vahepito_pass *receiver, vahepito_word_item *item, uint64_t *total) {
-    uint64_t number = 0;
-    uint32_t served = 0, code;
-    while ((code = vahepito_turn_take(receiver, item, &number, &served)) == VAHEPITO_WAITING) (void)sched_yield();
-    if (total) *total = number;
-    return code;
+    FINISHED(vahepito_turn_take(receiver, item, &number, &served), total);
 }
 
 static inline uint32_t finish_take_words(vahepito_pass *receiver, vahepito_item *item, uint64_t *total) {
-    uint64_t number = 0;
-    uint32_t served = 0, code;
-    while ((code = vahepito_turn_take_words(receiver, item, &number, &served)) == VAHEPITO_WAITING) (void)sched_yield();
-    if (total) *total = number;
-    return code;
+    FINISHED(vahepito_turn_take_words(receiver, item, &number, &served), total);
 }
+
+/* The body of a function that makes this try, and if that waits finishes it, until its code isn't `nothing`. */
+#define REPEATED(try, finish, nothing, out)                                                                                    \
+    uint64_t number = 0;                                                                                                       \
+    uint32_t served = 0, code;                                                                                                 \
+    for (;;) {                                                                                                                 \
+        code = (try);                                                                                                          \
+        if (code == VAHEPITO_WAITING) code = (finish);                                                                         \
+        if (out) *(out) = number;                                                                                              \
+        if (code != (nothing)) return code;                                                                                    \
+        (void)sched_yield();                                                                                                   \
+    }
 
 /* Sends, and waits for room. */
 static inline uint32_t send_words_by(vahepito_pass *sender, const uint64_t *words, size_t count, uint64_t *place) {
-    uint64_t number = 0;
-    uint32_t served = 0, code;
-    for (;;) {
-        code = vahepito_try_send_words(sender, words, count, &number, &served);
-        if (code == VAHEPITO_WAITING) code = finish_send(sender, &number);
-        if (place) *place = number;
-        if (code != VAHEPITO_FULL) return code;
-        (void)sched_yield();
-    }
+    REPEATED(vahepito_try_send_words(sender, words, count, &number, &served), finish_send(sender, &number), VAHEPITO_FULL, place)
 }
 
 static inline uint32_t send_by(vahepito_pass *sender, uint64_t body, uint64_t *place) {
-    uint64_t number = 0;
-    uint32_t served = 0, code;
-    for (;;) {
-        code = vahepito_try_send(sender, body, &number, &served);
-        if (code == VAHEPITO_WAITING) code = finish_send(sender, &number);
-        if (place) *place = number;
-        if (code != VAHEPITO_FULL) return code;
-        (void)sched_yield();
-    }
+    REPEATED(vahepito_try_send(sender, body, &number, &served), finish_send(sender, &number), VAHEPITO_FULL, place)
 }
 
 /* Takes, and waits for an item. */
 static inline uint32_t take_by(vahepito_pass *receiver, vahepito_word_item *item, uint64_t *total) {
-    uint64_t number = 0;
-    uint32_t served = 0, code;
-    for (;;) {
-        code = vahepito_try_take(receiver, item, &number, &served);
-        if (code == VAHEPITO_WAITING) code = finish_take(receiver, item, &number);
-        if (total) *total = number;
-        if (code != VAHEPITO_EMPTY) return code;
-        (void)sched_yield();
-    }
+    REPEATED(vahepito_try_take(receiver, item, &number, &served), finish_take(receiver, item, &number), VAHEPITO_EMPTY, total)
 }
 
 static inline uint32_t take_words_by(vahepito_pass *receiver, vahepito_item *item, uint64_t *total) {
-    uint64_t number = 0;
-    uint32_t served = 0, code;
-    for (;;) {
-        code = vahepito_try_take_words(receiver, item, &number, &served);
-        if (code == VAHEPITO_WAITING) code = finish_take_words(receiver, item, &number);
-        if (total) *total = number;
-        if (code != VAHEPITO_EMPTY) return code;
-        (void)sched_yield();
-    }
+    REPEATED(vahepito_try_take_words(receiver, item, &number, &served), finish_take_words(receiver, item, &number), VAHEPITO_EMPTY, total)
 }
 
 static inline uint32_t close_by(vahepito_pass *sender, uint64_t *total) {

@@ -6,8 +6,12 @@
  * visits all states that the processes reach. It replays a process from its start with the results of its steps so far, up
  * to the next step.
  *
+ * In some models there are few places: a call takes a place in one step and is answered in its next one, and a call that finds
+ * no free place is refused with BUSY, and makes its next step once a place is free.
+ *
  * It ends with status 0 if this holds in each state in which no process makes a step: no process sleeps whose try would find
- * something, and the counts of each line are those of the processes that sleep there. With --faults it ends with status 0 if
+ * something, none waits for a place, and the counts of each line are those of the processes that sleep there; and if no call
+ * returns BUSY. With --faults it ends with status 0 if
  * this fails in some state: so the Makefile compiles it with each fault of wait_faults.txt in the header. */
 #include <errno.h>
 #include <limits.h>
@@ -41,18 +45,19 @@ enum { PROCESSES = 4, GROUPS = 2, LINES = 1 + GROUPS, CALLS = 3, LONGEST = 400 }
 struct model {
     const char *calls[PROCESSES];
     int capacity, groups, life, wakes_for_nothing;
+    int places; /* of each line; 0 if each call finds a place, and is answered in one step */
 };
 
 static const struct model *model;
 
 /* ---- a process, step by step */
 
-enum kind { DONE, LOAD, ADD, EXCHANGE, SLEEP, WAKE, TRY_SEND, TRY_TAKE, CLOSE };
+enum kind { DONE, LOAD, ADD, EXCHANGE, SLEEP, WAKE, TRY_SEND, TRY_TAKE, TURN_SEND, TURN_TAKE, CLOSE };
 
 struct step {
     enum kind kind;
     int line; /* or the group of a take */
-    uint64_t value, next;
+    uint64_t value, next; /* of DONE, the code of the call */
     bool has_time;
 };
 
@@ -71,7 +76,7 @@ static uint32_t first_nodes[PROCESSES][CALLS + 1];
 
 static vahepito_waits waits;
 static uint64_t results[LONGEST];
-static int result_count, result_at, tries;
+static int result_count, result_at, tries, group_of_take;
 static struct step next_step;
 static jmp_buf at_next_step;
 
@@ -143,29 +148,31 @@ uint32_t vahepito_call_turn_close(vahepito_call *call, uint64_t *total) {
 
 uint32_t vahepito_call_turn_send(vahepito_call *call, uint64_t *place) {
     (void)call, (void)place;
-    abort();
+    return (uint32_t)result_of((struct step){TURN_SEND, 0, 0, 0, false});
 }
 
 uint32_t vahepito_call_turn_take(vahepito_call *call, vahepito_item *item, uint64_t *total) {
     (void)call, (void)item, (void)total;
-    abort();
+    return (uint32_t)result_of((struct step){TURN_TAKE, group_of_take, 0, 0, false});
 }
 
-static void make_call(char call) {
+/* The code of the call. */
+static uint32_t make_call(char call) {
     static const struct timespec some_time = {1, 0};
     static const uint64_t word = 1;
     uint64_t place;
+    group_of_take = 1 + (call == 'u' || call == 'U');
     switch (call) {
-    case 's': vahepito_send(&waits, MINE, 1, NULL); break;
-    case 'S': vahepito_send_until(&waits, MINE, 1, &some_time, NULL); break;
-    case 'm': vahepito_send_now(&waits, MINE, 1, NULL); break;
-    case 'w': tries = 0, vahepito_send(&waits, EXHAUSTED, 1, NULL); break;
-    case 'r': if (vahepito_call_send(MINE, &word, 1, &place) == VAHEPITO_ACCEPTED) vahepito_notify_item(&waits); break;
-    case 'e': vahepito_notify_item(&waits), vahepito_call_send(MINE, &word, 1, &place); break;
-    case 't': case 'u': vahepito_take(&waits, MINE, 1 + (call == 'u'), NULL, NULL); break;
-    case 'T': case 'U': vahepito_take_until(&waits, MINE, 1 + (call == 'U'), NULL, &some_time, NULL); break;
-    case 'n': vahepito_take_now(&waits, MINE, 1, NULL, NULL); break;
-    case 'c': vahepito_close(&waits, MINE, NULL); break;
+    case 's': return vahepito_send(&waits, MINE, 1, NULL);
+    case 'S': return vahepito_send_until(&waits, MINE, 1, &some_time, NULL);
+    case 'm': return vahepito_send_now(&waits, MINE, 1, NULL);
+    case 'w': return tries = 0, vahepito_send(&waits, EXHAUSTED, 1, NULL);
+    case 'r': if (vahepito_call_send(MINE, &word, 1, &place) == VAHEPITO_ACCEPTED) vahepito_notify_item(&waits); return VAHEPITO_DONE;
+    case 'e': return vahepito_notify_item(&waits), vahepito_call_send(MINE, &word, 1, &place);
+    case 't': case 'u': return vahepito_take(&waits, MINE, (uint32_t)group_of_take, NULL, NULL);
+    case 'T': case 'U': return vahepito_take_until(&waits, MINE, (uint32_t)group_of_take, NULL, &some_time, NULL);
+    case 'n': return vahepito_take_now(&waits, MINE, 1, NULL, NULL);
+    case 'c': return vahepito_close(&waits, MINE, NULL);
     default: abort();
     }
 }
@@ -177,8 +184,7 @@ static struct step step_after(uint32_t node) {
     if (result_count > LONGEST) abort();
     for (uint32_t at = node, k = (uint32_t)result_count; nodes[at].before != 0; at = nodes[at].before) results[--k] = nodes[at].result;
     if (setjmp(at_next_step)) return next_step;
-    make_call(model->calls[nodes[node].process][nodes[node].call]);
-    return (struct step){DONE, 0, 0, 0, false};
+    return (struct step){DONE, 0, make_call(model->calls[nodes[node].process][nodes[node].call]), 0, false};
 }
 
 static uint32_t add_node(int process, int call, uint32_t before, uint64_t result) {
@@ -193,8 +199,8 @@ static uint32_t add_node(int process, int call, uint32_t before, uint64_t result
     return node;
 }
 
-/* The node after a step with this result; if the call is over then, the first one of the next call. */
-static uint32_t node_after(uint32_t node, uint64_t result) {
+/* The node after a step with this result; if the call is over then, with this code, the first one of the next call. */
+static uint32_t node_after(uint32_t node, uint64_t result, uint64_t *code) {
     uint32_t child = nodes[node].child;
     const int process = nodes[node].process, call = nodes[node].call;
     while (child != 0 && nodes[child].result != result) child = nodes[child].sibling;
@@ -203,7 +209,9 @@ static uint32_t node_after(uint32_t node, uint64_t result) {
         nodes[child].sibling = nodes[node].child;
         nodes[node].child = child;
     }
-    return nodes[child].step.kind == DONE ? first_nodes[process][call + 1] : child;
+    if (nodes[child].step.kind != DONE) return child;
+    *code = nodes[child].step.value;
+    return first_nodes[process][call + 1];
 }
 
 /* ---- states */
@@ -214,7 +222,8 @@ struct state {
     uint64_t counts[LINES];
     uint32_t nodes[PROCESSES];
     uint8_t sleeps[PROCESSES], woken_for_nothing[PROCESSES];
-    uint8_t sent, taken[GROUPS], closed;
+    uint8_t sent, taken[GROUPS], closed, in_use[LINES]; /* the places that calls have */
+    bool is_refused; /* a call returned BUSY */
 };
 
 static struct state *states, *left;
@@ -277,8 +286,10 @@ static uint32_t try_take(struct state *state, int group) {
 }
 
 static void advance(struct state state, int process, uint64_t result) {
+    uint64_t code = VAHEPITO_DONE;
     state.sleeps[process] = AWAKE;
-    state.nodes[process] = node_after(state.nodes[process], result);
+    state.nodes[process] = node_after(state.nodes[process], result, &code);
+    state.is_refused |= code == VAHEPITO_BUSY;
     reach(&state);
 }
 
@@ -291,6 +302,26 @@ static uint32_t load_before(uint32_t node) {
 
 static bool sleeps_in(const struct state *state, int process, int line) {
     return state->sleeps[process] == ASLEEP && nodes[state->nodes[process]].step.line == line;
+}
+
+/* Whether a call that begins in this line finds no free place. */
+static bool is_full(const struct state *state, int line) { return model->places != 0 && state->in_use[line] == model->places; }
+
+/* Whether the last call of this process returned BUSY, and no place is free still. */
+static bool waits_for_place(const struct state *state, int process) {
+    const struct node *node = &nodes[state->nodes[process]];
+    const bool begins = node->step.kind == TRY_SEND || node->step.kind == TRY_TAKE || node->step.kind == CLOSE;
+    return begins && node->result == VAHEPITO_BUSY && is_full(state, node->step.line);
+}
+
+/* A try: of a model with places, its begin. */
+static void begin(struct state next, int process, int line, uint32_t code) {
+    if (is_full(&next, line)) {
+        if (!waits_for_place(&next, process)) advance(next, process, VAHEPITO_BUSY);
+    } else {
+        next.in_use[line] += model->places != 0;
+        advance(next, process, model->places != 0 ? VAHEPITO_WAITING : code);
+    }
 }
 
 /* The states after one step of this process. */
@@ -333,27 +364,47 @@ static void search_after(const struct state *state, int process) {
         break;
     }
     case TRY_SEND: {
-        const uint32_t code = try_send(&next);
-        advance(next, process, code);
+        const uint32_t code = model->places == 0 ? try_send(&next) : VAHEPITO_WAITING;
+        begin(next, process, 0, code);
         break;
     }
     case TRY_TAKE: {
-        const uint32_t code = try_take(&next, step.line);
+        const uint32_t code = model->places == 0 ? try_take(&next, step.line) : VAHEPITO_WAITING;
+        begin(next, process, step.line, code);
+        break;
+    }
+    case TURN_SEND: {
+        const uint32_t code = try_send(&next);
+        next.in_use[0]--;
         advance(next, process, code);
         break;
     }
-    case CLOSE: next.closed = 1, advance(next, process, VAHEPITO_WAITING); break;
+    case TURN_TAKE: {
+        const uint32_t code = try_take(&next, step.line);
+        next.in_use[step.line]--;
+        advance(next, process, code);
+        break;
+    }
+    case CLOSE:
+        if (!is_full(state, 0)) next.closed = 1, advance(next, process, VAHEPITO_WAITING);
+        else if (!waits_for_place(state, process)) advance(next, process, VAHEPITO_BUSY);
+        break;
     }
 }
 
-/* Whether no process makes a step, though the try of a process that sleeps would find something, or the counts of a line aren't
- * the number of those that sleep there. */
+/* Whether a call returned BUSY; or no process makes a step, though the try of a process that sleeps would find something, or a
+ * process waits for a place, or the counts of a line aren't the number of those that sleep there. */
 static bool is_wrong(const struct state *state) {
     uint64_t sleeping[LINES] = {0};
     bool is_missed = false;
+    if (state->is_refused) return true;
     for (int process = 0; process < PROCESSES; process++) {
         const struct step *step = &nodes[state->nodes[process]].step;
         if (step->kind == DONE) continue;
+        if (waits_for_place(state, process)) {
+            is_missed = true;
+            continue;
+        }
         if (state->sleeps[process] != ASLEEP) return false;
         sleeping[step->line] += VAHEPITO_ONE_WAITING;
         is_missed |= state->closed || (step->line == 0 ? room(state) > 0 : state->taken[step->line - 1] < state->sent);
@@ -385,19 +436,20 @@ static bool search(const struct model *it) {
 }
 
 static const struct model models[] = {
-    {{"t", "s", "", ""}, 1, 1, 9, 1},    {{"T", "s", "s", ""}, 2, 1, 9, 1},  {{"t", "t", "ss", ""}, 2, 1, 9, 0},
-    {{"t", "t", "s", "s"}, 2, 1, 9, 0},  {{"t", "T", "ss", ""}, 2, 1, 9, 0}, {{"t", "T", "s", "n"}, 2, 1, 9, 0},
-    {{"t", "t", "r", "r"}, 2, 1, 9, 0},  {{"t", "t", "sc", ""}, 2, 1, 9, 0}, {{"t", "u", "s", ""}, 1, 2, 9, 0},
-    {{"tt", "uu", "ss", ""}, 1, 2, 9, 0}, {{"tt", "ss", "", ""}, 1, 1, 9, 1}, {{"tt", "s", "s", ""}, 1, 1, 9, 0},
-    {{"tt", "S", "ss", ""}, 1, 1, 9, 0}, {{"tt", "w", "ss", ""}, 1, 1, 9, 0}, {{"ms", "s", "c", ""}, 1, 1, 9, 0},
-    {{"ms", "s", "s", "t"}, 1, 1, 1, 0}, {{"tc", "ss", "S", ""}, 1, 1, 9, 0}, {{"c", "ss", "s", "t"}, 1, 1, 9, 0},
-    {{"t", "t", "c", "s"}, 1, 1, 9, 0},  {{"t", "T", "T", "s"}, 2, 1, 9, 0},  {{"tt", "w", "s", "s"}, 1, 1, 9, 0},
-    {{"t", "U", "u", "s"}, 1, 2, 9, 0}, {{"tt", "u", "ss", ""}, 1, 2, 9, 1},
+    {{"t", "s", "", ""}, 1, 1, 9, 1, 0},    {{"T", "s", "s", ""}, 2, 1, 9, 1, 0},  {{"t", "t", "ss", ""}, 2, 1, 9, 0, 0},
+    {{"t", "t", "s", "s"}, 2, 1, 9, 0, 0},  {{"t", "T", "ss", ""}, 2, 1, 9, 0, 0}, {{"t", "T", "s", "n"}, 2, 1, 9, 0, 0},
+    {{"t", "t", "r", "r"}, 2, 1, 9, 0, 0},  {{"t", "t", "sc", ""}, 2, 1, 9, 0, 0}, {{"t", "u", "s", ""}, 1, 2, 9, 0, 0},
+    {{"tt", "uu", "ss", ""}, 1, 2, 9, 0, 0}, {{"tt", "ss", "", ""}, 1, 1, 9, 1, 0}, {{"tt", "s", "s", ""}, 1, 1, 9, 0, 0},
+    {{"tt", "S", "ss", ""}, 1, 1, 9, 0, 0}, {{"tt", "w", "ss", ""}, 1, 1, 9, 0, 0}, {{"ms", "s", "c", ""}, 1, 1, 9, 0, 0},
+    {{"ms", "s", "s", "t"}, 1, 1, 1, 0, 0}, {{"tc", "ss", "S", ""}, 1, 1, 9, 0, 0}, {{"c", "ss", "s", "t"}, 1, 1, 9, 0, 0},
+    {{"t", "t", "c", "s"}, 1, 1, 9, 0, 0},  {{"t", "T", "T", "s"}, 2, 1, 9, 0, 0},  {{"tt", "w", "s", "s"}, 1, 1, 9, 0, 0},
+    {{"t", "U", "u", "s"}, 1, 2, 9, 0, 0}, {{"tt", "u", "ss", ""}, 1, 2, 9, 1, 0},
+    {{"tt", "s", "s", ""}, 1, 1, 9, 0, 1}, {{"t", "t", "ss", ""}, 1, 1, 9, 0, 1}, {{"t", "c", "s", ""}, 1, 1, 9, 0, 1},
 };
 
 int main(int count, char **words) {
     const bool faults = count > 1 && strcmp(words[1], "--faults") == 0;
-    const struct model early = {{"t", "e", "", ""}, 1, 1, 9, 0};
+    const struct model early = {{"t", "e", "", ""}, 1, 1, 9, 0, 0};
     size_t all = 0;
     bool found = false;
     for (size_t at = 0; at < sizeof models / sizeof *models && !found; at++) {

@@ -70,18 +70,13 @@ pub extern "C" fn vahepito_call_size() -> usize
 
 /// Sends these words by a sender that is free, if a body of the queue may have that many.
 #[unsafe(no_mangle)]
-pub extern "C" fn vahepito_call_send(
-    alloc: Global,
-    call: &mut Call,
-    words: &[u64],
-    place: &mut u64,
-) -> u32
+pub extern "C" fn vahepito_call_send(call: &mut Call, words: &[u64], place: &mut u64) -> u32
     requires { IsReady call.old }
     ensures sends { IfSome call.old.queue.value (λ p. SendsBy p.queue (fitting p.words words.now) (pass_of call.old.waiting) (pass_of call.new.waiting) (record { code = result; number = place.new; served = call.new.served })) }
     ensures same { IsSame call.old.queue call.new.queue }
     ensures ready { IsReady call.new }
 {
-    let told = call.send(alloc, words);
+    let told = call.send(words);
     *place = told.number;
     told.code
 }
@@ -101,13 +96,13 @@ pub extern "C" fn vahepito_call_turn_send(alloc: Global, call: &mut Call, place:
 
 /// Closes the queue by a sender that is free.
 #[unsafe(no_mangle)]
-pub extern "C" fn vahepito_call_close(alloc: Global, call: &mut Call, total: &mut u64) -> u32
+pub extern "C" fn vahepito_call_close(call: &mut Call, total: &mut u64) -> u32
     requires { IsReady call.old }
     ensures closes { IfSome call.old.queue.value (λ p. ClosesBy p.queue (pass_of call.old.waiting) (pass_of call.new.waiting) (record { code = result; number = total.new; served = call.new.served })) }
     ensures same { IsSame call.old.queue call.new.queue }
     ensures ready { IsReady call.new }
 {
-    let told = call.close(alloc);
+    let told = call.close();
     *total = told.number;
     told.code
 }
@@ -128,7 +123,6 @@ pub extern "C" fn vahepito_call_turn_close(alloc: Global, call: &mut Call, total
 /// Takes by a receiver of this group, from 1, that is free.
 #[unsafe(no_mangle)]
 pub extern "C" fn vahepito_call_take(
-    alloc: Global,
     call: &mut Call,
     group: u32,
     item: &mut TakenWords,
@@ -139,8 +133,7 @@ pub extern "C" fn vahepito_call_take(
     ensures same { IsSame call.old.queue call.new.queue }
     ensures ready { IsReady call.new }
 {
-    let told = call.take::<TakenWords>(alloc, group);
-    *item = told.item;
+    let told = call.take(group, item);
     *total = told.total;
     told.code
 }

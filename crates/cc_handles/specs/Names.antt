@@ -15,3 +15,4 @@ pub use Rattle.cc_handles.specs.declared.items.TakenItem.{TakenItem}
 pub use Rattle.cc_handles.specs.declared.items.TakenWords.{TakenWords}
 pub use Rattle.cc_handles.specs.declared.results.SendResult.{SendResult}
 pub use Rattle.cc_handles.specs.declared.results.TakeResult.{TakeResult}
+pub use Rattle.cc_handles.specs.declared.results.TakeNumbers.{TakeNumbers}

@@ -1,7 +1,7 @@
 -- The result of a call: its code, and the numbers of its answer. A number that the code gives no meaning is 0.
 use Rattle.std.specs.Prelude.{ℕ}
 use Rattle.cc_handles.specs.Items.{Form}
-use Rattle.cc_handles.specs.Names.{SendAnswer, CloseAnswer, TakeAnswer, SendResult, TakeResult}
+use Rattle.cc_handles.specs.Names.{SendAnswer, CloseAnswer, TakeAnswer, SendResult, TakeResult, TakeNumbers}
 use Rattle.cc_handles.specs.declared.return_codes.TheConstants.{ACCEPTED, FULL, CLOSED, SPENT, SHUT, ALREADY, GOT, EMPTY, ENDED}
 
 -- a code alone
@@ -29,3 +29,7 @@ abbrev pub taken_as : {I : Type 0} → Form I → TakeAnswer → ℕ → TakeRes
 taken_as form (TakeAnswer.Got item) served = record { code = GOT; item = form.of item; total = 0; served = served }
 taken_as form TakeAnswer.Empty served = record { code = EMPTY; item = form.none; total = 0; served = served }
 taken_as form (TakeAnswer.Ended total) served = record { code = ENDED; item = form.none; total = total; served = served }
+
+-- an item, and the rest of the result
+abbrev pub with_item : {I : Type 0} → I → TakeNumbers → TakeResult I
+with_item item told = record { code = told.code; item = item; total = told.total; served = told.served }

@@ -1,6 +1,6 @@
 //! The result of a call, and the answers of a queue as codes and numbers.
 ghost use Rattle.std.specs.Prelude.{◌≡◌};
-ghost use Rattle.cc_handles.specs.Results.{only, none_taken, sent_as, closed_as, taken_as};
+ghost use Rattle.cc_handles.specs.Results.{only, none_taken, sent_as, closed_as, taken_as, with_item};
 
 use crate::items::ItemForm;
 use crate::return_codes::{ACCEPTED, ALREADY, CLOSED, EMPTY, ENDED, FULL, GOT, SHUT, SPENT};
@@ -26,6 +26,31 @@ pub struct TakeResult<I> {
     pub total: u64,
     /// How many calls the turn served.
     pub served: u32,
+}
+
+/// The result of a take, but for its item.
+#[derive(Clone, Copy)]
+pub struct TakeNumbers {
+    pub code: u32,
+    /// The total, if the queue has ended; else 0.
+    pub total: u64,
+    /// How many calls the turn served.
+    pub served: u32,
+}
+
+impl TakeNumbers {
+    /// A code alone, and no item.
+    #[inline(always)]
+    pub fn none<I: ItemForm>(code: u32, item: &mut I) -> TakeNumbers
+        ensures whole { with_item item.new result ≡ none_taken I.form code }
+    {
+        *item = I::none();
+        TakeNumbers {
+            code,
+            total: 0,
+            served: 0,
+        }
+    }
 }
 
 impl SendResult {

@@ -10,7 +10,17 @@ use Rattle.cc_handles.specs.Results.{only, none_taken}
 use Rattle.cc_handles.specs.Calls.{TriesSend, TriesClose, TriesTake}
 use Rattle.cc_handles.specs.declared.return_codes.TheConstants.{BUSY, WORN, BAD_GROUPS}
 use Rattle.cc_steps.specs.Topic.{Topic}
+use Rattle.cc_handles.specs.Passes.{Holding, HasPassOf}
+use Rattle.cc_handles.specs.declared.handle.Handle.{Handle}
 use Rattle.cc_pool.specs.Made.{IsMade, kept_of, TakesIn}
+
+-- the handle has a pass of this queue, or nothing
+abbrev pub IsHeldOf : Topic → Option Holding → Type 0
+IsHeldOf z None = Unit {0}
+IsHeldOf z (Some h) = HasPassOf z h.pass
+
+abbrev pub IsWaitingOf : Topic → Handle → Type 0
+IsWaitingOf z h = IsHeldOf z h.boxed.value
 
 -- A caller's call. If a call of the caller waits, it stays, and the call is refused as BUSY. Else the call is refused with one of
 -- these codes, and nothing has changed; or it was made by a pass of this queue.

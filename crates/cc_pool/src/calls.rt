@@ -2,84 +2,48 @@
 ghost use Rattle.std.specs.Prelude.{◌≡◌, Some, IfSome};
 ghost use Rattle.cc_handles.specs.Handles.{pass_of};
 ghost use Rattle.cc_handles.specs.Calls.{fitting, TurnsSend, TurnsClose, TurnsTake};
+ghost use Rattle.cc_handles.specs.Results.{with_item};
 ghost use Rattle.cc_pool.specs.Call.{IsReady, IsSame};
-ghost use Rattle.cc_pool.specs.Tried.{inside, IsKeptOf};
-ghost use Rattle.cc_pool.specs.Caller.{SendsBy, ClosesBy, TakesBy, TurnsBy};
+ghost use Rattle.cc_pool.specs.Caller.{IsWaitingOf, SendsBy, ClosesBy, TakesBy, TurnsBy};
 
 use crate::call::Call;
-use crate::caller::Caller;
 use crate::lent::Lent;
 use crate::part::Part;
 use crate::pooled::Pooled;
-use cc_handles::handle::Handle;
 use cc_handles::items::ItemForm;
-use cc_handles::results::{SendResult, TakeResult};
+use cc_handles::results::{SendResult, TakeNumbers, TakeResult};
 use std::alloc::Global;
 use std::mem::replace;
 use std::ptr::null;
 
 impl Call {
-    /// Takes the call apart; it is empty afterwards.
+    /// The part of the queue, until `Part::pack` puts it back.
     #[inline(always)]
-    fn take_apart(&mut self, alloc: Global) -> (Lent<Pooled>, Caller)
+    fn part(&mut self) -> Lent<Pooled>
         requires { IsReady self.old }
-        ensures value { Some result.0.value ≡ self.old.queue.value }
-        ensures part { (result.0.life ≡ self.old.queue.life) × (result.0.part ≡ self.old.queue.part) }
-        ensures waits { inside result.1.waits ≡ pass_of self.old.waiting }
-        ensures kept { IsKeptOf result.0.value.queue result.1.waits }
+        ensures value { Some result.value ≡ self.old.queue.value }
+        ensures part { (result.life ≡ self.old.queue.life) × (result.part ≡ self.old.queue.part) }
+        ensures waiting { self.new.waiting ≡ self.old.waiting }
+        ensures of { IsWaitingOf result.value.queue self.new.waiting }
     {
         let at = null();
-        let empty = Call {
-            queue: Part::none(at),
-            waiting: Handle::empty(alloc),
-            place: 0,
-            served: 0,
-        };
-        let Call {
-            queue,
-            mut waiting,
-            place,
-            served: _,
-        } = replace(self, empty);
-        let waits = waiting.take(alloc);
-        (queue.unpack(), Caller { waits, at: place })
-    }
-
-    /// Puts it together again.
-    #[inline(always)]
-    fn put_together(&mut self, alloc: Global, lent: Lent<Pooled>, caller: Caller, served: u32)
-        requires { IsKeptOf lent.value.queue caller.waits }
-        ensures value { self.new.queue.value ≡ Some lent.value }
-        ensures part { (self.new.queue.life ≡ lent.life) × (self.new.queue.part ≡ lent.part) }
-        ensures waits { pass_of self.new.waiting ≡ inside caller.waits }
-        ensures ready { IsReady self.new }
-        ensures served { self.new.served ≡ served }
-    {
-        let Caller { waits, at } = caller;
-        let mut waiting = Handle::empty(alloc);
-        if let Some(held) = waits {
-            waiting.hold(held);
-        }
-        *self = Call {
-            queue: Part::pack(lent),
-            waiting,
-            place: at,
-            served,
-        };
+        let part = replace(&mut self.queue, Part::none(at));
+        part.unpack()
     }
 
     /// Sends these words, if a body of the queue may have that many.
     #[inline(always)]
-    pub fn send(&mut self, alloc: Global, words: &[u64]) -> SendResult
+    pub fn send(&mut self, words: &[u64]) -> SendResult
         requires { IsReady self.old }
         ensures sends { IfSome self.old.queue.value (λ p. SendsBy p.queue (fitting p.words words.now) (pass_of self.old.waiting) (pass_of self.new.waiting) result) }
         ensures same { IsSame self.old.queue self.new.queue }
         ensures ready { IsReady self.new }
         ensures served { self.new.served ≡ result.served }
     {
-        let (lent, mut caller) = self.take_apart(alloc);
-        let told = caller.send(lent.get(), words);
-        self.put_together(alloc, lent, caller, told.served);
+        let lent = self.part();
+        let told = lent.get().send(&mut self.waiting, &mut self.place, words);
+        self.queue = Part::pack(lent);
+        self.served = told.served;
         told
     }
 
@@ -91,23 +55,25 @@ impl Call {
         ensures ready { IsReady self.new }
         ensures served { self.new.served ≡ result.served }
     {
-        let (lent, mut caller) = self.take_apart(alloc);
-        let told = caller.turn_send(lent.get());
-        self.put_together(alloc, lent, caller, told.served);
+        let lent = self.part();
+        let told = lent.get().turn_send(alloc, &mut self.waiting, self.place);
+        self.queue = Part::pack(lent);
+        self.served = told.served;
         told
     }
 
     /// Closes the queue.
-    pub fn close(&mut self, alloc: Global) -> SendResult
+    pub fn close(&mut self) -> SendResult
         requires { IsReady self.old }
         ensures closes { IfSome self.old.queue.value (λ p. ClosesBy p.queue (pass_of self.old.waiting) (pass_of self.new.waiting) result) }
         ensures same { IsSame self.old.queue self.new.queue }
         ensures ready { IsReady self.new }
         ensures served { self.new.served ≡ result.served }
     {
-        let (lent, mut caller) = self.take_apart(alloc);
-        let told = caller.close(lent.get());
-        self.put_together(alloc, lent, caller, told.served);
+        let lent = self.part();
+        let told = lent.get().close(&mut self.waiting, &mut self.place);
+        self.queue = Part::pack(lent);
+        self.served = told.served;
         told
     }
 
@@ -119,24 +85,28 @@ impl Call {
         ensures ready { IsReady self.new }
         ensures served { self.new.served ≡ result.served }
     {
-        let (lent, mut caller) = self.take_apart(alloc);
-        let told = caller.turn_close(lent.get());
-        self.put_together(alloc, lent, caller, told.served);
+        let lent = self.part();
+        let told = lent.get().turn_close(alloc, &mut self.waiting, self.place);
+        self.queue = Part::pack(lent);
+        self.served = told.served;
         told
     }
 
-    /// Takes for this group, from 1.
+    /// Takes for this group, from 1, and writes the item where it is wanted.
     #[inline(always)]
-    pub fn take<I: ItemForm>(&mut self, alloc: Global, group: u32) -> TakeResult<I>
+    pub fn take<I: ItemForm>(&mut self, group: u32, item: &mut I) -> TakeNumbers
         requires { IsReady self.old }
-        ensures takes { IfSome self.old.queue.value (λ p. TakesBy p.queue I.form p.rows group (pass_of self.old.waiting) (pass_of self.new.waiting) result) }
+        ensures takes { IfSome self.old.queue.value (λ p. TakesBy p.queue I.form p.rows group (pass_of self.old.waiting) (pass_of self.new.waiting) (with_item item.new result)) }
         ensures same { IsSame self.old.queue self.new.queue }
         ensures ready { IsReady self.new }
         ensures served { self.new.served ≡ result.served }
     {
-        let (lent, mut caller) = self.take_apart(alloc);
-        let told = caller.take::<I>(lent.get(), group);
-        self.put_together(alloc, lent, caller, told.served);
+        let lent = self.part();
+        let told = lent
+            .get()
+            .take(&mut self.waiting, &mut self.place, group, item);
+        self.queue = Part::pack(lent);
+        self.served = told.served;
         told
     }
 
@@ -148,9 +118,12 @@ impl Call {
         ensures ready { IsReady self.new }
         ensures served { self.new.served ≡ result.served }
     {
-        let (lent, mut caller) = self.take_apart(alloc);
-        let told = caller.turn_take::<I>(lent.get());
-        self.put_together(alloc, lent, caller, told.served);
+        let lent = self.part();
+        let told = lent
+            .get()
+            .turn_take::<I>(alloc, &mut self.waiting, self.place);
+        self.queue = Part::pack(lent);
+        self.served = told.served;
         told
     }
 }

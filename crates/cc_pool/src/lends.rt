@@ -30,7 +30,7 @@ impl Kept {
 
     /// Takes the place, if its word is this one.
     #[inline(always)]
-    fn take(&self, from: u64) -> Option<Loan>
+    pub(crate) fn take(&self, from: u64) -> Option<Loan>
         requires { from ≢ TAKEN }
         ensures { IfSome result (λ l. IsLoan self.now from l) }
     {
@@ -47,24 +47,11 @@ impl Kept {
 
     /// Gives the place back, with this word.
     #[inline(always)]
-    fn put_back(&self, loan: Loan, to: u64)
+    pub(crate) fn put_back(&self, loan: Loan, to: u64)
         requires { IsLoan self.now to loan }
     {
         let Loan { mut seat } = loan;
         self.table.shared.store::<Release>(&mut seat, 0, to);
-    }
-
-    /// Takes the box out of the place.
-    #[inline(always)]
-    fn empty(&self, seat: &mut Seat<Place, Queue>) -> Box<HandleInner>
-        requires here { seat.old.table_id ≡ self.now.table.shared.table_id }
-        requires seized { Seized self.now.table.shared.key FREE seat.old.me }
-        ensures here { seat.new.table_id ≡ seat.old.table_id }
-        ensures seized { Seized self.now.table.shared.key OUT seat.new.me }
-        ensures held { HasPassOf self.now.table.shared.key result.value.pass }
-    {
-        let place = seat.slot_mut(&self.table.shared, 0);
-        place.take()
     }
 
     /// Puts a box into the place.
@@ -80,19 +67,6 @@ impl Kept {
         place.put(held);
     }
 
-    /// Takes the place with its pass, if nobody has it.
-    #[inline(always)]
-    pub fn lend(&self) -> Option<(Loan, Box<HandleInner>)>
-        ensures { IfSome result (λ r. IsLent self.now r.0 r.1.value.pass) }
-    {
-        let Some(loan) = self.take(FREE) else {
-            return None;
-        };
-        let Loan { mut seat } = loan;
-        let held = self.empty(&mut seat);
-        Some((Loan { seat }, held))
-    }
-
     /// Gives the place back with its pass.
     #[inline(always)]
     pub fn give_back(&self, loan: Loan, held: Box<HandleInner>)
@@ -101,14 +75,6 @@ impl Kept {
         let Loan { mut seat } = loan;
         self.fill(&mut seat, held);
         self.put_back(Loan { seat }, FREE);
-    }
-
-    /// Gives the place back, and keeps its pass.
-    #[inline(always)]
-    pub fn leave(&self, loan: Loan)
-        requires { IsLoan self.now OUT loan }
-    {
-        self.put_back(loan, OUT);
     }
 
     /// Takes the place again whose pass is out.

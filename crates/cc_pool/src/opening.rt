@@ -1,5 +1,5 @@
 //! The opening of a queue whose passes are shared.
-ghost use Rattle.std.specs.Prelude.{◌≡◌, ◌≢◌, ◌+◌, length, All, IfOk, IfErr, OnOk};
+ghost use Rattle.std.specs.Prelude.{◌≡◌, ◌≢◌, ◌≤◌, ◌+◌, length, All, IfOk, IfErr, OnOk};
 ghost use Rattle.cc_queue.specs.Opened.{HasOpened};
 ghost use Rattle.cc_steps.specs.Walk.{IsOf};
 ghost use Rattle.cc_handles.specs.Passes.{walk_of};
@@ -21,6 +21,7 @@ use std::alloc::{AllocError, Global};
 fn check(config: &Config, words: u32) -> Result<CheckedConfig, u32>
     ensures config { IfOk result (λ c. c ≡ config.now) }
     ensures free { OnOk result (refusal config.now words ≡ DONE) }
+    ensures few { OnOk result (1 ≤ words) }
     ensures refused { IfErr result (λ code. code ≡ refusal config.now words) }
     ensures told { IfErr result (λ code. code ≢ DONE) }
 {
@@ -110,7 +111,8 @@ fn all_rows(
     words: u32,
     opened: Opened,
 ) -> Result<Pooled, AllocError>
-    requires { HasOpened config.now opened }
+    requires opened { HasOpened config.now opened }
+    requires few { 1 ≤ words }
     ensures { IfOk result (λ p. HasPool config.now words p) }
 {
     let Opened {
@@ -118,17 +120,18 @@ fn all_rows(
         senders,
         receivers,
     } = opened;
-    let mut rows = Vec::new(alloc);
-    rows.push(row_of_senders(alloc, &queue, words, senders)?)?;
+    let senders = row_of_senders(alloc, &queue, words, senders)?;
+    let mut groups = Vec::new(alloc);
     let mut receivers = backwards(alloc, &queue, receivers)?;
     for _group in 0..config.groups {
         let row = row_of_receivers(alloc, &queue, words, &mut receivers, config.receivers)?;
-        rows.push(row)?;
+        groups.push(row)?;
     }
     Ok(Pooled {
         queue,
         longest: words,
-        rows,
+        senders,
+        groups,
     })
 }
 

@@ -1,14 +1,18 @@
 //! A queue whose passes are shared: any number of threads make its calls at once, each by whichever pass is free.
-ghost use Rattle.std.specs.Prelude.{◌≡◌, All, IfOk};
+ghost use Rattle.std.specs.Prelude.{◌≡◌, ◌≤◌, All, IfOk, true};
 ghost use Rattle.cc_steps.specs.Walk.{IsOf};
 ghost use Rattle.cc_handles.specs.Passes.{HasPassOf};
 ghost use Rattle.cc_pool.specs.Caller.{is_group};
+ghost use Rattle.cc_pool.specs.Kept.{Seized};
 ghost use Rattle.cc_pool.specs.Loans.{IsPlaceOf, queue_of};
 ghost use Rattle.cc_pool.specs.Pooled.{IsRowOf};
-ghost use Rattle.cc_pool.specs.Tried.{IsTriedOf, IsRowMade};
+ghost use Rattle.cc_pool.specs.Tried.{IsTriedOf, IsUnmade, IsRowMade, word_after};
+ghost use Rattle.cc_pool.specs.declared.kept.TheConstants.{FREE};
 
-use crate::asks::Ask;
-use crate::kept::Kept;
+use crate::asks::{Ask, Asked};
+use crate::kept::{FREE, Kept, Loan, OUT};
+use crate::place::Place;
+use atomic_table::Seat;
 use cc_handles::handle_inner::{HandleInner, Pass};
 use cc_handles::open_handles::held;
 use cc_model::Config;
@@ -16,23 +20,24 @@ use cc_queue::{Opened, Queue, Receiver, Sender};
 use std::alloc::{AllocError, Global};
 use std::marker::Model;
 
-/// A queue, with a place for each of its passes: in the first row the senders, and then a row for each group's receivers.
+/// A queue, with a place for each of its passes: a row for the senders, and a row for each group's receivers.
 #[derive(Drop)]
 pub struct Pooled {
     pub(crate) queue: Queue,
     pub(crate) longest: u32,
-    pub(crate) rows: Vec<Vec<Kept>>,
+    pub(crate) senders: Vec<Kept>,
+    pub(crate) groups: Vec<Vec<Kept>>,
 }
 
 impl Model for Pooled {
-    ghost use Rattle.std.specs.Prelude.{All, length};
+    ghost use Rattle.std.specs.Prelude.{◌+◌, ◌≤◌, All, length};
     ghost use Rattle.cc_pool.specs.Pooled.{Pool, IsRowOf};
 
     ghost Value = { Pool };
 
-    ghost view = { λ p. record { queue = p.queue; words = p.longest; rows = length p.rows.items } };
+    ghost view = { λ p. record { queue = p.queue; words = p.longest; rows = 1 + length p.groups.items } };
 
-    ghost invariant = { λ p. All (IsRowOf p.queue) p.rows.items };
+    ghost invariant = { λ p. (1 ≤ p.longest) × IsRowOf p.queue p.senders × All (IsRowOf p.queue) p.groups.items };
 }
 
 /// The result of a try of one place.
@@ -55,38 +60,68 @@ pub struct Made<T> {
 }
 
 impl Kept {
-    /// Makes a call by the pass of this place.
+    /// Makes a call by the pass of this place, which a call has. The pass stays there, unless the call waits.
     #[inline(always)]
-    fn ask<T, A: Ask<T>>(&self, ask: &A) -> Tried<T>
-        ensures { IsTriedOf (queue_of self.now) (A.tells ask.now) result }
+    fn ask_there<T, O, A: Ask<T, O>>(
+        &self,
+        seat: &mut Seat<Place, Queue>,
+        ask: &mut A,
+        out: &mut O,
+    ) -> Tried<T>
+        requires here { seat.old.table_id ≡ self.now.table.shared.table_id }
+        requires seized { Seized (queue_of self.now) FREE seat.old.me }
+        requires new { A.is_new ask.old }
+        ensures here { seat.new.table_id ≡ seat.old.table_id }
+        ensures tried { IsTriedOf (queue_of self.now) (λ old new told. A.tells ask.old old new told out.new) result }
+        ensures seized { Seized (queue_of self.now) (word_after result) seat.new.me }
+        ensures same { IsUnmade result (ask.new ≡ ask.old) }
     {
-        let Some((loan, mut held)) = self.lend() else {
-            return Tried::NotFree;
+        let place = seat.slot_mut(&self.table.shared, 0);
+        let Some(held) = &mut place.held else {
+            unreachable!()
         };
-        let Some(told) = ask.ask(&mut held) else {
-            self.give_back(loan, held);
+        let Some(Asked { told, waits }) = ask.ask(held, out) else {
             return Tried::PassedOver;
         };
-        if held.has_call() {
-            self.leave(loan);
-            return Tried::Made(told, Some(held));
+        if waits {
+            return Tried::Made(told, Some(place.take()));
         }
-        self.give_back(loan, held);
         Tried::Made(told, None)
+    }
+
+    /// Makes a call by the pass of this place, if the place is free.
+    #[inline(always)]
+    fn ask<T, O, A: Ask<T, O>>(&self, ask: &mut A, out: &mut O) -> Tried<T>
+        requires { A.is_new ask.old }
+        ensures tried { IsTriedOf (queue_of self.now) (λ old new told. A.tells ask.old old new told out.new) result }
+        ensures same { IsUnmade result (ask.new ≡ ask.old) }
+    {
+        let Some(loan) = self.take(FREE) else {
+            return Tried::NotFree;
+        };
+        let Loan { mut seat } = loan;
+        let tried = self.ask_there(&mut seat, ask, out);
+        match &tried {
+            Tried::Made(_, Some(_)) => self.put_back(Loan { seat }, OUT),
+            _ => self.put_back(Loan { seat }, FREE),
+        }
+        tried
     }
 }
 
 /// Makes a call by a pass of this row: tries each place once, from this one on. If none made it: whether each pass was there, and
 /// passed over.
 #[inline(always)]
-pub(crate) fn ask_of<T, A: Ask<T>>(
+pub(crate) fn ask_of<T, O, A: Ask<T, O>>(
     queue: &Queue,
     row: &[Kept],
     from: u32,
-    ask: &A,
+    ask: &mut A,
+    out: &mut O,
 ) -> Result<Made<T>, bool>
-    requires { All (IsPlaceOf queue.now) row.now }
-    ensures { IfOk result (λ m. IsRowMade queue.now (A.tells ask.now) m) }
+    requires row { All (IsPlaceOf queue.now) row.now }
+    requires new { A.is_new ask.old }
+    ensures { IfOk result (λ m. IsRowMade queue.now (λ old new told. A.tells ask.old old new told out.new) m) }
 {
     let _ = queue;
     let count = row.len();
@@ -96,7 +131,7 @@ pub(crate) fn ask_of<T, A: Ask<T>>(
         if at as usize >= count {
             at = 0;
         }
-        match row[at as usize].ask(ask) {
+        match row[at as usize].ask(ask, out) {
             Tried::Made(told, waits) => return Ok(Made { told, waits, at }),
             Tried::NotFree => all_there = false,
             Tried::PassedOver => {}
@@ -107,34 +142,53 @@ pub(crate) fn ask_of<T, A: Ask<T>>(
 }
 
 impl Pooled {
-    /// Whether this row is that of a group.
+    /// A body may have one word: a fact for proofs, and no work.
     #[inline(always)]
-    pub(crate) fn is_group(&self, row: usize) -> bool
-        ensures { result ≡ is_group self.now.rows row }
+    pub(crate) fn is_sound(&self)
+        ensures { 1 ≤ self.now.words }
     {
-        1 <= row && row < self.rows.len()
+        let _longest = &self.longest;
     }
 
-    /// The places of this row; none if there is no such row.
+    /// Whether there is this group.
     #[inline(always)]
-    pub(crate) fn row(&self, row: usize) -> &[Kept]
+    pub(crate) fn is_group(&self, group: u32) -> bool
+        ensures { result ≡ is_group self.now.rows group }
+    {
+        1 <= group && group as usize <= self.groups.len()
+    }
+
+    /// The places of a group's receivers.
+    #[inline(always)]
+    pub(crate) fn group(&self, group: u32) -> &[Kept]
+        requires { is_group self.now.rows group ≡ true }
         ensures { All (IsPlaceOf self.now.queue) result.now }
     {
-        if row < self.rows.len() {
-            &self.rows[row]
-        } else {
-            &[]
-        }
+        &self.groups[group as usize - 1]
     }
 
-    /// Puts a pass back into the place that it was taken from. If that place isn't free for it, the pass is given up.
-    pub(crate) fn give_back(&self, row: usize, at: usize, held: Box<HandleInner>)
+    /// The places of the senders.
+    #[inline(always)]
+    pub(crate) fn senders(&self) -> &[Kept]
+        ensures { All (IsPlaceOf self.now.queue) result.now }
+    {
+        &self.senders
+    }
+
+    /// Puts a pass back into the place that it was taken from, of the senders or of this group. If that place isn't free for it,
+    /// the pass is given up.
+    pub(crate) fn give_back(&self, group: u32, at: u32, held: Box<HandleInner>)
         requires { HasPassOf self.now.queue held.value.pass }
     {
-        if row >= self.rows.len() || at >= self.rows[row].len() {
+        let row = if self.is_group(group) {
+            self.group(group)
+        } else {
+            self.senders()
+        };
+        if at as usize >= row.len() {
             return;
         }
-        let kept = &self.rows[row][at];
+        let kept = &row[at as usize];
         if let Some(loan) = kept.reclaim() {
             kept.give_back(loan, held);
         }

@@ -18,6 +18,7 @@ use cc_steps::words::Words;
 
 /// Resets the own node and exchanges it for the one in the chain's tail, which is given: here the call enters the
 /// history.
+#[inline(always)]
 fn exchange(words: &Words, seat: &mut PassSeat, chain: Chain, node: u64, call: Call) -> u64
     requires here { IsOf words.now seat.old }
     requires chain { IsOn seat.old chain }
