@@ -1,6 +1,6 @@
 -- The log of a run, line by line: when its call began and ended, and what it says.
-use Rattle.std.proofs.Common.{◌≡◌, ◌≢◌, ◌⊎◌, ℕ, ◌+◌, ◌<◌, ◌≤◌, ◌==◌, Bool, true, false, cond, List, [], ◌∷◌, ◌++◌, length, get_or, Option, Some, None, Ok, inl, inr, refl, sym, ap, ◌∙◌, subst, arith, length-append, slice_set, slice_index_or}
-use Rattle.std.proofs.lemmas.Bool.{cases_eq, eq-eqb, ne_eqb}
+use Rattle.std.proofs.Common.{◌≡◌, ◌≢◌, ◌⊎◌, ℕ, ◌+◌, ◌<◌, ◌≤◌, ◌==◌, Bool, true, false, cond, List, [], ◌∷◌, ◌++◌, length, get_or, Option, Some, None, Ok, inl, inr, refl, sym, ap, ◌∙◌, subst, arith, length-append, append_assoc, slice_set, slice_index_or}
+use Rattle.std.proofs.lemmas.Bool.{cases_eq, cases_lt, eq-eqb, ne_eqb}
 use Rattle.std.proofs.lemmas.Option.{slice_get-get_or, get_or_from_slice_get}
 use Rattle.std.proofs.lemmas.List.{length-map, length-set}
 use Rattle.std.specs.List.{slice_get}
@@ -19,8 +19,8 @@ use Rattle.cc_runs.proofs.ListRuns.Ready.{list_answers_told}
 use Rattle.cc_judge.proofs.Turns.{set_at, set_elsewhere}
 use Rattle.cc_agree.specs.Names.{Body, Call, Entry, Answer, Setting, Served, Phase, Stand, Move, Act, Line}
 use Rattle.cc_agree.specs.OneQueue.{begun, returned}
-use Rattle.cc_agree.specs.LogOfRun.{threads, last_of, no_line, with_end, ended, log_of, IsLogged, AnswersAreLogged}
-use Rattle.cc_agree.proofs.Lists.{get_snoc, first_same, second_same}
+use Rattle.cc_agree.specs.LogOfRun.{threads, last_of, no_line, with_end, ended, log_of, HasBegun, CallsAreLogged, IsLogged, AnswersAreLogged}
+use Rattle.cc_agree.proofs.Lists.{two_ends, get_snoc, first_same, second_same}
 
 -- ---- whose call each line is: the pass, and how many calls it had begun before
 
@@ -48,6 +48,12 @@ length-log c number clock [] = refl
 length-log c number clock (Move.Begin p call known ∷ earlier) = omega (arith, length-log c number clock earlier, length-append (log_of c number clock earlier) (record { begin = clock (length earlier); end = None; act = begun number call } ∷ []), length-append (threads earlier) (p ∷ []))
 length-log c number clock (Move.Step p ∷ earlier) = length-log c number clock earlier
 length-log c number clock (Move.Take p ∷ earlier) = length-set (log_of c number clock earlier) (last_of p earlier) _ ∙ length-log c number clock earlier
+
+pub threads_grow : (later seen : List Move) → length (threads seen) ≤ length (threads (later ++ seen))
+threads_grow [] seen = omega arith
+threads_grow (Move.Begin p call known ∷ later) seen = omega (arith, threads_grow later seen, length-append (threads (later ++ seen)) (p ∷ []))
+threads_grow (Move.Step p ∷ later) seen = threads_grow later seen
+threads_grow (Move.Take p ∷ later) seen = threads_grow later seen
 
 -- ---- the calls of a pass
 
@@ -223,8 +229,15 @@ module _ (c : Setting) (number : Body → ℕ) (clock : ℕ → ℕ) where
     pub nth : length (made c before p) ≡ n
     pub state : Open call line ⊎ Ended moves p n call line
 
-  phase_of : List Move → ℕ → Phase
-  phase_of moves p = ((reached c moves).stand p).phase
+  -- and of the entry with that number
+  pub call_of : (moves : List Move) (k p n : ℕ) (line : Line) (g : Logged moves k p n line) (e : Entry) → slice_get (made c moves p) n ≡ Some e → g.call ≡ e.call
+  call_of moves k p n line g e is =
+      let entry : Entry = record { pass = pass_at c.config p; call = g.call; number = number_of g.call ((reached c g.before).stand p).begun; known = g.known } in
+      let there : slice_get (made c moves p) n ≡ Some entry =
+      ap (λ (m : List Move). slice_get (made c m p) n) g.split ∙ ap (slice_get (made c (g.later ++ Move.Begin p g.call g.known ∷ g.before) p)) (sym g.nth) ∙ made_nth c g.later g.before p g.call g.known in
+      let both : Some entry ≡ Some e = sym there ∙ is in
+      let same : entry ≡ e = cc in
+      ap (λ (z : Entry). z.call) same
 
   idle_next : (m : Move) (earlier : List Move) → IsRun c (m ∷ earlier) → (p n : ℕ) → n + 1 ≤ length (made c earlier p) → (length (made c earlier p) ≡ n + 1 → ((reached c earlier).stand p).phase ≡ Phase.Idle)
       → length (made c (m ∷ earlier) p) ≡ n + 1 → ((reached c (m ∷ earlier)).stand p).phase ≡ Phase.Idle
@@ -407,6 +420,54 @@ module _ (c : Setting) (number : Body → ℕ) (clock : ℕ → ℕ) where
         let h : Has earlier k p n = all_logged earlier run.0 k p n is in (h.0, h.1, lift (Move.Step q) earlier run k p n h.0 h.2)
     all_logged (Move.Take q ∷ earlier) run k p n is = taken q earlier run k p n is (all_logged earlier run.0 k p n is)
 
+    -- ---- calls are in the log from their begin on
+
+    who_at : (later before : List Move) (p : ℕ) (call : Call) (known : ℕ) → slice_get (who c (later ++ Move.Begin p call known ∷ before)) (length (threads before)) ≡ Some (p, length (made c before p))
+    who_at [] before p call known = ap (slice_get (who c before ++ (p, length (made c before p)) ∷ [])) (sym (length-who c before)) ∙ get_last (who c before) (p, length (made c before p))
+    who_at (Move.Begin q other seen ∷ later) before p call known =
+        get_front (who c (later ++ Move.Begin p call known ∷ before)) ((q, length (made c (later ++ Move.Begin p call known ∷ before) q)) ∷ []) (length (threads before)) (p, length (made c before p)) (who_at later before p call known)
+    who_at (Move.Step q ∷ later) before p call known = who_at later before p call known
+    who_at (Move.Take q ∷ later) before p call known = who_at later before p call known
+
+    -- of two begins of one run the longer moves before have more calls
+    fewer : (one two : List Move) (p q : ℕ) (first second : Call) (m n : ℕ) (before other : List Move) → one ++ Move.Begin p first m ∷ before ≡ two ++ Move.Begin q second n ∷ other → length (threads other) ≤ length (threads before) → length other ≤ length before
+    fewer one two p q first second m n before other same less = elim (cases_lt (length before) (length other)) [
+      | inl shorter ↦
+          let part : (part : List Move) × (other ≡ part ++ Move.Begin p first m ∷ before) = two_ends one (Move.Begin p first m ∷ before) (two ++ Move.Begin q second n ∷ []) other (same ∙ sym (append_assoc two (Move.Begin q second n ∷ []) other)) (omega (arith, shorter)) in
+          absurd (omega (arith, less, threads_grow part.0 (Move.Begin p first m ∷ before), ap (λ (z : List Move). length (threads z)) part.1, length-append (threads before) (p ∷ [])))
+      | inr longer ↦ longer
+    ]
+
+    pub has_begun : (later before : List Move) (p : ℕ) (call : Call) (known : ℕ) → IsRun c (later ++ Move.Begin p call known ∷ before) → HasBegun c number clock (later ++ Move.Begin p call known ∷ before) before p call
+    has_begun later before p call known run = record {
+      line = h.0;
+      mine = thread_of c (later ++ Move.Begin p call known ∷ before) (length (threads before)) p (length (made c before p)) who_is;
+      has = h.1;
+      begin_is = h.2.begin_is ∙ ap clock same_time;
+      act_is = λ none. by_state none h.2.state;
+    }
+      where
+        who_is : slice_get (who c (later ++ Move.Begin p call known ∷ before)) (length (threads before)) ≡ Some (p, length (made c before p))
+        who_is = who_at later before p call known
+
+        h : Has (later ++ Move.Begin p call known ∷ before) (length (threads before)) p (length (made c before p))
+        h = all_logged (later ++ Move.Begin p call known ∷ before) run (length (threads before)) p (length (made c before p)) who_is
+
+        same_time : length h.2.before ≡ length before
+        same_time = omega (
+          arith,
+          fewer later h.2.later p p call h.2.call known h.2.known before h.2.before h.2.split (omega (arith, h.2.place_is)),
+          fewer h.2.later later p p h.2.call call h.2.known known h.2.before before (sym h.2.split) (omega (arith, h.2.place_is)),
+        )
+
+        same_call : h.2.call ≡ call
+        same_call = call_of (later ++ Move.Begin p call known ∷ before) (length (threads before)) p (length (made c before p)) h.0 h.2 (record { pass = pass_at c.config p; call = call; number = number_of call ((reached c before).stand p).begun; known = known })
+            (made_nth c later before p call known)
+
+        by_state : h.0.end ≡ None → Open h.2.call h.0 ⊎ Ended (later ++ Move.Begin p call known ∷ before) p (length (made c before p)) h.2.call h.0 → h.0.act ≡ begun number call
+        by_state none (inl still) = still.act_is ∙ ap (begun number) same_call
+        by_state none (inr x) = let no : Some (clock (length x.seen)) ≡ None = sym x.end_is ∙ none in absurd (cc)
+
     -- ---- answers stay in the log
 
     -- the line of the call whose answer is taken
@@ -459,6 +520,9 @@ module _ (c : Setting) (number : Body → ℕ) (clock : ℕ → ℕ) where
             (λ i. ended number (clock (length seen)) (phase_is i) (old i)) in
             stay later (Move.Take p ∷ seen) run (last_of p seen) (clock (length seen)) (record { begin = w.line.begin; end = Some (clock (length seen)); act = act }) refl
             (set_at (log_of c number clock seen) (last_of p seen) w.line _ w.had ∙ ap Some (new ∙ ap (with_end (clock (length seen)) w.line) is))
+
+pub calls_are_logged : CallsAreLogged
+calls_are_logged c later before number clock p call known serves checked run = has_begun c number clock serves checked later before p call known run
 
 pub answers_are_logged : AnswersAreLogged
 answers_are_logged c later seen number clock p told serves checked run phase_is = logged c number clock serves checked later seen p told run phase_is

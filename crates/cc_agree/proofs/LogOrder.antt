@@ -7,10 +7,10 @@ use Rattle.cc_model.specs.Config.{config_fault}
 use Rattle.cc_model.specs.Record.{Side, Record}
 use Rattle.cc_model.specs.Items.{IsPrefix, Begins}
 use Rattle.cc_model.proofs.Grows.{get_front, get_last}
-use Rattle.cc_runs.specs.State.{chain_of, pass_at, noted}
+use Rattle.cc_runs.specs.State.{chain_of, noted}
 use Rattle.cc_runs.specs.Words.{groups}
 use Rattle.cc_runs.specs.OnChain.{IsThere, calls_on, answers_on}
-use Rattle.cc_runs.specs.Run.{IsRun, passes, reached, history_of, number_of}
+use Rattle.cc_runs.specs.Run.{IsRun, passes, history_of}
 use Rattle.cc_runs.specs.CallsMade.{made}
 use Rattle.cc_runs.specs.Linearizable.{Effect, replay, AnswersAfter, IsExact, in_order, IsLinearization, IsLinearizable, Precedes}
 use Rattle.cc_runs.proofs.RunPrefixes.{prefixes_begin}
@@ -28,7 +28,7 @@ use Rattle.cc_agree.specs.OneQueue.{begun, returned, ChangesNothing, Adds, Repor
 use Rattle.cc_agree.specs.LogOfRun.{IsClock, threads, no_line, log_of, IsTie, AreRules, LogsOfRunsAreLinearizable, LogsOfRunsHaveNoFault}
 use Rattle.cc_agree.proofs.Answered.{exact_orders_are_answered}
 use Rattle.cc_agree.proofs.Lists.{two_ends, get_append, same_split, first_same, second_same, count, count_append, count_middle, not_yet, its_answer, get_middle, Nth, chosen_nth}
-use Rattle.cc_agree.proofs.Log.{who, places, length-who, length-log, made_grows, has_place, place_of, of_thread, made_nth, Open, Ended, Logged, Has, IsLast, is_last, all_logged}
+use Rattle.cc_agree.proofs.Log.{who, places, length-who, length-log, made_grows, has_place, place_of, of_thread, call_of, threads_grow, Open, Ended, Logged, Has, IsLast, is_last, all_logged}
 use Rattle.cc_agree.proofs.Placed.{pass_no, its, its_own, its_pass, calls_here, few_of, nth_made, calls_snoc, even_on, begins_calls, begins_answers, calls_grow, answers_grow, Placed, placed}
 
 -- ---- the step of a call
@@ -211,15 +211,6 @@ module _ (c : Setting) (number : Body → ℕ) (clock : ℕ → ℕ) (serves : c
 
   -- ---- a call of the order, in the log
 
-  call_of : (k p n : ℕ) (line : Line) (g : Logged c number clock moves k p n line) (e : Entry) → slice_get (made c moves p) n ≡ Some e → g.call ≡ e.call
-  call_of k p n line g e is =
-      let entry : Entry = record { pass = pass_at c.config p; call = g.call; number = number_of g.call ((reached c g.before).stand p).begun; known = g.known } in
-      let there : slice_get (made c moves p) n ≡ Some entry =
-      ap (λ (m : List Move). slice_get (made c m p) n) g.split ∙ ap (slice_get (made c (g.later ++ Move.Begin p g.call g.known ∷ g.before) p)) (sym g.nth) ∙ made_nth c g.later g.before p g.call g.known in
-      let both : Some entry ≡ Some e = sym there ∙ is in
-      let same : entry ≡ e = cc in
-      ap (λ (z : Entry). z.call) same
-
   record Found (e : Effect) (before : List Effect) : Type 0 where
     here : Placed c moves e before
     rest : List Entry
@@ -249,7 +240,7 @@ module _ (c : Setting) (number : Body → ℕ) (clock : ℕ → ℕ) (serves : c
       has = all_logged c number clock serves checked moves run (place e before) (pass e) (nth e before) named
 
   call_is : (e : Effect) (before : List Effect) (f : Found e before) → f.logged.call ≡ e.entry.call
-  call_is e before f = call_of (place e before) (pass e) (nth e before) f.line f.logged e.entry f.made_is
+  call_is e before f = call_of c number clock moves (place e before) (pass e) (nth e before) f.line f.logged e.entry f.made_is
 
   -- ---- a call that has returned, at that time
 
@@ -494,7 +485,7 @@ module _ (c : Setting) (number : Body → ℕ) (clock : ℕ → ℕ) (serves : c
               cc
 
           call_there : g.call ≡ o.effect.entry.call
-          call_there = call_of k z.0 z.1 found_line g o.effect.entry ((λ i. slice_get (made c moves (sym pass_is i)) (sym nth_is i)) ∙ f.made_is)
+          call_there = call_of c number clock moves k z.0 z.1 found_line g o.effect.entry ((λ i. slice_get (made c moves (sym pass_is i)) (sym nth_is i)) ∙ f.made_is)
 
           said_there : said o.effect ≡ Some found_line.act
           said_there = (λ i. returned number (begun number (sym call_there i)) (sym told_there i)) ∙ x.act_is
@@ -604,12 +595,6 @@ module _ (c : Setting) (number : Body → ℕ) (clock : ℕ → ℕ) (serves : c
           not_before goes a.effect a.before fa b.effect b.before fb (earlier j k s t less a b) b.after b.split x (omega (arith, time, ends.before, ap (λ (z : Line). z.begin) line_a))
 
   -- ---- and with the lines of each pass
-
-  threads_grow : (later seen : List Move) → length (threads seen) ≤ length (threads (later ++ seen))
-  threads_grow [] seen = omega arith
-  threads_grow (Move.Begin p call known ∷ later) seen = omega (arith, threads_grow later seen, length-append (threads (later ++ seen)) (p ∷ []))
-  threads_grow (Move.Step p ∷ later) seen = threads_grow later seen
-  threads_grow (Move.Take p ∷ later) seen = threads_grow later seen
 
   -- of two calls of a pass the one with the earlier line has no greater number
   in_number : (k m p n q : ℕ) (one two : Line) (g : Logged c number clock moves k p n one) (h : Logged c number clock moves m p q two) → k < m → n ≤ q

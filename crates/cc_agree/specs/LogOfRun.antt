@@ -5,7 +5,7 @@ use Rattle.cc_model.specs.Config.{config_fault}
 use Rattle.cc_runs.specs.Run.{IsRun, reached}
 use Rattle.cc_judge.specs.Order.{IsLinearizable}
 use Rattle.cc_judge.specs.Verdict.{IsVerdict}
-use Rattle.cc_agree.specs.Names.{Body, Answer, Setting, Served, Phase, Move, Act, Line, Rules, Tie, Fault, Verdict}
+use Rattle.cc_agree.specs.Names.{Body, Call, Answer, Setting, Served, Phase, Move, Act, Line, Rules, Tie, Fault, Verdict}
 use Rattle.cc_agree.specs.OneQueue.{begun, returned}
 
 -- the time after this number of moves: a clock may show one time at several moves, and never goes back
@@ -70,6 +70,19 @@ LogsOfRunsAreLinearizable = (c : Setting) (moves : List Move) (number : Body →
 abbrev pub LogsOfRunsHaveNoFault : Type 0
 LogsOfRunsHaveNoFault = (c : Setting) (moves : List Move) (number : Body → ℕ) (clock : ℕ → ℕ) (rules : Rules) → c.served ≡ Served.List → config_fault c.config ≡ Ok tt → c.config.groups ≡ 1 → IsRun c moves
     → IsClock clock → AreRules c moves rules → (fault : Fault) → IsVerdict rules (log_of c number clock moves) (Verdict.Fault fault) → ⊥
+
+-- the call that pass p begins after the moves `before` is in the log from then on, with its time, and its act until it ends
+pub record HasBegun (c : Setting) (number : Body → ℕ) (clock : ℕ → ℕ) (moves before : List Move) (p : ℕ) (call : Call) : Type 0 where
+  pub line : Line
+  pub mine : slice_get (threads moves) (length (threads before)) ≡ Some p
+  pub has : slice_get (log_of c number clock moves) (length (threads before)) ≡ Some line
+  pub begin_is : line.begin ≡ clock (length before)
+  pub act_is : line.end ≡ None → line.act ≡ begun number call
+
+-- so is each call that was begun
+abbrev pub CallsAreLogged : Type 0
+CallsAreLogged = (c : Setting) (later before : List Move) (number : Body → ℕ) (clock : ℕ → ℕ) (p : ℕ) (call : Call) (known : ℕ) → c.served ≡ Served.List → config_fault c.config ≡ Ok tt
+    → IsRun c (later ++ Move.Begin p call known ∷ before) → HasBegun c number clock (later ++ Move.Begin p call known ∷ before) before p call
 
 -- The answer that pass p takes after the moves `seen` is in the log from then on, unless logs have no word for it: the line of a
 -- call of the pass had no end, and has the time and the act of the answer.

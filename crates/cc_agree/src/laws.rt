@@ -1,5 +1,5 @@
 //! The judge's queue is the sequential queue of the laws on runs, and the log of each run has a legal order.
-ghost use Rattle.cc_agree.specs.LogOfRun.{AnswersAreLogged, LogsOfRunsAreLinearizable, LogsOfRunsHaveNoFault};
+ghost use Rattle.cc_agree.specs.LogOfRun.{AnswersAreLogged, CallsAreLogged, LogsOfRunsAreLinearizable, LogsOfRunsHaveNoFault};
 ghost use Rattle.cc_agree.specs.OneQueue.{ExactOrdersAreAnswered, AnsweredOrdersAreExact};
 ghost use Rattle.cc_agree.specs.SmallOrders.{SmallOrders};
 
@@ -12,6 +12,12 @@ pub fn exact_orders_are_answered()
 /// All steps that the judge's queue answers report calls which a sequential queue with one group answers exactly so.
 pub fn answered_orders_are_exact()
     ensures { AnsweredOrdersAreExact }
+{}
+
+/// Each call that was begun in a run is in its log, with its time.
+#[tactic(auto, using(crate::proofs::Log::calls_are_logged))]
+pub fn calls_are_logged()
+    ensures { CallsAreLogged }
 {}
 
 /// Each answer that was taken in a run is in its log, with its time, unless logs have no word for it.

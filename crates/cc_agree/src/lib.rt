@@ -4,6 +4,6 @@
 mod laws;
 
 pub use laws::{
-    answered_orders_are_exact, answers_are_logged, exact_orders_are_answered,
+    answered_orders_are_exact, answers_are_logged, calls_are_logged, exact_orders_are_answered,
     logs_of_runs_are_linearizable, logs_of_runs_have_no_fault, small_orders_are_told_apart,
 };
