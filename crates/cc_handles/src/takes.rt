@@ -18,10 +18,12 @@ fn begun(queue: &Queue, pass: Pass) -> (Pass, u32)
     ensures here { IsOf queue.now (walk_of result.0) }
     ensures begins { BeginsTake (Some pass) (Some result.0) result.1 }
 {
-    let why = no_idle_receiver(&pass);
     match pass {
         Pass::Receiver(receiver) => (Pass::Taking(begin_take(queue, receiver)), BEGUN),
-        other => (other, why),
+        other => {
+            let why = no_idle_receiver(&other);
+            (other, why)
+        }
     }
 }
 
