@@ -5,3 +5,4 @@ pub mod Crossing
 pub mod Loan
 pub mod Pairs
 pub mod RootValues
+pub mod Searched

@@ -1,5 +1,5 @@
 -- Each step of a place's table keeps its rule.
-use Rattle.std.proofs.Common.{◌≡◌, ◌≢◌, ℕ, List, [], ◌∷◌, get_or, set, length, sym, refl, ◌∙◌, subst, arith, Some, length-set, get_or-set_same, eqb}
+use Rattle.std.proofs.Common.{◌≡◌, ◌≢◌, ℕ, List, [], get_or, set, sym, refl, ◌∙◌, subst, arith, length-set, get_or-set_same, eqb}
 use mathlib.Core.Logic.{dite}
 use mathlib.Core.Option.{some, none}
 use native.Mathlib.Decide.{ℕ_discrete}

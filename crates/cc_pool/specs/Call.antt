@@ -1,5 +1,5 @@
 -- The call of a caller, as C holds it.
-use Rattle.std.specs.Prelude.{◌≡◌, Option, Some, None, IsTrue, is_some}
+use Rattle.std.specs.Prelude.{◌≡◌, Option, Some, IsTrue, is_some}
 use Rattle.cc_handles.specs.Passes.{Holding, HasPassOf}
 use Rattle.cc_pool.specs.Pooled.{Pool}
 use Rattle.cc_pool.specs.declared.call.Call.{Call}

@@ -7,7 +7,7 @@ use Rattle.cc_handles.specs.declared.results.SendResult.{SendResult}
 use Rattle.cc_handles.specs.declared.results.TakeResult.{TakeResult}
 use Rattle.cc_handles.specs.Items.{Form}
 use Rattle.cc_handles.specs.Results.{only, none_taken}
-use Rattle.cc_handles.specs.Calls.{TriesSend, TriesClose, TriesTake}
+use Rattle.cc_handles.specs.Calls.{TriesSend, TriesClose}
 use Rattle.cc_handles.specs.declared.return_codes.TheConstants.{BUSY, WORN, BAD_GROUPS}
 use Rattle.cc_steps.specs.Topic.{Topic}
 use Rattle.cc_handles.specs.Passes.{Holding, HasPassOf}

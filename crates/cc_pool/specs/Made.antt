@@ -1,11 +1,10 @@
 -- A call by whichever pass of a queue was free.
-use Rattle.std.specs.Prelude.{◌≡◌, ◌⊎◌, ℕ, Option, Some, None, if◌then◌else◌}
+use Rattle.std.specs.Prelude.{◌≡◌, ℕ, Option, Some, None, if◌then◌else◌}
 use Rattle.cc_handles.specs.declared.handle_inner.Pass.{Pass}
 use Rattle.cc_handles.specs.declared.results.TakeResult.{TakeResult}
 use Rattle.cc_handles.specs.Items.{Form}
 use Rattle.cc_handles.specs.Calls.{IsIn, TriesTake}
 use Rattle.cc_handles.specs.Passes.{walk_of, has_call}
-use Rattle.cc_handles.specs.declared.return_codes.TheConstants.{BUSY}
 use Rattle.cc_steps.specs.Topic.{Topic}
 use Rattle.cc_steps.specs.Walk.{IsOf}
 

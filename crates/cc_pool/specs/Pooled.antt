@@ -1,13 +1,10 @@
 -- A queue with its places.
-use Rattle.std.specs.Prelude.{ℕ, All, Option, None, Some, Box}
+use Rattle.std.specs.Prelude.{ℕ, All}
 use Rattle.std.specs.declared.alloc.Global.{Global}
 use Rattle.std.specs.declared.vec.Vec.{Vec}
 use Rattle.cc_steps.specs.Topic.{Topic}
-use Rattle.cc_handles.specs.declared.handle_inner.Pass.{Pass}
-use Rattle.cc_handles.specs.declared.handle_inner.HandleInner.{HandleInner}
 use Rattle.cc_pool.specs.declared.kept.Kept.{Kept}
 use Rattle.cc_pool.specs.Loans.{IsPlaceOf}
-use Rattle.cc_pool.specs.Made.{IsMade}
 
 -- the queue, how many words a body of it has at most, and how many rows of places there are: one more than groups
 pub record Pool : Type 0 where

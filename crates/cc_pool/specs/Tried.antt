@@ -1,5 +1,5 @@
 -- The result of a try of a place, or of a row of places.
-use Rattle.std.specs.Prelude.{ℕ, Option, Some, None, Box}
+use Rattle.std.specs.Prelude.{ℕ, ◌⊎◌, Bool, true, false, Option, Some, None, Box}
 use Rattle.std.specs.declared.alloc.Global.{Global}
 use Rattle.cc_steps.specs.Topic.{Topic}
 use Rattle.cc_handles.specs.declared.handle_inner.Pass.{Pass}
@@ -36,3 +36,8 @@ word_after _ = FREE
 
 abbrev pub IsRowMade : {T : Type 0} → Topic → (Option Pass → Option Pass → T → Type 0) → Made T → Type 0
 IsRowMade z Tells m = IsMade z Tells m.told (inside m.waits) × IsKeptOf z m.waits
+
+-- a try of the place gave no call: its pass was passed over, or, unless each pass was there, it was not free
+abbrev pub GaveNone : {K T : Type 0} → (K → Tried T → Type 0) → Bool → K → Type 0
+GaveNone gave true k = gave k Tried.PassedOver
+GaveNone gave false k = gave k Tried.PassedOver ⊎ gave k Tried.NotFree

@@ -1,12 +1,14 @@
 //! A queue whose passes are shared: any number of threads make its calls at once, each by whichever pass is free.
-ghost use Rattle.std.specs.Prelude.{◌≡◌, ◌≤◌, All, IfOk, true};
+ghost use Rattle.std.specs.Prelude.{◌≡◌, ◌≤◌, All, IfOk, IfErr, true};
 ghost use Rattle.cc_steps.specs.Walk.{IsOf};
+ghost use Rattle.cc_steps.specs.Topic.{Topic};
 ghost use Rattle.cc_handles.specs.Passes.{HasPassOf};
+ghost use Rattle.cc_pool.specs.declared.pooled.Tried.{Tried};
 ghost use Rattle.cc_pool.specs.Caller.{is_group};
 ghost use Rattle.cc_pool.specs.Kept.{Seized};
 ghost use Rattle.cc_pool.specs.Loans.{IsPlaceOf, queue_of};
 ghost use Rattle.cc_pool.specs.Pooled.{IsRowOf};
-ghost use Rattle.cc_pool.specs.Tried.{IsTriedOf, IsUnmade, IsRowMade, word_after};
+ghost use Rattle.cc_pool.specs.Tried.{IsTriedOf, IsUnmade, IsRowMade, GaveNone, word_after};
 ghost use Rattle.cc_pool.specs.declared.kept.TheConstants.{FREE};
 
 use crate::asks::{Ask, Asked};
@@ -91,7 +93,7 @@ impl Kept {
 
     /// Makes a call by the pass of this place, if the place is free.
     #[inline(always)]
-    fn ask<T, O, A: Ask<T, O>>(&self, ask: &mut A, out: &mut O) -> Tried<T>
+    fn ask_once<T, O, A: Ask<T, O>>(&self, ask: &mut A, out: &mut O) -> Tried<T>
         requires { A.is_new ask.old }
         ensures tried { IsTriedOf (queue_of self.now) (λ old new told. A.tells ask.old old new told out.new) result }
         ensures same { IsUnmade result (ask.new ≡ ask.old) }
@@ -109,34 +111,75 @@ impl Kept {
     }
 }
 
+/// A place of a search. A contract learns from a try alone what the try gave. So a search that is proved for all such places has
+/// made each try that its clauses speak of.
+pub trait Spot<T, O, A: Ask<T, O>> {
+    ghost of: { Self → Topic };
+
+    ghost gave: { Self → Tried T → Type 0 };
+
+    /// Makes a call by the pass of this place, if the place is free.
+    fn ask(&self, ask: &mut A, out: &mut O) -> Tried<T>
+        requires { A.is_new ask.old }
+        ensures gave { gave self.now result }
+        ensures tried { IsTriedOf (of self.now) (λ old new told. A.tells ask.old old new told out.new) result }
+        ensures same { IsUnmade result (ask.new ≡ ask.old) };
+}
+
+impl<T, O, A: Ask<T, O>> Spot<T, O, A> for Kept {
+    ghost of = { λ k. queue_of k };
+
+    ghost gave = { λ _ _. Unit {0} };
+
+    #[inline(always)]
+    fn ask(&self, ask: &mut A, out: &mut O) -> Tried<T> {
+        self.ask_once(ask, out)
+    }
+}
+
 /// Makes a call by a pass of this row: tries each place once, from this one on. If none made it: whether each pass was there, and
 /// passed over.
 #[inline(always)]
-pub(crate) fn ask_of<T, O, A: Ask<T, O>>(
+pub(crate) fn ask_of<T, O, A: Ask<T, O>, K: Spot<T, O, A>>(
     queue: &Queue,
-    row: &[Kept],
+    row: &[K],
     from: u32,
     ask: &mut A,
     out: &mut O,
 ) -> Result<Made<T>, bool>
-    requires row { All (IsPlaceOf queue.now) row.now }
+    requires row { All (λ k. K.of k ≡ queue.now) row.now }
     requires new { A.is_new ask.old }
-    ensures { IfOk result (λ m. IsRowMade queue.now (λ old new told. A.tells ask.old old new told out.new) m) }
+    ensures made { IfOk result (λ m. IsRowMade queue.now (λ old new told. A.tells ask.old old new told out.new) m) }
+    ensures tried { IfErr result (λ all_there. All (λ k. GaveNone K.gave all_there k) row.now) }
 {
     let _ = queue;
     let count = row.len();
-    let mut at = from;
+    if count == 0 {
+        return Err(true);
+    }
+    let start = if (from as usize) < count {
+        from as usize
+    } else {
+        0
+    };
+    let mut at = start;
     let mut all_there = true;
     for _ in 0..count {
-        if at as usize >= count {
-            at = 0;
-        }
-        match row[at as usize].ask(ask, out) {
-            Tried::Made(told, waits) => return Ok(Made { told, waits, at }),
+        match row[at].ask(ask, out) {
+            Tried::Made(told, waits) => {
+                return Ok(Made {
+                    told,
+                    waits,
+                    at: (at % 0x1_0000_0000) as u32,
+                });
+            }
             Tried::NotFree => all_there = false,
             Tried::PassedOver => {}
         }
-        at = at.wrapping_add(1);
+        at += 1;
+        if at == count {
+            at = 0;
+        }
     }
     Err(all_there)
 }

@@ -1,5 +1,4 @@
 -- A `&` to a part of a loan borrows its share of the right, and so reaches the value. Assumes `Logic`.
-use base.Fml.{Share}
 use denote.RattleType.{RattleType}
 use denote.Param.Laws.{Laws}
 use denote.Param.Shared.{copy_shared}

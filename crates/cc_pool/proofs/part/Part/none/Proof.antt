@@ -17,10 +17,9 @@ use denote.Steps.{nothing}
 use denote.Param.{layout}
 use denote.Triple.Entry.{alive}
 use denote.Triple.Walked.{Stays, stay_dropped, walk_of, Goes-dropped}
-use Rattle.std.proofs.ResultValues.{and_tt}
 use Rattle.std.proofs.cell.Inside.{Good}
 use Rattle.std.proofs.raw_atomic.Walks.{proved_at, leaves}
-use Rattle.cc_pool.proofs.RootValues.{R, Part, one, one_good, part_in}
+use Rattle.cc_pool.proofs.RootValues.{R, one, one_good, part_in}
 use Rattle.cc_pool.specs.contracts.part.Part.none.{ended, clauses}
 use Rattle.cc_pool.specs.contracts.part.Part.none.Key.{name as #self}
 use Rattle.cc_pool.proofs.part.Part.none.Statement.{statement}

@@ -19,7 +19,7 @@ use denote.Triple.Entry.{alive}
 use denote.Triple.Walked.{Stays, stay_dropped, walk_of, Goes-dropped}
 use Rattle.std.proofs.cell.Inside.{Good}
 use Rattle.std.proofs.raw_atomic.Walks.{proved_at, leaves}
-use Rattle.cc_pool.proofs.RootValues.{R, Part, Lent, one, one_good, part_in, lent_out}
+use Rattle.cc_pool.proofs.RootValues.{Lent, one, one_good, part_in, lent_out}
 use Rattle.cc_pool.specs.contracts.part.Part.pack.{ended, clauses}
 use Rattle.cc_pool.specs.contracts.part.Part.pack.Key.{name as #self}
 use Rattle.cc_pool.proofs.part.Part.pack.Statement.{statement}

@@ -1,5 +1,5 @@
 -- `unpack`.
-use Rattle.std.proofs.Common.{◌≡◌, List, [], ◌∷◌, ◌++◌, refl, sym, subst, Option, Some, None}
+use Rattle.std.proofs.Common.{◌≡◌, List, [], ◌∷◌, ◌++◌, refl, sym, subst, Option, Some}
 use mir.Val.{Val}
 use base.Logic.{SProp, ent, emp, id⊢}
 use prog.Wp.{WpFn}
@@ -19,7 +19,7 @@ use denote.Triple.Entry.{alive}
 use denote.Triple.Walked.{Stays, stay_dropped, walk_of, Goes-dropped}
 use Rattle.std.proofs.cell.Inside.{Good}
 use Rattle.std.proofs.raw_atomic.Walks.{proved_at, leaves}
-use Rattle.cc_pool.proofs.RootValues.{R, some_of, Part, Lent, one, one_good, part_out, lent_in}
+use Rattle.cc_pool.proofs.RootValues.{R, some_of, Part, one, one_good, part_out, lent_in}
 use Rattle.cc_pool.specs.contracts.part.Part.unpack.{ended, clauses}
 use Rattle.cc_pool.specs.contracts.part.Part.unpack.Key.{name as #self}
 use Rattle.cc_pool.proofs.part.Part.unpack.Statement.{statement}

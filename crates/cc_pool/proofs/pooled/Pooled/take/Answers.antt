@@ -1,9 +1,8 @@
 use Rattle.std.proofs.Common.{rules, ◌≡◌, true, sym, subst}
-use Rattle.cc_handles.specs.Handles.{pass_of}
 use Rattle.cc_handles.specs.Results.{none_taken, with_item}
 use Rattle.cc_pool.specs.Made.{IsMade, TakesIn}
 use Rattle.cc_pool.specs.Tried.{inside}
-use Rattle.cc_pool.specs.Caller.{is_group, IsBusy, MadeBy, InRange}
+use Rattle.cc_pool.specs.Caller.{is_group, IsBusy, MadeBy}
 use Rattle.cc_pool.proofs.Asked.{made_by, in_range, with_out}
 use Rattle.cc_pool.proofs.pooled.Pooled.take.Goals as goal
 

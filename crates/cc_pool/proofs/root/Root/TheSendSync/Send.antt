@@ -1,11 +1,8 @@
 use mir.Raw.{raw}
-use base.Fraction.{full_share}
 use base.Shift.{Keyless}
 use denote.Memory.{lone}
 use denote.Builtin.{RawPtr}
-use denote.RattleType.{RattleType}
-use denote.RawPtr.{Ptr, block_ptr, null_ptr, lies_at}
-use denote.Param.Send.{IsSend, IsSync, owning_send, struct_send, sendable, part_keyless}
+use denote.Param.Send.{IsSend, owning_send, struct_send, sendable}
 use denote.Struct.Struct.{exits_of}
 use denote.Struct.Owning.{shape, fields, to}
 use Rattle.std.specs.Prelude.{Option, Some, None, [], ◌∷◌}

@@ -1,11 +1,10 @@
 -- `cut` halves the right to the lifetime.
-use Rattle.std.proofs.Common.{◌≡◌, List, [], ◌∷◌, ◌++◌, ℕ, refl, sym, subst, Option, Some, None, IsTrue, is_some}
+use Rattle.std.proofs.Common.{◌≡◌, List, [], ◌∷◌, ◌++◌, refl, sym, subst, Option, Some, IsTrue, is_some}
 use base.Fml.{Lft, Fml, flft}
 use base.Share as half
 use mir.Val.{Val, has_ty}
 use base.Logic.{SProp, ent, emp, id⊢}
 use prog.Wp.{WpFn}
-use types.Logic.{sem}
 use types.Kit.{‵, raw, ◌⊛◌, ◌$◌, ◌∵◌, !, qed, by, move, keep, split, fsplit, fjoin, suffices, use0, use1, use2, rewrite}
 use types.Run.{stop, fld, of_opd, no_more, and_then, returns, enter}
 use types.ByLocal.{alloc_all, pass_all, free_all, look_at, get, get_in, sets}
@@ -13,7 +12,7 @@ use types.Part.{agg, sub, whole}
 use contract.Monad.{fact, fact_i}
 use contract.Running.{tables}
 use denote.Exit.{yes}
-use denote.RattleType.{RattleType, owns}
+use denote.RattleType.{owns}
 use denote.Signature.{types_at, plain}
 use denote.RawPtr.{RawPtr, ptr_val, rawptr_Lawful}
 use denote.Param.{layout}

@@ -1,6 +1,5 @@
 -- `end` ends the lifetime, and has the value back.
-use Rattle.std.proofs.Common.{◌≡◌, List, [], ◌∷◌, ◌++◌, ℕ, refl, sym, subst, Option, Some, None}
-use base.Fraction.{full_share}
+use Rattle.std.proofs.Common.{◌≡◌, List, [], ◌∷◌, ◌++◌, ℕ, refl, sym, subst, Option, Some}
 use base.Fml.{flft}
 use mir.Val.{Val, vptr}
 use base.Logic.{SProp, ent, emp, id⊢, never, fst∗}

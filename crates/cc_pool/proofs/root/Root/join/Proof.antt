@@ -1,32 +1,26 @@
 -- `join` makes the two halves one.
-use Rattle.std.proofs.Common.{◌≡◌, List, [], ◌∷◌, ◌++◌, ℕ, refl, sym, subst, ◌∙◌, Option, Some, None, IsTrue, is_some}
-use base.Fml.{Lft, Fml, flft}
-use base.Share as half
+use Rattle.std.proofs.Common.{◌≡◌, List, [], ◌∷◌, ◌++◌, ℕ, refl, sym, subst, ◌∙◌, Option, Some}
+use base.Fml.{Lft, flft}
 use mir.Val.{Val, has_ty}
 use base.Logic.{SProp, ent, emp, id⊢}
 use prog.Wp.{WpFn}
-use types.Logic.{sem}
-use types.Kit.{‵, raw, ◌⊛◌, ◌$◌, ◌∵◌, !, qed, by, move, keep, drop, split, fsplit, fjoin, suffices, use0, use1, use2, rewrite}
+use types.Kit.{‵, raw, ◌⊛◌, ◌$◌, ◌∵◌, !, qed, by, move, keep, drop, split, fsplit, fjoin, suffices, use0, use2, rewrite}
 use types.Run.{stop, fld, of_opd, no_more, and_then, returns, enter}
 use types.ByLocal.{alloc_all, pass_all, free_all, look_at, get, get_in, sets}
 use types.Part.{agg, sub, whole}
 use contract.Monad.{fact, fact_i}
 use contract.Running.{tables}
 use denote.Exit.{yes}
-use denote.RattleType.{RattleType, owns}
+use denote.RattleType.{owns}
 use denote.Signature.{types_at, plain}
 use denote.RawPtr.{RawPtr, ptr_val, rawptr_Lawful}
 use denote.Param.{layout}
-use denote.SharingLaws.{contraction}
 use denote.Steps.{nothing, heard}
-use denote.Struct.Lending.{lent_at, lent_at_shr_laws}
-use denote.Struct.Tuple.{Tuple}
 use denote.Triple.Entry.{alive}
 use denote.Triple.Walked.{Stays, stay_dropped, walk_of, Goes-dropped}
 use Rattle.std.proofs.cell.Inside.{Good}
 use Rattle.std.proofs.raw_atomic.Walks.{proved_at, leaves}
 use Rattle.std.specs.contracts.impls.GlobalAllocator.TheImpl.{ghosts}
-use Rattle.cc_pool.proofs.pooled.Pooled.TheLaws as pooled_laws
 use Rattle.cc_pool.specs.Lent.{share_at, root_owns, part_owns}
 use Rattle.cc_pool.specs.Cut.{IsJoined, rest_of}
 use Rattle.cc_handles.proofs.Values.{both, both_tt}
