@@ -18,7 +18,7 @@ module _ (left : Option (List ℕ)) (reads : ℕ) (old new : Option (List ℕ)) 
   unfolding line_of shown_line
   declined form (Some Task.Play) faults kind (inl memory) d = let out = subst (Declines old new fails fails_after errors_old errors_new before after status) memory d in (Err PlayFault.NoMemory, out.1, omega arith, omega (arith, out.2), out.0, out.3)
   declined form (Some Task.Audit) faults kind (inl memory) d = let out = subst (Declines old new fails fails_after errors_old errors_new before after status) memory d in (Err PlayFault.NoMemory, out.1, omega arith, omega (arith, out.2), out.0, out.3)
-  declined form (Some Task.Judge) faults kind (inl memory) d = tt
+  declined form (Some Task.Judge) faults kind (inl memory) d = let out = subst (Declines old new fails fails_after errors_old errors_new before after status) memory d in inl out.0
   declined form (Some Task.Why) faults kind (inl memory) d =
       let out = subst (Declines old new fails fails_after errors_old errors_new before after status) memory d in
       record { none = λ zero. absurd (omega (arith, out.0, zero)); some = λ one. absurd (omega (arith, out.0, one)) }

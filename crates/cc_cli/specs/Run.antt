@@ -1,5 +1,5 @@
 -- The answer of a command line, and its line on standard error.
-use Rattle.std.specs.Prelude.{ℕ, ◌≡◌, ◌⊎◌, ◌+◌, ◌++◌, codes, if◌then◌else◌, Bool, List, [], ◌∷◌, Option, Some, None, Result, Err, ⊤}
+use Rattle.std.specs.Prelude.{ℕ, ◌≡◌, ◌⊎◌, ◌+◌, ◌++◌, codes, if◌then◌else◌, Bool, List, [], ◌∷◌, Option, Some, None, Result, Err}
 use Rattle.std.specs.Io.KnownBytes.{Keeps}
 use Rattle.clap.specs.Words.{IsAmong, Kinds}
 use Rattle.clap.specs.declared.error.kind.ErrorKind.{ErrorKind}
@@ -9,6 +9,7 @@ use Rattle.cc_io.specs.FaultLine.{Told, no_memory_line}
 use Rattle.cc_play.specs.Outcome.{line_of, status_of}
 use Rattle.cc_play.specs.Play.{Plays, Audits, failed_reads, failed_writes}
 use Rattle.cc_show.specs.Show.{Shows, failed_reads_of, failed_writes_of, shown_line, shown_status}
+use Rattle.cc_log.specs.Judged.{Judges, no_options}
 use Rattle.cc_cli.specs.Why.{Explains}
 
 -- the line if the file of this name can't be opened, with the system's reason
@@ -42,8 +43,8 @@ module _ (old new : Option (List ℕ)) (fails fails_after : ℕ) (errors_old err
   Declines _ = Complains ⊎ RunsOut
 
 -- The bytes that a whole line leaves, on its input too, with the number of failed reads. If it asks for a play, an audit or a
--- run in a form, that is done as far as it goes and its outcome reported; nothing is said of what the judging of a log leaves. If it
--- asks for the place of an input's fault, the status says whether it has one. If it asks for none, nothing is read, and it is declined for a fault that the parser of command lines finds in it, or for lack of memory.
+-- run in a form, that is done as far as it goes and its outcome reported. If it asks for a verdict on a log, the status is that of a
+-- right one. If it asks for the place of an input's fault, the status says whether it has one. If it asks for none, nothing is read, and it is declined for a fault that the parser of command lines finds in it, or for lack of memory.
 module _ (left_old left_new : Option (List ℕ)) (reads reads_after : ℕ) (old new : Option (List ℕ)) (fails fails_after : ℕ) (errors_old errors_new : Option (List ℕ)) (before after status : ℕ) where
   abbrev pub Does : (Option (List ℕ) → Option (List ℕ) → Result Verdict PlayFault → Option (List ℕ) → Option (List ℕ) → Type 0) → Type 0
   Does Work = (outcome : Result Verdict PlayFault) × Work left_old left_new outcome old new × (reads_after ≡ reads + failed_reads outcome) × (fails_after ≡ fails + failed_writes outcome)
@@ -56,7 +57,7 @@ module _ (left_old left_new : Option (List ℕ)) (reads reads_after : ℕ) (old 
   abbrev pub Runs : Form → Option Task → Kinds → Type 0
   Runs form (Some Task.Play) faults = Does Plays
   Runs form (Some Task.Audit) faults = Does Audits
-  Runs form (Some Task.Judge) faults = ⊤
+  Runs form (Some Task.Judge) faults = Judges no_options left_old status
   Runs form (Some Task.Why) faults = Explains left_old left_new status
   Runs form (Some Task.Show) faults = DoesShow form
   Runs form None faults = Keeps left_old left_new × (reads_after ≡ reads)

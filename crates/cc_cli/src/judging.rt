@@ -1,6 +1,7 @@
 //! A line that judges a log by options: how many items the queue holds, by how much clocks may differ, and whether the answer is
 //! a page.
 ghost use Rattle.std.specs.Prelude.{◌<◌, ◌-◌, ◌^◌};
+ghost use Rattle.cc_log.specs.Judged.{Judges, no_options};
 
 use cc_io::{Sink, Source, told};
 use cc_log::{Options, judge_input};
@@ -10,7 +11,7 @@ use std::alloc::Global;
 #[derive(Clone, Copy)]
 pub struct Judging<'a> {
     /// Its options.
-    options: Options,
+    pub options: Options,
     /// The name of the file of its log; none if that is standard input.
     pub file: Option<&'a str>,
 }
@@ -112,6 +113,21 @@ pub fn asked(words: &[String]) -> Option<Judging<'_>> {
     Some(Judging { options, file })
 }
 
+/// Judges the log of the source without options, and returns the status.
+pub fn judge_plainly<S: Source, W: Sink, E: Sink>(
+    alloc: Global,
+    source: &mut S,
+    sink: &mut W,
+    errors: &mut E,
+) -> u8
+    requires reads { S.read_failures source.old < 2 ^ 64 - 1 }
+    requires writes { W.write_failures sink.old < 2 ^ 64 - 1 }
+    requires errors { E.write_failures errors.old < 2 ^ 64 - 1 }
+    ensures { Judges no_options (S.bytes_left source.old) result }
+{
+    judge_input(alloc, Options::none(), source, sink, errors)
+}
+
 /// Judges the log of the source as a line asks for, and returns the status.
 pub fn judge<S: Source, W: Sink, E: Sink>(
     alloc: Global,
@@ -123,6 +139,7 @@ pub fn judge<S: Source, W: Sink, E: Sink>(
     requires reads { S.read_failures source.old < 2 ^ 64 - 1 }
     requires writes { W.write_failures sink.old < 2 ^ 64 - 1 }
     requires errors { E.write_failures errors.old < 2 ^ 64 - 1 }
+    ensures { Judges judging.entry.options (S.bytes_left source.old) result }
 {
     judge_input(alloc, judging.options, source, sink, errors)
 }

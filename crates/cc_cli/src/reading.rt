@@ -6,10 +6,10 @@ ghost use Rattle.cc_cli.specs.Run.{Declines, Helps, RefusesFile, Runs, unopened_
 ghost use Rattle.cc_io.specs.FaultLine.{Told};
 
 use crate::command_line::{Task, asked};
+use crate::judging::judge_plainly;
 use crate::why::why_input;
 use crate::words::CommandLine;
 use cc_io::{Pen, Sink, Source, out_of_memory, told, write_bytes};
-use cc_log::{Options, judge_input};
 use cc_play::play::play;
 use cc_play::{PlayFault, audit_bytes, tell};
 use cc_show::show::show;
@@ -52,7 +52,7 @@ pub fn run<R: Source, W: Sink, E: Sink>(
             let outcome = audit_bytes(alloc, source, sink);
             tell(errors, outcome)
         }
-        Ok(Task::Judge) => judge_input(alloc, Options::none(), source, sink, errors),
+        Ok(Task::Judge) => judge_plainly(alloc, source, sink, errors),
         Ok(Task::Why) => why_input(alloc, source, sink, errors),
         Ok(Task::Show) => {
             let outcome = show(alloc, line.form, source, sink);
