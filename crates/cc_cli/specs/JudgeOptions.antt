@@ -3,6 +3,7 @@
 use Rattle.std.specs.Prelude.{ℕ, ◌==◌, ◌+◌, ◌*◌, ◌-◌, ◌^◌, ◌&&◌, true, false, List, [], ◌∷◌, ◌++◌, codes, if◌then◌else◌, Option, Some, None, nat_le, nat_lt, is_none, length}
 use Rattle.std.specs.Str.{bytes_eq}
 use Rattle.std.specs.List.{before_first, after_first, position_or_len}
+use Rattle.cc_log.specs.Judged.{no_options}
 use Rattle.cc_cli.specs.Names.{Numbered, Options, Reading}
 
 -- the number below 2 ^ 64 that these digits write behind those of n
@@ -14,10 +15,6 @@ digits_after n (c ∷ rest) = if nat_le 48 c && nat_le c 57 && nat_lt (n * 10 + 
 abbrev pub number_in : List ℕ → Option ℕ
 number_in [] = None
 number_in (c ∷ rest) = digits_after 0 (c ∷ rest)
-
--- no option is given
-abbrev pub no_options : Options
-no_options = record { capacity = None; skew = 0; page = false }
 
 -- the options with a number more: one in its range, of an option that isn't given yet
 abbrev pub with_number : Options → Numbered → Option ℕ → Option Options

@@ -1,14 +1,15 @@
 -- The answer of a command line, and its line on standard error.
-use Rattle.std.specs.Prelude.{ℕ, ◌≡◌, ◌⊎◌, ◌+◌, ◌++◌, codes, if◌then◌else◌, Bool, List, [], ◌∷◌, Option, Some, None, Result, Err, ⊤}
+use Rattle.std.specs.Prelude.{ℕ, ◌≡◌, ◌⊎◌, ◌+◌, ◌++◌, codes, if◌then◌else◌, Bool, List, [], ◌∷◌, Option, Some, None, Result, Err}
 use Rattle.std.specs.Io.KnownBytes.{Keeps}
 use Rattle.clap.specs.Words.{IsAmong, Kinds}
 use Rattle.clap.specs.declared.error.kind.ErrorKind.{ErrorKind}
 use Rattle.cc_io.specs.Written.{Writes}
-use Rattle.cc_cli.specs.Names.{Verdict, PlayFault, ShowFault, Form, Task}
+use Rattle.cc_cli.specs.Names.{Verdict, PlayFault, ShowFault, Form, Options, Task}
 use Rattle.cc_io.specs.FaultLine.{Told, no_memory_line}
 use Rattle.cc_play.specs.Outcome.{line_of, status_of}
 use Rattle.cc_play.specs.Play.{Plays, Audits, failed_reads, failed_writes}
 use Rattle.cc_show.specs.Show.{Shows, failed_reads_of, failed_writes_of, shown_line, shown_status}
+use Rattle.cc_log.specs.Judged.{Judges}
 use Rattle.cc_cli.specs.Why.{Explains}
 
 -- the line if the file of this name can't be opened, with the system's reason
@@ -42,8 +43,8 @@ module _ (old new : Option (List ℕ)) (fails fails_after : ℕ) (errors_old err
   Declines _ = Complains ⊎ RunsOut
 
 -- The bytes that a whole line leaves, on its input too, with the number of failed reads. If it asks for a play, an audit or a
--- run in a form, that is done as far as it goes and its outcome reported; nothing is said of what the judging of a log leaves. If it
--- asks for the place of an input's fault, the status says whether it has one. If it asks for none, nothing is read, and it is declined for a fault that the parser of command lines finds in it, or for lack of memory.
+-- run in a form, that is done as far as it goes and its outcome reported. If it asks for a verdict on a log by these options,
+-- the status is that of a right one. If it asks for the place of an input's fault, the status says whether it has one. If it asks for none, nothing is read, and it is declined for a fault that the parser of command lines finds in it, or for lack of memory.
 module _ (left_old left_new : Option (List ℕ)) (reads reads_after : ℕ) (old new : Option (List ℕ)) (fails fails_after : ℕ) (errors_old errors_new : Option (List ℕ)) (before after status : ℕ) where
   abbrev pub Does : (Option (List ℕ) → Option (List ℕ) → Result Verdict PlayFault → Option (List ℕ) → Option (List ℕ) → Type 0) → Type 0
   Does Work = (outcome : Result Verdict PlayFault) × Work left_old left_new outcome old new × (reads_after ≡ reads + failed_reads outcome) × (fails_after ≡ fails + failed_writes outcome)
@@ -53,11 +54,11 @@ module _ (left_old left_new : Option (List ℕ)) (reads reads_after : ℕ) (old 
   DoesShow form = (outcome : Result Verdict ShowFault) × Shows form left_old left_new outcome old new × (reads_after ≡ reads + failed_reads_of outcome) × (fails_after ≡ fails + failed_writes_of outcome)
       × (status ≡ shown_status outcome) × Told errors_old errors_new before after (shown_line outcome)
 
-  abbrev pub Runs : Form → Option Task → Kinds → Type 0
-  Runs form (Some Task.Play) faults = Does Plays
-  Runs form (Some Task.Audit) faults = Does Audits
-  Runs form (Some Task.Judge) faults = ⊤
-  Runs form (Some Task.Why) faults = Explains left_old left_new status
-  Runs form (Some Task.Show) faults = DoesShow form
-  Runs form None faults = Keeps left_old left_new × (reads_after ≡ reads)
+  abbrev pub Runs : Form → Options → Option Task → Kinds → Type 0
+  Runs form options (Some Task.Play) faults = Does Plays
+  Runs form options (Some Task.Audit) faults = Does Audits
+  Runs form options (Some Task.Judge) faults = Judges options left_old status
+  Runs form options (Some Task.Why) faults = Explains left_old left_new status
+  Runs form options (Some Task.Show) faults = DoesShow form
+  Runs form options None faults = Keeps left_old left_new × (reads_after ≡ reads)
       × ((found : ErrorKind) × IsAmong found (ErrorKind.OutOfMemory ∷ faults) × Declines old new fails fails_after errors_old errors_new before after status found)

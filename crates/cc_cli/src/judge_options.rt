@@ -2,7 +2,7 @@
 //! clocks may differ, and whether the answer is a page.
 ghost use Rattle.std.specs.Prelude.{◌≡◌, ◌<◌, ◌-◌, ◌^◌, map, option_map, slice_get, string_bytes};
 ghost use Rattle.cc_io.specs.FaultLine.{Told};
-ghost use Rattle.cc_cli.specs.JudgeOptions.{line_without_options, options_line, no_options, number_in, option_named, read_next, read_word, given_or_wrong, with_number, with_page};
+ghost use Rattle.cc_cli.specs.JudgeOptions.{line_without_options, options_line, number_in, option_named, read_next, read_word, given_or_wrong, with_number, with_page};
 
 use cc_io::{Sink, told};
 use cc_log::Options;

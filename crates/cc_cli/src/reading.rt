@@ -40,7 +40,7 @@ pub fn run<R: Source, W: Sink, E: Sink>(
         (W.bytes_written sink.old) (W.bytes_written sink.new)
         (W.write_failures sink.old) (W.write_failures sink.new)
         (E.bytes_written errors.old) (E.bytes_written errors.new)
-        (E.write_failures errors.old) (E.write_failures errors.new) result line.entry.form
+        (E.write_failures errors.old) (E.write_failures errors.new) result line.entry.form line.entry.options
         (task_of (map string_bytes line.entry.words.now)) (fault_of commands (map string_bytes line.entry.words.now)) }
 {
     match asked(alloc, line.words) {

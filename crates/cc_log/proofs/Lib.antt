@@ -1,1 +1,6 @@
+pub mod Keys
+pub mod Table
+pub mod Steps
+pub mod Ahead
+pub mod Reading
 pub mod Judged

@@ -1,10 +1,9 @@
 -- The exit status of a judged log.
-use Rattle.std.specs.Prelude.{ℕ, ◌≡◌, ◌⊎◌, List, Result, Ok, Err}
-use Rattle.cc_judge.specs.declared.log.Rules.{Rules}
-use Rattle.cc_judge.specs.declared.log.Call.{Call}
-use Rattle.cc_judge.specs.declared.decide.Verdict.{Verdict}
+use Rattle.std.specs.Prelude.{ℕ, ◌≡◌, ◌⊎◌, List, Option, None, Result, Ok, Err, false}
 use Rattle.cc_judge.specs.Verdict.{IsVerdict}
-use Rattle.cc_log.specs.declared.page.AnswerFault.{AnswerFault}
+use Rattle.cc_log.specs.Names.{AnswerFault, Call, LogFault, Options, Rules, Verdict}
+use Rattle.cc_log.specs.Lines.{HasInput}
+use Rattle.cc_log.specs.Log.{Refusal, Spelled, log_of}
 
 -- the status of a verdict: clean, a fault, a log that can't be judged, or undecided
 abbrev pub verdict_status : Verdict → ℕ
@@ -24,3 +23,28 @@ told_status status (Err AnswerFault.Write) = 4
 -- write failed.
 abbrev pub IsJudged : Rules → List Call → ℕ → Type 0
 IsJudged rules calls status = (status ≡ 3) ⊎ ((verdict : Verdict) × IsVerdict rules calls verdict × ((status ≡ verdict_status verdict) ⊎ (status ≡ 4)))
+
+-- the status if an input is refused
+abbrev pub IsRefused : LogFault → ℕ → Type 0
+IsRefused LogFault.Memory status = status ≡ 3
+IsRefused LogFault.Read status = status ≡ 4
+IsRefused _ status = (status ≡ 2) ⊎ (status ≡ 3)
+
+-- the rules are those of the log, by these options
+pub record HasRules (options : Options) (log : Spelled) (rules : Rules) : Type 0 where
+  pub capacity : rules.capacity ≡ options.capacity
+  pub closes : rules.closes ≡ log.closes
+  pub ties : rules.ties.items ≡ log.ties
+
+-- the status is that of a right verdict on the log that an input spells, or 2 if the input spells none
+abbrev pub IsDue : Options → Result Spelled Refusal → ℕ → Type 0
+IsDue options (Ok log) status = (rules : Rules) × (verdict : Verdict) × HasRules options log rules × IsVerdict rules log.calls verdict × (status ≡ verdict_status verdict)
+IsDue options (Err refusal) status = status ≡ 2
+
+-- The input of a source was judged: the status is due, or says that memory was refused or that a device failed.
+abbrev pub Judges : Options → (left : Option (List ℕ)) → ℕ → Type 0
+Judges options left status = (status ≡ 3) ⊎ ((status ≡ 4) ⊎ ((input : List ℕ) × HasInput left input × IsDue options (log_of options.skew input) status))
+
+-- no options
+abbrev pub no_options : Options
+no_options = record { capacity = None; skew = 0; page = false }

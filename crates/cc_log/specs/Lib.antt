@@ -1,1 +1,7 @@
+pub mod Names
+pub mod Line
+pub mod Lines
+pub mod Log
+pub mod Answers
+pub mod State
 pub mod Judged

@@ -100,7 +100,7 @@ fn body_of(said: Said) -> Option<Body> {
 /// The bodies of the items of the marked calls.
 fn bodies(alloc: Global, log: &Log, marks: &[bool]) -> Result<IndexSet<Body>, AllocError> {
     let mut bodies = IndexSet::new(alloc);
-    for (shown, marked) in log.shown.iter().zip(marks.iter()) {
+    for (shown, marked) in log.notes.shown.iter().zip(marks.iter()) {
         if *marked {
             if let Some(body) = body_of(shown.line.said) {
                 let _new = bodies.insert(body)?;
@@ -145,7 +145,7 @@ fn overlaps(spans: &[Span], begin: u64, end: u64) -> bool {
 /// Marks the calls of these items, and some that overlap one of the spans. Returns how many of the latter are left out.
 fn mark_beside(log: &Log, bodies: &IndexSet<Body>, spans: &[Span], marks: &mut Vec<bool>) -> usize {
     let (mut beside, mut left_out) = (0usize, 0usize);
-    for (place, (shown, call)) in log.shown.iter().zip(log.calls.iter()).enumerate() {
+    for (place, (shown, call)) in log.notes.shown.iter().zip(log.calls.iter()).enumerate() {
         let same = match body_of(shown.line.said) {
             Some(body) => bodies.contains(&body),
             None => false,

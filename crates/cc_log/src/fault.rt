@@ -1,4 +1,6 @@
 //! Why a text is no log.
+ghost use Rattle.std.specs.Prelude.{◌≡◌};
+ghost use Rattle.cc_log.specs.Names.{LogFault};
 
 use std::alloc::{AllocError, AllocFailed};
 use thiserror::Error;
@@ -77,12 +79,16 @@ pub enum LogFault {
 }
 
 impl From<AllocError> for LogFault {
+    ghost from_gives = { λ _ fault. fault ≡ LogFault.Memory };
+
     fn from(_: AllocError) -> LogFault {
         LogFault::Memory
     }
 }
 
 impl<T: Drop> From<AllocFailed<T>> for LogFault {
+    ghost from_gives = { λ _ fault. fault ≡ LogFault.Memory };
+
     fn from(_: AllocFailed<T>) -> LogFault {
         LogFault::Memory
     }

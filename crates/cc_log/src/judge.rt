@@ -1,7 +1,7 @@
 //! Judging the log on an input.
-ghost use Rattle.std.specs.Prelude.{◌≡◌, ◌<◌, ◌-◌, ◌^◌, IfOk};
+ghost use Rattle.std.specs.Prelude.{◌≡◌, ◌⊎◌, ◌<◌, ◌-◌, ◌^◌, IfOk};
 ghost use Rattle.cc_judge.specs.Verdict.{IsVerdict};
-ghost use Rattle.cc_log.specs.Judged.{IsJudged, told_status, verdict_status};
+ghost use Rattle.cc_log.specs.Judged.{IsJudged, IsRefused, Judges, told_status, verdict_status};
 
 use crate::fault::LogFault;
 use crate::page::{AnswerFault, write_page};
@@ -43,11 +43,23 @@ fn verdict_on(alloc: Global, log: &Log) -> Result<Found, AllocError>
 /// Reports why an input is no log, and returns the status.
 fn refused<E: Sink>(alloc: Global, errors: &mut E, fault: &LogFault) -> u8
     requires { E.write_failures errors.old < 2 ^ 64 - 1 }
+    ensures { IsRefused fault.now result }
 {
-    match (fault, format!(in alloc; "ccq: log refused: {fault}\n")) {
-        (LogFault::Memory, _) | (_, Err(_)) => out_of_memory(errors),
-        (LogFault::Read, _) => tell(errors, Err(PlayFault::Read)),
-        (_, Ok(line)) => told(errors, line.as_bytes(), 2),
+    match fault {
+        LogFault::Memory => out_of_memory(errors),
+        LogFault::Read => tell(errors, Err(PlayFault::Read)),
+        _ => tell_refusal(alloc, errors, fault),
+    }
+}
+
+/// Writes the line of a refusal, and returns the status.
+fn tell_refusal<E: Sink>(alloc: Global, errors: &mut E, fault: &LogFault) -> u8
+    requires { E.write_failures errors.old < 2 ^ 64 - 1 }
+    ensures { (result ≡ 2) ⊎ (result ≡ 3) }
+{
+    match format!(in alloc; "ccq: log refused: {fault}\n") {
+        Ok(line) => told(errors, line.as_bytes(), 2),
+        Err(_) => out_of_memory(errors),
     }
 }
 
@@ -99,7 +111,8 @@ fn judge_log<W: Sink, E: Sink>(alloc: Global, log: &Log, sink: &mut W, errors: &
 
 /// Reads a log from the source, judges it, and writes the verdict to the sink, as a line or as a page. It returns the exit status: 0
 /// if the log is linearizable, 1 if it isn't, 2 if the log is refused, 3 if memory is, 4 if a device fails, and 5 if the
-/// verdict is undecided. A refusal or a failure is reported on `errors`.
+/// verdict is undecided. A refusal or a failure is reported on `errors`. The status is that of a right verdict on the log that the
+/// input spells, or says that the input spells none.
 pub fn judge_input<R: Source, W: Sink, E: Sink>(
     alloc: Global,
     options: Options,
@@ -110,6 +123,7 @@ pub fn judge_input<R: Source, W: Sink, E: Sink>(
     requires reads { R.read_failures source.old < 2 ^ 64 - 1 }
     requires writes { W.write_failures sink.old < 2 ^ 64 - 1 }
     requires errors { E.write_failures errors.old < 2 ^ 64 - 1 }
+    ensures { Judges options (R.bytes_left source.old) result }
 {
     match read_log(alloc, source, options) {
         Ok(log) => judge_log(alloc, &log, sink, errors),

@@ -1,7 +1,16 @@
 //! One line of a log.
+ghost use Rattle.std.specs.Prelude.{◌≡◌, codes, option_map, option_and_then, string_bytes};
+ghost use Rattle.std.specs.List.{list_all};
+ghost use Rattle.std.specs.Str.{bytes_eq};
+ghost use Rattle.std.specs.BTreeMap.{keys};
+ghost use Rattle.std.specs.Result.{result_map_both};
+ghost use Rattle.serde_json.specs.Find.{as_object};
+ghost use Rattle.serde_json.specs.View.{view, items_view};
+ghost use Rattle.cc_plan.specs.Json.{each, has_only, listed, whole_number};
+ghost use Rattle.cc_log.specs.Line.{answer_of, begins_late, body_in, body_of, close_of, end_of, is_call_key, line_of, no_item, object_of_call, said_in, send_of, take_of, took_item};
 
 use crate::fault::LineFault;
-use serde_json::Value;
+use serde_json::{Map, Value};
 use std::alloc::{AllocError, Global};
 
 /// The words of a body, and how many they are.
@@ -50,54 +59,70 @@ pub struct Line {
     pub said: Said,
 }
 
-/// Whether the tree is an object with keys of a call alone.
-fn has_keys(tree: &Value) -> Result<(), LineFault> {
+/// Whether a key is one of a call.
+fn is_call_key(key: &str) -> bool
+    ensures { result ≡ is_call_key key.now }
+{
+    matches!(
+        key,
+        "thread" | "begin" | "end" | "send" | "take" | "close" | "answer"
+    )
+}
+
+/// Whether an object has keys of a call alone.
+fn has_call_keys(object: &Map<String, Value>) -> bool
+    ensures { result ≡ list_all (λ key. is_call_key (string_bytes key)) (keys object.now) }
+{
+    object.keys().all(|key| is_call_key(key.as_str()))
+}
+
+/// Checks that the tree is an object with keys of a call alone.
+#[tactic(auto, using(crate::proofs::Keys::all_keys))]
+fn check_keys(tree: &Value) -> Result<(), LineFault>
+    ensures { result ≡ object_of_call (as_object (view tree.now)) }
+{
     let Some(object) = tree.as_object() else {
         return Err(LineFault::NoObject);
     };
-    for key in object.keys() {
-        if !matches!(
-            key.as_str(),
-            "thread" | "begin" | "end" | "send" | "take" | "close" | "answer"
-        ) {
-            return Err(LineFault::Key);
-        }
+    if has_call_keys(object) {
+        Ok(())
+    } else {
+        Err(LineFault::Key)
     }
-    Ok(())
 }
 
-/// The word at a place of a body, or 0 after its end.
-fn word(list: &[Value], at: usize) -> Result<u64, LineFault> {
-    match list.get(at) {
-        Some(value) => value.as_u64().ok_or(LineFault::Call),
-        None => Ok(0),
+/// The body of the words in an array.
+#[tactic(auto, using(crate::proofs::Keys::too_many))]
+fn body_of(list: &[Value]) -> Option<Body>
+    ensures { result ≡ option_and_then body_of (each whole_number (listed (items_view list.now))) }
+{
+    match list {
+        [a] => Some((1, a.as_u64()?, 0, 0, 0)),
+        [a, b] => Some((2, a.as_u64()?, b.as_u64()?, 0, 0)),
+        [a, b, c] => Some((3, a.as_u64()?, b.as_u64()?, c.as_u64()?, 0)),
+        [a, b, c, d] => Some((4, a.as_u64()?, b.as_u64()?, c.as_u64()?, d.as_u64()?)),
+        _ => None,
     }
 }
 
 /// The body of one to four words. A number is the body of that word.
-fn body(value: &Value) -> Result<Body, LineFault> {
+fn body_in(value: &Value) -> Result<Body, LineFault>
+    ensures { result ≡ body_in (view value.now) }
+{
     if let Some(word) = value.as_u64() {
         return Ok((1, word, 0, 0, 0));
     }
     let Some(list) = value.as_array() else {
         return Err(LineFault::Call);
     };
-    let list = list.as_slice();
-    if list.is_empty() || list.len() > 4 {
-        return Err(LineFault::Call);
-    }
-    Ok((
-        list.len(),
-        word(list, 0)?,
-        word(list, 1)?,
-        word(list, 2)?,
-        word(list, 3)?,
-    ))
+    body_of(list.as_slice()).ok_or(LineFault::Call)
 }
 
 /// The end of a call that began at a time, if it has one.
-fn end(tree: &Value, begin: u64) -> Result<Option<u64>, LineFault> {
-    let Some(value) = tree.get("end") else {
+fn end_of(begin: u64, value: Option<&Value>) -> Result<Option<u64>, LineFault>
+    ensures { result ≡ end_of begin (option_map (λ v. view v.now) value.entry) }
+{
+    let Some(value) = value else {
         return Ok(None);
     };
     match value.as_u64() {
@@ -107,18 +132,25 @@ fn end(tree: &Value, begin: u64) -> Result<Option<u64>, LineFault> {
 }
 
 /// The answer of a call that returned, if its line has one.
-fn answer(tree: &Value, ended: bool) -> Result<Option<&str>, LineFault> {
-    match tree.get("answer") {
-        None => Ok(None),
-        Some(value) if ended => Ok(Some(value.as_str().ok_or(LineFault::Answer)?)),
-        Some(_) => Err(LineFault::Answer),
+fn answer_of<'a>(end: Option<u64>, value: Option<&'a Value>) -> Result<Option<&'a str>, LineFault>
+    ensures { result_map_both (option_map (λ s. s.now)) (λ fault. fault) result ≡ answer_of end (option_map (λ v. view v.now) value.entry) }
+{
+    match (end, value) {
+        (_, None) => Ok(None),
+        (None, Some(_)) => Err(LineFault::Answer),
+        (Some(_), Some(value)) => match value.as_str() {
+            Some(text) => Ok(Some(text)),
+            None => Err(LineFault::Answer),
+        },
     }
 }
 
 /// The send that the line describes.
-fn send(tree: &Value, value: &Value, end: Option<u64>) -> Result<Said, LineFault> {
-    let body = body(value)?;
-    match answer(tree, end.is_some())? {
+fn send_of(end: Option<u64>, value: &Value, answer: Option<&Value>) -> Result<Said, LineFault>
+    ensures { result ≡ send_of end (view value.now) (option_map (λ v. view v.now) answer.entry) }
+{
+    let body = body_in(value)?;
+    match answer_of(end, answer)? {
         None => Ok(Said::Send(body)),
         Some("full") => Ok(Said::Full(body)),
         Some("closed") => Ok(Said::Closed(body)),
@@ -126,57 +158,108 @@ fn send(tree: &Value, value: &Value, end: Option<u64>) -> Result<Said, LineFault
     }
 }
 
-/// The take that the line describes.
-fn take(tree: &Value, value: &Value, end: Option<u64>) -> Result<Said, LineFault> {
-    if value.is_null() {
-        return match answer(tree, end.is_some())? {
-            None if end.is_none() => Ok(Said::Taking),
-            None => Ok(Said::FoundNone),
-            Some("ended" | "closed") => Ok(Said::Ended),
-            Some(_) => Err(LineFault::Answer),
-        };
+/// The take of no item that the line describes.
+fn no_item(end: Option<u64>, answer: Option<&Value>) -> Result<Said, LineFault>
+    ensures { result ≡ no_item end (option_map (λ v. view v.now) answer.entry) }
+{
+    match answer_of(end, answer)? {
+        None if end.is_none() => Ok(Said::Taking),
+        None => Ok(Said::FoundNone),
+        Some("ended" | "closed") => Ok(Said::Ended),
+        Some(_) => Err(LineFault::Answer),
     }
-    if tree.get("answer").is_some() {
+}
+
+/// The take of an item that the line describes.
+fn took_item(end: Option<u64>, value: &Value, answer: Option<&Value>) -> Result<Said, LineFault>
+    ensures { result ≡ took_item end (view value.now) (option_map (λ v. view v.now) answer.entry) }
+{
+    if answer.is_some() {
         return Err(LineFault::Answer);
     }
-    let body = body(value)?;
+    let body = body_in(value)?;
     if end.is_none() {
         return Err(LineFault::Open);
     }
     Ok(Said::Took(body))
 }
 
-/// The close that the line describes.
-fn close(tree: &Value, value: &Value) -> Result<Said, LineFault> {
-    if value.as_bool() != Some(true) {
-        return Err(LineFault::Call);
+/// The take that the line describes.
+fn take_of(end: Option<u64>, value: &Value, answer: Option<&Value>) -> Result<Said, LineFault>
+    ensures { result ≡ take_of end (view value.now) (option_map (λ v. view v.now) answer.entry) }
+{
+    if value.is_null() {
+        no_item(end, answer)
+    } else {
+        took_item(end, value, answer)
     }
-    match tree.get("answer") {
+}
+
+/// The close that the line describes.
+fn close_of(value: &Value, answer: Option<&Value>) -> Result<Said, LineFault>
+    ensures { result ≡ close_of (view value.now) (option_map (λ v. view v.now) answer.entry) }
+{
+    match value.as_bool() {
+        Some(true) => {}
+        _ => return Err(LineFault::Call),
+    }
+    match answer {
         None => Ok(Said::Close),
         Some(_) => Err(LineFault::Answer),
     }
 }
 
+/// The act of the call of a line, by the values of its keys.
+fn said_of(tree: &Value, end: Option<u64>) -> Result<Said, LineFault>
+    ensures { result ≡ said_in end (view tree.now) }
+{
+    let answer = tree.get("answer");
+    match (tree.get("send"), tree.get("take"), tree.get("close")) {
+        (Some(value), None, None) => send_of(end, value, answer),
+        (None, Some(value), None) => take_of(end, value, answer),
+        (None, None, Some(value)) => close_of(value, answer),
+        _ => Err(LineFault::Call),
+    }
+}
+
 /// The call that the line of this tree describes.
-pub fn read_line(tree: &Value) -> Result<Line, LineFault> {
-    has_keys(tree)?;
+pub fn read_line(tree: &Value) -> Result<Line, LineFault>
+    ensures { result ≡ line_of (view tree.now) }
+{
+    check_keys(tree)?;
     let Some(begin) = tree.get("begin").and_then(Value::as_u64) else {
         return Err(LineFault::Begin);
     };
-    let end = end(tree, begin)?;
-    let said = match (tree.get("send"), tree.get("take"), tree.get("close")) {
-        (Some(value), None, None) => send(tree, value, end)?,
-        (None, Some(value), None) => take(tree, value, end)?,
-        (None, None, Some(value)) => close(tree, value)?,
-        _ => return Err(LineFault::Call),
-    };
+    let end = end_of(begin, tree.get("end"))?;
+    let said = said_of(tree, end)?;
     Ok(Line { begin, end, said })
 }
 
-/// Whether the line of this tree says that the log begins late.
-pub fn begins_late(tree: &Value) -> bool {
-    match (tree.as_object(), tree.get("begins")) {
-        (Some(object), Some(value)) => object.len() == 1 && value.as_str() == Some("late"),
-        _ => false,
+/// Whether an object has the key `begins` alone.
+fn is_beginning(object: &Map<String, Value>) -> bool
+    ensures { result ≡ list_all (λ key. bytes_eq (string_bytes key) (codes "begins")) (keys object.now) }
+{
+    object.keys().all(|key| key.as_str() == "begins")
+}
+
+/// Whether the tree is an object with the key `begins` alone.
+#[tactic(auto, using(crate::proofs::Keys::all_keys))]
+fn begins_alone(tree: &Value) -> bool
+    ensures { result ≡ has_only (λ key. bytes_eq key (codes "begins")) (view tree.now) }
+{
+    match tree.as_object() {
+        Some(object) => is_beginning(object),
+        None => false,
     }
+}
+
+/// Whether the line of this tree says that the log begins late.
+pub fn begins_late(tree: &Value) -> bool
+    ensures { result ≡ begins_late (view tree.now) }
+{
+    begins_alone(tree)
+        && match tree.get("begins") {
+            Some(value) => value.as_str() == Some("late"),
+            None => false,
+        }
 }

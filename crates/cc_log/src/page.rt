@@ -193,7 +193,7 @@ fn verdict_json(
     let counts = format!(in alloc;
         ",\"skew\":\"{}\",\"calls\":{},\"left_out\":{left_out}",
         log.options.skew,
-        log.lines.len()
+        log.notes.lines.len()
     )?;
     text.push_str(counts.as_str())?;
     text.push_str("}\n")?;
@@ -225,8 +225,8 @@ fn act_json(alloc: Global, said: Said) -> Result<String, AllocError> {
 
 /// The line of JSON of a call: its times and the words of its item are texts, since a browser's numbers have 53 bits.
 fn call_json(alloc: Global, log: &Log, line: usize, shown: Shown) -> Result<String, AllocError> {
-    let name = match log.names.get_index(shown.thread as usize) {
-        Some(name) => quoted(alloc, name.as_str())?,
+    let name = match log.threads.get_index(shown.thread as usize) {
+        Some((name, _)) => quoted(alloc, name.as_str())?,
         None => quoted(alloc, "")?,
     };
     let mut text = String::from_str(alloc, "{")?;
@@ -270,7 +270,7 @@ fn write_calls<W: Sink>(
     requires { W.write_failures sink.old < 2 ^ 64 - 1 }
     ensures { OnOk result (W.write_failures sink.new ≡ W.write_failures sink.old) }
 {
-    for (place, (shown, marked)) in log.shown.iter().zip(marks.iter()).enumerate() {
+    for (place, (shown, marked)) in log.notes.shown.iter().zip(marks.iter()).enumerate() {
         if *marked {
             write_call(alloc, sink, log, log.line_of(place), *shown)?;
         }

@@ -1,14 +1,20 @@
-//! The lines of a log, one after another.
+//! The log that the lines of an input spell.
+ghost use Rattle.std.specs.Prelude.{◌≡◌, ◌<◌, ◌-◌, ◌^◌, ℕ, List, [], false, IfOk};
+ghost use Rattle.cc_log.specs.Answers.{Gives};
+ghost use Rattle.cc_log.specs.Judged.{no_options};
+ghost use Rattle.cc_log.specs.Lines.{HasInput};
+ghost use Rattle.cc_log.specs.Log.{Known, at_first, if_some, log_of};
+ghost use Rattle.cc_log.specs.State.{Shows, log_view};
 
-ghost use Rattle.std.specs.Prelude.{◌≡◌, ◌<◌, ◌-◌, ◌^◌, None, false};
-
-use crate::fault::{LineFault, LogFault};
-use crate::line::{Body, Line, Said, begins_late, body_text, read_line};
+use crate::fault::LogFault;
+use crate::late::pad;
+use crate::line::Line;
 use crate::lines::Lines;
+use crate::state::{State, add_line};
+use crate::threads::Last;
 use cc_io::Source;
-use cc_judge::{Act, Call, Rules, Tie};
-use indexmap::IndexSet;
-use serde_json::{Category, Value};
+use cc_judge::{Call, Rules};
+use indexmap::IndexMap;
 use std::alloc::Global;
 
 /// The options by which a log is judged.
@@ -25,7 +31,7 @@ pub struct Options {
 impl Options {
     /// Nothing is said.
     pub fn none() -> Options
-        ensures { result ≡ record { capacity = None; skew = 0; page = false } }
+        ensures { result ≡ no_options }
     {
         Options {
             capacity: None,
@@ -44,6 +50,19 @@ pub struct Shown {
     pub thread: u32,
 }
 
+/// Counts and lines for the text of the verdict and its page.
+#[derive(Drop)]
+pub struct Notes {
+    /// The numbers of the lines of those calls that have one, from 1.
+    pub lines: Vec<u32>,
+    /// The number of sends with the answer Full.
+    pub full: usize,
+    /// The number of sends with the answer Closed.
+    pub closed: usize,
+    /// The lines in order, if the answer is a page.
+    pub shown: Vec<Shown>,
+}
+
 /// A log.
 #[derive(Drop)]
 pub struct Log {
@@ -51,315 +70,96 @@ pub struct Log {
     pub calls: Vec<Call>,
     /// The rest that is known of the log.
     pub rules: Rules,
-    /// The numbers of the lines of those that have one, from 1.
-    pub lines: Vec<u32>,
     /// How many items there are: those of the calls are below.
     pub items: usize,
-    /// The number of sends with the answer Full.
-    pub full: usize,
-    /// The number of sends with the answer Closed.
-    pub closed: usize,
     /// The options by which it is judged.
     pub options: Options,
-    /// The lines in order, if the answer is a page.
-    pub shown: Vec<Shown>,
-    /// The names of the threads.
-    pub names: IndexSet<String>,
+    /// Counts and lines for the text of the verdict.
+    pub notes: Notes,
+    /// The names of the threads, each with the last call of its thread.
+    pub threads: IndexMap<String, Last>,
 }
 
 impl Log {
+    /// A log without calls.
+    fn empty(alloc: Global, options: Options) -> Log
+        ensures options { (result.options ≡ options) × (result.rules.capacity ≡ options.capacity) }
+        ensures calls { (result.calls.items ≡ []) × (result.rules.ties.items ≡ []) × (result.rules.closes ≡ false) }
+        ensures threads { result.threads.entries ≡ [] }
+    {
+        Log {
+            calls: Vec::new(alloc),
+            rules: Rules {
+                capacity: options.capacity,
+                closes: false,
+                ties: Vec::new(alloc),
+            },
+            items: 0,
+            options,
+            notes: Notes {
+                lines: Vec::new(alloc),
+                full: 0,
+                closed: 0,
+                shown: Vec::new(alloc),
+            },
+            threads: IndexMap::new(alloc),
+        }
+    }
+
     /// The number of the line of the call at a place, from 1, or 0 if it has none.
     pub fn line_of(&self, place: usize) -> usize {
-        match self.lines.get(place) {
+        match self.notes.lines.get(place) {
             Some(line) => *line as usize,
             None => 0,
         }
     }
 }
 
-/// The last call of a thread.
-#[derive(Clone, Copy)]
-struct Last {
-    begin: u64,
-    end: Option<u64>,
-    place: usize,
-}
-
-/// The log of the lines so far.
-#[derive(Drop)]
-struct Known {
-    /// The bodies, each of which is an item by its place.
-    bodies: IndexSet<Body>,
-    /// Of each item the place of its send.
-    sends: Vec<Option<u32>>,
-    /// Of each thread its last call.
-    lasts: Vec<Last>,
-    /// Whether the log begins late.
-    late: bool,
-}
-
-/// A line with a fault.
-fn fault_of(line: usize, fault: LineFault) -> LogFault {
-    LogFault::Line { line, fault }
-}
-
-/// The tree of a line.
-fn tree_of(alloc: Global, text: &[u8], line: usize) -> Result<Value, LogFault> {
-    match Value::from_slice(alloc, text) {
-        Ok(value) => Ok(value),
-        Err(e) => match e.classify() {
-            Category::Memory => Err(LogFault::Memory),
-            _ => Err(fault_of(line, LineFault::NoObject)),
-        },
-    }
-}
-
-/// A number in 32 bits; a log whose numbers don't fit them is too large for the memory.
-fn narrow(number: usize) -> Result<u32, LogFault> {
-    if number <= u32::MAX as usize {
-        Ok(number as u32)
-    } else {
-        Err(LogFault::Memory)
-    }
-}
-
-/// The item with this body.
-fn item(known: &mut Known, body: Body) -> Result<u32, LogFault> {
-    let (place, new) = known.bodies.insert_full(body)?;
-    if new {
-        known.sends.push(None)?;
-    }
-    narrow(place)
-}
-
-/// Notes that the call of the line that comes next sends an item; no other may have sent it.
-fn note_send(
-    alloc: Global,
-    known: &mut Known,
-    log: &Log,
-    item: u32,
-    body: Body,
-    line: usize,
-) -> Result<(), LogFault> {
-    let place = narrow(log.calls.len())?;
-    let item = item as usize;
-    match known.sends.get(item).copied() {
-        Some(Some(first)) => Err(LogFault::SentTwice {
-            first: log.line_of(first as usize),
-            second: line,
-            item: body_text(alloc, body, "")?,
-        }),
-        Some(None) => {
-            known.sends[item] = Some(place);
-            Ok(())
-        }
-        None => Ok(()),
-    }
-}
-
-/// The act of the call of a line.
-fn act(
-    alloc: Global,
-    known: &mut Known,
-    log: &mut Log,
-    said: Said,
-    line: usize,
-) -> Result<Act, LogFault> {
-    match said {
-        Said::Send(body) => {
-            let item = item(known, body)?;
-            note_send(alloc, known, log, item, body, line)?;
-            Ok(Act::Send(item))
-        }
-        Said::Took(body) => Ok(Act::Took(item(known, body)?)),
-        Said::FoundNone => Ok(Act::FoundNone),
-        Said::Taking => Ok(Act::Taking),
-        Said::Full(_) => {
-            log.full = log.full.saturating_add(1);
-            Ok(Act::Full)
-        }
-        Said::Closed(_) => {
-            log.closed = log.closed.saturating_add(1);
-            Ok(Act::Closed)
-        }
-        Said::Ended => Ok(Act::Ended),
-        Said::Close => {
-            log.rules.closes = true;
-            Ok(Act::Close)
-        }
-    }
-}
-
-/// Whether a call may come after the last one of its thread, and whether it began at the very time at which that ended.
-fn follows(last: Last, begin: u64) -> Result<bool, LineFault> {
-    match last.end {
-        None => Err(LineFault::AfterOpen),
-        Some(_) if begin < last.begin => Err(LineFault::Unsorted),
-        Some(end) if begin < end => Err(LineFault::Overlap),
-        Some(end) => Ok(begin == end),
-    }
-}
-
-/// The place of the thread that the line of a tree names.
-fn thread(alloc: Global, log: &mut Log, tree: &Value, line: usize) -> Result<usize, LogFault> {
-    let Some(value) = tree.get("thread") else {
-        return Err(fault_of(line, LineFault::Thread));
-    };
-    if let Some(name) = value.as_str() {
-        return named(alloc, log, name);
-    }
-    match value.as_u64() {
-        Some(number) => {
-            let name = format!(in alloc; "{number}")?;
-            named(alloc, log, name.as_str())
-        }
-        None => Err(fault_of(line, LineFault::Thread)),
-    }
-}
-
-/// The place of the thread of this name.
-fn named(alloc: Global, log: &mut Log, name: &str) -> Result<usize, LogFault> {
-    if let Some(place) = log.names.get_index_of(name) {
-        return Ok(place);
-    }
-    let (place, _) = log.names.insert_full(String::from_str(alloc, name)?)?;
-    Ok(place)
-}
-
-/// Notes the call of a thread, and the tie with its last one; or says why it can't come after that.
-fn go_on(
-    known: &mut Known,
-    log: &mut Log,
-    thread: usize,
-    now: Last,
-) -> Result<Result<(), LineFault>, LogFault> {
-    match known.lasts.get(thread).copied() {
-        None => known.lasts.push(now)?,
-        Some(last) => {
-            match follows(last, now.begin) {
-                Ok(tied) if tied && log.options.skew == 0 => log.rules.ties.push(Tie {
-                    earlier: narrow(last.place)?,
-                    later: narrow(now.place)?,
-                })?,
-                Ok(_) => {}
-                Err(fault) => return Ok(Err(fault)),
-            }
-            known.lasts[thread] = now;
-        }
-    }
-    Ok(Ok(()))
-}
-
-/// Adds the call of a line.
-fn add(
-    alloc: Global,
-    known: &mut Known,
-    log: &mut Log,
-    tree: &Value,
-    line: usize,
-) -> Result<(), LogFault> {
-    let read = read_line(tree).map_err(|fault| fault_of(line, fault))?;
-    let Line { begin, end, said } = read;
-    let thread = thread(alloc, log, tree, line)?;
-    let place = log.calls.len();
-    let now = Last { begin, end, place };
-    if let Err(fault) = go_on(known, log, thread, now)? {
-        return Err(fault_of(line, fault));
-    }
-    let act = act(alloc, known, log, said, line)?;
-    log.lines.push(narrow(line)?)?;
-    if log.options.page {
-        log.shown.push(Shown {
-            line: read,
-            thread: narrow(thread)?,
-        })?;
-    }
-    let skew = log.options.skew;
-    log.calls.push(Call {
-        begin: begin.saturating_sub(skew),
-        end: match end {
-            Some(end) => Some(end.saturating_add(skew)),
-            None => None,
-        },
-        act,
-    })?;
-    Ok(())
-}
-
-/// Adds the calls that a log which begins late may lack: of each item that no line sent, a send, and of each that no line took,
-/// a take, all of which began before the others and haven't returned.
-fn pad(alloc: Global, log: &mut Log) -> Result<(), LogFault> {
-    let mut sent = vec![in alloc; false; log.items]?;
-    let mut taken = vec![in alloc; false; log.items]?;
-    for call in &log.calls {
-        match call.act {
-            Act::Send(item) if (item as usize) < sent.len() => sent[item as usize] = true,
-            Act::Took(item) if (item as usize) < taken.len() => taken[item as usize] = true,
-            _ => {}
-        }
-    }
-    for (item, (sent, taken)) in sent.iter().zip(taken.iter()).enumerate() {
-        let act = match (*sent, *taken) {
-            (false, true) => Act::Send(narrow(item)?),
-            (true, false) => Act::Taking,
-            _ => continue,
-        };
-        log.calls.push(Call {
-            begin: 0,
-            end: None,
-            act,
-        })?;
-    }
-    Ok(())
-}
-
-/// The log that the lines of an input describe; empty lines are passed over. Or why they describe none: the first line with
-/// a fault, and its first fault.
-pub fn read_log<R: Source>(alloc: Global, source: &mut R, options: Options) -> Result<Log, LogFault>
-    requires { R.read_failures source.old < 2 ^ 64 - 1 }
+/// The log of no lines.
+fn at_first(alloc: Global, options: Options) -> State
+    ensures { Shows options result at_first }
 {
-    let mut known = Known {
-        bodies: IndexSet::new(alloc),
-        sends: Vec::new(alloc),
-        lasts: Vec::new(alloc),
+    State {
+        log: Log::empty(alloc, options),
+        items: IndexMap::new(alloc),
         late: false,
-    };
-    let mut log = Log {
-        calls: Vec::new(alloc),
-        rules: Rules {
-            capacity: options.capacity,
-            closes: false,
-            ties: Vec::new(alloc),
-        },
-        lines: Vec::new(alloc),
-        items: 0,
-        full: 0,
-        closed: 0,
-        options,
-        shown: Vec::new(alloc),
-        names: IndexSet::new(alloc),
-    };
-    let mut lines = Lines::new(alloc)?;
-    for _ in 0..u64::MAX {
-        let Some(place) = lines.next(source)? else {
-            break;
-        };
-        let text = lines.line(place);
-        if !text.trim_ascii().is_empty() {
-            let tree = tree_of(alloc, text, lines.number)?;
-            if log.calls.is_empty() && !known.late && begins_late(&tree) {
-                known.late = true;
-            } else {
-                add(alloc, &mut known, &mut log, &tree, lines.number)?;
-            }
-        }
     }
-    log.items = known.bodies.len();
+}
+
+/// The log of all lines.
+fn finish(alloc: Global, state: State) -> Result<Log, LogFault>
+    ensures due { (options : Options) (known : Known) → Shows options state known → Gives log_view result (if_some options.skew known) }
+    ensures capacity { IfOk result (λ log. log.rules.capacity ≡ state.log.rules.capacity) }
+{
+    let State {
+        mut log,
+        items,
+        late,
+    } = state;
     if log.calls.is_empty() {
         return Err(LogFault::Empty);
     }
-    if known.late {
-        pad(alloc, &mut log)?;
-    }
+    log.items = items.len();
+    pad(alloc, late, &mut log.calls, items.len())?;
     Ok(log)
+}
+
+/// The log that the lines of an input spell; blank lines are passed over. Or why they spell none: the first line with
+/// a fault, and its first fault.
+pub fn read_log<R: Source>(alloc: Global, source: &mut R, options: Options) -> Result<Log, LogFault>
+    requires { R.read_failures source.old < 2 ^ 64 - 1 }
+    ensures due { (input : List ℕ) × HasInput (R.bytes_left source.old) input × Gives log_view result (log_of options.skew input) }
+    ensures capacity { IfOk result (λ log. log.rules.capacity ≡ options.capacity) }
+{
+    let mut state = at_first(alloc, options);
+    let mut lines = Lines::new(alloc)?;
+    let mut line = Vec::new(alloc);
+    for number in 1..usize::MAX {
+        if !lines.next(source, number, &mut line)? {
+            return finish(alloc, state);
+        }
+        add_line(alloc, &mut state, &line, number)?;
+    }
+    // A log of that many lines is too large for the memory.
+    Err(LogFault::Memory)
 }

@@ -131,9 +131,13 @@ fn unjudged(log: &Log) -> Counts {
     let full = if log.rules.capacity.is_some() {
         0
     } else {
-        log.full
+        log.notes.full
     };
-    let closed = if log.rules.closes { 0 } else { log.closed };
+    let closed = if log.rules.closes {
+        0
+    } else {
+        log.notes.closed
+    };
     Counts { full, closed }
 }
 
@@ -145,7 +149,10 @@ fn refused(alloc: Global, log: &Log) -> Result<String, AllocError> {
         all => format!(in alloc; "{all} not judged: {full} full, {closed} closed")?,
     };
     if let Some(capacity) = log.rules.capacity {
-        let possible = format!(in alloc; "; {} may have found {capacity} in the queue", log.full)?;
+        let possible = format!(in alloc;
+            "; {} may have found {capacity} in the queue",
+            log.notes.full
+        )?;
         text.push_str(possible.as_str())?;
     }
     Ok(text)
@@ -154,9 +161,10 @@ fn refused(alloc: Global, log: &Log) -> Result<String, AllocError> {
 /// The number of calls that are in the order by what they did.
 fn judged(log: &Log) -> usize {
     let Counts { full: _, closed } = unjudged(log);
-    log.lines
+    log.notes
+        .lines
         .len()
-        .saturating_sub(log.full)
+        .saturating_sub(log.notes.full)
         .saturating_sub(closed)
 }
 

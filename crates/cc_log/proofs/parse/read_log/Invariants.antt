@@ -1,5 +1,15 @@
-use Rattle.std.proofs.Common.{◌≡◌}
+use Rattle.std.proofs.Common.{◌≡◌, ℕ, List}
+use Rattle.cc_log.specs.Lines.{IsAhead, IsSound}
+use Rattle.cc_log.specs.Log.{Known}
+use Rattle.cc_log.specs.State.{Shows}
+use Rattle.cc_log.proofs.Reading.{Leads}
 use Rattle.cc_log.proofs.parse.read_log.Given as goal
 
-abbrev pub invariant-loop : goal.invariant-loop
-invariant-loop g l = g.R.Source.read_failures l.source ≡ g.R.Source.read_failures l.fn.source
+abbrev pub invariant-loop-number : goal.invariant-loop-number
+invariant-loop-number g l = record {
+  failures : g.R.Source.read_failures l.source ≡ g.R.Source.read_failures l.fn.source;
+  sound : IsSound l.lines (g.R.Source.bytes_left l.source);
+  known : Known;
+  shows : Shows l.fn.options l.state known;
+  leads : (after : List ℕ) → IsAhead l.lines (g.R.Source.bytes_left l.source) after → Leads (g.R.Source.bytes_left l.fn.source) known l.number after;
+}

@@ -1,0 +1,112 @@
+-- Reading a log line by line.
+use Rattle.std.proofs.Common.{◌≡◌, ◌≢◌, ◌+◌, ◌++◌, ◌<◌, ℕ, Bool, true, false, List, [], ◌∷◌, length, nat_eq, nat_lt, if◌then◌else◌, Option, Result, Ok, Err, refl, sym, ap, subst, ◌∙◌, map, arith, true≢false}
+use Rattle.std.specs.Result.{IsErrAnd}
+use Rattle.std.specs.HashMap.{keys}
+use Rattle.std.proofs.lemmas.Bool.{lt-ltb}
+use Rattle.cc_log.specs.Names.{Call, LineFault, Log, LogFault, Options, State}
+use Rattle.cc_log.specs.Answers.{Gives, IsLongLine, Refuses}
+use Rattle.cc_log.specs.Lines.{GivesLine, HasInput, HasLines, IsAhead, IsSound, IsTooLong, held, is_blank, line_limit, lines_of}
+use Rattle.cc_log.specs.declared.lines.Lines.{Lines}
+use Rattle.cc_log.specs.Log.{Known, Refusal, no_calls, ◌>>=◌, at_first, bad_line, bodies_of, calls_of, has_close, if_some, log_of, padded, spelled, ties_of, tree_of, with_line, with_lines, with_tree}
+use Rattle.cc_log.specs.State.{IsStep, Shows, log_view}
+use Rattle.cc_log.proofs.Ahead.{some_ahead, some_input}
+use Rattle.cc_log.proofs.Steps.{calls_length, refused_first}
+
+-- the source had an input from which the lines up to here were read
+pub record Leads (left : Option (List ℕ)) (known : Known) (number : ℕ) (after : List ℕ) : Type 0 where
+  pub input : List ℕ
+  pub has : HasInput left input
+  pub same : with_lines at_first 1 (lines_of input) ≡ with_lines known number (lines_of after)
+
+-- nothing was read yet
+pub leads_at_first : (l : Lines) (left : Option (List ℕ)) → held l ≡ [] → (after : List ℕ) → IsAhead l left after → Leads left at_first 1 after
+leads_at_first l left none after ahead = record {
+  input = after;
+  has = subst (HasInput left) (sym (ahead.text_is ∙ ap (λ h. h ++ ahead.rest) none)) ahead.in_source;
+  same = refl;
+}
+
+-- after one more line
+pub leads_on : (left_first left_old left_new : Option (List ℕ)) (old new : Lines) (known next : Known) (number : ℕ) (line : List ℕ) → GivesLine old new left_old left_new line → with_line known number line ≡ Ok next
+    → ((after : List ℕ) → IsAhead old left_old after → Leads left_first known number after) → (after : List ℕ) → IsAhead new left_new after → Leads left_first next (number + 1) after
+leads_on left_first left_old left_new old new known next number line gives is leads after ahead =
+    let h = gives after ahead in
+    let before = leads h.text h.ahead in
+    record {
+      input = before.input;
+      has = before.has;
+      same = before.same ∙ ap (λ lines. with_lines known number lines) h.lines_are ∙ ap (λ r. r >>= (λ k. with_lines k (number + 1) (lines_of after))) is;
+    }
+
+-- what is due of the input of a source
+pub record Due {A V : Type 0} (left : Option (List ℕ)) (value : A → V) (result : Result A LogFault) (due : List ℕ → Result V Refusal) : Type 0 where
+  pub input : List ℕ
+  pub has : HasInput left input
+  pub gives : Gives value result (due input)
+
+-- no further line
+pub at_end : (left_first left : Option (List ℕ)) (l : Lines) (known : Known) (number skew : ℕ) (result : Result Log LogFault) → HasLines l left [] [] → ((after : List ℕ) → IsAhead l left after → Leads left_first known number after)
+    → Gives log_view result (if_some skew known) → (input : List ℕ) × HasInput left_first input × Gives log_view result (log_of skew input)
+at_end left_first left l known number skew result none leads gives =
+    let h = leads none.text none.ahead in
+    (h.input, h.has, subst (λ r. Gives log_view result (r >>= if_some skew)) (sym (h.same ∙ ap (λ lines. with_lines known number lines) none.lines_are)) gives)
+
+-- a refused line
+pub refused_line : (left_first left : Option (List ℕ)) (l : Lines) (known : Known) (number skew : ℕ) (line : List ℕ) (rest : List (List ℕ)) (fault : LogFault) → HasLines l left [] (line ∷ rest)
+    → ((after : List ℕ) → IsAhead l left after → Leads left_first known number after) → Refuses fault (with_line known number line) → (input : List ℕ) × HasInput left_first input × Refuses fault (log_of skew input)
+refused_line left_first left l known number skew line rest fault has leads refuses =
+    let h = leads has.text has.ahead in (
+      h.input,
+      h.has,
+      subst (λ r. Refuses fault (r >>= if_some skew)) (sym (h.same ∙ ap (λ lines. with_lines known number lines) has.lines_are))
+          (refused_first fault (with_line known number line >>= (λ k. with_lines k (number + 1) rest)) (if_some skew) (refused_first fault (with_line known number line) (λ k. with_lines k (number + 1) rest) refuses)),
+    )
+
+-- a line that is too long
+long_refused : (known : Known) (number : ℕ) (line : List ℕ) → line_limit < length line → with_line known number line ≡ Err (bad_line number LineFault.TooLong)
+long_refused known number line long = ap (λ b. if b then Err (bad_line number LineFault.TooLong) else (if is_blank line then Ok known else (tree_of number line >>= with_tree known number))) (lt-ltb line_limit (length line) long)
+
+pub long_line : (left_first left : Option (List ℕ)) (l : Lines) (known : Known) (number skew : ℕ) (fault : LogFault) → IsLongLine number (IsTooLong l left) fault
+    → ((after : List ℕ) → IsAhead l left after → Leads left_first known number after) → (input : List ℕ) × HasInput left_first input × Refuses fault (log_of skew input)
+long_line left_first left l known number skew (LogFault.Line line fault) long leads =
+    let t = long.2 in
+    refused_line left_first left l known number skew t.line t.rest (LogFault.Line line fault) t.has_lines leads
+    (long_refused known number t.line t.long ∙ ap (λ n. Err (bad_line n LineFault.TooLong)) (sym long.0) ∙ ap (λ f. Err (bad_line line f)) (sym long.1))
+long_line left_first left l known number skew (LogFault.SentTwice first second item) long leads = absurd long
+long_line left_first left l known number skew LogFault.Empty long leads = absurd long
+long_line left_first left l known number skew LogFault.Read long leads = let i = some_input left_first in (i.0, i.1, tt)
+long_line left_first left l known number skew LogFault.Memory long leads = let i = some_input left_first in (i.0, i.1, tt)
+
+-- a line that was refused after it was read
+pub line_refused : (left_first left_old left_new : Option (List ℕ)) (old new : Lines) (known : Known) (number skew : ℕ) (line : List ℕ) (fault : LogFault) → IsSound new left_new → GivesLine old new left_old left_new line
+    → ((after : List ℕ) → IsAhead old left_old after → Leads left_first known number after) → Refuses fault (with_line known number line) → (input : List ℕ) × HasInput left_first input × Refuses fault (log_of skew input)
+line_refused left_first left_old left_new old new known number skew line fault sound gives leads refuses =
+    let some = some_ahead new left_new sound in
+    refused_line left_first left_old old known number skew line (lines_of some.0) fault (gives some.0 some.1) leads refuses
+
+-- a fault that was passed on
+pub passed_on : {A V : Type 0} (left : Option (List ℕ)) (value : A → V) (due : List ℕ → Result V Refusal) (result : Result A LogFault) (fault : LogFault) → IsErrAnd result (λ f. f ≡ fault)
+    → (input : List ℕ) × HasInput left input × Refuses fault (due input) → (input : List ℕ) × HasInput left input × Gives value result (due input)
+passed_on left value due (Ok x) fault h refused = absurd h
+passed_on left value due (Err f) fault h refused = (refused.0, refused.1, subst (λ x. Refuses x (due refused.0)) (sym h) refused.2)
+
+pub no_memory : {V : Type 0} (left : Option (List ℕ)) (due : List ℕ → Result V Refusal) → (input : List ℕ) × HasInput left input × Refuses LogFault.Memory (due input)
+no_memory left due = let i = some_input left in (i.0, i.1, tt)
+
+-- ---- the log of all lines
+
+pub has_calls : (options : Options) (s : State) (known : Known) → Shows options s known → length s.log.calls.items ≡ length known.before
+has_calls options s known shows = ap length shows.calls ∙ calls_length options.skew known.before
+
+pub no_calls_given : (options : Options) (s : State) (known : Known) → Shows options s known → nat_eq (length s.log.calls.items) 0 ≡ true → if_some options.skew known ≡ Err no_calls
+no_calls_given options s known shows none = ap (λ b. if b then Err no_calls else Ok (spelled options.skew known)) (ap (λ n. nat_eq n 0) (sym (has_calls options s known shows)) ∙ none)
+
+pub finished : (options : Options) (s : State) (known : Known) (calls : List Call) (items : ℕ) → Shows options s known → nat_eq (length s.log.calls.items) 0 ≡ false → items ≡ length (keys s.items) → calls ≡ padded s.late s.log.calls.items items
+    → if_some options.skew known ≡ Ok (record { calls = calls; closes = s.log.rules.closes; ties = s.log.rules.ties.items })
+finished options s known calls items shows some count is =
+    let whole : calls ≡ padded known.late (calls_of options.skew known.before) (length (bodies_of known.before)) =
+    is ∙ ap (λ n. padded s.late s.log.calls.items n) (count ∙ ap length shows.bodies) ∙ ap (λ cs. padded s.late cs (length (bodies_of known.before))) shows.calls ∙ ap (λ b. padded b (calls_of options.skew known.before) (length (bodies_of known.before))) shows.late in
+    ap (λ b. if b then Err no_calls else Ok (spelled options.skew known)) (ap (λ n. nat_eq n 0) (sym (has_calls options s known shows)) ∙ some)
+    ∙ ap (λ cs. Ok (record { calls = cs; closes = has_close known.before; ties = ties_of options.skew known.before })) (sym whole)
+    ∙ ap (λ b. Ok (record { calls = calls; closes = b; ties = ties_of options.skew known.before })) (sym shows.closes)
+    ∙ ap (λ ts. Ok (record { calls = calls; closes = s.log.rules.closes; ties = ts })) (sym shows.ties)

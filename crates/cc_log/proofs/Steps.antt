@@ -1,0 +1,127 @@
+-- One line of a log: its tree, and what is known after it.
+use Rattle.std.proofs.Common.{◌≡◌, ◌++◌, ◌&&◌, ℕ, true, false, not, nat_eq, Bool, if◌then◌else◌, List, [], ◌∷◌, length, Option, Some, None, Result, Ok, Err, refl, sym, ap, subst, ◌∙◌, arith, length-append}
+use Rattle.std.specs.Str.{IsUtf8, bytes_eq}
+use Rattle.std.specs.HashMap.{keys}
+use Rattle.std.specs.Result.{IsErrAnd}
+use Rattle.serde_json.specs.Data.{Data}
+use Rattle.serde_json.specs.Read.{read}
+use Rattle.cc_plan.proofs.Trees.{json_of_text, no_tree}
+use Rattle.cc_log.specs.Names.{Last, LineFault, LogFault, Options, Said, State}
+use Rattle.cc_log.specs.Answers.{Refuses}
+use Rattle.cc_log.specs.Line.{Body, begins_late, or_fault}
+use Rattle.cc_log.specs.Log.{Entry, Known, Refusal, ◌>>=◌, after_last, allowed, bad_line, call_of, calls_of, bodies_of, differs, entry_of, has_close, is_close, is_first, item_in, last_of, or_refusal, sender_of, sends, tie_with, ties_of, tree_of, with_entry, with_item, with_tree}
+use Rattle.cc_log.specs.State.{Added, Adds, IsStep, Shows, last_in, sender_in}
+
+pub tree_given : (number : ℕ) (bytes : List ℕ) (d : Data) → IsUtf8 bytes × (read bytes ≡ Some d) → tree_of number bytes ≡ Ok d
+tree_given number bytes d h = ap (λ o. or_refusal number (or_fault LineFault.NoObject o)) (json_of_text bytes d h)
+
+pub no_tree_given : (number : ℕ) (bytes : List ℕ) → (IsUtf8 bytes → read bytes ≡ None) → tree_of number bytes ≡ Err (bad_line number LineFault.NoObject)
+no_tree_given number bytes h = ap (λ o. or_refusal number (or_fault LineFault.NoObject o)) (no_tree bytes h)
+
+-- a refusal stays one, whatever was to come after it
+pub refused_first : {A B : Type 0} (fault : LogFault) (due : Result A Refusal) (next : A → Result B Refusal) → Refuses fault due → Refuses fault (due >>= next)
+refused_first (LogFault.Line line fault) due next h = ap (λ r. r >>= next) h
+refused_first (LogFault.SentTwice first second item) due next h = ap (λ r. r >>= next) h
+refused_first LogFault.Empty due next h = ap (λ r. r >>= next) h
+refused_first LogFault.Read due next h = tt
+refused_first LogFault.Memory due next h = tt
+
+pub refused_next : {A B : Type 0} (fault : LogFault) (due : Result A Refusal) (x : A) (next : A → Result B Refusal) → due ≡ Ok x → Refuses fault (next x) → Refuses fault (due >>= next)
+refused_next fault due x next is h = subst (λ r. Refuses fault (r >>= next)) (sym is) h
+
+-- the item of a call that may not come next
+pub refused_item : (fault : LogFault) (e : Entry) (last : Option Last) (sender : Body → Option ℕ) → after_last e.line.begin last ≡ Ok tt → Refuses fault (differs e.number e.line.said sender) → Refuses fault (allowed e last sender)
+refused_item fault e last sender free h = refused_next fault (or_refusal e.number (after_last e.line.begin last)) tt (λ free. differs e.number e.line.said sender) (ap (or_refusal e.number) free) h
+
+pub allowed_given : (e : Entry) (last : Option Last) (sender : Body → Option ℕ) → after_last e.line.begin last ≡ Ok tt → differs e.number e.line.said sender ≡ Ok tt → allowed e last sender ≡ Ok tt
+allowed_given e last sender free new = ap (λ r. or_refusal e.number r >>= (λ free. differs e.number e.line.said sender)) free ∙ new
+
+-- only the sender of its own item counts
+same_sender : (number : ℕ) (said : Said) (f g : Body → Option ℕ) → ((body : Body) → f body ≡ g body) → differs number said f ≡ differs number said g
+same_sender number (Said.Send body) f g same = ap (λ o. differs number (Said.Send body) (λ b. o)) (same body)
+same_sender number (Said.Took body) f g same = refl
+same_sender number Said.FoundNone f g same = refl
+same_sender number Said.Taking f g same = refl
+same_sender number (Said.Full body) f g same = refl
+same_sender number (Said.Closed body) f g same = refl
+same_sender number Said.Ended f g same = refl
+same_sender number Said.Close f g same = refl
+
+-- what the state has decides whether a call may come next
+decided : (options : Options) (s : State) (known : Known) (e : Entry) → Shows options s known → allowed e (last_in s e.thread) (sender_in s.items) ≡ allowed e (last_of e.thread known.before) (λ body. sender_of body known.before)
+decided options s known e shows =
+    ap (λ last. allowed e last (sender_in s.items)) (shows.lasts e.thread)
+    ∙ ap (λ r. or_refusal e.number (after_last e.line.begin (last_of e.thread known.before)) >>= (λ free. r)) (same_sender e.number e.line.said (sender_in s.items) (λ body. sender_of body known.before) shows.senders)
+
+pub calls_length : (skew : ℕ) (before : List Entry) → length (calls_of skew before) ≡ length before
+calls_length skew [] = refl
+calls_length skew (e ∷ before) = length-append (calls_of skew before) (call_of skew (bodies_of before) e.line ∷ []) ∙ omega (arith, calls_length skew before)
+
+place_of : (options : Options) (s : State) (known : Known) → Shows options s known → length s.log.calls.items ≡ length known.before
+place_of options s known shows = ap length shows.calls ∙ calls_length options.skew known.before
+
+-- the state after a call
+pub shown_after : (options : Options) (s new : State) (known : Known) (e : Entry) → Shows options s known → Added s new e → Shows options new (record known { before = e ∷ known.before })
+shown_after options s new known e shows added =
+    let place : added.place ≡ length known.before = added.place_is ∙ place_of options s known shows in
+    let skew : s.log.options.skew ≡ options.skew = ap (λ (o : Options). o.skew) shows.options_is in
+    record {
+      options_is = added.options ∙ shows.options_is;
+      capacity = added.capacity ∙ shows.capacity;
+      late = added.late ∙ shows.late;
+      bodies = added.bodies ∙ ap (λ bodies. with_item bodies (item_in e.line.said)) shows.bodies;
+      senders = λ body. added.senders body ∙ ap (λ o. if sends body e.line.said then Some e.number else o) (shows.senders body);
+      lasts = λ thread. added.lasts thread ∙ ap (λ p. if bytes_eq e.thread thread then Some (record { begin = e.line.begin; end = e.line.end; place = p }) else last_in s thread) place
+          ∙ ap (λ o. if bytes_eq e.thread thread then Some (record { begin = e.line.begin; end = e.line.end; place = length known.before }) else o) (shows.lasts thread);
+      calls = added.calls ∙ ap (λ calls. calls ++ call_of s.log.options.skew (keys s.items) e.line ∷ []) shows.calls
+          ∙ ap (λ bodies. calls_of options.skew known.before ++ call_of s.log.options.skew bodies e.line ∷ []) shows.bodies
+          ∙ ap (λ n. calls_of options.skew known.before ++ call_of n (bodies_of known.before) e.line ∷ []) skew;
+      ties = added.ties ∙ ap (λ ties. ties ++ tie_with s.log.options.skew added.place e.line.begin (last_in s e.thread)) shows.ties
+          ∙ ap (λ n. ties_of options.skew known.before ++ tie_with n added.place e.line.begin (last_in s e.thread)) skew
+          ∙ ap (λ p. ties_of options.skew known.before ++ tie_with options.skew p e.line.begin (last_in s e.thread)) place
+          ∙ ap (λ last. ties_of options.skew known.before ++ tie_with options.skew (length known.before) e.line.begin last) (shows.lasts e.thread);
+      closes = added.closes ∙ ap (λ (b : Bool). if is_close e.line.said then true else b) shows.closes;
+    }
+
+-- a call that was added, or refused
+pub step_of_entry : (options : Options) (s new : State) (known : Known) (e : Entry) (result : Result (Unit {0}) LogFault) → Shows options s known → Adds s new e result → IsStep options (with_entry known e) result new
+step_of_entry options s new known e (Ok done) shows added = (
+  record known { before = e ∷ known.before },
+  ap (λ r. r >>= (λ fine. Ok (record known { before = e ∷ known.before }))) (sym (decided options s known e shows) ∙ added.is_allowed),
+  shown_after options s new known e shows added,
+)
+step_of_entry options s new known e (Err fault) shows refused =
+    refused_first fault (allowed e (last_of e.thread known.before) (λ body. sender_of body known.before)) (λ fine. Ok (record known { before = e ∷ known.before }))
+    (subst (Refuses fault) (decided options s known e shows) refused)
+
+-- no call came before
+first_when : (options : Options) (s : State) (known : Known) → Shows options s known → is_first known ≡ (nat_eq (length s.log.calls.items) 0 && not s.late)
+first_when options s known shows = ap (λ n. nat_eq n 0 && not known.late) (sym (place_of options s known shows)) ∙ ap (λ b. nat_eq (length s.log.calls.items) 0 && not b) (sym shows.late)
+
+-- the line that says that the log begins late
+pub step_of_beginning : (options : Options) (s : State) (known : Known) (number : ℕ) (d : Data) → Shows options s known → ((nat_eq (length s.log.calls.items) 0 && not s.late) && begins_late d) ≡ true → IsStep options (with_tree known number d) (Ok tt) (record s { late = true })
+step_of_beginning options s known number d shows first = (
+  record known { late = true },
+  ap (λ b. if b then Ok (record known { late = true }) else (entry_of number d >>= with_entry known)) (ap (λ b. b && begins_late d) (first_when options s known shows) ∙ first),
+  record { options_is = shows.options_is; capacity = shows.capacity; late = refl; bodies = shows.bodies; senders = shows.senders; lasts = shows.lasts; calls = shows.calls; ties = shows.ties; closes = shows.closes },
+)
+
+-- any other line
+pub tree_of_call : (options : Options) (s : State) (known : Known) (number : ℕ) (d : Data) → Shows options s known → ((nat_eq (length s.log.calls.items) 0 && not s.late) && begins_late d) ≡ false → with_tree known number d ≡ (entry_of number d >>= with_entry known)
+tree_of_call options s known number d shows other =
+    ap (λ b. if b then Ok (record known { late = true }) else (entry_of number d >>= with_entry known)) (ap (λ b. b && begins_late d) (first_when options s known shows) ∙ other)
+
+pub step_of_call : (options : Options) (s new : State) (known : Known) (number : ℕ) (d : Data) (e : Entry) (result : Result (Unit {0}) LogFault) → Shows options s known → ((nat_eq (length s.log.calls.items) 0 && not s.late) && begins_late d) ≡ false
+    → entry_of number d ≡ Ok e → Adds s new e result → IsStep options (with_tree known number d) result new
+step_of_call options s new known number d e result shows other is adds =
+    subst (λ due. IsStep options due result new) (sym (tree_of_call options s known number d shows other ∙ ap (λ r. r >>= with_entry known) is)) (step_of_entry options s new known e result shows adds)
+
+pub refused_call : (options : Options) (s : State) (known : Known) (number : ℕ) (d : Data) (fault : LogFault) → Shows options s known → ((nat_eq (length s.log.calls.items) 0 && not s.late) && begins_late d) ≡ false
+    → Refuses fault (entry_of number d) → Refuses fault (with_tree known number d)
+refused_call options s known number d fault shows other h =
+    subst (Refuses fault) (sym (tree_of_call options s known number d shows other)) (refused_first fault (entry_of number d) (with_entry known) h)
+
+-- a fault that was passed on
+pub fault_passed : (old new : State) (e : Entry) (result : Result (Unit {0}) LogFault) (fault : LogFault) → IsErrAnd result (λ f. f ≡ fault) → Refuses fault (allowed e (last_in old e.thread) (sender_in old.items)) → Adds old new e result
+fault_passed old new e (Ok done) fault h refused = absurd h
+fault_passed old new e (Err f) fault h refused = subst (λ x. Refuses x (allowed e (last_in old e.thread) (sender_in old.items))) (sym h) refused

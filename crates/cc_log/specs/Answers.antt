@@ -1,0 +1,25 @@
+-- The results of a function that reads a log.
+use Rattle.std.specs.Prelude.{ℕ, ◌≡◌, Result, Ok, Err, ⊤}
+use Rattle.cc_log.specs.Names.{LineFault, LogFault}
+use Rattle.cc_log.specs.Log.{Refusal, bad_line, sent_twice, no_calls}
+
+-- the refusal is the one that is due; of lack of memory and of a failed read nothing is said
+abbrev pub Refuses : {V : Type 0} → LogFault → Result V Refusal → Type 0
+Refuses (LogFault.Line line fault) due = due ≡ Err (bad_line line fault)
+Refuses (LogFault.SentTwice first second item) due = due ≡ Err (sent_twice first second)
+Refuses LogFault.Empty due = due ≡ Err no_calls
+Refuses LogFault.Read due = ⊤
+Refuses LogFault.Memory due = ⊤
+
+-- the value that is due, or a refusal as above
+abbrev pub Gives : {A V : Type 0} → (A → V) → Result A LogFault → Result V Refusal → Type 0
+Gives value (Ok x) due = due ≡ Ok (value x)
+Gives value (Err fault) due = Refuses fault due
+
+-- the line with this number is too long, if it is said to be; memory or a read may have failed
+abbrev pub IsLongLine : (number : ℕ) → Type 0 → LogFault → Type 0
+IsLongLine number long (LogFault.Line line fault) = (line ≡ number) × (fault ≡ LineFault.TooLong) × long
+IsLongLine number long (LogFault.SentTwice first second item) = ⊥
+IsLongLine number long LogFault.Empty = ⊥
+IsLongLine number long LogFault.Read = ⊤
+IsLongLine number long LogFault.Memory = ⊤

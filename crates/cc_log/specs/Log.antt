@@ -1,0 +1,242 @@
+-- The log that the lines of an input spell, or the first line with a fault.
+use Rattle.std.specs.Prelude.{ℕ, zero, suc, ◌+◌, ◌-◌, ◌^◌, ◌==◌, ◌&&◌, min, Bool, true, false, not, List, [], ◌∷◌, ◌++◌, length, nat_lt, if◌then◌else◌, Option, Some, None, option_map, slice_get, slice_set, unwrap_or, fold, replicate, Result, Ok, Err}
+use Rattle.std.specs.List.{position_or_len}
+use Rattle.serde_json.specs.Data.{Data}
+use Rattle.indexmap.specs.IndexSet.{insert_key}
+use Rattle.std.specs.Str.{bytes_eq}
+use Rattle.cc_plan.specs.Json.{json_of}
+use Rattle.cc_log.specs.Names.{Act, Call, Last, Line, LineFault, Said, Tie}
+use Rattle.cc_log.specs.Line.{Body, begins_late, line_of, or_fault, thread_of}
+use Rattle.cc_log.specs.Lines.{is_blank, line_limit, lines_of}
+
+-- why an input is no log
+pub data Refusal : Type 0 where
+  -- the line with this number, from 1, has this fault
+  bad_line : (line : ℕ) → LineFault → Refusal
+  -- the lines with these numbers sent one item
+  sent_twice : (first second : ℕ) → Refusal
+  -- no line has a call
+  no_calls : Refusal
+
+infixl 10 ◌>>=◌
+abbrev pub ◌>>=◌ : {A B : Type 0} → Result A Refusal → (A → Result B Refusal) → Result B Refusal
+(Ok x) >>= f = f x
+(Err e) >>= f = Err e
+
+-- a call as its line has it: the number of the line, the name of its thread, and the rest
+pub record Entry : Type 0 where
+  pub number : ℕ
+  pub thread : List ℕ
+  pub line : Line
+
+-- The entries before a line are in a list from the last one to the first.
+
+-- ---- threads
+
+-- the last call of a thread
+abbrev pub last_of : (thread : List ℕ) → (before : List Entry) → Option Last
+last_of thread [] = None
+last_of thread (e ∷ before) = if bytes_eq e.thread thread then Some (record { begin = e.line.begin; end = e.line.end; place = length before }) else last_of thread before
+
+-- a call of a thread may begin then, if its last call has ended and the lines are sorted
+abbrev pub after_end : (begin last_begin : ℕ) → (last_end : Option ℕ) → Result (Unit {0}) LineFault
+after_end begin last_begin None = Err LineFault.AfterOpen
+after_end begin last_begin (Some last_end) = if nat_lt begin last_begin then Err LineFault.Unsorted else (if nat_lt begin last_end then Err LineFault.Overlap else Ok tt)
+
+abbrev pub after_last : (begin : ℕ) → Option Last → Result (Unit {0}) LineFault
+after_last begin None = Ok tt
+after_last begin (Some last) = after_end begin last.begin last.end
+
+-- the call began at the very time at which the last one ended
+abbrev pub touches : (begin : ℕ) → Option ℕ → Bool
+touches begin None = false
+touches begin (Some last_end) = begin == last_end
+
+-- if it did, the lines order the two, unless clocks may differ
+abbrev pub tie_with : (skew place begin : ℕ) → Option Last → List Tie
+tie_with skew place begin None = []
+tie_with skew place begin (Some last) = if touches begin last.end && (skew == 0) then record { earlier = last.place; later = place } ∷ [] else []
+
+abbrev pub ties_of : (skew : ℕ) → List Entry → List Tie
+ties_of skew [] = []
+ties_of skew (e ∷ before) = ties_of skew before ++ tie_with skew (length before) e.line.begin (last_of e.thread before)
+
+-- ---- items
+
+abbrev pub same_body : Body → Body → Bool
+same_body a b = ((((a.0 == b.0) && (a.1 == b.1)) && (a.2 == b.2)) && (a.3 == b.3)) && (a.4 == b.4)
+
+-- the body of the item that a call sent or took
+abbrev pub item_in : Said → Option Body
+item_in (Said.Send body) = Some body
+item_in (Said.Took body) = Some body
+item_in _ = None
+
+abbrev pub with_item : List Body → Option Body → List Body
+with_item bodies None = bodies
+with_item bodies (Some body) = insert_key same_body bodies body
+
+-- the bodies of the items, in the order in which they first appear: each is an item by its place
+abbrev pub bodies_of : List Entry → List Body
+bodies_of [] = []
+bodies_of (e ∷ before) = with_item (bodies_of before) (item_in e.line.said)
+
+-- the item of this body: its place, or the next one if it is new
+abbrev pub item_of : List Body → Body → ℕ
+item_of bodies body = position_or_len (same_body body) bodies
+
+-- the line of the call that sent the body
+abbrev pub sends : Body → Said → Bool
+sends body (Said.Send sent) = same_body sent body
+sends body _ = false
+
+abbrev pub sender_of : Body → (before : List Entry) → Option ℕ
+sender_of body [] = None
+sender_of body (e ∷ before) = if sends body e.line.said then Some e.number else sender_of body before
+
+-- no earlier line sent the same item
+abbrev pub unsent : (number : ℕ) → Option ℕ → Result (Unit {0}) Refusal
+unsent number None = Ok tt
+unsent number (Some first) = Err (sent_twice first number)
+
+abbrev pub differs : (number : ℕ) → Said → (sender : Body → Option ℕ) → Result (Unit {0}) Refusal
+differs number (Said.Send body) sender = unsent number (sender body)
+differs number _ sender = Ok tt
+
+-- ---- calls
+
+abbrev pub act_of : List Body → Said → Act
+act_of bodies (Said.Send body) = Act.Send (item_of bodies body)
+act_of bodies (Said.Took body) = Act.Took (item_of bodies body)
+act_of bodies Said.FoundNone = Act.FoundNone
+act_of bodies Said.Taking = Act.Taking
+act_of bodies (Said.Full body) = Act.Full
+act_of bodies (Said.Closed body) = Act.Closed
+act_of bodies Said.Ended = Act.Ended
+act_of bodies Said.Close = Act.Close
+
+-- the call may have begun earlier and ended later than its line says, by the skew
+abbrev pub call_of : (skew : ℕ) → List Body → Line → Call
+call_of skew bodies line = record { begin = line.begin - skew; end = option_map (λ end. min (end + skew) (2 ^ 64 - 1)) line.end; act = act_of bodies line.said }
+
+abbrev pub calls_of : (skew : ℕ) → List Entry → List Call
+calls_of skew [] = []
+calls_of skew (e ∷ before) = calls_of skew before ++ call_of skew (bodies_of before) e.line ∷ []
+
+abbrev pub is_close : Said → Bool
+is_close Said.Close = true
+is_close _ = false
+
+abbrev pub has_close : List Entry → Bool
+has_close [] = false
+has_close (e ∷ before) = if is_close e.line.said then true else has_close before
+
+-- ---- a log that begins late
+
+-- a call that began before the others and hasn't returned
+abbrev pub early : Act → Call
+early act = record { begin = 0; end = None; act = act }
+
+-- of each item whether a call sent it: of none at first
+abbrev pub mark_sent : List Bool → Act → List Bool
+mark_sent marks (Act.Send item) = slice_set marks item true
+mark_sent marks _ = marks
+
+abbrev pub mark_taken : List Bool → Act → List Bool
+mark_taken marks (Act.Took item) = slice_set marks item true
+mark_taken marks _ = marks
+
+abbrev pub sent_items : (items : ℕ) → List Call → List Bool
+sent_items items calls = fold (λ marks call. mark_sent marks call.act) (replicate items false) calls
+
+abbrev pub taken_items : (items : ℕ) → List Call → List Bool
+taken_items items calls = fold (λ marks call. mark_taken marks call.act) (replicate items false) calls
+
+-- what the log may lack of an item: its send if it was taken, and its take if it was sent
+abbrev pub lacking : (is_sent is_taken : Bool) → (item : ℕ) → List Call
+lacking false true item = early (Act.Send item) ∷ []
+lacking true false item = early Act.Taking ∷ []
+lacking _ _ item = []
+
+-- the same of all items below a number
+abbrev pub padding : (sent taken : List Bool) → (items : ℕ) → List Call
+padding sent taken zero = []
+padding sent taken (suc item) = padding sent taken item ++ lacking (unwrap_or (slice_get sent item) false) (unwrap_or (slice_get taken item) false) item
+
+-- the calls of a log that begins late, or doesn't
+abbrev pub padded : (late : Bool) → List Call → (items : ℕ) → List Call
+padded false calls items = calls
+padded true calls items = calls ++ padding (sent_items items calls) (taken_items items calls) items
+
+-- ---- the log
+
+-- the calls of a log, and the rest that is known of it
+pub record Spelled : Type 0 where
+  pub calls : List Call
+  pub closes : Bool
+  pub ties : List Tie
+
+-- the lines so far: whether they say that the log begins late, and their calls
+pub record Known : Type 0 where
+  pub late : Bool
+  pub before : List Entry
+
+abbrev pub at_first : Known
+at_first = record { late = false; before = [] }
+
+abbrev pub or_refusal : {A : Type 0} → (number : ℕ) → Result A LineFault → Result A Refusal
+or_refusal number (Ok x) = Ok x
+or_refusal number (Err fault) = Err (bad_line number fault)
+
+-- the call that the tree of a line describes
+abbrev pub entry_of : (number : ℕ) → Data → Result Entry Refusal
+entry_of number d = do
+  line ← or_refusal number (line_of d)
+  thread ← or_refusal number (thread_of d)
+  Ok (record { number = number; thread = thread; line = line })
+
+-- a call may come next if its thread is free, and no line has sent its item
+abbrev pub allowed : Entry → (last : Option Last) → (sender : Body → Option ℕ) → Result (Unit {0}) Refusal
+allowed e last sender = do
+  free ← or_refusal e.number (after_last e.line.begin last)
+  differs e.number e.line.said sender
+
+-- that call comes after those before
+abbrev pub with_entry : Known → Entry → Result Known Refusal
+with_entry known e = do
+  fine ← allowed e (last_of e.thread known.before) (λ body. sender_of body known.before)
+  Ok (record known { before = e ∷ known.before })
+
+abbrev pub is_first : Known → Bool
+is_first known = (length known.before == 0) && not known.late
+
+-- the tree of a line; a first one may say that the log begins late
+abbrev pub with_tree : Known → (number : ℕ) → Data → Result Known Refusal
+with_tree known number d = if is_first known && begins_late d then Ok (record known { late = true }) else entry_of number d >>= with_entry known
+
+-- the tree of a line
+abbrev pub tree_of : (number : ℕ) → List ℕ → Result Data Refusal
+tree_of number line = or_refusal number (or_fault LineFault.NoObject (json_of line))
+
+-- a line: it isn't too long, and it is blank or JSON
+abbrev pub with_line : Known → (number : ℕ) → List ℕ → Result Known Refusal
+with_line known number line = if nat_lt line_limit (length line) then Err (bad_line number LineFault.TooLong) else (if is_blank line then Ok known else tree_of number line >>= with_tree known number)
+
+-- lines, of which the first has this number
+abbrev pub with_lines : Known → (number : ℕ) → List (List ℕ) → Result Known Refusal
+with_lines known number [] = Ok known
+with_lines known number (line ∷ rest) = with_line known number line >>= (λ next. with_lines next (number + 1) rest)
+
+abbrev pub spelled : (skew : ℕ) → Known → Spelled
+spelled skew known = record {
+  calls = padded known.late (calls_of skew known.before) (length (bodies_of known.before));
+  closes = has_close known.before;
+  ties = ties_of skew known.before;
+}
+
+abbrev pub if_some : (skew : ℕ) → Known → Result Spelled Refusal
+if_some skew known = if length known.before == 0 then Err no_calls else Ok (spelled skew known)
+
+-- the log that the input spells, or why it spells none: the first line with a fault, and its first fault
+abbrev pub log_of : (skew : ℕ) → (input : List ℕ) → Result Spelled Refusal
+log_of skew input = with_lines at_first 1 (lines_of input) >>= if_some skew

@@ -1,0 +1,93 @@
+//! The calls that a log which begins late may lack.
+ghost use Rattle.std.specs.Prelude.{◌≡◌, ◌++◌, slice_get, slice_set, unwrap_or, true, false, IfErr, OnOk, IfOk};
+ghost use Rattle.cc_log.specs.Log.{lacking, padded, sent_items, taken_items};
+ghost use Rattle.cc_log.specs.Names.{LogFault};
+
+use crate::fault::LogFault;
+use crate::narrow::narrow;
+use cc_judge::{Act, Call};
+use std::alloc::{AllocError, Global};
+
+/// Of each item whether a call sent it.
+fn sent_items(alloc: Global, calls: &[Call], items: usize) -> Result<Vec<bool>, AllocError>
+    ensures { IfOk result (λ marks. marks.items ≡ sent_items items calls.now) }
+{
+    let mut marks = vec![in alloc; false; items]?;
+    for call in calls {
+        if let Act::Send(item) = call.act {
+            mark(&mut marks, item);
+        }
+    }
+    Ok(marks)
+}
+
+/// Of each item whether a call took it.
+fn taken_items(alloc: Global, calls: &[Call], items: usize) -> Result<Vec<bool>, AllocError>
+    ensures { IfOk result (λ marks. marks.items ≡ taken_items items calls.now) }
+{
+    let mut marks = vec![in alloc; false; items]?;
+    for call in calls {
+        if let Act::Took(item) = call.act {
+            mark(&mut marks, item);
+        }
+    }
+    Ok(marks)
+}
+
+/// Marks an item.
+fn mark(marks: &mut Vec<bool>, item: u32)
+    ensures { marks.new.items ≡ slice_set marks.old.items item true }
+{
+    if (item as usize) < marks.len() {
+        marks[item as usize] = true;
+    }
+}
+
+/// Whether an item is marked.
+fn is_marked(marks: &Vec<bool>, item: usize) -> bool
+    ensures { result ≡ unwrap_or (slice_get marks.now.items item) false }
+{
+    marks.get(item).copied().unwrap_or(false)
+}
+
+/// Adds what the log may lack of an item.
+fn push_lacking(
+    calls: &mut Vec<Call>,
+    is_sent: bool,
+    is_taken: bool,
+    item: usize,
+) -> Result<(), LogFault>
+    ensures calls { OnOk result (calls.new.items ≡ calls.old.items ++ lacking is_sent is_taken item) }
+    ensures memory { IfErr result (λ fault. fault ≡ LogFault.Memory) }
+{
+    let act = match (is_sent, is_taken) {
+        (false, true) => Act::Send(narrow(item)?),
+        (true, false) => Act::Taking,
+        _ => return Ok(()),
+    };
+    calls.push(Call {
+        begin: 0,
+        end: None,
+        act,
+    })?;
+    Ok(())
+}
+
+/// Adds the calls that a log which begins late may lack: of each item that no line sent, a send, and of each that no line took,
+/// a take, all of which began before the others and haven't returned.
+pub fn pad(alloc: Global, late: bool, calls: &mut Vec<Call>, items: usize) -> Result<(), LogFault>
+    ensures calls { OnOk result (calls.new.items ≡ padded late calls.old.items items) }
+    ensures memory { IfErr result (λ fault. fault ≡ LogFault.Memory) }
+{
+    if !late {
+        return Ok(());
+    }
+    let sent = sent_items(alloc, calls, items)?;
+    let taken = taken_items(alloc, calls, items)?;
+    for item in 0..items {
+        let is_sent = is_marked(&sent, item);
+        let is_taken = is_marked(&taken, item);
+        push_lacking(calls, is_sent, is_taken, item)?;
+    }
+    Ok(())
+}

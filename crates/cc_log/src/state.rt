@@ -1,0 +1,166 @@
+//! The log of the lines so far.
+ghost use Rattle.std.specs.Prelude.{◌≡◌, ◌≤◌, ◌-◌, length, option_map, IfErr, true, not, nat_eq, ◌&&◌, if◌then◌else◌};
+ghost use Rattle.std.specs.Prelude.{min, ◌+◌, ◌^◌};
+ghost use Rattle.serde_json.specs.View.{view};
+ghost use Rattle.cc_log.specs.Answers.{Gives};
+ghost use Rattle.cc_log.specs.Line.{begins_late};
+ghost use Rattle.cc_log.specs.Lines.{is_blank, line_limit};
+ghost use Rattle.cc_log.specs.Log.{Known, is_close, tree_of, with_line, with_tree};
+ghost use Rattle.cc_log.specs.State.{Adds, IsStep, Shows, entry_in};
+ghost use Rattle.cc_log.specs.Names.{LogFault, Options};
+
+use crate::fault::{LineFault, LogFault};
+use crate::items::{Items, act_of};
+use crate::line::{Line, Said, begins_late};
+use crate::narrow::narrow;
+use crate::parse::{Log, Notes, Shown};
+use crate::threads::{Last, Parsed, after_last, fault_of, note_tie, read_call};
+use cc_judge::{Act, Call};
+use serde_json::{Category, Value};
+use std::alloc::Global;
+
+/// The log of the lines so far.
+#[derive(Drop)]
+pub struct State {
+    /// The log.
+    pub log: Log,
+    /// The items.
+    pub items: Items,
+    /// Whether the log begins late.
+    pub late: bool,
+}
+
+/// Whether a line has no other bytes than white space.
+fn is_blank(text: &[u8]) -> bool
+    ensures { result ≡ is_blank text.now }
+{
+    text.iter().all(|byte| byte.is_ascii_whitespace())
+}
+
+/// The tree of a line.
+#[tactic(auto, using(crate::proofs::Steps::tree_given, crate::proofs::Steps::no_tree_given))]
+fn tree_of(alloc: Global, text: &[u8], number: usize) -> Result<Value, LogFault>
+    ensures { Gives view result (tree_of number text.now) }
+{
+    match Value::from_slice(alloc, text) {
+        Ok(value) => Ok(value),
+        Err(e) => match e.classify() {
+            Category::Memory => Err(LogFault::Memory),
+            _ => Err(fault_of(number, LineFault::NoObject)),
+        },
+    }
+}
+
+/// The call of a line, which may have begun earlier and ended later by the skew.
+fn call_of(line: Line, skew: u64, act: Act) -> Call
+    ensures { result ≡ record { begin = line.begin - skew; end = option_map (λ end. min (end + skew) (2 ^ 64 - 1)) line.end; act = act } }
+{
+    Call {
+        begin: line.begin.saturating_sub(skew),
+        end: match line.end {
+            Some(end) => Some(end.saturating_add(skew)),
+            None => None,
+        },
+        act,
+    }
+}
+
+/// Whether a log has a close, by its last call and whether those before it have one.
+fn has_close(last: Said, before: bool) -> bool
+    ensures { result ≡ (if is_close last then true else before) }
+{
+    match last {
+        Said::Close => true,
+        _ => before,
+    }
+}
+
+/// Notes a line for the text of the verdict and its page.
+fn note(
+    notes: &mut Notes,
+    page: bool,
+    number: usize,
+    line: Line,
+    thread: usize,
+) -> Result<(), LogFault>
+    ensures { IfErr result (λ fault. fault ≡ LogFault.Memory) }
+{
+    notes.lines.push(narrow(number)?)?;
+    match line.said {
+        Said::Full(_) => notes.full = notes.full.saturating_add(1),
+        Said::Closed(_) => notes.closed = notes.closed.saturating_add(1),
+        _ => {}
+    }
+    if page {
+        let thread = narrow(thread)?;
+        notes.shown.push(Shown { line, thread })?;
+    }
+    Ok(())
+}
+
+/// Adds a call, if it may come next.
+fn add(alloc: Global, state: &mut State, parsed: Parsed, number: usize) -> Result<(), LogFault>
+    ensures { Adds state.old state.new (entry_in number parsed) result }
+{
+    let Parsed { thread, line } = parsed;
+    let place = narrow(state.log.calls.len())?;
+    let last = state.log.threads.get(thread.as_str()).copied();
+    if let Err(fault) = after_last(line.begin, last) {
+        return Err(fault_of(number, fault));
+    }
+    let act = act_of(alloc, &mut state.items, line.said, number)?;
+    let skew = state.log.options.skew;
+    note_tie(&mut state.log.rules.ties, skew, place, line.begin, last)?;
+    let now = Last {
+        begin: line.begin,
+        end: line.end,
+        place,
+    };
+    let (thread, _) = state.log.threads.insert_full(thread, now)?;
+    note(
+        &mut state.log.notes,
+        state.log.options.page,
+        number,
+        line,
+        thread,
+    )?;
+    state.log.calls.push(call_of(line, skew, act))?;
+    state.log.rules.closes = has_close(line.said, state.log.rules.closes);
+    Ok(())
+}
+
+/// Whether the line of a tree is the first one, and says that the log begins late.
+fn is_beginning(state: &State, tree: &Value) -> bool
+    ensures { result ≡ ((nat_eq (length state.now.log.calls.items) 0 && not state.now.late) && begins_late (view tree.now)) }
+{
+    state.log.calls.is_empty() && !state.late && begins_late(tree)
+}
+
+/// Adds the line of a tree.
+fn add_tree(alloc: Global, state: &mut State, tree: &Value, number: usize) -> Result<(), LogFault>
+    ensures { (options : Options) (known : Known) → Shows options state.old known → IsStep options (with_tree known number (view tree.now)) result state.new }
+{
+    if is_beginning(state, tree) {
+        state.late = true;
+        return Ok(());
+    }
+    let parsed = read_call(alloc, tree, number)?;
+    add(alloc, state, parsed, number)
+}
+
+/// Adds a line; a blank one is passed over.
+pub fn add_line(
+    alloc: Global,
+    state: &mut State,
+    text: &[u8],
+    number: usize,
+) -> Result<(), LogFault>
+    requires { length text.now ≤ line_limit }
+    ensures { (options : Options) (known : Known) → Shows options state.old known → IsStep options (with_line known number text.now) result state.new }
+{
+    if is_blank(text) {
+        return Ok(());
+    }
+    let tree = tree_of(alloc, text, number)?;
+    add_tree(alloc, state, &tree, number)
+}
