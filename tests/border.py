@@ -1,6 +1,6 @@
 #!/usr/bin/env python3
-"""Compares what crosses the border of the static library, which is written down four times: in crates/cc_handles, cc_pool and
-cc_binding; in the headers bindings/c/vahepito.h and, for the exports that the Rust crate calls, bindings/c/handles.h; in the
+"""Compares what crosses the border of the static library, which is written down four times: in crates/cc_capi; in the
+headers bindings/c/vahepito.h and, for the exports that the Rust crate calls, bindings/c/handles.h; in the
 crate bindings/rust; and in bench/peers/src/exports.rs.
 
     tests/border.py
@@ -75,14 +75,14 @@ def constants(path):
 
 def of_the_library():
     """Codes, version, exports and structs of the library."""
-    codes = constants("cc_handles/src/return_codes.rt")
-    version = constants("cc_binding/src/version.rt")["VERSION"]
+    codes = constants("cc_capi/src/handles/return_codes.rt")
+    version = constants("cc_capi/src/version.rt")["VERSION"]
     exports = {}
-    for item in items_of("cc_binding/src/lib.rt") + items_of("cc_binding/src/shared.rt"):
+    for item in items_of("cc_capi/src/handle_exports.rt") + items_of("cc_capi/src/pool_exports.rt"):
         if item.kind == "fn" and 'extern "C"' in item.head:
             parameters, result = re.search(r"\((.*)\)(?: -> (\w+))?$", item.head).groups()
             exports[item.name] = [IN_C.get(result, "void")] + counted(from_rust(listed(parameters)))
-    items = [item for crate in ("cc_handles", "cc_pool") for path in (TOP / "crates" / crate / "src").glob("*.rt") for item in items_of(path)]
+    items = [item for path in (TOP / "crates/cc_capi/src").glob("*/*.rt") for item in items_of(path)]
     parts = {item.name: item.parts for item in items if item.kind == "struct"}
     return codes, version, exports, {name: from_rust(parts[library]) for name, library, _ in STRUCTS}
 

@@ -4,7 +4,7 @@
 # Usage: tools/build_library.sh [--over-gate] [--update]
 #        tools/build_library.sh --sums
 #
-# `rt lib` proves and builds what is below crates/cc_binding, and `rattle build`, which `rt lib` calls, that itself. In its
+# `rt lib` proves and builds what is below crates/cc_capi, and `rattle build`, which `rt lib` calls, that itself. In its
 # archive, and in the toolchain's functions for memory (liblibc_c.a), the three symbols that don't begin with vahepito_ are
 # renamed; all else stays as it was built. That is libvahepito_strict.a. libvahepito.a is made of it by tools/stores.py, which
 # turns locked stores into plain ones; the same stores have to be found in the compiler's own module. PROOF has the sums of the
@@ -13,7 +13,7 @@
 # Without python3-capstone nothing can be turned: then --update fails, and else libvahepito.a has to be what was built but for
 # single bytes that make an exchange a move; a line says that nothing more was looked at.
 #
-# --over-gate takes the libraries below cc_binding as `rt ci` left them in this folder a moment ago: `rt lib` would prove them
+# --over-gate takes the libraries below cc_capi as `rt ci` left them in this folder a moment ago: `rt lib` would prove them
 # once more. Both ways give the same bytes.
 # --update writes what was built into bindings/rust/lib.
 # --sums builds nothing: it compares the sums in PROOF with the archives and the sources as they stand.
@@ -27,7 +27,7 @@ target=x86_64-unknown-linux-gnu
 kept=bindings/rust/lib/$target
 made=out/lib/$target
 build=rt_lib update=
-mapfile -t crates < <(crates_of cc_binding)
+mapfile -t crates < <(crates_of cc_capi)
 
 # The lines of PROOF with the sums of the archives in a folder, and of the sources.
 sums() {
@@ -60,7 +60,7 @@ kit=$(dirname "$(dirname "$(realpath "$(command -v rt)")")")
 # The toolchain, whose clang writes down the module too that it compiles: as text, as it is behind the optimizer.
 watched=$top/out/toolchain module=$top/out/lib/module.ll
 rm -rf "$watched" "$module"
-mkdir -p "$watched/bin" "$made" crates/cc_binding/out
+mkdir -p "$watched/bin" "$made" crates/cc_capi/out
 ln -s "$kit"/toolchain/lib "$watched/" && ln -s "$kit"/toolchain/bin/* "$watched/bin/" && rm "$watched/bin/clang" || exit 1
 cat >"$watched/bin/clang" <<END
 #!/bin/bash
@@ -69,22 +69,22 @@ END
 chmod +x "$watched/bin/clang"
 
 # `rt lib` doesn't let one choose the toolchain, and the libraries of `rt ci` lack the stamp that it asks for.
-rattle=("$kit/bin/rattle" build --crate-name cc_binding src/lib.rt --extern "std=$kit/rlibs/std.rlib" -L "dependency=$kit/rlibs")
+rattle=("$kit/bin/rattle" build --crate-name cc_capi src/lib.rt --extern "std=$kit/rlibs/std.rlib" -L "dependency=$kit/rlibs")
 for crate in "${crates[@]}"; do
-    [ "$crate" = cc_binding ] && continue
-    grep -qE "^cc_binding.*:.* $crate( |$)" crates.txt && rattle+=(--extern "$crate=$top/crates/$crate/out/rlib/$crate.rlib")
+    [ "$crate" = cc_capi ] && continue
+    grep -qE "^cc_capi.*:.* $crate( |$)" crates.txt && rattle+=(--extern "$crate=$top/crates/$crate/out/rlib/$crate.rlib")
     rattle+=(-L "dependency=$top/crates/$crate/out/rlib")
 done
 rattle+=(--antt-project "$kit/rattle/logic/antt-project.json" --logic-built "$kit/logic_built" --jobs 1)
-rattle+=(--links cc_binding= --crate-type staticlib --backend llvm --toolchain "$watched" -o out/libcc_binding.a)
+rattle+=(--links cc_capi= --crate-type staticlib --backend llvm --toolchain "$watched" -o out/libcc_capi.a)
 
-rt_lib() { build_with_those_below cc_binding "${rattle[@]}" </dev/null; }
+rt_lib() { build_with_those_below cc_capi "${rattle[@]}" </dev/null; }
 
 over_gate() {
-    left=$(functions_of cc_binding) running=
+    left=$(functions_of cc_capi) running=
     scratch=$(mktemp -d) || return 1
     trap clean_up EXIT
-    run_in cc_binding "${rattle[@]}" </dev/null || { tail -n 60 "$scratch/log" >&2 && return 1; }
+    run_in cc_capi "${rattle[@]}" </dev/null || { tail -n 60 "$scratch/log" >&2 && return 1; }
 }
 
 # Makes libvahepito.a of the strict archive, and checks it twice. Without Capstone it takes the one in the tree, if that differs
@@ -113,7 +113,7 @@ if [ -z "$proof" ] || [ "$(sum_of_sources "${crates[@]}")" != "$sources" ]; then
     echo 'library: FAILED: no line logic=proved was seen, or the sources have changed meanwhile' >&2
     exit 1
 fi
-LC_ALL=C sed "$renamed" crates/cc_binding/out/libcc_binding.a >"$made/libvahepito_strict.a"
+LC_ALL=C sed "$renamed" crates/cc_capi/out/libcc_capi.a >"$made/libvahepito_strict.a"
 relax || { echo 'library: FAILED: the stores that are plain are not shown to be right' >&2 && exit 1; }
 # `realloc` shares bytes with a name there, so that one is renamed by its table. Large blocks begin where a line of the cache does.
 objcopy -D --redefine-sym rattle_alloc=vahepito_mem --redefine-sym rattle_realloc=vahepito_renew \

@@ -1,0 +1,15 @@
+pub mod Filling
+pub mod HandleBoxValues
+pub mod Values
+pub mod Quiet
+pub mod AbandonedValues
+pub mod Staying
+pub mod Trying
+pub mod Places
+pub mod Asked
+pub mod Fresh
+pub mod Crossing
+pub mod Loan
+pub mod Pairs
+pub mod RootValues
+pub mod Searched

@@ -1,7 +1,0 @@
-pub mod Filling
-pub mod HandleBoxValues
-pub mod Values
-pub mod Quiet
-pub mod AbandonedValues
-pub mod Staying
-pub mod Trying
