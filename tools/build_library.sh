@@ -72,8 +72,12 @@ chmod +x "$watched/bin/clang"
 rattle=("$kit/bin/rattle" build --crate-name cc_capi src/lib.rt --extern "std=$kit/rlibs/std.rlib" -L "dependency=$kit/rlibs")
 for crate in "${crates[@]}"; do
     [ "$crate" = cc_capi ] && continue
-    grep -qE "^cc_capi.*:.* $crate( |$)" crates.txt && rattle+=(--extern "$crate=$top/crates/$crate/out/rlib/$crate.rlib")
     rattle+=(-L "dependency=$top/crates/$crate/out/rlib")
+done
+for crate in $(sed -n 's/^cc_capi .*: //p' crates.txt); do
+    folder=$top/crates/$crate/out/rlib
+    [ -d "crates/$crate" ] || folder=$kit/rlibs
+    rattle+=(--extern "$crate=$folder/$crate.rlib")
 done
 rattle+=(--antt-project "$kit/rattle/logic/antt-project.json" --logic-built "$kit/logic_built" --jobs 1)
 rattle+=(--links cc_capi= --crate-type staticlib --backend llvm --toolchain "$watched" -o out/libcc_capi.a)
