@@ -62,7 +62,7 @@ class Checked:
 
     def check_pointers(self) -> None:
         """Only locked instructions write to the table, and they write to nothing else; no pointer to it goes where it is lost
-        sight of; and each call passes the seat on."""
+        sight of; and each call passes the queue on, and the seat, unless the compiler found that the callee doesn't need it."""
         for i, state in self.reached():
             here = self.function.where(i)
             if i.name == "call":
@@ -92,7 +92,8 @@ class Checked:
         reference = self.function.reference(i)
         if reference is None or not reference.is_exact or not reference.name.startswith(TURNS):
             raise Refused(f"{here}: calls {reference.name if reference else i.text}")
-        if state.register("rdi") != {("rdi[0]", 0)} or paths(state.register("rsi")) != {"rdi[0]"}:
+        passes_seat = paths(state.register("rsi")) == {"rdi[0]"} or not reads_by(self.others[reference.name], "rsi")
+        if state.register("rdi") != {("rdi[0]", 0)} or not passes_seat:
             raise Refused(f"{here}: passes {state.register('rdi')}, {state.register('rsi')}")
 
     # ---- looks
@@ -159,6 +160,19 @@ class Checked:
                 if why:
                     raise Refused(f"{here}: {why}, at {next_one.address:x}, comes before a locked instruction")
                 todo.append(n)
+
+
+def reads_by(function: Function, argument: str) -> bool:
+    """Whether it may read or write where this argument points, or hand the argument on."""
+    if not function.before:
+        function.follow()
+    for k, state in function.before.items():
+        i = function.instructions[k]
+        if i.name == "call":
+            return True
+        if i.memory and i.name not in ("lea", "nop") and any(path.startswith(argument) for path in paths(function.address(state, i.memory))):
+            return True
+    return False
 
 
 def is_dead(function: Function, k: int, register: str, others: dict) -> bool:
