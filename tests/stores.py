@@ -33,7 +33,12 @@ except SystemExit:
 HEAD = "mov rax,[rdi]\nmov rcx,[rax]\nmov rcx,[rcx+8]\n"
 TURNED = "mov r10,1\nxchg [rcx+8],r10\n"
 FENCE = "mov rdx,2\nxchg [rcx+16],rdx\nret"
+# A turn of the queue whose second argument is a number.
+TURN = 'mov rdx,2\nxchg [rcx+16],rdx\nmov rdi,rax\nmov esi,5\ncall "cc_queue::turns::one"\nret\n'
+TURN += '.section ".text.cc_queue::turns::one","ax",@progbits\n"cc_queue::turns::one": mov rcx,[rdi]\nmov rcx,[rcx+8]\n'
 SMALL = {
+    "right: a turn that needs no seat": TURNED + TURN + "mov rax,[rcx+rsi*8]\nret",
+    "a turn that reads where a number points": TURNED + TURN + "mov rax,[rsi]\nret",
     "right: fenced by a swap": TURNED + "mov rsi,[rax+0x30]\n" + FENCE,
     "right: fenced on both ways": TURNED
     + "test rsi,rsi\nje 1f\nlock inc qword ptr [rcx]\nmov rax,[rcx]\nret\n1: mfence\nmov rax,[rcx]\nret",
