@@ -23,11 +23,11 @@ CALLS = 300
 
 # What the crate's user writes, and the most instructions that it may cost.
 IN_RUST = {
-    "send and recv of a word": ("let (s, r) = channel::<u64>(64)?;", "s.send(i).unwrap(); assert_eq!(r.recv(), Ok(i));", 860),
-    "try_send and try_recv of a word": ("let (s, r) = channel::<u64>(64)?;", "s.try_send(i).unwrap(); assert_eq!(r.try_recv(), Ok(i));", 875),
-    "four words": ("let (s, r) = channel::<[u64; 4]>(64)?;", "s.send([i; 4]).unwrap(); assert_eq!(r.recv(), Ok([i; 4]));", 1230),
-    "two groups": ("let (s, r) = groups::<u64>(64, 2)?;", "s.send(i).unwrap(); for r in &r { assert_eq!(r.recv(), Ok(i)); }", 1470),
-    "a refused try_send": ("let (s, _r) = channel::<u64>(1)?; s.send(0).unwrap();", "assert!(s.try_send(i).is_err());", 467),
+    "send and recv of a word": ("let (s, r) = channel::<u64>(64)?;", "s.send(i).unwrap(); assert_eq!(r.recv(), Ok(i));", 852),
+    "try_send and try_recv of a word": ("let (s, r) = channel::<u64>(64)?;", "s.try_send(i).unwrap(); assert_eq!(r.try_recv(), Ok(i));", 854),
+    "four words": ("let (s, r) = channel::<[u64; 4]>(64)?;", "s.send([i; 4]).unwrap(); assert_eq!(r.recv(), Ok([i; 4]));", 1220),
+    "two groups": ("let (s, r) = groups::<u64>(64, 2)?;", "s.send(i).unwrap(); for r in &r { assert_eq!(r.recv(), Ok(i)); }", 1457),
+    "a refused try_send": ("let (s, _r) = channel::<u64>(1)?; s.send(0).unwrap();", "assert!(s.try_send(i).is_err());", 478),
 }
 # The pairs of the program in C: by handles, as the Rust crate makes them, and by one pointer. The pointer's has 133 more: each call
 # looks for a free place, takes it by an exchange and gives it back by a store, and an item has room for four words. The turns
