@@ -337,6 +337,8 @@ impl Parker {
             Arc::new(Parker { thread, woken })
         });
         let done = wait(&parker);
+        // Its parks may have used up a token of the thread that was for another waiter, such as an executor whose poll this is.
+        parker.thread.unpark();
         // If the thread locals are gone already, it goes too.
         let _ = PARKERS.try_with(|idle| idle.borrow_mut().push(parker));
         done

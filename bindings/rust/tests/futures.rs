@@ -75,6 +75,22 @@ fn futures_of_many_threads() {
     }
 }
 
+/// An executor may wait by `thread::park` alone. So a call inside of a poll may not use up the token of its waker.
+#[test]
+fn a_call_that_parks_leaves_the_token_of_its_thread() {
+    let (sender, receiver) = channel(1).unwrap();
+    thread::current().unpark();
+    let sending = thread::spawn(move || {
+        thread::sleep(Duration::from_millis(50));
+        sender.send(7)
+    });
+    assert_eq!(receiver.recv(), Ok(7));
+    let begin = Instant::now();
+    thread::park_timeout(Duration::from_secs(20));
+    assert!(begin.elapsed() < Duration::from_secs(10));
+    assert!(sending.join().unwrap().is_ok());
+}
+
 #[test]
 fn a_take_is_woken_once_there_is_an_item() {
     let (sender, receiver) = channel(1).unwrap();
