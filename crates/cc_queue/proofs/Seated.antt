@@ -59,10 +59,7 @@ module _ (z : Topic) (c : Config) (w : Walk) (p : ℕ) (topic : z.setting ≡ re
       ∙ ap (λ (b : Bool). record { begun = 0; node = cond b (c.senders + p + 1) ((c.senders + p - c.senders) % c.receivers + 1); phase = Phase.Idle }) behind_senders
       ∙ ap (λ (n : ℕ). record { begun = 0; node = n % c.receivers + 1; phase = Phase.Idle }) place_is
 
--- of a checked configuration: requests can be served, groups have receivers, and the places of all receivers and their groups are few
-pub some_bound : (c : Config) → config_fault c ≡ Ok tt → 0 < c.bound
-some_bound c checked = let r : InRange c = in_range c checked in omega (arith, r.bound)
-
+-- of a checked configuration: groups have receivers, and the places of all receivers and their groups are few
 pub some_receivers : (c : Config) → config_fault c ≡ Ok tt → 0 < c.receivers
 some_receivers c checked = let r : InRange c = in_range c checked in omega (arith, r.receivers)
 

@@ -12,7 +12,6 @@ use Rattle.cc_queue.specs.Headline.{name}
 pub record KeepsQueue (z : Topic) (c : Config) : Type 0 where
   pub list : z.setting ≡ record { served = Served.List; config = c }
   pub checked : config_fault c ≡ Ok tt
-  pub bound : 0 < c.bound
 
 -- This is the sender of this seat. The seat is one of its queue's words.
 pub record KeepsSender (s : SenderSeat) (at : Phase) : Type 0 where

@@ -131,7 +131,6 @@ fn all_receivers(
 }
 
 /// The queue over its words, with a sender and a receiver on each seat.
-#[tactic(auto, using(crate::proofs::Seated::some_bound))]
 fn over_words(
     alloc: Global,
     words: OpenedWords,
@@ -205,15 +204,6 @@ impl Queue {
         ensures { result.now ≡ self.now }
     {
         &self.words
-    }
-
-    /// Its configuration, which was checked.
-    #[inline(always)]
-    pub(crate) fn config(&self) -> &Config
-        ensures config { result.now ≡ self.now.setting.config }
-        ensures bound { 0 < self.now.setting.config.bound }
-    {
-        &self.config
     }
 
     /// Its configuration was checked: a fact for proofs, and no work.

@@ -16,7 +16,7 @@ pub fn begin_take(queue: &Queue, receiver: Receiver) -> PendingTake
     ensures { Begun receiver Call.Take result }
 {
     let Receiver { mut at } = receiver;
-    at.node = begins::begin_take(queue.words(), &mut at.seat, at.group, at.node);
+    at.node = begins::begin_take(queue, &mut at.seat, at.group, at.node);
     at.seat.is_sound();
     PendingTake { at }
 }

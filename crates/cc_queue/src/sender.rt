@@ -29,13 +29,7 @@ pub fn begin_send(queue: &Queue, sender: Sender, body: Body) -> Result<PendingSe
         tag: packed(at.number, at.begun, body),
         body: words_in(body),
     };
-    at.node = begin_request(
-        queue.words(),
-        &mut at.seat,
-        at.node,
-        Call::Send(body),
-        request,
-    );
+    at.node = begin_request(queue, &mut at.seat, at.node, Call::Send(body), request);
     at.seat.is_sound();
     Ok(PendingSend { at })
 }
@@ -50,7 +44,7 @@ pub fn begin_close(queue: &Queue, sender: Sender) -> PendingClose
         tag: 0,
         body: BodyWords::none(),
     };
-    at.node = begin_request(queue.words(), &mut at.seat, at.node, Call::Close, request);
+    at.node = begin_request(queue, &mut at.seat, at.node, Call::Close, request);
     at.seat.is_sound();
     PendingClose { at }
 }

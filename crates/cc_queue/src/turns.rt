@@ -13,31 +13,34 @@ use cc_model::{CloseAnswer, SendAnswer, TakeAnswer};
 use cc_runs::{CODE, Chain, NodeField};
 use cc_steps::seats::PassSeat;
 use cc_steps::steps;
-use cc_steps::words::Words;
+use cc_steps::words::ChainWords;
 
 /// Reads the state of the current node once. If it is 1 the call waits; if it is 0 the pass combines; and then its
 /// answer may be read, and this is how many calls it served.
 #[inline(always)]
-pub fn await_answer(queue: &Queue, seat: &mut PassSeat, chain: Chain, node: u64) -> Option<u32>
-    requires { CanTurn queue.now chain node seat.old }
+fn await_answer(words: &ChainWords<'_>, seat: &mut PassSeat, chain: Chain, node: u64) -> Option<u32>
+    requires turn { CanTurn words.now.topic words.now.chain node seat.old }
+    requires chain { words.now.chain ≡ chain }
     ensures waits { IfNone result (Waits seat.old seat.new) }
     ensures done { IfSome result (λ n. Turns seat.old Phase.ReadAnswer n seat.new) }
 {
-    match steps::read_state(queue.words(), seat, chain, node) {
-        0 => Some(combine(queue, seat, chain, node)),
+    match steps::read_state(words, seat, node) {
+        0 => Some(combine(words, seat, chain, node)),
         1 => None,
         _ => Some(0),
     }
 }
 
-/// `await_answer` on the senders' chain: compiled for it alone, and once for all who call.
+/// `await_answer` on the senders' chain: compiled for it alone, and once for all who call. All that a turn calls is inlined
+/// into it, so that the words of the chain stay in registers.
 #[inline(never)]
 fn await_request(queue: &Queue, seat: &mut PassSeat, node: u64) -> Option<u32>
     requires { CanTurn queue.now Chain.Send node seat.old }
     ensures waits { IfNone result (Waits seat.old seat.new) }
     ensures done { IfSome result (λ n. Turns seat.old Phase.ReadAnswer n seat.new) }
 {
-    await_answer(queue, seat, Chain::Send, node)
+    let words = queue.words().on(seat, Chain::Send);
+    await_answer(&words, seat, Chain::Send, node)
 }
 
 /// `await_answer` on a group's chain, in the same way.
@@ -47,32 +50,35 @@ fn await_item(queue: &Queue, seat: &mut PassSeat, group: u32, node: u64) -> Opti
     ensures waits { IfNone result (Waits seat.old seat.new) }
     ensures done { IfSome result (λ n. Turns seat.old Phase.ReadAnswer n seat.new) }
 {
-    await_answer(queue, seat, Chain::Take(group), node)
+    let chain = Chain::Take(group);
+    let words = queue.words().on(seat, chain);
+    await_answer(&words, seat, chain, node)
 }
 
 /// Reads the answer word of a send or a close.
 #[inline(always)]
-pub fn read_request_answer(words: &Words, seat: &mut PassSeat, node: u64) -> u64
-    requires here { IsOnList words.now Chain.Send seat.old }
+pub fn read_request_answer(queue: &Queue, seat: &mut PassSeat, node: u64) -> u64
+    requires here { IsOnList queue.now Chain.Send seat.old }
     requires at { seat.old.stand ≡ record { begun = seat.old.stand.begun; node = node; phase = Phase.ReadAnswer } }
     ensures worked { Works seat.old Phase.Idle (looked 0) seat.new }
     ensures told { IsToldAt seat.new (Phase.Finished (list_reads result)) }
 {
-    steps::read_answer(words, seat, Chain::Send, node, NodeField::Ret)
+    let words = queue.words().on(seat, Chain::Send);
+    steps::read_answer(&words, seat, node, NodeField::Ret)
 }
 
 /// Reads the answer of a take, and of an item its tag and its body too.
 #[inline(always)]
-pub fn read_take_answer(words: &Words, seat: &mut PassSeat, group: u32, node: u64) -> TakeAnswer
-    requires here { IsOnList words.now (Chain.Take group) seat.old }
+pub fn read_take_answer(queue: &Queue, seat: &mut PassSeat, group: u32, node: u64) -> TakeAnswer
+    requires here { IsOnList queue.now (Chain.Take group) seat.old }
     requires at { seat.old.stand ≡ record { begun = seat.old.stand.begun; node = node; phase = Phase.ReadAnswer } }
     ensures worked { Works seat.old Phase.Idle (looked 0) seat.new }
     ensures told { IsToldAt seat.new (Phase.Finished (Answer.Take result)) }
 {
-    let chain = Chain::Take(group);
-    let ret = steps::read_answer(words, seat, chain, node, NodeField::Ret);
+    let words = queue.words().on(seat, Chain::Take(group));
+    let ret = steps::read_answer(&words, seat, node, NodeField::Ret);
     match ret / CODE {
-        1 => TakeAnswer::Got(bodies::read_answer(words, seat, group, node, ret % CODE)),
+        1 => TakeAnswer::Got(bodies::read_answer(&words, seat, node, ret % CODE)),
         2 => TakeAnswer::Empty,
         _ => TakeAnswer::Ended { total: ret % CODE },
     }
@@ -87,7 +93,7 @@ pub fn turn_request(queue: &Queue, seat: &mut PassSeat, node: u64) -> Option<(u6
     ensures told { IfSome result (λ r. IsToldAt seat.new (Phase.Finished (list_reads r.0))) }
 {
     let served = await_request(queue, seat, node)?;
-    Some((read_request_answer(queue.words(), seat, node), served))
+    Some((read_request_answer(queue, seat, node), served))
 }
 
 /// A turn of a take: its answer, and how many calls were served, if it doesn't wait.
@@ -104,7 +110,7 @@ pub fn turn_take(
     ensures told { IfSome result (λ r. IsToldAt seat.new (Phase.Finished (Answer.Take r.0))) }
 {
     let served = await_item(queue, seat, group, node)?;
-    Some((read_take_answer(queue.words(), seat, group, node), served))
+    Some((read_take_answer(queue, seat, group, node), served))
 }
 
 /// The answer of a send that an answer word is.

@@ -10,3 +10,4 @@ pub mod Own
 pub mod StepLaws
 pub mod Laid
 pub mod Dealt
+pub mod OnChains

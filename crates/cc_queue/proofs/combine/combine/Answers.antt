@@ -15,21 +15,21 @@ read_next-next-requires c =
     let here = c.requires.here in
     let below : c.loop-served.served < c.args.seat.now.setting.config.bound = omega (arith, c.loop-served-test.true, ap (λ (x : Config). x.bound) (own_config _ c.args.seat.now _ here.here c.config.ensures.config)) in
     let at = looks _ _ c.loop-served.seat _ _ here _ _ 0 below c.loop-served.invariant.0 in
-    record { here = rw c.words-words.ensures (of_still _ c.args.seat.now _ _ here.here at); at = can_step c.args.seat.now _ _ _ _ at refl (rw here.chain) }
+    record { here = of_still _ c.args.seat.now _ _ here.here at; at = can_step c.args.seat.now _ _ _ _ at refl (rw here.chain) }
 
 pub serve-requires : goal.serve-requires
 serve-requires c =
     let here = c.requires.here in
     let below : c.loop-served.served < c.args.seat.now.setting.config.bound = omega (arith, c.loop-served-test.true, ap (λ (x : Config). x.bound) (own_config _ c.args.seat.now _ here.here c.config.ensures.config)) in
     let at = found_one _ _ _ _ _ here _ _ _ below c.loop-served.invariant.0 c.read_next-next.ensures.step c.if-next-eq0.false in
-    record { here = rw at record { here = here.here; list = here.list; chain = here.chain }; at = rw at }
+    record { here = rw at record { here = here.here; list = here.list; chain = here.chain }; chain = c.requires.chain; at = rw at }
 
 pub hand_over-requires : goal.hand_over-requires
 hand_over-requires c =
     let here = c.requires.here in
     let below : c.loop-served.served < c.args.seat.now.setting.config.bound = omega (arith, c.loop-served-test.true, ap (λ (x : Config). x.bound) (own_config _ c.args.seat.now _ here.here c.config.ensures.config)) in
     let at = (found_none _ _ _ _ _ here _ _ _ below c.loop-served.invariant.0 c.read_next-next.ensures.step c.if-next-eq0.true c.read_next-next.ensures.later).worked in
-    record { here = rw c.words-words.ensures (of_still _ c.args.seat.now _ _ here.here at); at = can_step c.args.seat.now _ _ _ _ at refl (rw here.chain) }
+    record { here = of_still _ c.args.seat.now _ _ here.here at; at = can_step c.args.seat.now _ _ _ _ at refl (rw here.chain) }
 
 pub returns-then-next-eq0 : goal.returns-then-next-eq0
 returns-then-next-eq0 c =
