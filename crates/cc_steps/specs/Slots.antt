@@ -1,5 +1,5 @@
 -- The places of a topic's words in its table: those that different threads write are on different lines.
-use Rattle.std.specs.Prelude.{◌≡◌, ℕ, ◌/◌, ◌<◌, List, length, slice_index_or, IsTrue}
+use Rattle.std.specs.Prelude.{◌≡◌, ℕ, ◌*◌, ◌/◌, ◌<◌, List, length, slice_index_or, IsTrue}
 use Rattle.cc_steps.specs.Names.{Chain, NodeField, ItemField, Object, Word, Starts}
 use Rattle.cc_runs.specs.Words as laid
 use Rattle.cc_runs.specs.Words.{Layout, Spacing, exists, lies, row_size, word_in_row}
@@ -13,22 +13,22 @@ spread = record { tail = 16; objects = 32; ends = 48; end_step = 32; end_words =
 abbrev pub slot : Layout → Word → ℕ
 slot l w = lies spread l w
 
--- these are the slots at which words of each kind begin
+-- the nodes of each kind begin there, counted in nodes: a chain's node has 16 slots, a list node 8
 pub record HasStarts (l : Layout) (s : Starts) : Type 0 where
-  pub send_nodes : s.send_nodes ≡ laid.send_nodes spread l
+  pub send_nodes : 16 * s.send_nodes ≡ laid.send_nodes spread l
   pub eight : length s.take_nodes ≡ 8
-  pub take_nodes : (g : ℕ) → g < l.groups → slice_index_or s.take_nodes g 0 ≡ laid.take_nodes spread l g
-  pub items : s.items ≡ laid.items spread l
+  pub take_nodes : (g : ℕ) → g < l.groups → 16 * slice_index_or s.take_nodes g 0 ≡ laid.take_nodes spread l g
+  pub items : 8 * s.items ≡ laid.items spread l
 
 -- the slot at which the nodes of a chain begin
 abbrev pub nodes_of : Layout → Chain → ℕ
 nodes_of l Chain.Send = laid.send_nodes spread l
 nodes_of l (Chain.Take g) = laid.take_nodes spread l g
 
--- the nodes of this chain and the list nodes begin at these slots
+-- the nodes of this chain and the list nodes begin there, counted in nodes
 pub record AreStarts (l : Layout) (x : Chain) (nodes items : ℕ) : Type 0 where
-  pub nodes_is : nodes ≡ nodes_of l x
-  pub items_is : items ≡ laid.items spread l
+  pub nodes_is : 16 * nodes ≡ nodes_of l x
+  pub items_is : 8 * items ≡ laid.items spread l
 
 -- if the word is in a chain's node, the chain is this one
 abbrev pub IsWordOf : Chain → Word → Type 0
