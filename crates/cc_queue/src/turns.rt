@@ -122,8 +122,7 @@ pub fn send_answer(ret: u64) -> SendAnswer
         1 => SendAnswer::Accepted { place: ret % CODE },
         2 => SendAnswer::Full,
         3 => SendAnswer::Closed,
-        4 => SendAnswer::Spent,
-        _ => unreachable!(),
+        _ => SendAnswer::Spent,
     }
 }
 
