@@ -1,7 +1,7 @@
 #!/usr/bin/env python3
-"""Compares what crosses the border of the static library, which is written down four times: in crates/cc_capi; in the
-headers bindings/c/vahepito.h and, for the exports that the Rust crate calls, bindings/c/handles.h; in the
-crate bindings/rust; and in bench/peers/src/exports.rs.
+"""Compares what crosses the border of the static library, which is written down four times: in crates/cc_capi and
+crates/cc_passes; in the headers bindings/c/vahepito.h and, for the exports that the Rust crate calls, bindings/c/handles.h;
+in the crate bindings/rust; and in bench/peers/src/exports.rs.
 
     tests/border.py
 
@@ -75,14 +75,14 @@ def constants(path):
 
 def of_the_library():
     """Codes, version, exports and structs of the library."""
-    codes = constants("cc_capi/src/handles/return_codes.rt")
+    codes = constants("cc_passes/src/handles/return_codes.rt")
     version = constants("cc_capi/src/version.rt")["VERSION"]
     exports = {}
     for item in items_of("cc_capi/src/handle_exports.rt") + items_of("cc_capi/src/pool_exports.rt"):
         if item.kind == "fn" and 'extern "C"' in item.head:
             parameters, result = re.search(r"\((.*)\)(?: -> (\w+))?$", item.head).groups()
             exports[item.name] = [IN_C.get(result, "void")] + counted(from_rust(listed(parameters)))
-    items = [item for path in (TOP / "crates/cc_capi/src").glob("*/*.rt") for item in items_of(path)]
+    items = [item for path in (TOP / "crates/cc_passes/src").glob("*/*.rt") for item in items_of(path)]
     parts = {item.name: item.parts for item in items if item.kind == "struct"}
     return codes, version, exports, {name: from_rust(parts[library]) for name, library, _ in STRUCTS}
 

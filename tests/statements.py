@@ -26,7 +26,7 @@ CHANGES = [
     ("a ghost member is another", "cc_io", "src", r"(ghost \w+: \{ )Self", r"\1ℕ → Self"),
     ("an export says less", "cc_capi", "src", FUNCTION + r"\n *ensures [^\n]*", r"\1"),
     ("a derived trait goes", "cc_broker", "src", r"#\[derive\(Drop\)\]\n(pub struct)", r"\1"),
-    ("a code is another number", "cc_capi", "src", r"(pub const \w+: u32 = )\d+", r"\g<1>99"),
+    ("a code is another number", "cc_passes", "src", r"(pub const \w+: u32 = )\d+", r"\g<1>99"),
     ("a name is from elsewhere", "cc_play", "src", r"(ghost use Rattle\.std\.specs\.)Prelude", r"\1Other"),
     ("a function isn't public", "cc_show", "src", r"\npub fn", r"\nfn"),
     ("a law of a function that isn't public goes", "cc_drive", "src", r"(\npub\(crate\) fn send_all.*?)\n *ensures [^\n]*", r"\1"),

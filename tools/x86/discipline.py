@@ -13,15 +13,15 @@ from x86.objects import Refused
 # the description of the queue, which stay as they are while threads run. `rdi[0][8]` is what [[rdi]+8] holds.
 TABLES = {"vahepito_": "rdi[0][0][8]", "cc_queue::turns::": "rdi[0][8]"}
 # These aren't looked at: all of their bytes are the same in both archives, so each of their stores is locked. They open queues
-# and drop handles, or make the calls of a shared queue (`pool` of cc_capi); no function that is looked at calls one.
+# and drop handles, or make the calls of a shared queue (`pool` of cc_passes); no function that is looked at calls one.
 UNCHANGED = re.compile(
     r"vahepito_(open\w*|drop|sizes|version|new|free|call_\w+)$|cc_capi::\w+_exports::vahepito_\w+$"
-    r"|cc_capi::|cc_queue::queue::|cc_steps::layout::|std_alloc::|core::"
+    r"|cc_passes::|cc_queue::queue::|cc_steps::layout::|std_alloc::|core::"
 )
 TURNS = "cc_queue::turns::"
 # Of those, these call turns: with the queue and the seat of a pass by their types, as the calls of a handle do. No store of a turn
 # is pending when it returns.
-CALLS_TURNS = re.compile(r"vahepito_call_\w+$|cc_capi::pool::|cc_capi::handles::handle_inner::HandleInner::turn_\w+$")
+CALLS_TURNS = re.compile(r"vahepito_call_\w+$|cc_passes::pool::|cc_passes::handles::handle_inner::HandleInner::turn_\w+$")
 KEPT_BY_A_RETURN = {"rax", "rdx", "rbx", "rbp", "rsp", "r12", "r13", "r14", "r15"}
 
 

@@ -7,23 +7,23 @@
 //! `specs/Calls.antt` says what each call returns, and `specs/Opened.antt` what an opening does.
 ghost use Rattle.std.specs.Prelude.{◌≡◌, ◌≢◌, nat_le};
 ghost use Rattle.std.specs.Mem.{type_size};
-ghost use Rattle.cc_capi.specs.contracts.handles.open_handles.Settings as settings_type;
-ghost use Rattle.cc_capi.specs.contracts.handles.handle.Handle as handle_type;
-ghost use Rattle.cc_capi.specs.contracts.handles.items.TakenItem as item_type;
-ghost use Rattle.cc_capi.specs.contracts.handles.items.TakenWords as words_type;
+ghost use Rattle.cc_passes.specs.contracts.handles.open_handles.Settings as settings_type;
+ghost use Rattle.cc_passes.specs.contracts.handles.handle.Handle as handle_type;
+ghost use Rattle.cc_passes.specs.contracts.handles.items.TakenItem as item_type;
+ghost use Rattle.cc_passes.specs.contracts.handles.items.TakenWords as words_type;
 ghost use Rattle.cc_capi.specs.declared.version.TheConstants.{VERSION};
-ghost use Rattle.cc_capi.specs.declared.handles.return_codes.TheConstants.{BAD_GROUPS, BAD_WORDS};
-ghost use Rattle.cc_capi.specs.Items.{one_word, all_words};
-ghost use Rattle.cc_capi.specs.OpenHandles.{config_of, refusal, HaveOpened};
-ghost use Rattle.cc_capi.specs.Handles.{pass_of, longest_of, IsDropped};
-ghost use Rattle.cc_capi.specs.Calls.{single, fitting, IfRoom, BeginsSend, TurnsSend, TriesSend, TellsWorn, BeginsClose, TurnsClose, BeginsTake, TurnsTake, TriesTake, TellsGroup};
+ghost use Rattle.cc_passes.specs.declared.handles.return_codes.TheConstants.{BAD_GROUPS, BAD_WORDS};
+ghost use Rattle.cc_passes.specs.Items.{one_word, all_words};
+ghost use Rattle.cc_passes.specs.OpenHandles.{config_of, refusal, HaveOpened};
+ghost use Rattle.cc_passes.specs.Handles.{pass_of, longest_of, IsDropped};
+ghost use Rattle.cc_passes.specs.Calls.{single, fitting, IfRoom, BeginsSend, TurnsSend, TriesSend, TellsWorn, BeginsClose, TurnsClose, BeginsTake, TurnsTake, TriesTake, TellsGroup};
 
-use crate::handles::handle::Handle;
-use crate::handles::items::{ItemForm, TakenItem, TakenWords};
-use crate::handles::open_handles::{Settings, check, open};
-use crate::handles::return_codes::{DONE, NO_MEMORY, NO_PASS};
 use crate::version::VERSION;
 use cc_model::Body;
+use cc_passes::handles::handle::Handle;
+use cc_passes::handles::items::{ItemForm, TakenItem, TakenWords};
+use cc_passes::handles::open_handles::{Settings, check, open};
+use cc_passes::handles::return_codes::{DONE, NO_MEMORY, NO_PASS};
 use std::alloc::Global;
 use std::mem::size_of;
 

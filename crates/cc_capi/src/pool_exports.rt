@@ -6,23 +6,23 @@
 //! under way then. `specs/Caller.antt` says what each call returns.
 ghost use Rattle.std.specs.Prelude.{◌≡◌, ◌≢◌, None, IfSome};
 ghost use Rattle.std.specs.Mem.{type_size};
-ghost use Rattle.cc_capi.specs.declared.handles.return_codes.TheConstants.{DONE};
-ghost use Rattle.cc_capi.specs.Handles.{pass_of};
-ghost use Rattle.cc_capi.specs.Calls.{fitting, TurnsSend, TurnsClose, TurnsTake};
-ghost use Rattle.cc_capi.specs.Items.{all_words};
-ghost use Rattle.cc_capi.specs.OpenHandles.{config_of};
-ghost use Rattle.cc_capi.specs.contracts.pool.call.Call as call_type;
-ghost use Rattle.cc_capi.specs.Call.{IsReady, IsSame};
-ghost use Rattle.cc_capi.specs.Caller.{SendsBy, ClosesBy, TakesBy, TurnsBy};
-ghost use Rattle.cc_capi.specs.Opened.{refusal, IsRefusedAs};
-ghost use Rattle.cc_capi.specs.New.{IsNew, IsWhole};
+ghost use Rattle.cc_passes.specs.declared.handles.return_codes.TheConstants.{DONE};
+ghost use Rattle.cc_passes.specs.Handles.{pass_of};
+ghost use Rattle.cc_passes.specs.Calls.{fitting, TurnsSend, TurnsClose, TurnsTake};
+ghost use Rattle.cc_passes.specs.Items.{all_words};
+ghost use Rattle.cc_passes.specs.OpenHandles.{config_of};
+ghost use Rattle.cc_passes.specs.contracts.pool.call.Call as call_type;
+ghost use Rattle.cc_passes.specs.Call.{IsReady, IsSame};
+ghost use Rattle.cc_passes.specs.Caller.{SendsBy, ClosesBy, TakesBy, TurnsBy};
+ghost use Rattle.cc_passes.specs.Opened.{refusal, IsRefusedAs};
+ghost use Rattle.cc_passes.specs.New.{IsNew, IsWhole};
 
-use crate::handles::items::TakenWords;
-use crate::handles::open_handles::Settings;
-use crate::handles::return_codes::DONE;
-use crate::pool::call::Call;
-use crate::pool::opening::open_boxed;
-use crate::pool::root::Root;
+use cc_passes::handles::items::TakenWords;
+use cc_passes::handles::open_handles::Settings;
+use cc_passes::handles::return_codes::DONE;
+use cc_passes::pool::call::Call;
+use cc_passes::pool::opening::open_boxed;
+use cc_passes::pool::root::Root;
 use std::alloc::Global;
 use std::mem::size_of;
 

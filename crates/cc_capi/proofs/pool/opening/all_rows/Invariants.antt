@@ -1,7 +1,0 @@
-use Rattle.std.proofs.Common.{◌≡◌, length, All}
-use Rattle.cc_steps.specs.Walk.{IsOf}
-use Rattle.cc_capi.specs.Pooled.{IsRowOf}
-use Rattle.cc_capi.proofs.pool.opening.all_rows.Given as goal
-
-abbrev pub invariant-loop-group : goal.invariant-loop-group
-invariant-loop-group l = (length l.groups.items ≡ l._group) × All (IsOf l.fn.opened.queue) l.receivers.items × All (IsRowOf l.fn.opened.queue) l.groups.items

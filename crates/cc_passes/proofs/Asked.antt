@@ -1,0 +1,143 @@
+-- A call was made by the pass of a place.
+use Rattle.std.proofs.Common.{◌≡◌, inr, ℕ, ◌≤◌, ◌<◌, nat_le, List, [], ◌∷◌, length, get_or, Bool, true, false, Option, Some, None, Ok, Err, if◌then◌else◌, refl, sym, ap, ◌∙◌, subst, arith}
+use mathlib.Core.Logic.{dite}
+use native.Mathlib.Decide.{ℕ_discrete}
+use Rattle.cc_model.specs.Body.{body_of}
+use Rattle.cc_model.specs.declared.body.Body.{Body}
+use Rattle.cc_passes.specs.declared.handles.results.SendResult.{SendResult}
+use Rattle.cc_passes.specs.declared.handles.return_codes.TheConstants.{BEGUN, LONG}
+use Rattle.cc_passes.specs.Calls.{single, fitting, BeginsSend, TurnsSend, TriesSend, BeginsTake, TurnsTake, TriesTake}
+use Rattle.cc_passes.specs.Results.{only, none_taken}
+use Rattle.cc_passes.specs.Items.{Form}
+use Rattle.cc_passes.specs.declared.handles.results.TakeResult.{TakeResult}
+use Rattle.cc_passes.specs.Caller.{MadeBy, InRange, SendsBy}
+use Rattle.cc_steps.specs.Topic.{Topic}
+use Rattle.cc_passes.specs.declared.handles.handle_inner.Pass.{Pass}
+use Rattle.cc_passes.specs.Passes.{has_call, HasPassOf}
+use Rattle.cc_passes.specs.Made.{kept_of, IsMade}
+
+pub made : {T : Type 0} (z : Topic) (Tells : Option Pass → Option Pass → T → Type 0) (told : T) (old new waits : Option Pass)
+    → HasPassOf z old → HasPassOf z new → Tells old new told → waits ≡ kept_of new → IsMade z Tells told waits
+made z Tells told old new waits h k t is = record {
+  before = h.0;
+  after = k.0;
+  here = h.2;
+  still = k.2;
+  tells = subst (λ (o : Option Pass). Tells o (Some k.0) told) h.1 (subst (λ (o : Option Pass). Tells old o told) k.1 t);
+  kept = is ∙ ap kept_of k.1;
+}
+
+-- a pass with a call is kept
+pub keeps : (o : Option Pass) → has_call o ≡ true → o ≡ kept_of o
+keeps o e = ap (λ (b : Bool). if b then o else None) (sym e)
+
+-- and one without is not
+pub leaves : (o : Option Pass) → has_call o ≡ false → None ≡ kept_of o
+leaves o e = ap (λ (b : Bool). if b then o else None) (sym e)
+
+code_of : (told : SendResult) (n : ℕ) → told ≡ only n → told.code ≡ n
+code_of told n is = ap (λ (x : SendResult). x.code) is
+
+-- the begin of a send has no answer's code
+send_begins : (body : Body) (old mid : Option Pass) (code : ℕ) → BeginsSend (Ok body) old mid code → code < 17
+send_begins body None mid code b = omega (arith, b.1)
+send_begins body (Some (Pass.Sender v)) None code b = elim b [ ]
+send_begins body (Some (Pass.Sender v)) (Some (Pass.Sending w)) code b = omega (arith, b.0)
+send_begins body (Some (Pass.Sender v)) (Some (Pass.Sender w)) code b = omega (arith, b.0)
+send_begins body (Some (Pass.Sender v)) (Some (Pass.Closing w)) code b = elim b [ ]
+send_begins body (Some (Pass.Sender v)) (Some (Pass.Receiver w)) code b = elim b [ ]
+send_begins body (Some (Pass.Sender v)) (Some (Pass.Taking w)) code b = elim b [ ]
+send_begins body (Some (Pass.Sending v)) mid code b = omega (arith, b.1)
+send_begins body (Some (Pass.Closing v)) mid code b = omega (arith, b.1)
+send_begins body (Some (Pass.Receiver v)) mid code b = omega (arith, b.1)
+send_begins body (Some (Pass.Taking v)) mid code b = omega (arith, b.1)
+
+-- a turn of a send with an answer's code leaves no call
+send_turns : (mid new : Option Pass) (told : SendResult) → TurnsSend mid new told → 17 ≤ told.code → has_call new ≡ false
+send_turns None new told t e = let c = code_of told 9 t.1 in absurd (omega (arith, c, e))
+send_turns (Some (Pass.Sending v)) None told t e = elim t [ ]
+send_turns (Some (Pass.Sending v)) (Some (Pass.Sending w)) told t e = let c = code_of told 15 t.0 in absurd (omega (arith, c, e))
+send_turns (Some (Pass.Sending v)) (Some (Pass.Sender w)) told t e = refl
+send_turns (Some (Pass.Sending v)) (Some (Pass.Closing w)) told t e = elim t [ ]
+send_turns (Some (Pass.Sending v)) (Some (Pass.Receiver w)) told t e = elim t [ ]
+send_turns (Some (Pass.Sending v)) (Some (Pass.Taking w)) told t e = elim t [ ]
+send_turns (Some (Pass.Sender v)) new told t e = let c = code_of told 12 t.1 in absurd (omega (arith, c, e))
+send_turns (Some (Pass.Closing v)) new told t e = let c = code_of told 12 t.1 in absurd (omega (arith, c, e))
+send_turns (Some (Pass.Receiver v)) new told t e = let c = code_of told 10 t.1 in absurd (omega (arith, c, e))
+send_turns (Some (Pass.Taking v)) new told t e = let c = code_of told 10 t.1 in absurd (omega (arith, c, e))
+
+-- a send with an answer's code is over
+pub send_is_over : (body : Body) (old new : Option Pass) (told : SendResult) → TriesSend (Ok body) old new told → 17 ≤ told.code → has_call new ≡ false
+send_is_over body old new told t e = dite (ℕ_discrete t.code BEGUN)
+    (λ is. send_turns t.between new told (t.turns is) e)
+    (λ not. let less = send_begins body old t.between t.code t.begins in let same = code_of told t.code (t.ends not).1 in absurd (omega (arith, less, same, e)))
+
+module _ {I : Type 0} (form : Form I) where
+  taken_code : (told : TakeResult I) (n : ℕ) → told ≡ none_taken form n → told.code ≡ n
+  taken_code told n is = ap (λ (x : TakeResult I). x.code) is
+
+  -- the begin of a take has no answer's code
+  take_begins : (old mid : Option Pass) (code : ℕ) → BeginsTake old mid code → code < 17
+  take_begins None mid code b = omega (arith, b.1)
+  take_begins (Some (Pass.Receiver v)) None code b = elim b [ ]
+  take_begins (Some (Pass.Receiver v)) (Some (Pass.Taking w)) code b = omega (arith, b.0)
+  take_begins (Some (Pass.Receiver v)) (Some (Pass.Sender w)) code b = elim b [ ]
+  take_begins (Some (Pass.Receiver v)) (Some (Pass.Sending w)) code b = elim b [ ]
+  take_begins (Some (Pass.Receiver v)) (Some (Pass.Closing w)) code b = elim b [ ]
+  take_begins (Some (Pass.Receiver v)) (Some (Pass.Receiver w)) code b = elim b [ ]
+  take_begins (Some (Pass.Taking v)) mid code b = omega (arith, b.1)
+  take_begins (Some (Pass.Sender v)) mid code b = omega (arith, b.1)
+  take_begins (Some (Pass.Sending v)) mid code b = omega (arith, b.1)
+  take_begins (Some (Pass.Closing v)) mid code b = omega (arith, b.1)
+
+  -- a turn of a take with an answer's code leaves no call
+  take_turns : (mid new : Option Pass) (told : TakeResult I) → TurnsTake form mid new told → 17 ≤ told.code → has_call new ≡ false
+  take_turns None new told t e = let c = taken_code told 9 t.1 in absurd (omega (arith, c, e))
+  take_turns (Some (Pass.Taking v)) None told t e = elim t [ ]
+  take_turns (Some (Pass.Taking v)) (Some (Pass.Taking w)) told t e = let c = taken_code told 15 t.0 in absurd (omega (arith, c, e))
+  take_turns (Some (Pass.Taking v)) (Some (Pass.Receiver w)) told t e = refl
+  take_turns (Some (Pass.Taking v)) (Some (Pass.Sender w)) told t e = elim t [ ]
+  take_turns (Some (Pass.Taking v)) (Some (Pass.Sending w)) told t e = elim t [ ]
+  take_turns (Some (Pass.Taking v)) (Some (Pass.Closing w)) told t e = elim t [ ]
+  take_turns (Some (Pass.Receiver v)) new told t e = let c = taken_code told 12 t.1 in absurd (omega (arith, c, e))
+  take_turns (Some (Pass.Sender v)) new told t e = let c = taken_code told 10 t.1 in absurd (omega (arith, c, e))
+  take_turns (Some (Pass.Sending v)) new told t e = let c = taken_code told 10 t.1 in absurd (omega (arith, c, e))
+  take_turns (Some (Pass.Closing v)) new told t e = let c = taken_code told 10 t.1 in absurd (omega (arith, c, e))
+
+  -- a take with an answer's code is over
+  pub take_is_over : (old new : Option Pass) (told : TakeResult I) → TriesTake form old new told → 17 ≤ told.code → has_call new ≡ false
+  take_is_over old new told t e = dite (ℕ_discrete t.code BEGUN)
+      (λ is. take_turns t.between new told (t.turns is) e)
+      (λ not. let less = take_begins old t.between t.code t.begins in let same = taken_code told t.code (t.ends not).1 in absurd (omega (arith, less, same, e)))
+
+abbrev IsNone : Option Pass → Type 0
+IsNone None = Unit {0}
+IsNone (Some p) = ⊥
+
+abbrev IsFalse : Bool → Type 0
+IsFalse true = ⊥
+IsFalse false = Unit {0}
+
+-- a caller that has no call that waits made one
+pub made_by : {T : Type 0} (z : Topic) (alone : ℕ → T) (Refuses : ℕ → Type 0) (Tells : Option Pass → Option Pass → T → Type 0) (old new : Option Pass) (told : T)
+    → old ≡ None → IsMade z Tells told new → MadeBy z alone Refuses Tells old new told
+made_by z alone Refuses Tells None new told is made = inr made
+made_by z alone Refuses Tells (Some p) new told is made = absurd (subst IsNone (sym is) tt)
+
+-- there is such a group
+pub in_range : {I : Type 0} (form : Form I) (there : Bool) (Tells : Option Pass → Option Pass → TakeResult I → Type 0) (old new : Option Pass) (told : TakeResult I)
+    → there ≡ true → Tells old new told → InRange form there Tells old new told
+in_range form true Tells old new told is tells = tells
+in_range form false Tells old new told is tells = absurd (subst IsFalse is tt)
+
+-- the result with its item
+pub with_out : {T U : Type 0} (z : Topic) (Tells : Option Pass → Option Pass → U → Type 0) (whole : T → U) (told : T) (waits : Option Pass)
+    → IsMade z (λ old new t. Tells old new (whole t)) told waits → IsMade z Tells (whole told) waits
+with_out z Tells whole told waits m = record { before = m.before; after = m.after; here = m.here; still = m.still; tells = m.tells; kept = m.kept }
+
+-- a body of one word fits
+pub one_fits : (z : Topic) (most : ℕ) (words : List ℕ) (old new : Option Pass) (told : SendResult) → nat_le 1 most ≡ true → 1 ≤ length words → length words < 2
+    → SendsBy z (single (get_or words 0 0)) old new told → SendsBy z (fitting most words) old new told
+one_fits z most [] old new told room some few sends = absurd (omega (arith, some))
+one_fits z most (w ∷ []) old new told room some few sends = subst (λ (b : Bool). SendsBy z (if b then Ok (body_of (w ∷ [])) else Err LONG) old new told) (sym room) sends
+one_fits z most (w ∷ v ∷ words) old new told room some few sends = absurd (omega (arith, few))

@@ -1,0 +1,63 @@
+-- `end` ends the lifetime, and has the value back.
+use Rattle.std.proofs.Common.{◌≡◌, List, [], ◌∷◌, ◌++◌, ℕ, refl, sym, subst, Option, Some}
+use base.Fml.{flft}
+use mir.Val.{Val, vptr}
+use base.Logic.{SProp, ent, emp, id⊢, never, fst∗}
+use prog.Wp.{WpFn}
+use types.Logic.{sem}
+use types.Kit.{‵, raw, ◌⊛◌, ◌$◌, ◌∵◌, !, qed, by, move, keep, drop, split, fsplit, fjoin, suffices, use0, rewrite}
+use types.Run.{stop, fld, of_opd, no_more, and_then, returns, enter}
+use types.ByLocal.{alloc_all, pass_all, free_all, look_at, get, get_in, sets}
+use types.Part.{agg, sub, whole}
+use types.Tokens.{lft_end, lent_back}
+use contract.Monad.{fact, fact_i}
+use contract.Running.{tables}
+use denote.Exit.{yes}
+use denote.Memory.{shared_of}
+use denote.RattleType.{RattleType, owns}
+use denote.Signature.{types_at, plain}
+use denote.RawPtr.{Ptr, block_ptr, ptr_val, in_a_block}
+use denote.Steps.{nothing, heard}
+use denote.Triple.Entry.{alive}
+use denote.Triple.Walked.{Stays, stay_dropped, walk_of, Goes-dropped}
+use Rattle.std.proofs.raw_atomic.Walks.{proved_at, leaves}
+use Rattle.std.specs.contracts.impls.GlobalAllocator.TheImpl.{ghosts}
+use denote.Struct.Lending.{lent_at}
+use Rattle.cc_passes.specs.Lent.{share_at, root_owns, debt_owns}
+use Rattle.cc_passes.proofs.Values.{both, RawBox, raw_box_good, raw_box_in}
+use Rattle.cc_passes.proofs.RootValues.{R, some_of, Z, LZ, Root, root_out}
+use Rattle.cc_passes.specs.contracts.pool.root.Root.end.{ended, clauses}
+use Rattle.cc_passes.specs.contracts.pool.root.Root.end.Key.{name as #self}
+use Rattle.cc_passes.proofs.pool.root.Root.end.Statement.{statement}
+use Rattle.cc_passes.proofs.pool.root.Root.end.Code as code
+use Rattle.std.specs.Prelude.{IsTrue, is_some}
+
+abbrev Whole : RattleType
+Whole = RawBox R Z LZ ghosts
+
+pub end_spec : {M : Type 1} → statement M
+end_spec 𝓤 𝓛 𝓜 𝓡 wired =
+    let H = 𝓛.H in let 𝓣 = tables 𝓤 H 𝓜 𝓡 𝓡.env in let En = ended in let c = clauses 𝓛 𝓜.mem 𝓡.returns in let fn = code.function in
+    let hs : Stays En.signature.params En.kept = (stay_dropped (plain (λ _. Root)) yes, tt) in
+    proved_at 𝓛 En hs c 𝓜 𝓡 (Goes-dropped 𝓛 0 (plain (λ _. Root)) yes (λ κs x f. refl), tt) #self fn (code.unfolded 𝓤 H 𝓜 𝓡 wired) (λ z are.
+    let κs = z.0.0 in let qs = z.0.1 in let v = z.0.3.0 in let Post : Val → SProp 𝓤 = (walk_of 𝓛 En hs c).post z in let Run : List Val → SProp 𝓤 = λ ws. WpFn 𝓤 H 𝓣.C 𝓣.Λ fn ws Post in
+    let Asked : Type 0 = IsTrue (is_some v.value) × (v.part ≡ []) in
+    qed 𝓛 ((raw (alive 𝓛 En.signature κs qs) ⊛ ‵ (owns (types_at En.signature.params κs) z.0.3 z.0.4)) ∷ raw (fact 𝓤 Asked) ∷ []) ∵ move ! (1 ∷ []) $ heard ! Asked (λ asked.
+    let x = (some_of v.value asked.0).0 in let is : v.value ≡ Some x = (some_of v.value asked.0).1 in split ! $ move ! (1 ∷ []) $ fsplit ! $
+    root_out ! v z.0.4.0 (λ h ws fits.
+    let tok = ghosts.dealloc_token v.alloc in
+    rewrite ! 0 (λ (m : Option R.Denot). ‵ (root_owns tok R v.at v.life v.part m)) is refl $ fsplit ! $ fsplit ! $
+    rewrite ! 0 (λ (path : List ℕ). ‵ (flft (v.life ∷ []) (share_at path))) asked.1 refl $ move ! (1 ∷ []) $
+    in_a_block ! v.at (λ p. lent_at R p x (v.life ∷ [])) (fst∗ 𝓤 (never 𝓤) (sem 𝓛 (shared_of R x 0 0 (v.life ∷ [])))) (λ b o e. drop ! $
+    rewrite ! 1 (λ (p : Ptr). ‵ (debt_owns tok R p v.life x)) e refl $
+    let w : Val = both (vptr b o) h in let typed = raw_box_good R Z LZ ghosts b o h fits in
+    suffices ! (Run (w ∷ [])) (subst (λ (us : List Val). ent 𝓤 (Run (w ∷ [])) (Run us)) (sym (λ i. (subst (λ (p : Ptr). z.0.4.0 ≡ both (ptr_val p) h ∷ []) e ws) i ++ [])) (id⊢ 𝓤 (Run (w ∷ [])))) $
+    enter ! 𝓣.C 𝓣.Λ fn (w ∷ []) Post $ alloc_all ! (λ l. pass_all ! refl (typed, tt) $
+    sets ! (of_opd ! (get_in ! (fld ! refl (stop !)) (sub ! 0 refl (whole !)))) refl (tt, tt) $ sets ! (of_opd ! (get_in ! (fld ! refl (stop !)) (sub ! 1 refl (whole !)))) refl fits $
+    sets ! (of_opd ! (get ! refl)) refl (tt, tt) $ sets ! (agg ! (and_then ! (get ! refl) (and_then ! (get ! refl) (no_more !)))) refl typed $
+    -- [the token; the debt; the allocator; ..]
+    lft_end ! tt $ move ! (1 ∷ []) $ fsplit ! $ move ! (2 ∷ 0 ∷ []) $ lent_back ! tt $ fjoin ! $
+    raw_box_in R Z LZ ghosts ! b o h v.alloc x $
+    use0 𝓛 (raw (fact 𝓤 (Some x ≡ v.value))) (fact_i 𝓤 (Some x ≡ v.value) (emp 𝓤) (sym is)) $ nothing ! $ nothing ! $ fjoin ! $
+    returns ! (look_at ! 0 refl) $ free_all ! refl $ keep ! (4 ∷ 0 ∷ 2 ∷ 1 ∷ []) $
+    by ! (leaves 𝓛 En hs c z w (record { at = block_ptr b o; alloc = v.alloc; value = x }) (tt, tt) (tt, tt)))))))

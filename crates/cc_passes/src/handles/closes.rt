@@ -1,0 +1,99 @@
+//! A close, by the pass of a handle.
+ghost use Rattle.std.specs.Prelude.{◌≡◌, Some};
+ghost use Rattle.cc_steps.specs.Walk.{IsOf};
+ghost use Rattle.cc_passes.specs.Passes.{walk_of, StaysOf};
+ghost use Rattle.cc_passes.specs.Calls.{BeginsClose, TurnsClose, TriesClose};
+
+use crate::handles::handle_inner::{HandleInner, Pass, with_pass};
+use crate::handles::refusals::{no_idle_sender, no_pending_sender};
+use crate::handles::results::closed_as;
+use crate::handles::return_codes::{BEGUN, WAITING};
+use cc_queue::{CloseTurn, Queue, begin_close, turn_close};
+
+/// Begins a close, if the pass can.
+#[inline(always)]
+fn begun(queue: &Queue, pass: Pass) -> (Pass, u32)
+    requires { IsOf queue.now (walk_of pass) }
+    ensures here { IsOf queue.now (walk_of result.0) }
+    ensures begins { BeginsClose (Some pass) (Some result.0) result.1 }
+{
+    let why = no_idle_sender(&pass);
+    match pass {
+        Pass::Sender(sender) => (Pass::Closing(begin_close(queue, sender)), BEGUN),
+        other => (other, why),
+    }
+}
+
+/// One turn of a close, if the pass has one.
+#[inline(always)]
+fn turned(queue: &Queue, pass: Pass, total: &mut u64, served: &mut u32) -> (Pass, u32)
+    requires pass { IsOf queue.now (walk_of pass) }
+    requires numbers { (total.old ≡ 0) × (served.old ≡ 0) }
+    ensures here { IsOf queue.now (walk_of result.0) }
+    ensures turns { TurnsClose (Some pass) (Some result.0) (record { code = result.1; number = total.new; served = served.new }) }
+{
+    let why = no_pending_sender(&pass);
+    match pass {
+        Pass::Closing(pending) => match turn_close(queue, pending) {
+            CloseTurn::Waiting(pending) => (Pass::Closing(pending), WAITING),
+            CloseTurn::Done {
+                sender,
+                answer,
+                served: now,
+            } => {
+                *served = now;
+                (Pass::Sender(sender), closed_as(answer, total))
+            }
+        },
+        other => (other, why),
+    }
+}
+
+/// Begins a close, if the pass can, and if the close was begun turns it once.
+#[inline(always)]
+fn tried(queue: &Queue, pass: Pass, total: &mut u64, served: &mut u32) -> (Pass, u32)
+    requires pass { IsOf queue.now (walk_of pass) }
+    requires numbers { (total.old ≡ 0) × (served.old ≡ 0) }
+    ensures here { IsOf queue.now (walk_of result.0) }
+    ensures tries { TriesClose (Some pass) (Some result.0) (record { code = result.1; number = total.new; served = served.new }) }
+{
+    let (pass, code) = begun(queue, pass);
+    if code != BEGUN {
+        return (pass, code);
+    }
+    turned(queue, pass, total, served)
+}
+
+impl HandleInner {
+    /// Begins a close.
+    #[inline(always)]
+    pub fn begin_close(&mut self) -> u32
+        ensures begins { BeginsClose self.old.pass self.new.pass result }
+        ensures same { self.new.words ≡ self.old.words }
+        ensures stays { StaysOf self.old.pass self.new.pass }
+    {
+        with_pass!(self, |queue, pass| begun(queue, pass))
+    }
+
+    /// One turn of a close. An answer alone writes the numbers.
+    #[inline(always)]
+    pub fn turn_close(&mut self, total: &mut u64, served: &mut u32) -> u32
+        requires { (total.old ≡ 0) × (served.old ≡ 0) }
+        ensures turns { TurnsClose self.old.pass self.new.pass (record { code = result; number = total.new; served = served.new }) }
+        ensures same { self.new.words ≡ self.old.words }
+        ensures stays { StaysOf self.old.pass self.new.pass }
+    {
+        with_pass!(self, |queue, pass| turned(queue, pass, total, served))
+    }
+
+    /// Begins a close, and if it was begun turns it once.
+    #[tactic(auto, using(crate::proofs::Trying::without_pass))]
+    pub fn try_close(&mut self, total: &mut u64, served: &mut u32) -> u32
+        requires { (total.old ≡ 0) × (served.old ≡ 0) }
+        ensures tries { TriesClose self.old.pass self.new.pass (record { code = result; number = total.new; served = served.new }) }
+        ensures same { self.new.words ≡ self.old.words }
+        ensures stays { StaysOf self.old.pass self.new.pass }
+    {
+        with_pass!(self, |queue, pass| tried(queue, pass, total, served))
+    }
+}

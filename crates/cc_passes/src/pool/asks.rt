@@ -1,0 +1,138 @@
+//! The calls that a caller asks of whichever pass is free.
+ghost use Rattle.std.specs.Prelude.{◌≡◌, Option, true, Ok, IfSome, IfNone};
+ghost use Rattle.cc_passes.specs.declared.handles.handle_inner.Pass.{Pass};
+ghost use Rattle.cc_passes.specs.declared.handles.results.SendResult.{SendResult};
+ghost use Rattle.cc_passes.specs.declared.handles.results.TakeNumbers.{TakeNumbers};
+ghost use Rattle.cc_passes.specs.Passes.{StaysOf, has_call};
+ghost use Rattle.cc_passes.specs.Calls.{single, TriesSend, TriesClose};
+ghost use Rattle.cc_passes.specs.Results.{with_item};
+ghost use Rattle.cc_passes.specs.Made.{TakesIn};
+
+use crate::handles::handle_inner::HandleInner;
+use crate::handles::items::ItemForm;
+use crate::handles::results::{SendResult, TakeNumbers};
+use crate::handles::return_codes::{ACCEPTED, WORN};
+use cc_model::Body;
+
+/// A call that was made.
+#[derive(Drop)]
+pub struct Asked<T> {
+    pub told: T,
+    /// Whether the call waits.
+    pub waits: bool,
+}
+
+/// A call. It is made once: after that it isn't new.
+pub trait Ask<T, O> {
+    ghost tells: { Self → Option Pass → Option Pass → T → O → Type 0 };
+
+    ghost is_new: { Self → Type 0 };
+
+    /// Makes the call by this pass, and writes its item to `out`; or none, if the pass is not one for the call.
+    fn ask(&mut self, held: &mut HandleInner, out: &mut O) -> Option<Asked<T>>
+        requires { is_new self.old }
+        ensures tells { IfSome result (λ a. tells self.old held.old.pass held.new.pass a.told out.new) }
+        ensures waits { IfSome result (λ a. a.waits ≡ has_call held.new.pass) }
+        ensures passed { IfNone result ((self.new ≡ self.old) × (held.new.pass ≡ held.old.pass)) }
+        ensures stays { StaysOf held.old.pass held.new.pass };
+}
+
+/// A send of this body, by a sender that is not exhausted.
+#[derive(Drop)]
+pub struct Sending {
+    pub body: Body,
+    pub new: bool,
+}
+
+impl Ask<SendResult, ()> for Sending {
+    ghost tells = { λ s old new told _. TriesSend (Ok s.body) old new told };
+
+    ghost is_new = { λ s. s.new ≡ true };
+
+    #[inline(always)]
+    #[tactic(auto, using(crate::proofs::Asked::send_is_over))]
+    fn ask(&mut self, held: &mut HandleInner, _out: &mut ()) -> Option<Asked<SendResult>> {
+        if held.is_worn() == WORN {
+            return None;
+        }
+        self.new = false;
+        let mut told = SendResult::only(WORN);
+        told.code = held.try_send(Ok(self.body), &mut told.number, &mut told.served);
+        let waits = told.code < ACCEPTED && held.has_call();
+        Some(Asked { told, waits })
+    }
+}
+
+/// A send of a body of one word.
+#[derive(Drop)]
+pub struct SendingWord {
+    pub word: u64,
+    pub new: bool,
+}
+
+impl Ask<SendResult, ()> for SendingWord {
+    ghost tells = { λ s old new told _. TriesSend (single s.word) old new told };
+
+    ghost is_new = { λ s. s.new ≡ true };
+
+    #[inline(always)]
+    #[tactic(auto, using(crate::proofs::Asked::send_is_over))]
+    fn ask(&mut self, held: &mut HandleInner, _out: &mut ()) -> Option<Asked<SendResult>> {
+        if held.is_worn() == WORN {
+            return None;
+        }
+        self.new = false;
+        let mut told = SendResult::only(WORN);
+        let body = Ok(Body::one(self.word));
+        told.code = held.try_send(body, &mut told.number, &mut told.served);
+        let waits = told.code < ACCEPTED && held.has_call();
+        Some(Asked { told, waits })
+    }
+}
+
+/// A close.
+#[derive(Drop)]
+pub struct Closing {
+    pub new: bool,
+}
+
+impl Ask<SendResult, ()> for Closing {
+    ghost tells = { λ _ old new told _. TriesClose old new told };
+
+    ghost is_new = { λ s. s.new ≡ true };
+
+    #[inline(always)]
+    fn ask(&mut self, held: &mut HandleInner, _out: &mut ()) -> Option<Asked<SendResult>> {
+        self.new = false;
+        let mut told = SendResult::only(WORN);
+        told.code = held.try_close(&mut told.number, &mut told.served);
+        let waits = held.has_call();
+        Some(Asked { told, waits })
+    }
+}
+
+/// A take by a receiver of this group.
+#[derive(Drop)]
+pub struct Taking {
+    pub group: u32,
+    pub new: bool,
+}
+
+impl<I: ItemForm> Ask<TakeNumbers, I> for Taking {
+    ghost tells = { λ s old new told item. TakesIn I.form s.group old new (with_item item told) };
+
+    ghost is_new = { λ s. s.new ≡ true };
+
+    #[inline(always)]
+    #[tactic(auto, using(crate::proofs::Asked::take_is_over))]
+    fn ask(&mut self, held: &mut HandleInner, item: &mut I) -> Option<Asked<TakeNumbers>> {
+        if !held.is_in(self.group) {
+            return None;
+        }
+        self.new = false;
+        let mut told = TakeNumbers::none(WORN, item);
+        told.code = held.try_any(item, &mut told.total, &mut told.served);
+        let waits = told.code < ACCEPTED && held.has_call();
+        Some(Asked { told, waits })
+    }
+}

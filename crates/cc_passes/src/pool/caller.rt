@@ -1,0 +1,210 @@
+//! The calls of a caller. It has a handle for the pass of its call that waits, and the number of the place that it tries first:
+//! the place of that pass, or of the pass of its last call.
+ghost use Rattle.std.specs.Prelude.{◌≡◌, None, Ok};
+ghost use Rattle.cc_passes.specs.Handles.{pass_of};
+ghost use Rattle.cc_passes.specs.Passes.{HasPassOf};
+ghost use Rattle.cc_passes.specs.Calls.{single, fitting, TurnsSend, TurnsClose, TurnsTake};
+ghost use Rattle.cc_passes.specs.Results.{with_item};
+ghost use Rattle.cc_passes.specs.Made.{kept_of};
+ghost use Rattle.cc_passes.specs.Tried.{inside, IsKeptOf};
+ghost use Rattle.cc_passes.specs.Caller.{is_group, IsWaitingOf, SendsBy, ClosesBy, TakesBy, TurnsBy};
+
+use crate::handles::handle::Handle;
+use crate::handles::handle_inner::HandleInner;
+use crate::handles::items::ItemForm;
+use crate::handles::results::{SendResult, TakeNumbers, TakeResult};
+use crate::handles::return_codes::{BAD_GROUPS, BUSY, NO_PASS, WORN};
+use crate::handles::sends::fitting;
+use crate::pool::asks::{Closing, Sending, SendingWord, Taking};
+use crate::pool::pooled::{Made, Pooled, ask_of};
+use cc_model::Body;
+use std::alloc::Global;
+
+impl Pooled {
+    /// Keeps the pass of a call that waits, if there is one.
+    #[inline(always)]
+    fn keep(&self, waiting: &mut Handle, waits: Option<Box<HandleInner>>)
+        requires empty { waiting.old.boxed.value ≡ None }
+        requires kept { IsKeptOf self.now.queue waits }
+        ensures waits { pass_of waiting.new ≡ inside waits }
+        ensures kept { IsWaitingOf self.now.queue waiting.new }
+    {
+        if let Some(held) = waits {
+            waiting.hold(held);
+        }
+    }
+
+    /// Sends these words, if a body of the queue may have that many.
+    #[inline(always)]
+    pub fn send(&self, waiting: &mut Handle, place: &mut u32, words: &[u64]) -> SendResult
+        requires { IsWaitingOf self.now.queue waiting.old }
+        ensures sends { SendsBy self.now.queue (fitting self.now.words words.now) (pass_of waiting.old) (pass_of waiting.new) result }
+        ensures kept { IsWaitingOf self.now.queue waiting.new }
+    {
+        self.is_sound();
+        if let [word] = words {
+            return self.send_word(waiting, place, *word);
+        }
+        match fitting(words, self.longest) {
+            Ok(body) => self.send_body(waiting, place, body),
+            Err(why) => SendResult::only(why),
+        }
+    }
+
+    /// Sends a body of this word. Each queue has such bodies.
+    #[inline(always)]
+    fn send_word(&self, waiting: &mut Handle, place: &mut u32, word: u64) -> SendResult
+        requires { IsWaitingOf self.now.queue waiting.old }
+        ensures sends { SendsBy self.now.queue (single word) (pass_of waiting.old) (pass_of waiting.new) result }
+        ensures kept { IsWaitingOf self.now.queue waiting.new }
+    {
+        if waiting.live {
+            return SendResult::only(BUSY);
+        }
+        let mut ask = SendingWord { word, new: true };
+        match ask_of(&self.queue, self.senders(), *place, &mut ask, &mut ()) {
+            Ok(Made { told, waits, at }) => {
+                *place = at;
+                self.keep(waiting, waits);
+                told
+            }
+            Err(all_there) => SendResult::only(if all_there { WORN } else { BUSY }),
+        }
+    }
+
+    /// Sends this body.
+    #[inline(always)]
+    fn send_body(&self, waiting: &mut Handle, place: &mut u32, body: Body) -> SendResult
+        requires { IsWaitingOf self.now.queue waiting.old }
+        ensures sends { SendsBy self.now.queue (Ok body) (pass_of waiting.old) (pass_of waiting.new) result }
+        ensures kept { IsWaitingOf self.now.queue waiting.new }
+    {
+        if waiting.live {
+            return SendResult::only(BUSY);
+        }
+        let mut ask = Sending { body, new: true };
+        match ask_of(&self.queue, self.senders(), *place, &mut ask, &mut ()) {
+            Ok(Made { told, waits, at }) => {
+                *place = at;
+                self.keep(waiting, waits);
+                told
+            }
+            Err(all_there) => SendResult::only(if all_there { WORN } else { BUSY }),
+        }
+    }
+
+    /// Closes the queue.
+    pub fn close(&self, waiting: &mut Handle, place: &mut u32) -> SendResult
+        requires { IsWaitingOf self.now.queue waiting.old }
+        ensures closes { ClosesBy self.now.queue (pass_of waiting.old) (pass_of waiting.new) result }
+        ensures kept { IsWaitingOf self.now.queue waiting.new }
+    {
+        if waiting.live {
+            return SendResult::only(BUSY);
+        }
+        let mut ask = Closing { new: true };
+        match ask_of(&self.queue, self.senders(), *place, &mut ask, &mut ()) {
+            Ok(Made { told, waits, at }) => {
+                *place = at;
+                self.keep(waiting, waits);
+                told
+            }
+            Err(_) => SendResult::only(BUSY),
+        }
+    }
+
+    /// Takes for this group, from 1.
+    #[inline(always)]
+    pub fn take<I: ItemForm>(
+        &self,
+        waiting: &mut Handle,
+        place: &mut u32,
+        group: u32,
+        item: &mut I,
+    ) -> TakeNumbers
+        requires { IsWaitingOf self.now.queue waiting.old }
+        ensures takes { TakesBy self.now.queue I.form self.now.rows group (pass_of waiting.old) (pass_of waiting.new) (with_item item.new result) }
+        ensures kept { IsWaitingOf self.now.queue waiting.new }
+    {
+        if !self.is_group(group) {
+            return TakeNumbers::none(BAD_GROUPS, item);
+        }
+        if waiting.live {
+            return TakeNumbers::none(BUSY, item);
+        }
+        let mut ask = Taking { group, new: true };
+        match ask_of(&self.queue, self.group(group), *place, &mut ask, item) {
+            Ok(Made { told, waits, at }) => {
+                *place = at;
+                self.keep(waiting, waits);
+                told
+            }
+            Err(_) => TakeNumbers::none(BUSY, item),
+        }
+    }
+
+    /// Keeps this pass if it has a call, and else puts it back.
+    fn settle(&self, waiting: &mut Handle, place: u32, held: Box<HandleInner>)
+        requires waits { waiting.old.boxed.value ≡ None }
+        requires held { HasPassOf self.now.queue held.value.pass }
+        ensures waits { pass_of waiting.new ≡ kept_of held.value.pass }
+        ensures kept { IsWaitingOf self.now.queue waiting.new }
+    {
+        if held.has_call() {
+            waiting.hold(held);
+        } else {
+            let (_, group) = held.group();
+            self.give_back(group, place, held);
+        }
+    }
+
+    /// One turn of a send that waits.
+    pub fn turn_send(&self, alloc: Global, waiting: &mut Handle, place: u32) -> SendResult
+        requires { IsWaitingOf self.now.queue waiting.old }
+        ensures turns { TurnsBy TurnsSend (pass_of waiting.old) (pass_of waiting.new) result }
+        ensures kept { IsWaitingOf self.now.queue waiting.new }
+    {
+        let Some(mut held) = waiting.take(alloc) else {
+            return SendResult::only(NO_PASS);
+        };
+        let mut told = SendResult::only(NO_PASS);
+        told.code = held.turn_send(&mut told.number, &mut told.served);
+        self.settle(waiting, place, held);
+        told
+    }
+
+    /// One turn of a close that waits.
+    pub fn turn_close(&self, alloc: Global, waiting: &mut Handle, place: u32) -> SendResult
+        requires { IsWaitingOf self.now.queue waiting.old }
+        ensures turns { TurnsBy TurnsClose (pass_of waiting.old) (pass_of waiting.new) result }
+        ensures kept { IsWaitingOf self.now.queue waiting.new }
+    {
+        let Some(mut held) = waiting.take(alloc) else {
+            return SendResult::only(NO_PASS);
+        };
+        let mut told = SendResult::only(NO_PASS);
+        told.code = held.turn_close(&mut told.number, &mut told.served);
+        self.settle(waiting, place, held);
+        told
+    }
+
+    /// One turn of a take that waits.
+    pub fn turn_take<I: ItemForm>(
+        &self,
+        alloc: Global,
+        waiting: &mut Handle,
+        place: u32,
+    ) -> TakeResult<I>
+        requires { IsWaitingOf self.now.queue waiting.old }
+        ensures turns { TurnsBy (TurnsTake I.form) (pass_of waiting.old) (pass_of waiting.new) result }
+        ensures kept { IsWaitingOf self.now.queue waiting.new }
+    {
+        let Some(mut held) = waiting.take(alloc) else {
+            return TakeResult::only(NO_PASS);
+        };
+        let mut told = TakeResult::only(NO_PASS);
+        told.code = held.turn_any(&mut told.item, &mut told.total, &mut told.served);
+        self.settle(waiting, place, held);
+        told
+    }
+}

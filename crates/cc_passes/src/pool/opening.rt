@@ -1,0 +1,169 @@
+//! The opening of a queue whose passes are shared.
+ghost use Rattle.std.specs.Prelude.{◌≡◌, ◌≢◌, ◌≤◌, ◌+◌, length, All, IfOk, IfErr, OnOk};
+ghost use Rattle.cc_queue.specs.Opened.{HasOpened};
+ghost use Rattle.cc_steps.specs.Walk.{IsOf};
+ghost use Rattle.cc_passes.specs.Passes.{walk_of};
+ghost use Rattle.cc_passes.specs.declared.handles.return_codes.TheConstants.{DONE};
+ghost use Rattle.cc_passes.specs.Loans.{IsPlaceOf, queue_of};
+ghost use Rattle.cc_passes.specs.Pooled.{IsRowOf};
+ghost use Rattle.cc_passes.specs.Opened.{refusal, HasPool, IsRefusedAs};
+
+use crate::handles::handle_inner::Pass;
+use crate::handles::open_handles::{are_few, field_code, held};
+use crate::handles::return_codes::{BAD_WORDS, NO_MEMORY};
+use crate::pool::kept::Kept;
+use crate::pool::pooled::Pooled;
+use cc_model::{CheckedConfig, Config};
+use cc_queue::{Opened, Queue, Receiver, Sender};
+use std::alloc::{AllocError, Global};
+
+/// The configuration, once it and the number of words are checked; or the code for which the queue isn't opened.
+fn check(config: &Config, words: u32) -> Result<CheckedConfig, u32>
+    ensures config { IfOk result (λ c. c ≡ config.now) }
+    ensures free { OnOk result (refusal config.now words ≡ DONE) }
+    ensures few { OnOk result (1 ≤ words) }
+    ensures refused { IfErr result (λ code. code ≡ refusal config.now words) }
+    ensures told { IfErr result (λ code. code ≢ DONE) }
+{
+    let checked = match CheckedConfig::of(config) {
+        Ok(checked) => checked,
+        Err(fault) => return Err(field_code(fault)),
+    };
+    if are_few(words) {
+        Ok(checked)
+    } else {
+        Err(BAD_WORDS)
+    }
+}
+
+/// A place with this pass.
+fn place(alloc: Global, queue: &Queue, words: u32, pass: Pass) -> Result<Kept, AllocError>
+    requires { IsOf queue.now (walk_of pass) }
+    ensures { IfOk result (λ k. queue_of k ≡ queue.now) }
+{
+    let held = held(alloc, queue, words, pass)?;
+    Kept::new(alloc, queue, held)
+}
+
+/// A row with a place for each of these senders.
+fn row_of_senders(
+    alloc: Global,
+    queue: &Queue,
+    words: u32,
+    mut senders: Vec<Sender>,
+) -> Result<Vec<Kept>, AllocError>
+    requires { All (IsOf queue.now) senders.items }
+    ensures { IfOk result (λ row. IsRowOf queue.now row) }
+{
+    let mut row = Vec::new(alloc);
+    for _ in 0..senders.len() {
+        if let Some(sender) = senders.pop() {
+            row.push(place(alloc, queue, words, Pass::Sender(sender))?)?;
+        }
+    }
+    Ok(row)
+}
+
+/// These receivers, the last one first.
+fn backwards(
+    alloc: Global,
+    queue: &Queue,
+    mut receivers: Vec<Receiver>,
+) -> Result<Vec<Receiver>, AllocError>
+    requires { All (IsOf queue.now) receivers.items }
+    ensures { IfOk result (λ all. All (IsOf queue.now) all.items) }
+{
+    let _ = queue;
+    let mut all = Vec::new(alloc);
+    for _ in 0..receivers.len() {
+        if let Some(receiver) = receivers.pop() {
+            all.push(receiver)?;
+        }
+    }
+    Ok(all)
+}
+
+/// A row of that number of places, for the last of these receivers, which are taken off.
+fn row_of_receivers(
+    alloc: Global,
+    queue: &Queue,
+    words: u32,
+    receivers: &mut Vec<Receiver>,
+    count: u32,
+) -> Result<Vec<Kept>, AllocError>
+    requires { All (IsOf queue.now) receivers.old.items }
+    ensures { IfOk result (λ row. IsRowOf queue.now row × All (IsOf queue.now) receivers.new.items) }
+{
+    let mut row = Vec::new(alloc);
+    for _ in 0..count {
+        if let Some(receiver) = receivers.pop() {
+            row.push(place(alloc, queue, words, Pass::Receiver(receiver))?)?;
+        }
+    }
+    Ok(row)
+}
+
+/// The places of the passes of a queue that was opened: a row of senders, and then a row for each group.
+#[tactic(auto, using(crate::proofs::Fresh::all_of))]
+fn all_rows(
+    alloc: Global,
+    config: &Config,
+    words: u32,
+    opened: Opened,
+) -> Result<Pooled, AllocError>
+    requires opened { HasOpened config.now opened }
+    requires few { 1 ≤ words }
+    ensures { IfOk result (λ p. HasPool config.now words p) }
+{
+    let Opened {
+        queue,
+        senders,
+        receivers,
+    } = opened;
+    let senders = row_of_senders(alloc, &queue, words, senders)?;
+    let mut groups = Vec::new(alloc);
+    let mut receivers = backwards(alloc, &queue, receivers)?;
+    for _group in 0..config.groups {
+        let row = row_of_receivers(alloc, &queue, words, &mut receivers, config.receivers)?;
+        groups.push(row)?;
+    }
+    Ok(Pooled {
+        queue,
+        longest: words,
+        senders,
+        groups,
+    })
+}
+
+impl Pooled {
+    /// Opens a queue of bodies of at most this number of words, and puts its passes into places.
+    pub fn open(alloc: Global, config: &Config, words: u32) -> Result<Pooled, u32>
+        ensures opened { IfOk result (λ p. (refusal config.now words ≡ DONE) × HasPool config.now words p) }
+        ensures refused { IfErr result (λ code. IsRefusedAs (refusal config.now words) code) }
+        ensures told { IfErr result (λ code. code ≢ DONE) }
+    {
+        let config = check(config, words)?;
+        let Ok(opened) = Queue::open_checked(alloc, &config) else {
+            return Err(NO_MEMORY);
+        };
+        match all_rows(alloc, config.config(), words, opened) {
+            Ok(pool) => Ok(pool),
+            Err(_) => Err(NO_MEMORY),
+        }
+    }
+}
+
+/// Opens a queue so, in a box.
+pub fn open_boxed(alloc: Global, config: &Config, words: u32) -> Result<Box<Pooled>, u32>
+    ensures opened { IfOk result (λ b. (refusal config.now words ≡ DONE) × HasPool config.now words b.value) }
+    ensures refused { IfErr result (λ code. IsRefusedAs (refusal config.now words) code) }
+    ensures told { IfErr result (λ code. code ≢ DONE) }
+{
+    match Pooled::open(alloc, config, words) {
+        Ok(pool) => match Box::new(alloc, pool) {
+            Ok(boxed) => Ok(boxed),
+            Err(_) => Err(NO_MEMORY),
+        },
+        Err(code) => Err(code),
+    }
+}
