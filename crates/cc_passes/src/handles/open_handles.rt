@@ -160,14 +160,13 @@ fn keep_receivers(
     alloc: Global,
     queue: &Queue,
     words: u32,
-    first: u32,
+    _first: u32,
     mut receivers: Vec<Receiver>,
 ) -> Result<Vec<Box<HandleInner>>, AllocError>
-    requires { fresh_from queue.now first receivers.items }
+    requires { fresh_from queue.now _first receivers.items }
     ensures count { IfOk result (λ k. length k.items ≡ length receivers.items) }
-    ensures fresh { IfOk result (λ k. HoldFresh k.items (λ b. b.value) Pass.Receiver words queue.now first) }
+    ensures fresh { IfOk result (λ k. HoldFresh k.items (λ b. b.value) Pass.Receiver words queue.now _first) }
 {
-    let _ = first;
     let mut all = Vec::new(alloc);
     for _row in 0..receivers.len() {
         let pass = Pass::Receiver(receivers.remove(0));

@@ -64,25 +64,6 @@ fn row_of_senders(
     Ok(row)
 }
 
-/// These receivers, the last one first.
-fn backwards(
-    alloc: Global,
-    queue: &Queue,
-    mut receivers: Vec<Receiver>,
-) -> Result<Vec<Receiver>, AllocError>
-    requires { All (IsOf queue.now) receivers.items }
-    ensures { IfOk result (λ all. All (IsOf queue.now) all.items) }
-{
-    let _ = queue;
-    let mut all = Vec::new(alloc);
-    for _ in 0..receivers.len() {
-        if let Some(receiver) = receivers.pop() {
-            all.push(receiver)?;
-        }
-    }
-    Ok(all)
-}
-
 /// A row of that number of places, for the last of these receivers, which are taken off.
 fn row_of_receivers(
     alloc: Global,
@@ -104,7 +85,7 @@ fn row_of_receivers(
 }
 
 /// The places of the passes of a queue that was opened: a row of senders, and then a row for each group.
-#[tactic(auto, using(crate::proofs::Fresh::all_of))]
+#[tactic(auto, using(crate::proofs::Fresh::all_of, crate::proofs::Fresh::all_back))]
 fn all_rows(
     alloc: Global,
     config: &Config,
@@ -118,11 +99,11 @@ fn all_rows(
     let Opened {
         queue,
         senders,
-        receivers,
+        mut receivers,
     } = opened;
     let senders = row_of_senders(alloc, &queue, words, senders)?;
     let mut groups = Vec::new(alloc);
-    let mut receivers = backwards(alloc, &queue, receivers)?;
+    receivers.reverse();
     for _group in 0..config.groups {
         let row = row_of_receivers(alloc, &queue, words, &mut receivers, config.receivers)?;
         groups.push(row)?;

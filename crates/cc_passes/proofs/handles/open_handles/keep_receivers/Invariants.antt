@@ -6,4 +6,4 @@ use Rattle.cc_passes.proofs.handles.open_handles.keep_receivers.Given as goal
 
 abbrev pub invariant-loop-row : goal.invariant-loop-row
 invariant-loop-row l =
-    ((length l.receivers.items + l._row ≡ length l.fn.receivers.items) × (length l.all.items ≡ l._row)) × fresh_from l.fn.queue (l.fn.first + l._row) l.receivers.items × HoldFresh l.all.items (λ b. b.value) Pass.Receiver l.fn.words l.fn.queue l.fn.first
+    ((length l.receivers.items + l._row ≡ length l.fn.receivers.items) × (length l.all.items ≡ l._row)) × fresh_from l.fn.queue (l.fn._first + l._row) l.receivers.items × HoldFresh l.all.items (λ b. b.value) Pass.Receiver l.fn.words l.fn.queue l.fn._first

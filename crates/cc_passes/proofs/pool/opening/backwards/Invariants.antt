@@ -1,6 +1,0 @@
-use Rattle.std.proofs.Common.{All}
-use Rattle.cc_steps.specs.Walk.{IsOf}
-use Rattle.cc_passes.proofs.pool.opening.backwards.Given as goal
-
-abbrev pub invariant-loop : goal.invariant-loop
-invariant-loop l = All (IsOf l.fn.queue) l.receivers.items × All (IsOf l.fn.queue) l.all.items
