@@ -124,6 +124,11 @@ pub made_by : {T : Type 0} (z : Topic) (alone : ℕ → T) (Refuses : ℕ → Ty
 made_by z alone Refuses Tells None new told is made = inr made
 made_by z alone Refuses Tells (Some p) new told is made = absurd (subst IsNone (sym is) tt)
 
+-- what was made is what was kept
+pub kept_so : {T : Type 0} (z : Topic) (Tells : Option Pass → Option Pass → T → Type 0) (told told' : T) (waits waits' : Option Pass)
+    → told' ≡ told → waits' ≡ waits → IsMade z Tells told waits → IsMade z Tells told' waits'
+kept_so {T} z Tells told told' waits waits' is same made = subst (λ (t : T). IsMade z Tells t waits') (sym is) (subst (λ (o : Option Pass). IsMade z Tells told o) (sym same) made)
+
 -- there is such a group
 pub in_range : {I : Type 0} (form : Form I) (there : Bool) (Tells : Option Pass → Option Pass → TakeResult I → Type 0) (old new : Option Pass) (told : TakeResult I)
     → there ≡ true → Tells old new told → InRange form there Tells old new told

@@ -1,10 +1,12 @@
 //! The calls that a caller asks of whichever pass is free.
-ghost use Rattle.std.specs.Prelude.{◌≡◌, Option, true, Ok, IfSome, IfNone};
+ghost use Rattle.std.specs.Prelude.{◌≡◌, [], ◌∷◌, Option, true, Ok, IfSome, IfNone};
+ghost use Rattle.cc_model.specs.Body.{body_of};
+ghost use Rattle.cc_model.specs.declared.body.Body.{Body};
 ghost use Rattle.cc_passes.specs.declared.handles.handle_inner.Pass.{Pass};
 ghost use Rattle.cc_passes.specs.declared.handles.results.SendResult.{SendResult};
 ghost use Rattle.cc_passes.specs.declared.handles.results.TakeNumbers.{TakeNumbers};
 ghost use Rattle.cc_passes.specs.Passes.{StaysOf, has_call};
-ghost use Rattle.cc_passes.specs.Calls.{single, TriesSend, TriesClose};
+ghost use Rattle.cc_passes.specs.Calls.{TriesSend, TriesClose};
 ghost use Rattle.cc_passes.specs.Results.{with_item};
 ghost use Rattle.cc_passes.specs.Made.{TakesIn};
 
@@ -37,41 +39,42 @@ pub trait Ask<T, O> {
         ensures stays { StaysOf held.old.pass held.new.pass };
 }
 
-/// A send of this body, by a sender that is not exhausted.
-#[derive(Drop)]
-pub struct Sending {
-    pub body: Body,
-    pub new: bool,
+/// The content of a send: a body, or the word of a body that has one word.
+pub trait Content: Drop {
+    ghost holds: { Self → Body };
+
+    /// The body.
+    fn body(&self) -> Body
+        ensures { result ≡ holds self.now };
 }
 
-impl Ask<SendResult, ()> for Sending {
-    ghost tells = { λ s old new told _. TriesSend (Ok s.body) old new told };
-
-    ghost is_new = { λ s. s.new ≡ true };
+impl Content for Body {
+    ghost holds = { λ body. body };
 
     #[inline(always)]
-    #[tactic(auto, using(crate::proofs::Asked::send_is_over))]
-    fn ask(&mut self, held: &mut HandleInner, _out: &mut ()) -> Option<Asked<SendResult>> {
-        if held.is_worn() == WORN {
-            return None;
-        }
-        self.new = false;
-        let mut told = SendResult::only(WORN);
-        told.code = held.try_send(Ok(self.body), &mut told.number, &mut told.served);
-        let waits = told.code < ACCEPTED && held.has_call();
-        Some(Asked { told, waits })
+    fn body(&self) -> Body {
+        *self
     }
 }
 
-/// A send of a body of one word.
+impl Content for u64 {
+    ghost holds = { λ word. body_of (word ∷ []) };
+
+    #[inline(always)]
+    fn body(&self) -> Body {
+        Body::one(*self)
+    }
+}
+
+/// A send of this content, by a sender that is not exhausted.
 #[derive(Drop)]
-pub struct SendingWord {
-    pub word: u64,
+pub struct Sending<C: Content> {
+    pub content: C,
     pub new: bool,
 }
 
-impl Ask<SendResult, ()> for SendingWord {
-    ghost tells = { λ s old new told _. TriesSend (single s.word) old new told };
+impl<C: Content> Ask<SendResult, ()> for Sending<C> {
+    ghost tells = { λ s old new told _. TriesSend (Ok (C.holds s.content)) old new told };
 
     ghost is_new = { λ s. s.new ≡ true };
 
@@ -83,7 +86,7 @@ impl Ask<SendResult, ()> for SendingWord {
         }
         self.new = false;
         let mut told = SendResult::only(WORN);
-        let body = Ok(Body::one(self.word));
+        let body = Ok(self.content.body());
         told.code = held.try_send(body, &mut told.number, &mut told.served);
         let waits = told.code < ACCEPTED && held.has_call();
         Some(Asked { told, waits })

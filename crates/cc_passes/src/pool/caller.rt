@@ -3,7 +3,7 @@
 ghost use Rattle.std.specs.Prelude.{◌≡◌, None, Ok};
 ghost use Rattle.cc_passes.specs.Handles.{pass_of};
 ghost use Rattle.cc_passes.specs.Passes.{HasPassOf};
-ghost use Rattle.cc_passes.specs.Calls.{single, fitting, TurnsSend, TurnsClose, TurnsTake};
+ghost use Rattle.cc_passes.specs.Calls.{fitting, TurnsSend, TurnsClose, TurnsTake};
 ghost use Rattle.cc_passes.specs.Results.{with_item};
 ghost use Rattle.cc_passes.specs.Made.{kept_of};
 ghost use Rattle.cc_passes.specs.Tried.{inside, IsKeptOf};
@@ -15,23 +15,26 @@ use crate::handles::items::ItemForm;
 use crate::handles::results::{SendResult, TakeNumbers, TakeResult};
 use crate::handles::return_codes::{BAD_GROUPS, BUSY, NO_PASS, WORN};
 use crate::handles::sends::fitting;
-use crate::pool::asks::{Closing, Sending, SendingWord, Taking};
-use crate::pool::pooled::{Made, Pooled, ask_of};
-use cc_model::Body;
+use crate::pool::asks::{Closing, Content, Sending, Taking};
+use crate::pool::pooled::{Made, Pooled};
 use std::alloc::Global;
 
 impl Pooled {
-    /// Keeps the pass of a call that waits, if there is one.
+    /// Keeps the place of a call that was made, and its pass if the call waits: the result of the call.
     #[inline(always)]
-    fn keep(&self, waiting: &mut Handle, waits: Option<Box<HandleInner>>)
+    fn keep<T>(&self, waiting: &mut Handle, place: &mut u32, made: Made<T>) -> T
         requires empty { waiting.old.boxed.value ≡ None }
-        requires kept { IsKeptOf self.now.queue waits }
-        ensures waits { pass_of waiting.new ≡ inside waits }
+        requires kept { IsKeptOf self.now.queue made.waits }
+        ensures told { result ≡ made.told }
+        ensures waits { pass_of waiting.new ≡ inside made.waits }
         ensures kept { IsWaitingOf self.now.queue waiting.new }
     {
+        let Made { told, waits, at } = made;
+        *place = at;
         if let Some(held) = waits {
             waiting.hold(held);
         }
+        told
     }
 
     /// Sends these words, if a body of the queue may have that many.
@@ -43,7 +46,8 @@ impl Pooled {
     {
         self.is_sound();
         if let [word] = words {
-            return self.send_word(waiting, place, *word);
+            // Each queue has such bodies.
+            return self.send_body(waiting, place, *word);
         }
         match fitting(words, self.longest) {
             Ok(body) => self.send_body(waiting, place, body),
@@ -51,44 +55,19 @@ impl Pooled {
         }
     }
 
-    /// Sends a body of this word. Each queue has such bodies.
+    /// Sends a body of this content.
     #[inline(always)]
-    fn send_word(&self, waiting: &mut Handle, place: &mut u32, word: u64) -> SendResult
+    fn send_body<C: Content>(&self, waiting: &mut Handle, place: &mut u32, content: C) -> SendResult
         requires { IsWaitingOf self.now.queue waiting.old }
-        ensures sends { SendsBy self.now.queue (single word) (pass_of waiting.old) (pass_of waiting.new) result }
+        ensures sends { SendsBy self.now.queue (Ok (C.holds content)) (pass_of waiting.old) (pass_of waiting.new) result }
         ensures kept { IsWaitingOf self.now.queue waiting.new }
     {
         if waiting.live {
             return SendResult::only(BUSY);
         }
-        let mut ask = SendingWord { word, new: true };
-        match ask_of(&self.queue, self.senders(), *place, &mut ask, &mut ()) {
-            Ok(Made { told, waits, at }) => {
-                *place = at;
-                self.keep(waiting, waits);
-                told
-            }
-            Err(all_there) => SendResult::only(if all_there { WORN } else { BUSY }),
-        }
-    }
-
-    /// Sends this body.
-    #[inline(always)]
-    fn send_body(&self, waiting: &mut Handle, place: &mut u32, body: Body) -> SendResult
-        requires { IsWaitingOf self.now.queue waiting.old }
-        ensures sends { SendsBy self.now.queue (Ok body) (pass_of waiting.old) (pass_of waiting.new) result }
-        ensures kept { IsWaitingOf self.now.queue waiting.new }
-    {
-        if waiting.live {
-            return SendResult::only(BUSY);
-        }
-        let mut ask = Sending { body, new: true };
-        match ask_of(&self.queue, self.senders(), *place, &mut ask, &mut ()) {
-            Ok(Made { told, waits, at }) => {
-                *place = at;
-                self.keep(waiting, waits);
-                told
-            }
+        let mut ask = Sending { content, new: true };
+        match self.ask_of(self.senders(), *place, &mut ask, &mut ()) {
+            Ok(made) => self.keep(waiting, place, made),
             Err(all_there) => SendResult::only(if all_there { WORN } else { BUSY }),
         }
     }
@@ -103,12 +82,8 @@ impl Pooled {
             return SendResult::only(BUSY);
         }
         let mut ask = Closing { new: true };
-        match ask_of(&self.queue, self.senders(), *place, &mut ask, &mut ()) {
-            Ok(Made { told, waits, at }) => {
-                *place = at;
-                self.keep(waiting, waits);
-                told
-            }
+        match self.ask_of(self.senders(), *place, &mut ask, &mut ()) {
+            Ok(made) => self.keep(waiting, place, made),
             Err(_) => SendResult::only(BUSY),
         }
     }
@@ -133,12 +108,8 @@ impl Pooled {
             return TakeNumbers::none(BUSY, item);
         }
         let mut ask = Taking { group, new: true };
-        match ask_of(&self.queue, self.group(group), *place, &mut ask, item) {
-            Ok(Made { told, waits, at }) => {
-                *place = at;
-                self.keep(waiting, waits);
-                told
-            }
+        match self.ask_of(self.group(group), *place, &mut ask, item) {
+            Ok(made) => self.keep(waiting, place, made),
             Err(_) => TakeNumbers::none(BUSY, item),
         }
     }

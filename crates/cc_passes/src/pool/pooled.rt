@@ -137,53 +137,6 @@ impl<T, O, A: Ask<T, O>> Spot<T, O, A> for Kept {
     }
 }
 
-/// Makes a call by a pass of this row: tries each place once, from this one on. If none made it: whether each pass was there, and
-/// passed over.
-#[inline(always)]
-pub(crate) fn ask_of<T, O, A: Ask<T, O>, K: Spot<T, O, A>>(
-    queue: &Queue,
-    row: &[K],
-    from: u32,
-    ask: &mut A,
-    out: &mut O,
-) -> Result<Made<T>, bool>
-    requires row { All (λ k. K.of k ≡ queue.now) row.now }
-    requires new { A.is_new ask.old }
-    ensures made { IfOk result (λ m. IsRowMade queue.now (λ old new told. A.tells ask.old old new told out.new) m) }
-    ensures tried { IfErr result (λ all_there. All (λ k. GaveNone K.gave all_there k) row.now) }
-{
-    let _ = queue;
-    let count = row.len();
-    if count == 0 {
-        return Err(true);
-    }
-    let start = if (from as usize) < count {
-        from as usize
-    } else {
-        0
-    };
-    let mut at = start;
-    let mut all_there = true;
-    for _ in 0..count {
-        match row[at].ask(ask, out) {
-            Tried::Made(told, waits) => {
-                return Ok(Made {
-                    told,
-                    waits,
-                    at: (at % 0x1_0000_0000) as u32,
-                });
-            }
-            Tried::NotFree => all_there = false,
-            Tried::PassedOver => {}
-        }
-        at += 1;
-        if at == count {
-            at = 0;
-        }
-    }
-    Err(all_there)
-}
-
 impl Pooled {
     /// A body may have one word: a fact for proofs, and no work.
     #[inline(always)]
@@ -216,6 +169,52 @@ impl Pooled {
         ensures { All (IsPlaceOf self.now.queue) result.now }
     {
         &self.senders
+    }
+
+    /// Makes a call by a pass of this row: tries each place once, from this one on. If none made it: whether each pass was there, and
+    /// passed over.
+    #[inline(always)]
+    pub(crate) fn ask_of<T, O, A: Ask<T, O>, K: Spot<T, O, A>>(
+        &self,
+        row: &[K],
+        from: u32,
+        ask: &mut A,
+        out: &mut O,
+    ) -> Result<Made<T>, bool>
+        requires row { All (λ k. K.of k ≡ self.now.queue) row.now }
+        requires new { A.is_new ask.old }
+        ensures made { IfOk result (λ m. IsRowMade self.now.queue (λ old new told. A.tells ask.old old new told out.new) m) }
+        ensures tried { IfErr result (λ all_there. All (λ k. GaveNone K.gave all_there k) row.now) }
+    {
+        let count = row.len();
+        if count == 0 {
+            return Err(true);
+        }
+        let start = if (from as usize) < count {
+            from as usize
+        } else {
+            0
+        };
+        let mut at = start;
+        let mut all_there = true;
+        for _ in 0..count {
+            match row[at].ask(ask, out) {
+                Tried::Made(told, waits) => {
+                    return Ok(Made {
+                        told,
+                        waits,
+                        at: (at % 0x1_0000_0000) as u32,
+                    });
+                }
+                Tried::NotFree => all_there = false,
+                Tried::PassedOver => {}
+            }
+            at += 1;
+            if at == count {
+                at = 0;
+            }
+        }
+        Err(all_there)
     }
 
     /// Puts a pass back into the place that it was taken from, of the senders or of this group. If that place isn't free for it,
