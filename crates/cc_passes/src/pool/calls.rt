@@ -1,36 +1,29 @@
 //! The calls of a caller, as C makes them.
-ghost use Rattle.std.specs.Prelude.{◌≡◌, Some, IfSome};
+ghost use Rattle.std.specs.Prelude.{◌≡◌, IfSome};
 ghost use Rattle.cc_passes.specs.Handles.{pass_of};
 ghost use Rattle.cc_passes.specs.Calls.{fitting, TurnsSend, TurnsClose, TurnsTake};
 ghost use Rattle.cc_passes.specs.Results.{with_item};
 ghost use Rattle.cc_passes.specs.Call.{IsReady, IsSame};
-ghost use Rattle.cc_passes.specs.Caller.{IsWaitingOf, SendsBy, ClosesBy, TakesBy, TurnsBy};
+ghost use Rattle.cc_passes.specs.Caller.{SendsBy, ClosesBy, TakesBy, TurnsBy};
 
 use crate::handles::items::ItemForm;
 use crate::handles::results::{SendResult, TakeNumbers, TakeResult};
 use crate::pool::call::Call;
-use crate::pool::lent::Lent;
-use crate::pool::part::Part;
-use crate::pool::pooled::Pooled;
 use std::alloc::Global;
-use std::mem::replace;
-use std::ptr::null;
+
+/// Makes a call of the queue, which the part lends meanwhile, and keeps how many calls the turn served: the result of the call.
+macro_rules! by_part {
+    ($call:expr, |$queue:ident| $made:expr) => {{
+        let lent = $call.queue.lend();
+        let $queue = lent.get();
+        let told = $made;
+        $call.queue.take_back(lent);
+        $call.served = told.served;
+        told
+    }};
+}
 
 impl Call {
-    /// The part of the queue, until `Part::pack` puts it back.
-    #[inline(always)]
-    fn part(&mut self) -> Lent<Pooled>
-        requires { IsReady self.old }
-        ensures value { Some result.value ≡ self.old.queue.value }
-        ensures part { (result.life ≡ self.old.queue.life) × (result.part ≡ self.old.queue.part) }
-        ensures waiting { self.new.waiting ≡ self.old.waiting }
-        ensures of { IsWaitingOf result.value.queue self.new.waiting }
-    {
-        let at = null();
-        let part = replace(&mut self.queue, Part::none(at));
-        part.unpack()
-    }
-
     /// Sends these words, if a body of the queue may have that many.
     #[inline(always)]
     pub fn send(&mut self, words: &[u64]) -> SendResult
@@ -40,11 +33,10 @@ impl Call {
         ensures ready { IsReady self.new }
         ensures served { self.new.served ≡ result.served }
     {
-        let lent = self.part();
-        let told = lent.get().send(&mut self.waiting, &mut self.place, words);
-        self.queue = Part::pack(lent);
-        self.served = told.served;
-        told
+        by_part!(
+            self,
+            |queue| queue.send(&mut self.waiting, &mut self.place, words)
+        )
     }
 
     /// One turn of a send that waits.
@@ -55,11 +47,10 @@ impl Call {
         ensures ready { IsReady self.new }
         ensures served { self.new.served ≡ result.served }
     {
-        let lent = self.part();
-        let told = lent.get().turn_send(alloc, &mut self.waiting, self.place);
-        self.queue = Part::pack(lent);
-        self.served = told.served;
-        told
+        by_part!(
+            self,
+            |queue| queue.turn_send(alloc, &mut self.waiting, self.place)
+        )
     }
 
     /// Closes the queue.
@@ -70,11 +61,10 @@ impl Call {
         ensures ready { IsReady self.new }
         ensures served { self.new.served ≡ result.served }
     {
-        let lent = self.part();
-        let told = lent.get().close(&mut self.waiting, &mut self.place);
-        self.queue = Part::pack(lent);
-        self.served = told.served;
-        told
+        by_part!(
+            self,
+            |queue| queue.close(&mut self.waiting, &mut self.place)
+        )
     }
 
     /// One turn of a close that waits.
@@ -85,11 +75,10 @@ impl Call {
         ensures ready { IsReady self.new }
         ensures served { self.new.served ≡ result.served }
     {
-        let lent = self.part();
-        let told = lent.get().turn_close(alloc, &mut self.waiting, self.place);
-        self.queue = Part::pack(lent);
-        self.served = told.served;
-        told
+        by_part!(
+            self,
+            |queue| queue.turn_close(alloc, &mut self.waiting, self.place)
+        )
     }
 
     /// Takes for this group, from 1, and writes the item where it is wanted.
@@ -101,13 +90,10 @@ impl Call {
         ensures ready { IsReady self.new }
         ensures served { self.new.served ≡ result.served }
     {
-        let lent = self.part();
-        let told = lent
-            .get()
-            .take(&mut self.waiting, &mut self.place, group, item);
-        self.queue = Part::pack(lent);
-        self.served = told.served;
-        told
+        by_part!(
+            self,
+            |queue| queue.take(&mut self.waiting, &mut self.place, group, item)
+        )
     }
 
     /// One turn of a take that waits.
@@ -118,12 +104,9 @@ impl Call {
         ensures ready { IsReady self.new }
         ensures served { self.new.served ≡ result.served }
     {
-        let lent = self.part();
-        let told = lent
-            .get()
-            .turn_take::<I>(alloc, &mut self.waiting, self.place);
-        self.queue = Part::pack(lent);
-        self.served = told.served;
-        told
+        by_part!(
+            self,
+            |queue| queue.turn_take::<I>(alloc, &mut self.waiting, self.place)
+        )
     }
 }

@@ -1,5 +1,5 @@
 //! A part of a loan, as C holds it.
-ghost use Rattle.std.specs.Prelude.{◌≡◌, ℕ, List, Option, Some, None, IsTrue, is_some};
+ghost use Rattle.std.specs.Prelude.{◌≡◌, ℕ, List, Option, Some, IsTrue, is_some};
 ghost use Rattle.cc_passes.specs.declared.pool.pooled.Pooled.{Pooled};
 ghost use Rattle.cc_passes.specs.contracts.pool.pooled.Pooled.{the_row};
 ghost use Rattle.cc_passes.specs.Lent.{part_owns};
@@ -23,32 +23,25 @@ impl Model for Part {
 }
 
 impl Part {
-    /// Nothing.
-    pub fn none(at: *const ()) -> Part
-        ensures { result.value ≡ None }
+    /// Lends the part, until `take_back`. The pointer stays here.
+    #[inline(always)]
+    pub(crate) fn lend(&mut self) -> Lent<Pooled>
+        requires { IsTrue (is_some self.old.value) }
+        ensures lent { (Some result.value ≡ self.old.value) × (result.life ≡ self.old.life) × (result.part ≡ self.old.part) }
+        ensures at { (result.at ≡ self.old.at) × (self.new.at ≡ self.old.at) }
     {
-        Part { at }
-    }
-
-    /// A part of a loan.
-    pub fn pack(lent: Lent<Pooled>) -> Part
-        ensures { (result.value ≡ Some lent.value) × (result.life ≡ lent.life) × (result.part ≡ lent.part) }
-    {
-        let Lent { at } = lent;
-        Part {
-            at: at as *const (),
-        }
-    }
-
-    /// The same back.
-    pub fn unpack(self) -> Lent<Pooled>
-        requires { IsTrue (is_some self.value) }
-        ensures { (Some result.value ≡ self.value) × (result.life ≡ self.life) × (result.part ≡ self.part) }
-    {
-        let Part { at } = self;
         Lent {
-            at: at as *const Pooled,
+            at: self.at as *const Pooled,
         }
+    }
+
+    /// Takes the part back. The pointer is here, so nothing is written.
+    #[inline(always)]
+    pub(crate) fn take_back(&mut self, lent: Lent<Pooled>)
+        requires { lent.at ≡ self.old.at }
+        ensures { (self.new.value ≡ Some lent.value) × (self.new.life ≡ lent.life) × (self.new.part ≡ lent.part) }
+    {
+        let Lent { at: _ } = lent;
     }
 }
 
