@@ -26,12 +26,14 @@ class Memory:
 
 @dataclasses.dataclass(frozen=True)
 class Operand:
-    """A register, by the name of all its 64 bits; a place in memory; or a number. Its size is in bytes."""
+    """A register, by the name of all its 64 bits; a place in memory; or a number. Its size is in bytes. `is_second` says that it is
+    the second byte of a register, as `ah`."""
 
     size: int
     register: str | None = None
     memory: Memory | None = None
     number: int = 0
+    is_second: bool = False
 
     @property
     def is_number(self) -> bool:
@@ -108,7 +110,7 @@ def operand(found) -> Operand:
         return Operand(found.size, memory=Memory(base, index, memory.scale, memory.disp, bool(memory.segment)))
     if found.type == X86_OP_IMM:
         return Operand(found.size, number=found.imm)
-    return Operand(found.size, register=register(found.reg))
+    return Operand(found.size, register=register(found.reg), is_second=decoder.reg_name(found.reg) in ("ah", "bh", "ch", "dh"))
 
 
 def instruction(found) -> Instruction:

@@ -5,8 +5,8 @@ any look: a load that may be of a shared word, a call, a return, or anything tha
 """
 import re
 
-from x86.decode import Instruction
-from x86.flow import ARGUMENTS, LOST_BY_A_CALL, Function, paths
+from x86.decode import Instruction, Operand
+from x86.flow import ARGUMENTS, LOST_BY_A_CALL, SETS, Function, paths
 from x86.objects import Refused
 
 # What is told, and not found: by which path a function of each kind reaches the words of the table. Before it come the handle and
@@ -176,13 +176,14 @@ def reads_by(function: Function, argument: str) -> bool:
 
 
 def is_dead(function: Function, k: int, register: str, others: dict) -> bool:
-    """Whether on each path behind an instruction (-1: the entry) the register is written before it is read."""
-    seen, todo = set(), [0] if k < 0 else list(function.successors(k) or [])
+    """Whether on each path behind an instruction (-1: the entry) the register is written before it is read. If its lowest byte is
+    written alone, that byte may be read behind it, and the others may not."""
+    seen, todo = set(), [(j, False) for j in ([0] if k < 0 else function.successors(k) or [])]
     while todo:
-        j = todo.pop()
-        if j in seen:
+        j, has_new_byte = todo.pop()
+        if (j, has_new_byte) in seen:
             continue
-        seen.add(j)
+        seen.add((j, has_new_byte))
         i = function.instructions[j]
         if i.name == "call":
             reference = function.reference(i)
@@ -195,11 +196,28 @@ def is_dead(function: Function, k: int, register: str, others: dict) -> bool:
             if register in KEPT_BY_A_RETURN:
                 return False
             continue
-        if then is None or uses(i, register):
+        if then is None:
             return False
-        if register not in i.writes:
-            todo += then
+        if i.name in SETS and is_lowest_byte(i.operands[0], register):
+            todo += [(n, True) for n in then]
+        elif has_new_byte and reads_lowest_byte(i, register):
+            todo += [(n, True) for n in then]
+        elif uses(i, register):
+            return False
+        elif register not in i.writes:
+            todo += [(n, has_new_byte) for n in then]
     return True
+
+
+def is_lowest_byte(operand: Operand, register: str) -> bool:
+    return operand.register == register and operand.size == 1 and not operand.is_second
+
+
+def reads_lowest_byte(i: Instruction, register: str) -> bool:
+    """Whether it tests or compares the lowest byte of the register, and has to do with no other of its bytes."""
+    own = [each for each in i.operands if each.register == register]
+    by_memory = i.memory is not None and register in (i.memory.base, i.memory.index)
+    return i.name in ("test", "cmp") and bool(own) and not by_memory and all(is_lowest_byte(each, register) for each in own)
 
 
 def uses(i: Instruction, register: str) -> bool:
