@@ -5,13 +5,15 @@ use native.Mathlib.Decide.{ℕ_discrete}
 use Rattle.cc_model.specs.Body.{body_of}
 use Rattle.cc_model.specs.declared.body.Body.{Body}
 use Rattle.cc_passes.specs.declared.handles.results.SendResult.{SendResult}
-use Rattle.cc_passes.specs.declared.handles.return_codes.TheConstants.{BEGUN, LONG}
+use Rattle.cc_passes.specs.declared.handles.return_codes.TheConstants.{BEGUN, LONG, WORN}
 use Rattle.cc_passes.specs.Calls.{single, fitting, BeginsSend, TurnsSend, TriesSend, BeginsTake, TurnsTake, TriesTake}
-use Rattle.cc_passes.specs.Results.{only, none_taken}
+use Rattle.cc_passes.specs.Results.{only, none_taken, sent_as}
 use Rattle.cc_passes.specs.Items.{Form}
 use Rattle.cc_passes.specs.declared.handles.results.TakeResult.{TakeResult}
+use Rattle.cc_passes.specs.Names.{SendAnswer}
 use Rattle.cc_passes.specs.Caller.{MadeBy, InRange, SendsBy}
 use Rattle.cc_steps.specs.Topic.{Topic}
+use Rattle.cc_steps.specs.Walk.{Walk}
 use Rattle.cc_passes.specs.declared.handles.handle_inner.Pass.{Pass}
 use Rattle.cc_passes.specs.Passes.{has_call, HasPassOf}
 use Rattle.cc_passes.specs.Made.{kept_of, IsMade}
@@ -71,6 +73,47 @@ pub send_is_over : (body : Body) (old new : Option Pass) (told : SendResult) →
 send_is_over body old new told t e = dite (ℕ_discrete t.code BEGUN)
     (λ is. send_turns t.between new told (t.turns is) e)
     (λ not. let less = send_begins body old t.between t.code t.begins in let same = code_of told t.code (t.ends not).1 in absurd (omega (arith, less, same, e)))
+
+-- an answer has an answer's code
+answer_code : (given : SendAnswer) (served : ℕ) (told : SendResult) → told ≡ sent_as given served → 17 ≤ told.code
+answer_code (SendAnswer.Accepted place) served told is = let c = ap (λ (x : SendResult). x.code) is in omega (arith, c)
+answer_code SendAnswer.Full served told is = let c = ap (λ (x : SendResult). x.code) is in omega (arith, c)
+answer_code SendAnswer.Closed served told is = let c = ap (λ (x : SendResult). x.code) is in omega (arith, c)
+answer_code SendAnswer.Spent served told is = let c = ap (λ (x : SendResult). x.code) is in omega (arith, c)
+
+-- a turn of a send doesn't say that the sender is exhausted
+not_worn : (mid new : Option Pass) (told : SendResult) → TurnsSend mid new told → told.code ≡ WORN → ⊥
+not_worn None new told t e = let c = code_of told 9 t.1 in omega (arith, c, e)
+not_worn (Some (Pass.Sending v)) None told t e = elim t [ ]
+not_worn (Some (Pass.Sending v)) (Some (Pass.Sending w)) told t e = let c = code_of told 15 t.0 in omega (arith, c, e)
+not_worn (Some (Pass.Sending v)) (Some (Pass.Sender w)) told t e = let c = answer_code t.given told.served told t.told_is in omega (arith, c, e)
+not_worn (Some (Pass.Sending v)) (Some (Pass.Closing w)) told t e = elim t [ ]
+not_worn (Some (Pass.Sending v)) (Some (Pass.Receiver w)) told t e = elim t [ ]
+not_worn (Some (Pass.Sending v)) (Some (Pass.Taking w)) told t e = elim t [ ]
+not_worn (Some (Pass.Sender v)) new told t e = let c = code_of told 12 t.1 in omega (arith, c, e)
+not_worn (Some (Pass.Closing v)) new told t e = let c = code_of told 12 t.1 in omega (arith, c, e)
+not_worn (Some (Pass.Receiver v)) new told t e = let c = code_of told 10 t.1 in omega (arith, c, e)
+not_worn (Some (Pass.Taking v)) new told t e = let c = code_of told 10 t.1 in omega (arith, c, e)
+
+-- a begin that finds the sender exhausted leaves the pass as it was
+begins_worn : (body : Body) (old mid : Option Pass) (code : ℕ) → BeginsSend (Ok body) old mid code → code ≡ WORN → mid ≡ old
+begins_worn body None mid code b e = b.0
+begins_worn body (Some (Pass.Sender v)) None code b e = elim b [ ]
+begins_worn body (Some (Pass.Sender v)) (Some (Pass.Sending w)) code b e = absurd (omega (arith, b.0, e))
+begins_worn body (Some (Pass.Sender v)) (Some (Pass.Sender w)) code b e = ap (λ (x : Walk). Some (Pass.Sender x)) b.1
+begins_worn body (Some (Pass.Sender v)) (Some (Pass.Closing w)) code b e = elim b [ ]
+begins_worn body (Some (Pass.Sender v)) (Some (Pass.Receiver w)) code b e = elim b [ ]
+begins_worn body (Some (Pass.Sender v)) (Some (Pass.Taking w)) code b e = elim b [ ]
+begins_worn body (Some (Pass.Sending v)) mid code b e = b.0
+begins_worn body (Some (Pass.Closing v)) mid code b e = b.0
+begins_worn body (Some (Pass.Receiver v)) mid code b e = b.0
+begins_worn body (Some (Pass.Taking v)) mid code b e = b.0
+
+-- so does a try of a send
+pub send_is_worn : (body : Body) (old new : Option Pass) (told : SendResult) → TriesSend (Ok body) old new told → told.code ≡ WORN → new ≡ old
+send_is_worn body old new told t e = dite (ℕ_discrete t.code BEGUN)
+    (λ is. absurd (not_worn t.between new told (t.turns is) e))
+    (λ not. let end = t.ends not in end.0 ∙ begins_worn body old t.between t.code t.begins (sym (code_of told t.code end.1) ∙ e))
 
 module _ {I : Type 0} (form : Form I) where
   taken_code : (told : TakeResult I) (n : ℕ) → told ≡ none_taken form n → told.code ≡ n

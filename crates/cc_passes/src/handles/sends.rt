@@ -32,7 +32,6 @@ fn begun(queue: &Queue, pass: Pass, body: Result<Body, u32>) -> (Pass, u32)
     ensures here { IsOf queue.now (walk_of result.0) }
     ensures begins { BeginsSend body (Some pass) (Some result.0) result.1 }
 {
-    let why = no_idle_sender(&pass);
     match pass {
         Pass::Sender(sender) => match body {
             Ok(body) => match begin_send(queue, sender, body) {
@@ -41,7 +40,10 @@ fn begun(queue: &Queue, pass: Pass, body: Result<Body, u32>) -> (Pass, u32)
             },
             Err(why) => (Pass::Sender(sender), why),
         },
-        other => (other, why),
+        other => {
+            let why = no_idle_sender(&other);
+            (other, why)
+        }
     }
 }
 

@@ -79,15 +79,15 @@ impl<C: Content> Ask<SendResult, ()> for Sending<C> {
     ghost is_new = { λ s. s.new ≡ true };
 
     #[inline(always)]
-    #[tactic(auto, using(crate::proofs::Asked::send_is_over))]
+    #[tactic(auto, using(crate::proofs::Asked::send_is_over, crate::proofs::Asked::send_is_worn))]
     fn ask(&mut self, held: &mut HandleInner, _out: &mut ()) -> Option<Asked<SendResult>> {
-        if held.is_worn() == WORN {
-            return None;
-        }
-        self.new = false;
         let mut told = SendResult::only(WORN);
         let body = Ok(self.content.body());
         told.code = held.try_send(body, &mut told.number, &mut told.served);
+        if told.code == WORN {
+            return None;
+        }
+        self.new = false;
         let waits = told.code < ACCEPTED && held.has_call();
         Some(Asked { told, waits })
     }
@@ -129,11 +129,11 @@ impl<I: ItemForm> Ask<TakeNumbers, I> for Taking {
     #[inline(always)]
     #[tactic(auto, using(crate::proofs::Asked::take_is_over))]
     fn ask(&mut self, held: &mut HandleInner, item: &mut I) -> Option<Asked<TakeNumbers>> {
+        let mut told = TakeNumbers::none(WORN, item);
         if !held.is_in(self.group) {
             return None;
         }
         self.new = false;
-        let mut told = TakeNumbers::none(WORN, item);
         told.code = held.try_any(item, &mut told.total, &mut told.served);
         let waits = told.code < ACCEPTED && held.has_call();
         Some(Asked { told, waits })
