@@ -198,9 +198,8 @@ def is_dead(function: Function, k: int, register: str, others: dict) -> bool:
             continue
         if then is None:
             return False
-        if i.name in SETS and is_lowest_byte(i.operands[0], register):
-            todo += [(n, True) for n in then]
-        elif has_new_byte and reads_lowest_byte(i, register):
+        writes_lowest_byte = i.name in SETS and is_lowest_byte(i.operands[0], register)
+        if writes_lowest_byte or (has_new_byte and reads_lowest_byte(i, register)):
             todo += [(n, True) for n in then]
         elif uses(i, register):
             return False
