@@ -1,11 +1,12 @@
 -- The receipts that a row of passes hold are those of the history, in another order.
-use Rattle.std.proofs.Common.{◌≡◌, ℕ, zero, suc, ◌+◌, ◌-◌, ◌*◌, ◌/◌, ◌%◌, ◌<◌, ◌≤◌, ◌==◌, inl, inr, Bool, true, false, List, [], ◌∷◌, ◌++◌, map, length, take, drop, get_or, Option, Some, None, IsPermutation, Any, if◌then◌else◌, refl, sym, ap, ◌∙◌, subst, arith, append_assoc, eq-eqb, nat_lt, Ok}
+use Rattle.std.proofs.Common.{◌≡◌, ℕ, zero, suc, ◌+◌, ◌-◌, ◌*◌, ◌/◌, ◌%◌, ◌<◌, ◌≤◌, ◌==◌, inl, inr, Bool, true, false, List, [], ◌∷◌, ◌++◌, map, length, take, drop, get_or, Option, Some, None, IsPermutation, Bor, Any, if◌then◌else◌, refl, sym, ap, ◌∙◌, subst, arith, append_assoc, eq-eqb, nat_lt, Ok}
 use Rattle.std.proofs.Math.Nat.{suc-mul, mul-le-mul_right}
 use Rattle.std.proofs.Math.Seq.{take-length}
 use Rattle.std.proofs.lemmas.Nat.{div-add-mod', div-mul-add}
 use Rattle.std.proofs.lemmas.Bool.{cases_lt, ne_eqb, lt-ltb, ltb-true, false≢true, true≢false}
 use Rattle.std.proofs.lemmas.List.{map-append, get_or_default, get_or_past, get_or-drop, get_or-take, length-take, length-drop}
 use Rattle.std.proofs.lemmas.List.Sorted.{IsPermutation-refl, IsPermutation-sym, IsPermutation-trans, IsPermutation-append_left, IsPermutation-append_right, IsPermutation-append_comm}
+use Rattle.std.specs.Fn.{FnReturnsAt, Shared}
 use Rattle.std.specs.List.{All, AllByRecursion, filter, slice_range}
 use native.Mathlib.Decide.{ℕ_discrete}
 use Rattle.cc_model.specs.Record.{Side, Record, silent, of_group}
@@ -37,6 +38,10 @@ one_more {X} P xs i x inside is here before k d less = elim (cases_lt k i) [
   | inl earlier ↦ before k d earlier
   | inr same ↦ let at : k ≡ i = omega (arith, same, less) in subst P (is ∙ get_or_default xs i x d inside ∙ ap (λ (n : ℕ). get_or xs n d) (sym at)) here
 ]
+
+-- what a call ensures holds of each element, if it was made on each
+pub so_at_each : {F X : Type 0} (g : Shared F (Bor X × Unit {0}) (Unit {0})) (f : F) (xs : List X) (P : X → Type 0) → ((y : Bor X) → g.post f (y, tt) tt → P y.now) → All (λ x. FnReturnsAt g f x tt) xs → All P xs
+so_at_each g f xs P so made k d less = let m = made k d less in subst P m.shows (so m.shown m.says.met)
 
 -- ---- calls that are dealt out to a row of passes
 

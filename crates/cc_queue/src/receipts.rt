@@ -1,12 +1,12 @@
 //! The audit of what all passes of a queue got.
 ghost use Rattle.std.specs.Prelude.{◌≡◌, ◌≤◌, ◌++◌, [], map, IfOk, IsPermutation};
+ghost use Rattle.std.specs.Fn.{FnReturnsAt};
 ghost use Rattle.std.specs.List.{All};
 ghost use Rattle.cc_audit.specs.Verdict.{IsVerdict};
 ghost use Rattle.cc_queue.specs.Names.{Verdict};
 ghost use Rattle.cc_runs.specs.Words.{groups};
-ghost use Rattle.cc_queue.specs.Headline.{IsAtRest};
 ghost use Rattle.cc_queue.specs.Met.{HaveSeenOne};
-ghost use Rattle.cc_queue.specs.Receipts.{Row, AreAll, HasJustCallsOf, HasEnded, IsTotal, in_group, seen_by, walk_at, receipts_told, receipts_left, sent, got};
+ghost use Rattle.cc_queue.specs.Receipts.{Row, AreAll, HasJustCallsOf, IsTotal, in_group, seen_by, walk_at, receipts_told, receipts_left, sent, got};
 
 use crate::given_up::GivenUp;
 use crate::passes::{Receiver, Sender};
@@ -14,30 +14,13 @@ use crate::queue::Queue;
 use cc_audit::{SendReceipt, TakeReceipt, Verdict, audit};
 use std::alloc::{AllocError, Global};
 
-/// Each sender has come to rest: a fact for proofs, and no work.
-fn all_senders_stand(senders: &[Sender])
-    ensures { All IsAtRest senders.now }
+/// Makes this call on each of the passes: a fact for proofs, and no work.
+fn at_each<P, F: Fn(&P)>(passes: &[P], call: F)
+    requires { F.IsAlwaysCallable call }
+    ensures { All (λ p. FnReturnsAt F.Fn call p tt) passes.now }
 {
-    for sender in senders {
-        sender.is_sound();
-    }
-}
-
-/// So has each receiver.
-fn all_receivers_stand(receivers: &[Receiver])
-    ensures { All IsAtRest receivers.now }
-{
-    for receiver in receivers {
-        receiver.is_sound();
-    }
-}
-
-/// Each pass that was given up has ended so, with a call that it may have left waiting.
-fn all_given_up_stand(given_up: &[GivenUp])
-    ensures { All HasEnded given_up.now }
-{
-    for pass in given_up {
-        pass.is_sound();
+    for pass in passes {
+        call(pass);
     }
 }
 
@@ -84,8 +67,8 @@ pub fn audit_all(
     ensures none_left { receipts_left sent passes.senders ≡ [] → receipts_left got (in_group queue.now.setting.config receipts.now.group passes.receivers) ≡ [] → IfOk result (λ v. v ≡ Verdict.Clean) }
 {
     queue.is_sound();
-    all_senders_stand(all.senders);
-    all_receivers_stand(all.receivers);
-    all_given_up_stand(all.given_up);
+    at_each(all.senders, Sender::is_sound);
+    at_each(all.receivers, Receiver::is_sound);
+    at_each(all.given_up, GivenUp::is_sound);
     audit(alloc, receipts.sends, receipts.takes, receipts.total)
 }
