@@ -59,20 +59,6 @@ rests_so u v begun node is list stand s =
 pub met_more : (a b c : Walk) → HasMet a b → HasMet b c → HasMet a c
 met_more a b c f g = record { stands = stands_more a b c [] [] f.stands g.stands; same = g.same ∙ (λ i. record (f.same i) { seen = c.seen }) }
 
--- others that have met are of one queue with the pass still
-others_met : (v : Walk) (xs ys : List Walk) → length ys ≡ length xs → All (λ o. IsOfOne v o) xs → EachHasMet xs ys → All (λ o. IsOfOne v o) ys
-others_met v xs ys same all met = λ k d less.
-    let within : k < length xs = omega (arith, same, less) in
-    subst (IsOfOne v) (sym (met k d within).same) (all k d within)
-
--- a pass that has met others may meet more of them
-pub may_still : (z : Topic) (v w : Walk) (xs : List Walk) → MayMeet z v xs → HasMet v w → MayMeet z w xs
-may_still z v w xs may met = subst (λ (x : Walk). MayMeet z x xs) (sym met.same) (record { here = may.here; still = still_stopped v _ may.still refl; others = may.others })
-
--- and the same again
-pub may_again : (z : Topic) (v : Walk) (xs ys : List Walk) → MayMeet z v xs → length ys ≡ length xs → EachHasMet xs ys → MayMeet z v ys
-may_again z v xs ys may same met = record { here = may.here; still = may.still; others = others_met v xs ys same may.others met }
-
 later_more : (xs ys zs : List Move) → Later xs ys → Onward ys zs → Later xs zs
 later_more xs ys zs l on = let g = on xs (record { more = l.0; is = l.1 }) in (g.more, g.is)
 
@@ -88,52 +74,51 @@ longer_back xs ys f = go (nat_lt (length xs) (length ys)) refl
     go false e = refl
 
 -- the loop so far: `first` was `was`, `now` was `old`, and the first i have met it
-pub record Sweeping (was first : Walk) (old now : List Walk) (i : ℕ) : Type 0 where
+pub record Sweeping {X : Type 0} (walk : X → Walk) (was first : Walk) (old now : List X) (i : ℕ) : Type 0 where
   pub met : HasMet was first
-  pub each : (k : ℕ) (d : Walk) → k < i → k < length old → HasMet (get_or old k d) (get_or now k d)
-  pub rest : (k : ℕ) (d : Walk) → i ≤ k → get_or now k d ≡ get_or old k d
-  pub within : (k : ℕ) (d : Walk) → k < i → k < length old → Later (get_or now k d).seen first.seen
-  pub still : ((k : ℕ) (d : Walk) → k < length old → Later (get_or old k d).seen was.seen) → (first.seen ≡ was.seen) × ((k : ℕ) (d : Walk) → k < i → k < length old → (get_or now k d).seen ≡ first.seen)
+  pub each : (k : ℕ) (d : X) → k < i → k < length old → HasMet (walk (get_or old k d)) (walk (get_or now k d))
+  pub rest : (k : ℕ) (d : X) → i ≤ k → get_or now k d ≡ get_or old k d
+  pub within : (k : ℕ) (d : X) → k < i → k < length old → Later (walk (get_or now k d)).seen first.seen
+  pub still : ((k : ℕ) (d : X) → k < length old → Later (walk (get_or old k d)).seen was.seen) → (first.seen ≡ was.seen) × ((k : ℕ) (d : X) → k < i → k < length old → (walk (get_or now k d)).seen ≡ first.seen)
 
-pub sweeps : (was first first' : Walk) (old now : List Walk) (i : ℕ) (x x' : Walk) → Sweeping was first old now i → i < length old → length now ≡ length old → ((d : Walk) → get_or now i d ≡ x)
-    → HasMet first first' → HasMet x x' → x'.seen ≡ first'.seen → first'.seen ≡ longer first.seen x.seen → Sweeping was first' old (set now i x') (i + 1)
-sweeps was first first' old now i x x' h lt len at one other seen longest =
-    let here : (d : Walk) → get_or (set now i x') i d ≡ x' = λ d. get_or-set_same now i x' d (omega (arith, len)) in
-    let others : (k : ℕ) (d : Walk) → k ≢ i → get_or (set now i x') k d ≡ get_or now k d = λ k d ne. get_or-set_other now i k x' d ne in
+sweeps : {X : Type 0} (walk : X → Walk) (was first first' : Walk) (old now : List X) (i : ℕ) (x x' : X) → Sweeping walk was first old now i → i < length old → length now ≡ length old → ((d : X) → get_or now i d ≡ x)
+    → HasMet first first' → HasMet (walk x) (walk x') → (walk x').seen ≡ first'.seen → first'.seen ≡ longer first.seen (walk x).seen → Sweeping walk was first' old (set now i x') (i + 1)
+sweeps {X} walk was first first' old now i x x' h lt len at one other seen longest =
+    let here : (d : X) → get_or (set now i x') i d ≡ x' = λ d. get_or-set_same now i x' d (omega (arith, len)) in
+    let others : (k : ℕ) (d : X) → k ≢ i → get_or (set now i x') k d ≡ get_or now k d = λ k d ne. get_or-set_other now i k x' d ne in
     record {
       met = met_more was first first' h.met one;
-      each = λ k d lo hi. elim (ℕ_discrete k i) as (λ _. HasMet (get_or old k d) (get_or (set now i x') k d)) [
-        | yes e ↦ subst (λ (j : ℕ). HasMet (get_or old j d) (get_or (set now i x') j d)) (sym e) (subst (λ (y : Walk × Walk). HasMet y.0 y.1) (λ j. ((sym (at d) ∙ h.rest i d (omega arith)) j, sym (here d) j)) other)
-        | no ne ↦ subst (HasMet (get_or old k d)) (sym (others k d ne)) (h.each k d (omega arith) hi)
+      each = λ k d lo hi. elim (ℕ_discrete k i) as (λ _. HasMet (walk (get_or old k d)) (walk (get_or (set now i x') k d))) [
+        | yes e ↦ subst (λ (j : ℕ). HasMet (walk (get_or old j d)) (walk (get_or (set now i x') j d))) (sym e) (subst (λ (y : X × X). HasMet (walk y.0) (walk y.1)) (λ j. ((sym (at d) ∙ h.rest i d (omega arith)) j, sym (here d) j)) other)
+        | no ne ↦ subst (λ (y : X). HasMet (walk (get_or old k d)) (walk y)) (sym (others k d ne)) (h.each k d (omega arith) hi)
       ];
       rest = λ k d le. others k d (λ e. omega arith) ∙ h.rest k d (omega arith);
-      within = λ k d lo hi. elim (ℕ_discrete k i) as (λ _. Later (get_or (set now i x') k d).seen first'.seen) [
-        | yes e ↦ subst (λ (l : List Move). Later l first'.seen) (sym (ap (λ (j : ℕ). (get_or (set now i x') j d).seen) e ∙ ap (λ (y : Walk). y.seen) (here d) ∙ seen)) (later_self first'.seen)
-        | no ne ↦ subst (λ (y : Walk). Later y.seen first'.seen) (sym (others k d ne)) (later_more _ _ _ (h.within k d (omega arith) hi) one.stands.onward)
+      within = λ k d lo hi. elim (ℕ_discrete k i) as (λ _. Later (walk (get_or (set now i x') k d)).seen first'.seen) [
+        | yes e ↦ subst (λ (l : List Move). Later l first'.seen) (sym (ap (λ (j : ℕ). (walk (get_or (set now i x') j d)).seen) e ∙ ap (λ (y : X). (walk y).seen) (here d) ∙ seen)) (later_self first'.seen)
+        | no ne ↦ subst (λ (y : X). Later (walk y).seen first'.seen) (sym (others k d ne)) (later_more _ _ _ (h.within k d (omega arith) hi) one.stands.onward)
       ];
       still = λ all.
           let k0 = h.still all in
           let x_is : x ≡ get_or old i x = sym (at x) ∙ h.rest i x (omega arith) in
-          let f : Later x.seen first.seen = subst (λ (l : List Move). Later x.seen l) (sym k0.0) (subst (λ (y : Walk). Later y.seen was.seen) (sym x_is) (all i x lt)) in
-          let same : first'.seen ≡ first.seen = longest ∙ longer_back first.seen x.seen f in (
+          let f : Later (walk x).seen first.seen = subst (λ (l : List Move). Later (walk x).seen l) (sym k0.0) (subst (λ (y : X). Later (walk y).seen was.seen) (sym x_is) (all i x lt)) in
+          let same : first'.seen ≡ first.seen = longest ∙ longer_back first.seen (walk x).seen f in (
             same ∙ k0.0,
-            λ k d lo hi. elim (ℕ_discrete k i) as (λ _. (get_or (set now i x') k d).seen ≡ first'.seen) [
-              | yes e ↦ ap (λ (j : ℕ). (get_or (set now i x') j d).seen) e ∙ ap (λ (y : Walk). y.seen) (here d) ∙ seen
-              | no ne ↦ ap (λ (y : Walk). y.seen) (others k d ne) ∙ k0.1 k d (omega arith) hi ∙ sym same
+            λ k d lo hi. elim (ℕ_discrete k i) as (λ _. (walk (get_or (set now i x') k d)).seen ≡ first'.seen) [
+              | yes e ↦ ap (λ (j : ℕ). (walk (get_or (set now i x') j d)).seen) e ∙ ap (λ (y : X). (walk y).seen) (here d) ∙ seen
+              | no ne ↦ ap (λ (y : X). (walk y).seen) (others k d ne) ∙ k0.1 k d (omega arith) hi ∙ sym same
             ],
           );
     }
 
--- one more of them, which was x: neither moves, and each sees the other
-pub sweeps_on : (was first first' : Walk) (old now : List Walk) (i : ℕ) (d x x' : Walk) → HasStopped was → Sweeping was first old now i → i < length old → length now ≡ length old → x ≡ get_or now i d → HasStopped x
-    → Sees first first' → Sees x x' → x'.seen ≡ first'.seen → first'.seen ≡ longer first.seen x.seen → Sweeping was first' old (set now i x') (i + 1)
-sweeps_on was first first' old now i d x x' stop so less len is still one other seen longest =
-    sweeps was first first' old now i (get_or now i d) x' so less len (λ e. get_or_default now i e d (omega (arith, less, len)))
-    (met_on first first' (still_stopped was first stop so.met.same) one) (met_stopped (get_or now i d) x x' is still other) seen (longest ∙ ap (λ (y : Walk). longer first.seen y.seen) is)
+-- one more of them, which is x' now: neither moves, and each sees the other
+pub sweeps_on : {X : Type 0} (walk : X → Walk) (was first first' : Walk) (old now : List X) (i : ℕ) (d x' : X) → HasStopped was → Sweeping walk was first old now i → i < length old → length now ≡ length old → Sees first first'
+    → HasMet (walk (get_or now i d)) (walk x') → (walk x').seen ≡ first'.seen → first'.seen ≡ longer first.seen (walk (get_or now i d)).seen → Sweeping walk was first' old (set now i x') (i + 1)
+sweeps_on walk was first first' old now i d x' stop so less len one other seen longest =
+    sweeps walk was first first' old now i (get_or now i d) x' so less len (λ e. get_or_default now i e d (omega (arith, less, len))) (met_on first first' (still_stopped was first stop so.met.same) one) other seen longest
 
 -- before the first of them
-pub sweeps_none : (was : Walk) (old : List Walk) → HasStopped was → IsSound was → Sweeping was was old old 0
-sweeps_none was old stop sound = record {
+pub sweeps_none : {X : Type 0} (walk : X → Walk) (was : Walk) (old : List X) → HasStopped was → IsSound was → Sweeping walk was was old old 0
+sweeps_none walk was old stop sound = record {
   met = met_still was was refl stop sound;
   each = λ k d lo. absurd (omega arith);
   rest = λ k d le. refl;
@@ -142,8 +127,8 @@ sweeps_none was old stop sound = record {
 }
 
 -- after the last of them
-pub swept : (was first : Walk) (old now : List Walk) (i : ℕ) → Sweeping was first old now i → length old ≤ i → length now ≡ length old → Swept was first old now
-swept was first old now i h all len = record {
+pub swept : {X : Type 0} (walk : X → Walk) (was first : Walk) (old now : List X) (i : ℕ) → Sweeping walk was first old now i → length old ≤ i → length now ≡ length old → Swept walk was first old now
+swept walk was first old now i h all len = record {
   first = h.met;
   others = λ k d less. h.each k d (omega arith) less;
   within = λ k d less. h.within k d (omega arith) (omega arith);
@@ -156,9 +141,13 @@ later_all first after xs met all = λ k d less. later_more _ _ _ (all k d less) 
 each_more : (xs ys zs : List Walk) → length ys ≡ length xs → EachHasMet xs ys → EachHasMet ys zs → EachHasMet xs zs
 each_more xs ys zs same f g k d less = met_more _ _ _ (f k d less) (g k d (omega (arith, same)))
 
+-- a sweep over passes that clauses see as walks
+abbrev SweptAll : Walk → Walk → List Walk → List Walk → Type 0
+SweptAll = Swept (λ (w : Walk). w)
+
 -- two sweeps over three lists
 pub gathered : (v0 v1 v2 v3 v4 v5 v6 : Walk) (a0 a1 a2 b0 b1 b2 c0 c1 c2 : List Walk) → length a1 ≡ length a0 → length b1 ≡ length b0 → length c1 ≡ length c0
-    → Swept v0 v1 a0 a1 → Swept v1 v2 b0 b1 → Swept v2 v3 c0 c1 → Swept v3 v4 a1 a2 → Swept v4 v5 b1 b2 → Swept v5 v6 c1 c2 → Gathered v0 v6 a0 a2 b0 b2 c0 c2
+    → SweptAll v0 v1 a0 a1 → SweptAll v1 v2 b0 b1 → SweptAll v2 v3 c0 c1 → SweptAll v3 v4 a1 a2 → SweptAll v4 v5 b1 b2 → SweptAll v5 v6 c1 c2 → Gathered v0 v6 a0 a2 b0 b2 c0 c2
 gathered v0 v1 v2 v3 v4 v5 v6 a0 a1 a2 b0 b1 b2 c0 c1 c2 la lb lc one two three four five six =
     let fourth = four.still (later_all v1 v3 a1 (met_more v1 v2 v3 two.first three.first) one.within) in
     let fifth = five.still (later_all v2 v4 b1 (met_more v2 v3 v4 three.first four.first) two.within) in
@@ -173,18 +162,19 @@ gathered v0 v1 v2 v3 v4 v5 v6 a0 a1 a2 b0 b1 b2 c0 c1 c2 la lb lc one two three 
       given_up_one = sixth.1;
     }
 
--- a pass of a queue may meet others of it; its seat is v, and its words are z
-may_meet : (q z : Topic) (others : List Walk) (x v : Walk) → z ≡ q → v ≡ x → HasStopped v → IsOf q x → All (IsOf q) others → MayMeet z v others
-may_meet q z others x v words seat still here others_are =
-    subst (λ (y : Topic × Walk). HasStopped y.1 → MayMeet y.0 y.1 others) (λ i. (sym words i, sym seat i))
-    (λ stop. record { here = here; still = stop; others = λ k d less. let there : IsOf q (get_or others k d) = others_are k d less in (there.0 ∙ sym here.0, there.1 ∙ sym here.1) }) still
-
--- the first of a list of passes may meet the others of its own list, and those of two other lists
-pub may_gather : (q z : Topic) (all rest second third : List Walk) (x v : Walk) → z ≡ q → v ≡ x → HasStopped v → All (IsOf q) all → All (IsOf q) second → All (IsOf q) third → all ≡ x ∷ rest → MayMeet z v rest × MayMeet z v second × MayMeet z v third
+-- the first of a list of passes may meet the others of its own list, and those of two other lists; its seat is v, and its
+-- words are z
+pub may_gather : (q z : Topic) (all rest second third : List Walk) (x v : Walk) → z ≡ q → v ≡ x → HasStopped v → All (IsOf q) all → All (IsOf q) second → All (IsOf q) third → all ≡ x ∷ rest
+    → MayMeet z v × All (IsOfOne v) rest × All (IsOfOne v) second × All (IsOfOne v) third
 may_gather q z all rest second third x v words seat still are second_are third_are is =
     let listed : All (IsOf q) (x ∷ rest) = subst (All (IsOf q)) is are in
-    let may = λ (others : List Walk). may_meet q z others x v words seat still (listed 0 x (omega arith)) in
-    (may rest (λ k d less. listed (suc k) d (omega (arith, less))), may second second_are, may third third_are)
+    let here : IsOf q v = subst (IsOf q) (sym seat) (listed 0 x (omega arith)) in
+    let of_one : (w : Walk) → IsOf q w → IsOfOne v w = λ w there. (there.0 ∙ sym here.0, there.1 ∙ sym here.1) in (
+      record { here = subst (λ (y : Topic). IsOf y v) (sym words) here; still = still },
+      λ k d less. of_one (get_or rest k d) (listed (suc k) d (omega (arith, less))),
+      λ k d less. of_one (get_or second k d) (second_are k d less),
+      λ k d less. of_one (get_or third k d) (third_are k d less),
+    )
 
 -- all have seen what the first one has
 pub with_first : (w : Walk) (others : List Walk) → All (λ o. o.seen ≡ w.seen) others → All (λ o. o.seen ≡ w.seen) (w ∷ others)

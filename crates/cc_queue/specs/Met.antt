@@ -41,19 +41,18 @@ pub record HaveMet (v w v' w' : Walk) : Type 0 where
 abbrev pub EachHasMet : List Walk → List Walk → Type 0
 EachHasMet old new = (k : ℕ) (d : Walk) → k < length old → HasMet (slice_index_or old k d) (slice_index_or new k d)
 
--- a pass of this queue may meet each of the others in turn: it doesn't move, and all are of one queue
-pub record MayMeet (z : Topic) (v : Walk) (passes : List Walk) : Type 0 where
+-- a pass of this queue may meet others: it doesn't move
+pub record MayMeet (z : Topic) (v : Walk) : Type 0 where
   pub here : IsOf z v
   pub still : HasStopped v
-  pub others : All (λ w. IsOfOne v w) passes
 
--- a pass that met each of the others in turn: it has seen all that any of them has; and if it had seen that before, it
--- has seen no more now, and all have seen the same
-pub record Swept (v w : Walk) (old new : List Walk) : Type 0 where
+-- a pass that met each of the others in turn, of which `walk` is the view: it has seen all that any of them has; and if it
+-- had seen that before, it has seen no more now, and all have seen the same
+pub record Swept {X : Type 0} (walk : X → Walk) (v w : Walk) (old new : List X) : Type 0 where
   pub first : HasMet v w
-  pub others : EachHasMet old new
-  pub within : All (λ o. Later o.seen w.seen) new
-  pub still : All (λ o. Later o.seen v.seen) old → (w.seen ≡ v.seen) × All (λ o. o.seen ≡ w.seen) new
+  pub others : (k : ℕ) (d : X) → k < length old → HasMet (walk (slice_index_or old k d)) (walk (slice_index_or new k d))
+  pub within : All (λ o. Later (walk o).seen w.seen) new
+  pub still : All (λ o. Later (walk o).seen v.seen) old → (w.seen ≡ v.seen) × All (λ o. (walk o).seen ≡ w.seen) new
 
 -- a pass that gathered three lists of others: all have seen what it has
 pub record Gathered (v w : Walk) (senders senders' receivers receivers' given_up given_up' : List Walk) : Type 0 where

@@ -32,7 +32,7 @@ pub use cc_model::{CloseAnswer, Config, ConfigFault, Item, Pass, SendAnswer, Tak
 pub use cc_runs::OpenFault;
 pub use cc_steps::notes::Note;
 pub use given_up::GivenUp;
-pub use meets::{meet, meet_all, meet_receivers, meet_senders};
+pub use meets::{Live, Meets, meet_all};
 pub use notes::{again, heeded_is_fresh, heeded_stays, send_after, take_after, turns_complete};
 pub use passes::{
     CloseTurn, PendingClose, PendingSend, PendingTake, Receiver, SendTurn, Sender, TakeTurn,

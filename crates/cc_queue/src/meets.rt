@@ -1,8 +1,9 @@
 //! Passes that see what each other has seen.
 ghost use Rattle.std.specs.Prelude.{◌≡◌, [], length};
+ghost use Rattle.std.specs.List.{All};
 ghost use Rattle.cc_steps.specs.Shown.{longer};
-ghost use Rattle.cc_steps.specs.Walk.{IsOf, IsSound};
-ghost use Rattle.cc_queue.specs.Met.{HaveMet, EachHasMet, AreOf, IsOfOne, MayMeet, Sees, Swept, Gathered, HaveSeenOne};
+ghost use Rattle.cc_steps.specs.Walk.{Walk, IsOf};
+ghost use Rattle.cc_queue.specs.Met.{HasMet, HaveMet, EachHasMet, AreOf, IsOfOne, MayMeet, Sees, Swept, Gathered, HaveSeenOne};
 
 use crate::given_up::GivenUp;
 use crate::passes::{Receiver, Sender};
@@ -25,63 +26,73 @@ fn meet_seats(words: &Words, one: &mut PassSeat, other: &mut PassSeat)
     other.is_sound();
 }
 
-/// Afterwards the sender and the receiver have seen one history, which begins with what each had seen.
-pub fn meet(one: &mut Sender, other: &mut Receiver)
-    requires { IsOfOne one.old other.old }
-    ensures { HaveMet one.old other.old one.new other.new }
-{
-    meet_seats(&one.at.words, &mut one.at.seat, &mut other.at.seat);
+/// A pass that makes no step now, so that it can meet others: a sender, a receiver, or a pass that was given up.
+pub trait Meets: Sized {
+    /// The view that clauses have of the pass.
+    ghost walk: { Self → Walk };
+
+    /// Lets the pass of this seat, and this pass, see what the other has seen.
+    fn meet_seat(&mut self, words: &Words, one: &mut PassSeat)
+        requires here { IsOf words.now one.old × IsOf words.now (walk self.old) }
+        ensures one { Sees one.old one.new }
+        ensures met { HasMet (walk self.old) (walk self.new) }
+        ensures seen { (walk self.new).seen ≡ one.new.seen }
+        ensures longest { one.new.seen ≡ longer one.old.seen (walk self.old).seen };
 }
 
-/// The same of two senders.
-pub fn meet_senders(one: &mut Sender, other: &mut Sender)
-    requires { IsOfOne one.old other.old }
-    ensures { HaveMet one.old other.old one.new other.new }
-{
-    meet_seats(&one.at.words, &mut one.at.seat, &mut other.at.seat);
-}
+impl Meets for Sender {
+    ghost walk = { λ s. s };
 
-/// The same of two receivers.
-pub fn meet_receivers(one: &mut Receiver, other: &mut Receiver)
-    requires { IsOfOne one.old other.old }
-    ensures { HaveMet one.old other.old one.new other.new }
-{
-    meet_seats(&one.at.words, &mut one.at.seat, &mut other.at.seat);
-}
-
-/// The pass of this seat meets each of the senders in turn.
-#[tactic(auto, using(crate::proofs::Meetings::swept))]
-fn sweep_senders(words: &Words, first: &mut PassSeat, others: &mut [Sender])
-    requires { MayMeet words.now first.old others.old }
-    ensures { Swept first.old first.new others.old others.new }
-{
-    first.is_sound();
-    for other in others.iter_mut() {
-        meet_seats(words, first, &mut other.at.seat);
+    fn meet_seat(&mut self, words: &Words, one: &mut PassSeat) {
+        meet_seats(words, one, &mut self.at.seat);
     }
 }
 
-/// It meets each of the receivers in turn.
-#[tactic(auto, using(crate::proofs::Meetings::swept))]
-fn sweep_receivers(words: &Words, first: &mut PassSeat, others: &mut [Receiver])
-    requires { MayMeet words.now first.old others.old }
-    ensures { Swept first.old first.new others.old others.new }
-{
-    first.is_sound();
-    for other in others.iter_mut() {
-        meet_seats(words, first, &mut other.at.seat);
+impl Meets for Receiver {
+    ghost walk = { λ r. r };
+
+    fn meet_seat(&mut self, words: &Words, one: &mut PassSeat) {
+        meet_seats(words, one, &mut self.at.seat);
     }
 }
 
-/// It meets each of the passes that were given up.
-#[tactic(auto, using(crate::proofs::Meetings::swept))]
-fn sweep_given_up(words: &Words, first: &mut PassSeat, others: &mut [GivenUp])
-    requires { MayMeet words.now first.old others.old }
-    ensures { Swept first.old first.new others.old others.new }
+impl Meets for GivenUp {
+    ghost walk = { λ g. g };
+
+    fn meet_seat(&mut self, words: &Words, one: &mut PassSeat) {
+        meet_seats(words, one, &mut self.seat);
+    }
+}
+
+/// A live pass, a sender or a receiver, which meets any other of its queue.
+pub trait Live: Meets {
+    /// Afterwards both passes have seen one history, which begins with what each had seen.
+    fn meet<P: Meets>(&mut self, other: &mut P)
+        requires { IsOfOne (Self.walk self.old) (P.walk other.old) }
+        ensures { HaveMet (Self.walk self.old) (P.walk other.old) (Self.walk self.new) (P.walk other.new) };
+}
+
+impl Live for Sender {
+    fn meet<P: Meets>(&mut self, other: &mut P) {
+        other.meet_seat(&self.at.words, &mut self.at.seat);
+    }
+}
+
+impl Live for Receiver {
+    fn meet<P: Meets>(&mut self, other: &mut P) {
+        other.meet_seat(&self.at.words, &mut self.at.seat);
+    }
+}
+
+/// The pass of this seat meets each of the others in turn.
+fn sweep<P: Meets>(words: &Words, first: &mut PassSeat, others: &mut [P])
+    requires may { MayMeet words.now first.old }
+    requires others { All (λ p. IsOfOne first.old (P.walk p)) others.old }
+    ensures { Swept P.walk first.old first.new others.old others.new }
 {
     first.is_sound();
     for other in others.iter_mut() {
-        meet_seats(words, first, &mut other.seat);
+        other.meet_seat(words, first);
     }
 }
 
@@ -94,17 +105,18 @@ fn gather(
     receivers: &mut [Receiver],
     given_up: &mut [GivenUp],
 )
-    requires senders { MayMeet words.now first.old senders.old }
-    requires receivers { MayMeet words.now first.old receivers.old }
-    requires given_up { MayMeet words.now first.old given_up.old }
+    requires may { MayMeet words.now first.old }
+    requires senders { All (IsOfOne first.old) senders.old }
+    requires receivers { All (IsOfOne first.old) receivers.old }
+    requires given_up { All (IsOfOne first.old) given_up.old }
     ensures { Gathered first.old first.new senders.old senders.new receivers.old receivers.new given_up.old given_up.new }
 {
-    sweep_senders(words, first, senders);
-    sweep_receivers(words, first, receivers);
-    sweep_given_up(words, first, given_up);
-    sweep_senders(words, first, senders);
-    sweep_receivers(words, first, receivers);
-    sweep_given_up(words, first, given_up);
+    sweep(words, first, senders);
+    sweep(words, first, receivers);
+    sweep(words, first, given_up);
+    sweep(words, first, senders);
+    sweep(words, first, receivers);
+    sweep(words, first, given_up);
 }
 
 /// Afterwards all these passes of the queue have seen one history, which begins with what each had seen. Those that were

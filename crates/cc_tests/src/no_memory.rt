@@ -5,8 +5,8 @@ ghost use Rattle.cc_steps.specs.Walk.{IsOf, fresh_from};
 use crate::waiting::{next_receiver, next_sender};
 use cc_model::{Body, CloseAnswer, Config, Item, SendAnswer, TakeAnswer};
 use cc_queue::{
-    CloseTurn, OpenFault, Opened, PendingSend, Queue, Receiver, SendTurn, Sender, TakeTurn,
-    begin_close, begin_send, begin_take, meet, turn_close, turn_send, turn_take,
+    CloseTurn, Live, OpenFault, Opened, PendingSend, Queue, Receiver, SendTurn, Sender, TakeTurn,
+    begin_close, begin_send, begin_take, turn_close, turn_send, turn_take,
 };
 use std::process::Abort;
 
@@ -139,7 +139,7 @@ fn rows<R: Abort>(rt: &R, queue: &Queue, one: Sender, two: Sender, receiver: Rec
     let mut one = is_sent(rt, queue, one, 0, 2);
     is_sent(rt, queue, two, 1, 0);
     let mut receiver = receiver;
-    meet(&mut one, &mut receiver);
+    one.meet(&mut receiver);
     gets_the_first(rt, queue, receiver);
     let one = is_worn_out(rt, queue, one);
     shuts(rt, queue, one);

@@ -6,8 +6,7 @@ ghost use Rattle.cc_broker.specs.Opened.{AreItsPasses};
 use cc_broker::{Broker, OpenedTopic};
 use cc_model::{Body, CloseAnswer, Config, Item, Pass, SendAnswer, TakeAnswer};
 use cc_queue::{
-    Opened, Queue, Receiver, Sender, begin_take, close, meet, meet_receivers, meet_senders, send,
-    send_until, take, take_until,
+    Live, Opened, Queue, Receiver, Sender, begin_take, close, send, send_until, take, take_until,
 };
 use std::process::Abort;
 use std::sync::Wait;
@@ -175,9 +174,9 @@ fn play<R: Abort + Wait>(rt: &R, topic: OpenedTopic<'_>)
     let mut second = next_receiver(rt, queue, place + 1, &mut receivers);
     let worn = wear_out(rt, queue, one);
     let (mut one, mut two, mut first) = end(rt, queue, worn, two, first);
-    meet_senders(&mut one, &mut two);
-    meet_receivers(&mut first, &mut second);
-    meet(&mut one, &mut first);
+    one.meet(&mut two);
+    first.meet(&mut second);
+    one.meet(&mut first);
     takes(rt, queue, second, false, TakeAnswer::Ended { total: 2 });
 }
 

@@ -5,7 +5,7 @@ use Rattle.cc_queue.proofs.meets.meet_all.Goals as goal
 pub gather-requires : goal.gather-requires
 gather-requires c =
     let may = may_gather _ _ _ _ _ _ _ _ c.queue.view_is c.first.view_is (idle_sender _ c.first.invariant) c.requires.senders_are c.requires.receivers_are c.requires.given_up_are c.in-Some.ensures.cases.0 in
-    record { senders = may.0; receivers = may.1; given_up = may.2 }
+    record { may = may.0; senders = may.1; receivers = may.2; given_up = may.3 }
 
 pub returns-in-Some-clause-one : goal.returns-in-Some-clause-one
 returns-in-Some-clause-one c =
@@ -16,7 +16,7 @@ returns-in-Some-clause-one c =
 pub gather-requires-in-Some-split_first_mut : goal.gather-requires-in-Some-split_first_mut
 gather-requires-in-Some-split_first_mut c =
     let may = may_gather _ _ _ _ _ _ _ _ c.queue.view_is c.first-in-Some-split_first_mut.view_is (idle_receiver _ c.first-in-Some-split_first_mut.invariant) c.requires.receivers_are c.requires.senders_are c.requires.given_up_are c.in-Some-split_first_mut.ensures.cases.0 in
-    record { senders = may.1; receivers = may.0; given_up = may.2 }
+    record { may = may.0; senders = may.2; receivers = may.1; given_up = may.3 }
 
 pub returns-in-Some-split_first_mut-clause-one : goal.returns-in-Some-split_first_mut-clause-one
 returns-in-Some-split_first_mut-clause-one c =
@@ -27,7 +27,7 @@ returns-in-Some-split_first_mut-clause-one c =
 pub gather-requires-in-Some-split_first_mut-2 : goal.gather-requires-in-Some-split_first_mut-2
 gather-requires-in-Some-split_first_mut-2 c =
     let may = may_gather _ _ _ _ _ _ _ _ c.queue.view_is c.first-in-Some-split_first_mut-2.view_is c.first-in-Some-split_first_mut-2.invariant.stopped c.requires.given_up_are c.requires.senders_are c.requires.receivers_are c.in-Some-split_first_mut-2.ensures.cases.0 in
-    record { senders = may.1; receivers = may.2; given_up = may.0 }
+    record { may = may.0; senders = may.2; receivers = may.3; given_up = may.1 }
 
 pub returns-in-Some-split_first_mut-2-clause-one : goal.returns-in-Some-split_first_mut-2-clause-one
 returns-in-Some-split_first_mut-2-clause-one c =

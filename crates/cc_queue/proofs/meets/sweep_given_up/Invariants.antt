@@ -1,5 +1,0 @@
-use Rattle.cc_queue.proofs.Meetings.{Sweeping}
-use Rattle.cc_queue.proofs.meets.sweep_given_up.Given as goal
-
-abbrev pub invariant-loop-other : goal.invariant-loop-other
-invariant-loop-other l = Sweeping l.initial.first l.first l.initial.others l.others l.other-index
