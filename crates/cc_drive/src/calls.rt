@@ -4,7 +4,7 @@ ghost use Rattle.cc_drive.specs.Work.{CameBack, IsPendingAt, RanOut, Stopped, Wa
 
 use crate::gate::{Gate, Point};
 use crate::turns::Turns;
-use cc_queue::{Pending, Queue};
+use cc_queue::{Pending, Queue, Turn};
 use crossbeam_utils::Backoff;
 
 /// The state of a worker that came to its limit in a call: the call, which still waits, or the pass, if the call was
@@ -41,8 +41,12 @@ pub(crate) fn await_answer<P: Pending>(
     while turns.made < turns.limit {
         turns.made += 1;
         match pending.turn(queue) {
-            Err(same) => pending = same,
-            Ok(done) => return Ok(done),
+            Turn::Waiting(same) => pending = same,
+            Turn::Done {
+                pass,
+                answer,
+                served: _,
+            } => return Ok((pass, answer)),
         }
         backoff.snooze();
     }

@@ -1,13 +1,10 @@
 -- The results of the begin of a call and of each of its turns.
 use Rattle.std.specs.Prelude.{◌≡◌, ℕ, ◌+◌, ◌*◌, ◌≤◌, ◌==◌, if◌then◌else◌, List, [], ◌∷◌, ◌++◌}
-use Rattle.cc_queue.specs.Names.{Body, Call, Entry, SendAnswer, TakeAnswer, Answer, Kind, Phase}
+use Rattle.cc_queue.specs.Names.{Body, Call, Entry, SendAnswer, TakeAnswer, Answer, Kind, Phase, Turn}
 use Rattle.cc_runs.specs.ChainLaws.{IsLastAnswer}
 use Rattle.cc_runs.specs.ChainLaws.{IsLastPending}
 use Rattle.cc_runs.specs.Run.{begun_after}
 use Rattle.cc_steps.specs.Walk.{Walk}
-use Rattle.cc_queue.specs.declared.passes.SendTurn.{SendTurn}
-use Rattle.cc_queue.specs.declared.passes.CloseTurn.{CloseTurn}
-use Rattle.cc_queue.specs.declared.passes.TakeTurn.{TakeTurn}
 use Rattle.cc_queue.specs.Work.{tally, reads, marks, hands, scans}
 use Rattle.cc_queue.specs.Headline.{StandsInOne, entry_of, name, history}
 
@@ -40,20 +37,10 @@ pub record Answered (v : Walk) (told : Answer) (served : ℕ) (w : Walk) : Type 
   pub few : served ≤ v.setting.config.bound
   pub scans : tally scans w.did ≤ served * (v.setting.config.capacity + 1) + tally scans v.did
 
--- a turn of a send waits, or is done with an answer of a send
-abbrev pub TurnedSend : Walk → SendTurn → Type 0
-TurnedSend v (SendTurn.Waiting w) = Waited v w
-TurnedSend v (SendTurn.Done w told served) = Answered v (Answer.Send told) served w
-
--- the same of a close
-abbrev pub TurnedClose : Walk → CloseTurn → Type 0
-TurnedClose v (CloseTurn.Waiting w) = Waited v w
-TurnedClose v (CloseTurn.Done w told served) = Answered v (Answer.Close told) served w
-
--- and of a take
-abbrev pub TurnedTake : Walk → TakeTurn → Type 0
-TurnedTake v (TakeTurn.Waiting w) = Waited v w
-TurnedTake v (TakeTurn.Done w told served) = Answered v (Answer.Take told) served w
+-- A turn waits, or is done with an answer. The views of the call, of its pass and of its answer come first.
+abbrev pub Turned : {C P A : Type 0} → (C → Walk) → (P → Walk) → (A → Answer) → Walk → Turn C P A → Type 0
+Turned call pass told v (Turn.Waiting same) = Waited v (call same)
+Turned call pass told v (Turn.Done back answer served) = Answered v (told answer) served (pass back)
 
 -- A call that was waited for: the pass made it, and its answer is that of its pass's last call in one history.
 pub record Completed (v : Walk) (call : Call) (told : Answer) (w : Walk) : Type 0 where

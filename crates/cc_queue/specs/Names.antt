@@ -28,3 +28,4 @@ pub use Rattle.cc_audit.specs.declared.receipt.TakeReceipt.{TakeReceipt}
 pub use Rattle.cc_audit.specs.declared.receipt.Verdict.{Verdict}
 pub use Rattle.cc_queue.specs.declared.passes.SenderSeat.{SenderSeat}
 pub use Rattle.cc_queue.specs.declared.passes.ReceiverSeat.{ReceiverSeat}
+pub use Rattle.cc_queue.specs.declared.passes.Turn.{Turn}

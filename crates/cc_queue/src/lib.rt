@@ -34,9 +34,7 @@ pub use cc_steps::notes::Note;
 pub use given_up::GivenUp;
 pub use meets::{Live, Meets, meet_all};
 pub use notes::{again, heeded_is_fresh, heeded_stays, send_after, take_after, turns_complete};
-pub use passes::{
-    CloseTurn, PendingClose, PendingSend, PendingTake, Receiver, SendTurn, Sender, TakeTurn,
-};
+pub use passes::{PendingClose, PendingSend, PendingTake, Receiver, Sender, Turn};
 pub use pending::Pending;
 pub use queue::{Opened, Queue};
 pub use receipts::{AllPasses, Receipts, audit_all};

@@ -5,7 +5,6 @@ ghost use Rattle.cc_queue.specs.SendCount.{HasBegunSends};
 ghost use Rattle.cc_queue.specs.Headline.{StandsInOne, IsAtRest, name};
 ghost use Rattle.cc_queue.specs.Met.{HasMet};
 
-use cc_model::{CloseAnswer, SendAnswer, TakeAnswer};
 use cc_steps::seats::PassSeat;
 use cc_steps::words::Words;
 use std::alloc::Global;
@@ -121,38 +120,13 @@ impl Model for PendingTake {
     ghost invariant = { λ r. KeepsReceiver r.at Phase.ReadState };
 }
 
-/// The result of a turn of a send. `served` is how many requests this turn served: 0 if another pass had served the call,
+/// The result of one turn of a call. `served` is how many requests this turn served: 0 if another pass had served the call,
 /// else from 1 to `bound`.
-pub enum SendTurn {
+pub enum Turn<C, P, A> {
     /// The call waits still.
-    Waiting(PendingSend),
-    Done {
-        sender: Sender,
-        answer: SendAnswer,
-        served: u32,
-    },
-}
-
-/// The result of a turn of a close, with `served` as of a send.
-pub enum CloseTurn {
-    /// The call waits still.
-    Waiting(PendingClose),
-    Done {
-        sender: Sender,
-        answer: CloseAnswer,
-        served: u32,
-    },
-}
-
-/// The result of a turn of a take, with `served` as of a send.
-pub enum TakeTurn {
-    /// The call waits still.
-    Waiting(PendingTake),
-    Done {
-        receiver: Receiver,
-        answer: TakeAnswer,
-        served: u32,
-    },
+    Waiting(C),
+    /// The pass is back, with the answer of its call.
+    Done { pass: P, answer: A, served: u32 },
 }
 
 impl Sender {

@@ -4,9 +4,7 @@ ghost use Rattle.cc_steps.specs.Walk.{IsOf};
 ghost use Rattle.cc_queue.specs.Headline.{StandsInOne};
 ghost use Rattle.cc_queue.specs.Calls.{Ended};
 
-use crate::passes::{
-    CloseTurn, PendingClose, PendingSend, PendingTake, Receiver, SendTurn, Sender, TakeTurn,
-};
+use crate::passes::{PendingClose, PendingSend, PendingTake, Receiver, Sender, Turn};
 use crate::queue::Queue;
 use crate::receiver::turn_take;
 use crate::sender::{turn_close, turn_send};
@@ -16,9 +14,8 @@ use std::sync::Wait;
 
 /// A call that waits for its answer.
 pub trait Pending: Sized {
-    ghost use Rattle.std.specs.Prelude.{ℕ, IfOk, IfErr};
     ghost use Rattle.cc_steps.specs.Walk.{Walk, IsOf};
-    ghost use Rattle.cc_queue.specs.Calls.{Answered, Waited};
+    ghost use Rattle.cc_queue.specs.Calls.{Turned};
     ghost use Rattle.cc_queue.specs.Names.{Answer};
 
     /// The pass, which comes back with the answer.
@@ -34,10 +31,9 @@ pub trait Pending: Sized {
     ghost told: { Self.Told → Answer };
 
     /// Makes one turn: the pass with the answer, or the call if it still waits.
-    fn turn(self, queue: &Queue) -> Result<(Self::Pass, Self::Told), Self>
+    fn turn(self, queue: &Queue) -> Turn<Self, Self::Pass, Self::Told>
         requires { IsOf queue.now (call self) }
-        ensures done { IfOk result (λ r. (served : ℕ) × Answered (call self) (told r.1) served (pass r.0)) }
-        ensures waits { IfErr result (λ same. Waited (call self) (call same)) };
+        ensures { Turned call pass told (call self) result };
 
     /// Gives the pass up with its call.
     fn give_up(self);
@@ -57,15 +53,8 @@ impl Pending for PendingSend {
     ghost told = { λ a. Answer.Send a };
 
     #[inline(always)]
-    fn turn(self, queue: &Queue) -> Result<(Sender, SendAnswer), PendingSend> {
-        match turn_send(queue, self) {
-            SendTurn::Waiting(same) => Err(same),
-            SendTurn::Done {
-                sender,
-                answer,
-                served: _,
-            } => Ok((sender, answer)),
-        }
+    fn turn(self, queue: &Queue) -> Turn<PendingSend, Sender, SendAnswer> {
+        turn_send(queue, self)
     }
 
     fn give_up(self) {
@@ -86,15 +75,8 @@ impl Pending for PendingClose {
 
     ghost told = { λ a. Answer.Close a };
 
-    fn turn(self, queue: &Queue) -> Result<(Sender, CloseAnswer), PendingClose> {
-        match turn_close(queue, self) {
-            CloseTurn::Waiting(same) => Err(same),
-            CloseTurn::Done {
-                sender,
-                answer,
-                served: _,
-            } => Ok((sender, answer)),
-        }
+    fn turn(self, queue: &Queue) -> Turn<PendingClose, Sender, CloseAnswer> {
+        turn_close(queue, self)
     }
 
     fn give_up(self) {
@@ -116,15 +98,8 @@ impl Pending for PendingTake {
     ghost told = { λ a. Answer.Take a };
 
     #[inline(always)]
-    fn turn(self, queue: &Queue) -> Result<(Receiver, TakeAnswer), PendingTake> {
-        match turn_take(queue, self) {
-            TakeTurn::Waiting(same) => Err(same),
-            TakeTurn::Done {
-                receiver,
-                answer,
-                served: _,
-            } => Ok((receiver, answer)),
-        }
+    fn turn(self, queue: &Queue) -> Turn<PendingTake, Receiver, TakeAnswer> {
+        turn_take(queue, self)
     }
 
     fn give_up(self) {
@@ -147,8 +122,12 @@ pub(crate) fn wait_for_answer<P: Pending, R: Wait>(
     let mut pending = pending;
     for _ in rt.forever() {
         match pending.turn(queue) {
-            Err(same) => pending = same,
-            Ok(done) => return done,
+            Turn::Waiting(same) => pending = same,
+            Turn::Done {
+                pass,
+                answer,
+                served: _,
+            } => return (pass, answer),
         }
         backoff.snooze();
     }

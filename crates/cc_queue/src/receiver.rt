@@ -1,14 +1,15 @@
 //! The calls of a receiver.
 ghost use Rattle.std.specs.Prelude.{◌≡◌, ◌+◌, ◌<◌, ◌≤◌, ◌^◌, ◌∷◌, ◌++◌, []};
-ghost use Rattle.cc_queue.specs.Names.{Call, Pass};
+ghost use Rattle.cc_queue.specs.Names.{Answer, Call, Pass};
 ghost use Rattle.cc_steps.specs.Walk.{IsOf};
-ghost use Rattle.cc_queue.specs.Calls.{Begun, TurnedTake};
+ghost use Rattle.cc_queue.specs.Calls.{Begun, Turned};
 ghost use Rattle.cc_queue.specs.Group.{Ranked};
 ghost use Rattle.cc_queue.specs.Headline.{name};
 
-use crate::passes::{PendingTake, Receiver, TakeTurn};
+use crate::passes::{PendingTake, Receiver, Turn};
 use crate::queue::Queue;
 use crate::{begins, turns};
+use cc_model::TakeAnswer;
 
 /// Begins a take.
 pub fn begin_take(queue: &Queue, receiver: Receiver) -> PendingTake
@@ -24,17 +25,17 @@ pub fn begin_take(queue: &Queue, receiver: Receiver) -> PendingTake
 /// One turn of a take: reads the state once. If it is 1 the call waits; if it is 0 this pass serves its own call and
 /// others', at most `bound` of them; and then the answer is read.
 #[inline(always)]
-pub fn turn_take(queue: &Queue, pending: PendingTake) -> TakeTurn
+pub fn turn_take(queue: &Queue, pending: PendingTake) -> Turn<PendingTake, Receiver, TakeAnswer>
     requires { IsOf queue.now pending }
-    ensures { TurnedTake pending result }
+    ensures { Turned (λ p. p) (λ r. r) Answer.Take pending result }
 {
     let PendingTake { mut at } = pending;
     let turn = turns::turn_take(queue, &mut at.seat, at.group, at.node);
     at.seat.is_sound();
     match turn {
-        None => TakeTurn::Waiting(PendingTake { at }),
-        Some((answer, served)) => TakeTurn::Done {
-            receiver: Receiver { at },
+        None => Turn::Waiting(PendingTake { at }),
+        Some((answer, served)) => Turn::Done {
+            pass: Receiver { at },
             answer,
             served,
         },

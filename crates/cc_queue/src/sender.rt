@@ -1,14 +1,14 @@
 //! The calls of a sender.
 ghost use Rattle.std.specs.Prelude.{◌≡◌, ◌+◌, ◌<◌, ◌≤◌, ◌^◌, ◌∷◌, ◌++◌, [], nat_le, IfOk, OnOk, IfErr, OnErr};
-ghost use Rattle.cc_queue.specs.Names.{Call};
+ghost use Rattle.cc_queue.specs.Names.{Answer, Call};
 ghost use Rattle.cc_steps.specs.Walk.{IsOf};
-ghost use Rattle.cc_queue.specs.Calls.{Begun, TurnedSend, TurnedClose};
+ghost use Rattle.cc_queue.specs.Calls.{Begun, Turned};
 
 use crate::begins::begin_request;
-use crate::passes::{CloseTurn, PendingClose, PendingSend, SendTurn, Sender};
+use crate::passes::{PendingClose, PendingSend, Sender, Turn};
 use crate::queue::Queue;
 use crate::turns::{close_answer, send_answer, turn_request};
-use cc_model::{Body, Call};
+use cc_model::{Body, Call, CloseAnswer, SendAnswer};
 use cc_runs::{BodyWords, Request, packed, words_in};
 
 /// Begins a send of this body. Err hands the sender back unchanged, if it has begun as many sends as one sender may.
@@ -52,17 +52,17 @@ pub fn begin_close(queue: &Queue, sender: Sender) -> PendingClose
 /// One turn of a send: reads the state once. If it is 1 the call waits; if it is 0 this pass serves its own call and
 /// others', at most `bound` of them; and then the answer is read.
 #[inline(always)]
-pub fn turn_send(queue: &Queue, pending: PendingSend) -> SendTurn
+pub fn turn_send(queue: &Queue, pending: PendingSend) -> Turn<PendingSend, Sender, SendAnswer>
     requires { IsOf queue.now pending }
-    ensures { TurnedSend pending result }
+    ensures { Turned (λ p. p) (λ s. s) Answer.Send pending result }
 {
     let PendingSend { mut at } = pending;
     let turn = turn_request(queue, &mut at.seat, at.node);
     at.seat.is_sound();
     match turn {
-        None => SendTurn::Waiting(PendingSend { at }),
-        Some((ret, served)) => SendTurn::Done {
-            sender: Sender { at },
+        None => Turn::Waiting(PendingSend { at }),
+        Some((ret, served)) => Turn::Done {
+            pass: Sender { at },
             answer: send_answer(ret),
             served,
         },
@@ -70,17 +70,17 @@ pub fn turn_send(queue: &Queue, pending: PendingSend) -> SendTurn
 }
 
 /// One turn of a close, as of a send.
-pub fn turn_close(queue: &Queue, pending: PendingClose) -> CloseTurn
+pub fn turn_close(queue: &Queue, pending: PendingClose) -> Turn<PendingClose, Sender, CloseAnswer>
     requires { IsOf queue.now pending }
-    ensures { TurnedClose pending result }
+    ensures { Turned (λ p. p) (λ s. s) Answer.Close pending result }
 {
     let PendingClose { mut at } = pending;
     let turn = turn_request(queue, &mut at.seat, at.node);
     at.seat.is_sound();
     match turn {
-        None => CloseTurn::Waiting(PendingClose { at }),
-        Some((ret, served)) => CloseTurn::Done {
-            sender: Sender { at },
+        None => Turn::Waiting(PendingClose { at }),
+        Some((ret, served)) => Turn::Done {
+            pass: Sender { at },
             answer: close_answer(ret),
             served,
         },

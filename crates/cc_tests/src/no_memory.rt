@@ -5,8 +5,8 @@ ghost use Rattle.cc_steps.specs.Walk.{IsOf, fresh_from};
 use crate::waiting::{next_receiver, next_sender};
 use cc_model::{Body, CloseAnswer, Config, Item, SendAnswer, TakeAnswer};
 use cc_queue::{
-    CloseTurn, Live, OpenFault, Opened, PendingSend, Queue, Receiver, SendTurn, Sender, TakeTurn,
-    begin_close, begin_send, begin_take, turn_close, turn_send, turn_take,
+    Live, OpenFault, Opened, PendingSend, Queue, Receiver, Sender, Turn, begin_close, begin_send,
+    begin_take, turn_close, turn_send, turn_take,
 };
 use std::process::Abort;
 
@@ -38,8 +38,8 @@ fn waits<R: Abort>(rt: &R, queue: &Queue, pending: PendingSend) -> PendingSend
     ensures { IsOf queue.now result }
 {
     match turn_send(queue, pending) {
-        SendTurn::Waiting(pending) => pending,
-        SendTurn::Done { answer, .. } => panic!(rt; "the send is answered {answer:?}"),
+        Turn::Waiting(pending) => pending,
+        Turn::Done { answer, .. } => panic!(rt; "the send is answered {answer:?}"),
     }
 }
 
@@ -49,17 +49,17 @@ fn is_sent<R: Abort>(rt: &R, queue: &Queue, pending: PendingSend, place: u64, se
     ensures { IsOf queue.now result }
 {
     match turn_send(queue, pending) {
-        SendTurn::Waiting(pending) => {
+        Turn::Waiting(pending) => {
             pending.abandon();
             panic!(rt; "the send waits")
         }
-        SendTurn::Done {
-            sender,
+        Turn::Done {
+            pass,
             answer,
             served,
         } => {
             assert_eq!(rt; (answer, served), (SendAnswer::Accepted { place }, serves));
-            sender
+            pass
         }
     }
 }
@@ -76,17 +76,17 @@ fn gets_the_first<R: Abort>(rt: &R, queue: &Queue, receiver: Receiver) -> Receiv
     };
     let pending = begin_take(queue, receiver);
     match turn_take(queue, pending) {
-        TakeTurn::Waiting(pending) => {
+        Turn::Waiting(pending) => {
             pending.abandon();
             panic!(rt; "the take waits")
         }
-        TakeTurn::Done {
-            receiver,
+        Turn::Done {
+            pass,
             answer,
             served,
         } => {
             assert_eq!(rt; (answer, served), (TakeAnswer::Got(first), 1));
-            receiver
+            pass
         }
     }
 }
@@ -112,17 +112,17 @@ fn shuts<R: Abort>(rt: &R, queue: &Queue, sender: Sender) -> Sender
 {
     let pending = begin_close(queue, sender);
     match turn_close(queue, pending) {
-        CloseTurn::Waiting(pending) => {
+        Turn::Waiting(pending) => {
             pending.abandon();
             panic!(rt; "the close waits")
         }
-        CloseTurn::Done {
-            sender,
+        Turn::Done {
+            pass,
             answer,
             served,
         } => {
             assert_eq!(rt; (answer, served), (CloseAnswer::Shut { total: 2 }, 1));
-            sender
+            pass
         }
     }
 }

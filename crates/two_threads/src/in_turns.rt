@@ -5,9 +5,7 @@ ghost use Rattle.cc_steps.specs.Walk.{IsOf};
 
 use crate::opening::first_passes;
 use cc_model::{Body, Config, Item, TakeAnswer};
-use cc_queue::{
-    Opened, Queue, Receiver, SendTurn, Sender, begin_send, close, take_until, turn_send,
-};
+use cc_queue::{Opened, Queue, Receiver, Sender, Turn, begin_send, close, take_until, turn_send};
 use std::alloc::Global;
 use std::io;
 use std::sync::Wait;
@@ -29,12 +27,12 @@ pub fn send_in_turns<R: Print>(
     };
     for turn in 0..turns {
         match turn_send(queue, pending) {
-            SendTurn::Waiting(same) => pending = same,
-            SendTurn::Done {
-                sender,
+            Turn::Waiting(same) => pending = same,
+            Turn::Done {
+                pass,
                 answer: _,
                 served: _,
-            } => return Ok(Some(sender)),
+            } => return Ok(Some(pass)),
         }
         if let Err(fault) = println!(rt; "turn {turn}: it waits") {
             pending.abandon();

@@ -8,7 +8,7 @@ use crate::handles::handle_inner::{HandleInner, Pass, with_pass};
 use crate::handles::refusals::{no_idle_sender, no_pending_sender};
 use crate::handles::results::closed_as;
 use crate::handles::return_codes::{BEGUN, WAITING};
-use cc_queue::{CloseTurn, Queue, begin_close, turn_close};
+use cc_queue::{Queue, Turn, begin_close, turn_close};
 
 /// Begins a close, if the pass can.
 #[inline(always)]
@@ -35,9 +35,9 @@ fn turned(queue: &Queue, pass: Pass, total: &mut u64, served: &mut u32) -> (Pass
     let why = no_pending_sender(&pass);
     match pass {
         Pass::Closing(pending) => match turn_close(queue, pending) {
-            CloseTurn::Waiting(pending) => (Pass::Closing(pending), WAITING),
-            CloseTurn::Done {
-                sender,
+            Turn::Waiting(pending) => (Pass::Closing(pending), WAITING),
+            Turn::Done {
+                pass: sender,
                 answer,
                 served: now,
             } => {

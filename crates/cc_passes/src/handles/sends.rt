@@ -9,7 +9,7 @@ use crate::handles::refusals::{no_idle_sender, no_pending_sender};
 use crate::handles::results::sent_as;
 use crate::handles::return_codes::{BAD_WORDS, BEGUN, FRESH, LONG, NO_PASS, WAITING, WORN};
 use cc_model::Body;
-use cc_queue::{Queue, SendTurn, begin_send, turn_send};
+use cc_queue::{Queue, Turn, begin_send, turn_send};
 
 /// The body of these words, if a body may have that many; or the code for which there is none.
 pub fn fitting(words: &[u64], longest: u32) -> Result<Body, u32>
@@ -58,9 +58,9 @@ fn turned(queue: &Queue, pass: Pass, place: &mut u64, served: &mut u32) -> (Pass
     let why = no_pending_sender(&pass);
     match pass {
         Pass::Sending(pending) => match turn_send(queue, pending) {
-            SendTurn::Waiting(pending) => (Pass::Sending(pending), WAITING),
-            SendTurn::Done {
-                sender,
+            Turn::Waiting(pending) => (Pass::Sending(pending), WAITING),
+            Turn::Done {
+                pass: sender,
                 answer,
                 served: now,
             } => {

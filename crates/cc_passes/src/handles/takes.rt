@@ -9,7 +9,7 @@ use crate::handles::items::ItemForm;
 use crate::handles::refusals::{no_idle_receiver, no_pending_take};
 use crate::handles::results::taken_as;
 use crate::handles::return_codes::{BEGUN, DONE, NO_PASS, WAITING, WIDE};
-use cc_queue::{Queue, TakeTurn, begin_take, turn_take};
+use cc_queue::{Queue, Turn, begin_take, turn_take};
 
 /// Begins a take, if the pass can.
 #[inline(always)]
@@ -44,9 +44,9 @@ fn turned<I: ItemForm>(
     let why = no_pending_take(&pass);
     match pass {
         Pass::Taking(pending) => match turn_take(queue, pending) {
-            TakeTurn::Waiting(pending) => (Pass::Taking(pending), WAITING),
-            TakeTurn::Done {
-                receiver,
+            Turn::Waiting(pending) => (Pass::Taking(pending), WAITING),
+            Turn::Done {
+                pass: receiver,
                 answer,
                 served: now,
             } => {

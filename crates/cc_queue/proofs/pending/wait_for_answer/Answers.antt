@@ -1,8 +1,8 @@
 use Rattle.cc_queue.proofs.Headline.{waits_on, ended_so}
 use Rattle.cc_queue.proofs.pending.wait_for_answer.Goals as goal
 
-pub returns-in-Ok : goal.returns-in-Ok
-returns-in-Ok g c = ended_so _ (g.P.Pending.call c.loop.pending) (g.P.Pending.pass c.in-Ok.done.0) _ _ c.loop.invariant c.in-Ok.ensures.done.1
+pub returns-in-Done : goal.returns-in-Done
+returns-in-Done g c = ended_so _ (g.P.Pending.call c.loop.pending) (g.P.Pending.pass c.in-Done.pass) _ _ c.loop.invariant c.in-Done.ensures
 
 pub loop-preserved : goal.loop-preserved
-loop-preserved g c = waits_on _ (g.P.Pending.call c.loop.pending) (g.P.Pending.call c.in-Err.same) c.loop.invariant c.in-Err.ensures.waits
+loop-preserved g c = waits_on _ (g.P.Pending.call c.loop.pending) (g.P.Pending.call c.in-Waiting.same) c.loop.invariant c.in-Waiting.ensures
