@@ -14,16 +14,6 @@ pub(crate) enum Left<P, D> {
     Answered(D),
 }
 
-impl<P: Pending> Left<P, P::Pass> {
-    /// Gives the pass up, with its call if that waits still.
-    pub(crate) fn give_up(self) {
-        match self {
-            Left::Waiting(pending) => pending.give_up(),
-            Left::Answered(pass) => drop(pass),
-        }
-    }
-}
-
 /// Waits for the answer within the limit: the pass with the answer, or else the call, which waits still.
 pub(crate) fn await_answer<P: Pending>(
     queue: &Queue,

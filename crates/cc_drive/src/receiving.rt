@@ -75,7 +75,10 @@ pub(crate) fn take_all<G: Gate, R: Wait>(
         let (after, answer) = match take_one(queue, receiver, &mut gate, &mut turns) {
             Ok((after, answer)) => (after, answer),
             Err(left) => {
-                left.give_up();
+                match left {
+                    Left::Waiting(pending) => drop(pending.abandon()),
+                    Left::Answered(pass) => drop(pass),
+                }
                 return Worked {
                     row,
                     pass: None,

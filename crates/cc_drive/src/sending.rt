@@ -126,7 +126,10 @@ pub(crate) fn send_all<G: Gate, R: Wait>(
                 };
             }
             Sent::Limited(left) => {
-                left.give_up();
+                match left {
+                    Left::Waiting(pending) => drop(pending.abandon()),
+                    Left::Answered(pass) => drop(pass),
+                }
                 return Worked {
                     row,
                     pass: None,

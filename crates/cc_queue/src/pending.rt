@@ -34,9 +34,6 @@ pub trait Pending: Sized {
     fn turn(self, queue: &Queue) -> Turn<Self, Self::Pass, Self::Told>
         requires { IsOf queue.now (call self) }
         ensures { Turned call pass told (call self) result };
-
-    /// Gives the pass up with its call.
-    fn give_up(self);
 }
 
 impl Pending for PendingSend {
@@ -56,10 +53,6 @@ impl Pending for PendingSend {
     fn turn(self, queue: &Queue) -> Turn<PendingSend, Sender, SendAnswer> {
         turn_send(queue, self)
     }
-
-    fn give_up(self) {
-        self.abandon();
-    }
 }
 
 impl Pending for PendingClose {
@@ -77,10 +70,6 @@ impl Pending for PendingClose {
 
     fn turn(self, queue: &Queue) -> Turn<PendingClose, Sender, CloseAnswer> {
         turn_close(queue, self)
-    }
-
-    fn give_up(self) {
-        self.abandon();
     }
 }
 
@@ -100,10 +89,6 @@ impl Pending for PendingTake {
     #[inline(always)]
     fn turn(self, queue: &Queue) -> Turn<PendingTake, Receiver, TakeAnswer> {
         turn_take(queue, self)
-    }
-
-    fn give_up(self) {
-        self.abandon();
     }
 }
 
