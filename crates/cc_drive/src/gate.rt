@@ -1,7 +1,7 @@
 //! The points at which a worker asks whether to go on.
 
 /// The point at which a worker asks.
-#[derive(Clone, Copy, Debug, PartialEq, Eq)]
+#[derive(Clone, Copy)]
 pub enum Point {
     /// Just after a send was begun.
     SendBegun,
@@ -14,7 +14,7 @@ pub enum Point {
 }
 
 /// The gate's answer.
-#[derive(Clone, Copy, Debug, PartialEq, Eq)]
+#[derive(Clone, Copy)]
 pub enum Go {
     /// To go on.
     On,

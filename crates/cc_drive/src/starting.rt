@@ -8,7 +8,7 @@ use std::sync::Wait;
 use std::thread::{PromisedHandle, Scope};
 
 /// A thread was refused. Only a start that was refused makes this value, since one of its fields is private here.
-#[derive(Clone, Copy, Debug, PartialEq, Eq)]
+#[derive(Clone, Copy)]
 pub struct Refused {
     /// The place of the worker in the row of all passes.
     pub row: u32,

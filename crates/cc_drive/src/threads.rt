@@ -12,7 +12,7 @@ use std::sync::Wait;
 use std::thread::{Promise, PromisedHandle, Scope, Threads};
 
 /// The data that all workers of a run share.
-#[derive(Clone, Copy, Debug, PartialEq, Eq)]
+#[derive(Clone, Copy)]
 pub struct Brief {
     /// How many items each sender sends.
     pub items: u64,

@@ -6,7 +6,7 @@ use crate::gate::{Gate, Go, Point};
 use crossbeam_utils::Backoff;
 
 /// How many turns a worker has made, of how many that it may.
-#[derive(Clone, Copy, Debug, PartialEq, Eq)]
+#[derive(Clone, Copy)]
 pub struct Turns {
     pub made: u64,
     pub limit: u64,

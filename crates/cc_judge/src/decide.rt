@@ -21,7 +21,7 @@ use crate::{Act, Call, Rules, Stay, Step};
 use std::alloc::{AllocError, Global};
 
 /// Why a log has no legal order, by the places of the calls that show it.
-#[derive(Debug, Drop)]
+#[derive(Drop)]
 pub enum Fault {
     /// An item was taken, and no call sent it.
     NeverSent {
@@ -64,7 +64,7 @@ pub enum Fault {
 }
 
 /// The verdict on a log.
-#[derive(Debug, Drop)]
+#[derive(Drop)]
 pub enum Verdict {
     /// The log is linearizable: this is a legal order.
     Clean(Vec<Step>),
@@ -79,7 +79,7 @@ pub enum Verdict {
 }
 
 /// The index of a log, or the verdict that is due without one.
-#[derive(Debug, Drop)]
+#[derive(Drop)]
 pub enum Indexed {
     /// The index.
     Index(Index),

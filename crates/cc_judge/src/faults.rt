@@ -9,7 +9,7 @@ ghost use Rattle.cc_judge.specs.Table.{IsTable, IsIndex};
 use crate::{Act, Call, Rules, Stay};
 
 /// The places at which each item of a log was sent and taken.
-#[derive(Debug, Drop)]
+#[derive(Drop)]
 pub struct Index {
     /// Of each item the place of its send, if there is one.
     pub sends: Vec<Option<u32>>,
@@ -312,7 +312,7 @@ fn are_fewer(calls: &[Call], next: Option<usize>, number: usize) -> bool
 }
 
 /// When an item left the queue.
-#[derive(Clone, Copy, Debug, PartialEq, Eq, Drop)]
+#[derive(Clone, Copy, Drop)]
 pub enum Leave {
     /// Never.
     Never,

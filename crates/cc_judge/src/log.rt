@@ -1,7 +1,7 @@
 //! The calls of a log, and what else is known of it.
 
 /// The act of a call. Items are numbered.
-#[derive(Clone, Copy, Debug, PartialEq, Eq, Drop)]
+#[derive(Clone, Copy, PartialEq, Eq, Drop)]
 pub enum Act {
     /// It sent this item, and was accepted.
     Send(u32),
@@ -22,7 +22,7 @@ pub enum Act {
 }
 
 /// A call of a log.
-#[derive(Clone, Copy, Debug, PartialEq, Eq, Drop)]
+#[derive(Clone, Copy, Drop)]
 pub struct Call {
     /// The time at which it began.
     pub begin: u64,
@@ -33,7 +33,7 @@ pub struct Call {
 }
 
 /// Two calls of one thread, the later of which began at the very time at which the earlier one ended.
-#[derive(Clone, Copy, Debug, PartialEq, Eq, Drop)]
+#[derive(Clone, Copy, Drop)]
 pub struct Tie {
     /// The place of the earlier call.
     pub earlier: u32,
@@ -42,7 +42,7 @@ pub struct Tie {
 }
 
 /// The rest that is known of a log.
-#[derive(Debug, Drop)]
+#[derive(Drop)]
 pub struct Rules {
     /// How many items the queue holds, if that is known.
     pub capacity: Option<u32>,
@@ -53,7 +53,7 @@ pub struct Rules {
 }
 
 /// The stay of an item in the queue, from its send to its take; or of several, of which the last to leave counts.
-#[derive(Debug, Drop)]
+#[derive(Drop)]
 pub enum Stay {
     /// The calls at these places sent the item and took it.
     Taken {
@@ -73,7 +73,7 @@ pub enum Stay {
 }
 
 /// One entry of an order of the calls.
-#[derive(Clone, Copy, Debug, PartialEq, Eq, Drop)]
+#[derive(Clone, Copy, Drop)]
 pub struct Step {
     /// The place of the call in the log.
     pub place: u32,

@@ -7,7 +7,7 @@ use crate::{Act, Call};
 use std::alloc::{AllocError, Global};
 
 /// Which calls: those that send, or those that take.
-#[derive(Clone, Copy, Debug, PartialEq, Eq, Drop)]
+#[derive(Clone, Copy, Drop)]
 pub enum Kind {
     /// Sends.
     Send,
@@ -16,7 +16,7 @@ pub enum Kind {
 }
 
 /// The result of an entry in a table.
-#[derive(Clone, Copy, Debug, PartialEq, Eq, Drop)]
+#[derive(Clone, Copy, Drop)]
 pub enum Entry {
     /// It is entered.
     New,
@@ -27,7 +27,7 @@ pub enum Entry {
 }
 
 /// The calls of one kind, by their items.
-#[derive(Debug, Drop)]
+#[derive(Drop)]
 pub enum Found {
     /// Of each item the place of its call, if there is one.
     Each(Vec<Option<u32>>),

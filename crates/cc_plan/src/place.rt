@@ -24,7 +24,7 @@ pub use values::{Found, Trail, ValueKind};
 pub use wanted::{Check, Kind, Table, Wanted};
 
 /// The place at which an input is refused.
-#[derive(Clone, Copy, Debug, PartialEq, Eq)]
+#[derive(Clone, Copy)]
 pub enum Place {
     /// At this byte, which isn't UTF-8.
     Byte(usize),
@@ -43,7 +43,7 @@ pub enum Place {
 }
 
 /// A value that has to be another.
-#[derive(Clone, Copy, Debug, PartialEq, Eq)]
+#[derive(Clone, Copy)]
 pub struct Misfit {
     /// The key of the root.
     pub key: &'static str,
@@ -58,7 +58,7 @@ pub struct Misfit {
 }
 
 /// The name of a pass that a plan doesn't have.
-#[derive(Clone, Copy, Debug, PartialEq, Eq)]
+#[derive(Clone, Copy)]
 pub struct Stranger {
     /// Which entry of the schedule names it.
     pub entry: usize,
@@ -71,7 +71,7 @@ pub struct Stranger {
 }
 
 /// Why an input is refused, if it is.
-#[derive(Clone, Copy, Debug, PartialEq, Eq)]
+#[derive(Clone, Copy)]
 pub struct Explained {
     /// The table by which the input was read.
     pub table: Table,

@@ -4,7 +4,7 @@ use json::Scratch;
 use std::alloc::Global;
 
 /// A value that was refused: its key, and how far the text had been read by then, in bytes.
-#[derive(Clone, Copy, Debug, PartialEq, Eq)]
+#[derive(Clone, Copy)]
 pub struct Stop {
     /// The key of the root.
     pub key: &'static str,

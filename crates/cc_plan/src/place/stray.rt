@@ -9,7 +9,7 @@ use std::alloc::AllocError;
 const MAX_DEPTH: u32 = 127;
 
 /// The tokens that may come next. The reader sees to the commas and colons between them.
-#[derive(Clone, Copy, Debug, PartialEq, Eq)]
+#[derive(Clone, Copy)]
 enum Due {
     /// The first token of a value.
     Value,

@@ -7,7 +7,7 @@ use json::{Reader, Scratch, Token};
 use std::alloc::AllocError;
 
 /// The places of elements, each in the one before it.
-#[derive(Clone, Copy, Debug, PartialEq, Eq)]
+#[derive(Clone, Copy)]
 pub struct Trail {
     /// The place in the value of a key.
     pub first: Option<usize>,
@@ -46,7 +46,7 @@ impl Trail {
 }
 
 /// The kinds of values.
-#[derive(Clone, Copy, Debug, PartialEq, Eq)]
+#[derive(Clone, Copy, PartialEq, Eq)]
 pub enum ValueKind {
     /// A number, true, false or null.
     Number,
@@ -69,7 +69,7 @@ impl ValueKind {
 }
 
 /// A value in a text: the places of its first byte and after its last one, and its kind.
-#[derive(Clone, Copy, Debug, PartialEq, Eq)]
+#[derive(Clone, Copy)]
 pub struct Found {
     /// The place of its first byte.
     pub start: usize,

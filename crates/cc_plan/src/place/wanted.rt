@@ -3,7 +3,7 @@
 use cc_model::is_within;
 
 /// The kinds of inputs.
-#[derive(Clone, Copy, Debug, PartialEq, Eq)]
+#[derive(Clone, Copy)]
 pub enum Kind {
     /// A plan.
     Plan,
@@ -12,7 +12,7 @@ pub enum Kind {
 }
 
 /// The values of an input on which its other values depend.
-#[derive(Clone, Copy, Debug, PartialEq, Eq)]
+#[derive(Clone, Copy)]
 pub struct Table {
     /// The kind of the input.
     pub kind: Kind,
@@ -23,7 +23,7 @@ pub struct Table {
 }
 
 /// The shape and the range that a value has to have.
-#[derive(Clone, Copy, Debug, PartialEq, Eq)]
+#[derive(Clone, Copy)]
 pub enum Wanted {
     /// A whole number in a range.
     Number(u64, u64),
@@ -56,7 +56,7 @@ pub enum Wanted {
 }
 
 /// A question about a value.
-#[derive(Clone, Copy, Debug, PartialEq, Eq)]
+#[derive(Clone, Copy)]
 pub enum Check {
     /// Its shape.
     Shape,
