@@ -8,6 +8,7 @@
   parameter, a type, a field, a variant, a clause, a definition or a file; elsewhere it has to be a word of some source. A
   clause in brackets after a function has to be one of that function. Files that links name have to be there too. What is
   fenced isn't read, and a word in capitals, as in crates/NAME, stands for others.
+- Merges: no document has a line that a merge leaves, as `<<<<<<< ` and a branch.
 - The map: docs/MAP.md names each source and spec file of the crates, each file of FOLDERS and each one at the top. A name in
   backticks is a path from the folder or the crate that the heading names, or from the folder of the name before it in its
   paragraph or row. A folder with a slash at its end, or a pattern with `*`, names all files that it fits. A source or a spec
@@ -262,6 +263,8 @@ def main():
         wrong = [(line, name) for line, span, heading in spans(text) for name in wrong_names(tree, span, "`cc" in heading)]
         wrong += list(wrong_clauses(tree, text)) + list(wrong_links(path, text))
         found += [f"{path.relative_to(TOP)}:{line}: `{name}` is nowhere in the tree" for line, name in sorted(wrong)]
+        marks = [line for line, words in enumerate(text.splitlines(), 1) if words.startswith(("<<<<<<< ", ">>>>>>> "))]
+        found += [f"{path.relative_to(TOP)}:{line}: a merge left this line" for line in marks]
     mapped = sorted(path for path in tree.files if MAPPED.fullmatch(path) and "/." not in path)
     text = (TOP / MAP).read_text()
     if not finds_what_is_wrong(text, mapped):
