@@ -1,16 +1,17 @@
 -- The outcome of an input, by the outcomes of the parts of the work on it.
-use Rattle.std.proofs.Common.{ℕ, List, Option, Result, Ok, Err}
+use Rattle.std.proofs.Common.{◌≡◌, ℕ, List, Option, Result, Ok, Err}
+use Rattle.cc_io.specs.Input.{Reads}
 use Rattle.cc_plan.specs.Refusal.{Refusal}
 use Rattle.cc_play.specs.Names.{Verdict, PlayFault}
-use Rattle.cc_play.specs.Play.{Gave, Worked, WorksOn}
+use Rattle.cc_play.specs.Play.{Worked, WorksOn}
 
--- the input gave a value, which was worked on
-pub worked : {V : Type 0} (due : List ℕ → Result V Refusal) (Good : V → Verdict → List ℕ → Type 0) (l n : Option (List ℕ)) (v : V) (r : Result Verdict PlayFault) (old new : Option (List ℕ)) → Gave due l n v → Worked (Good v) r old new → WorksOn due Good l n r old new
-worked due Good l n v (Ok verdict) old new gave out = (gave.0, gave.1, tt, (v, out.0, gave.2, out.1, out.2))
-worked due Good l n v (Err PlayFault.Write) old new gave out = (gave.0, gave.1, tt, (v, out.0, out.1, out.2, gave.2, out.3, out.4, out.5))
-worked due Good l n v (Err PlayFault.NoMemory) old new gave out = out
-worked due Good l n v (Err PlayFault.Read) old new gave out = absurd out
-worked due Good l n v (Err (PlayFault.Plan f)) old new gave out = absurd out
+-- the input was read, it holds a value, and that was worked on
+pub worked : {V : Type 0} (due : List ℕ → Result V Refusal) (Good : V → Verdict → List ℕ → Type 0) (l n : Option (List ℕ)) (input : List ℕ) (v : V) (r : Result Verdict PlayFault) (old new : Option (List ℕ)) → Reads l n input → due input ≡ Ok v → Worked (Good v) r old new → WorksOn due Good l n r old new
+worked due Good l n input v (Ok verdict) old new reads holds out = (input, reads, tt, (v, out.0, holds, out.1, out.2))
+worked due Good l n input v (Err PlayFault.Write) old new reads holds out = (input, reads, tt, (v, out.0, out.1, out.2, holds, out.3, out.4, out.5))
+worked due Good l n input v (Err PlayFault.NoMemory) old new reads holds out = out
+worked due Good l n input v (Err PlayFault.Read) old new reads holds out = absurd out
+worked due Good l n input v (Err (PlayFault.Plan f)) old new reads holds out = absurd out
 
 -- what is right for the one is so for the other
 pub still_worked : (P Q : Verdict → List ℕ → Type 0) (r : Result Verdict PlayFault) (old new : Option (List ℕ)) → ((v : Verdict) (text : List ℕ) → P v text → Q v text) → Worked P r old new → Worked Q r old new

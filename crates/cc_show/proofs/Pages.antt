@@ -37,4 +37,4 @@ shown_so f form p m written v events l n input old new x y reads due h history l
       short = subst (λ (es : List ShownEvent). length es ≤ event_limit) h.3 h.4;
       text_is = ap (λ (es : List ShownEvent). shown_text form p es (report_text p.version written v)) h.3;
     } in
-    worked plan_of (IsShown form) l n p (written_by f v) old new (input, reads, due) (went_out f (IsShown form p) v _ old new x y shown out)
+    worked plan_of (IsShown form) l n input p (written_by f v) old new reads due (went_out f (IsShown form p) v _ old new x y shown out)
