@@ -7,8 +7,8 @@ use Rattle.cc_play.specs.Play.{Worked, WorksOn}
 
 -- the input was read, it holds a value, and that was worked on
 pub worked : {V : Type 0} (due : List ℕ → Result V Refusal) (Good : V → Verdict → List ℕ → Type 0) (l n : Option (List ℕ)) (input : List ℕ) (v : V) (r : Result Verdict PlayFault) (old new : Option (List ℕ)) → Reads l n input → due input ≡ Ok v → Worked (Good v) r old new → WorksOn due Good l n r old new
-worked due Good l n input v (Ok verdict) old new reads holds out = (input, reads, tt, (v, out.0, holds, out.1, out.2))
-worked due Good l n input v (Err PlayFault.Write) old new reads holds out = (input, reads, tt, (v, out.0, out.1, out.2, holds, out.3, out.4, out.5))
+worked due Good l n input v (Ok verdict) old new reads holds out = (input, v, reads, holds, out)
+worked due Good l n input v (Err PlayFault.Write) old new reads holds out = (input, v, reads, holds, out)
 worked due Good l n input v (Err PlayFault.NoMemory) old new reads holds out = out
 worked due Good l n input v (Err PlayFault.Read) old new reads holds out = absurd out
 worked due Good l n input v (Err (PlayFault.Plan f)) old new reads holds out = absurd out
