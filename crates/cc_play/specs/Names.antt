@@ -16,3 +16,6 @@ pub use Rattle.cc_audit.specs.declared.receipt.Verdict.{Verdict}
 pub use Rattle.cc_plan.specs.declared.fault.PlanFault.{PlanFault}
 pub use Rattle.cc_play.specs.declared.fault.PlayFault.{PlayFault}
 pub use Rattle.cc_io.specs.declared.input.InputFault.{InputFault}
+-- what clauses have of a source and of a sink, which they write `R.Source` and `W.Sink`
+pub use Rattle.cc_io.specs.declared.device.Source.{Ghosts as SourceOf}
+pub use Rattle.cc_io.specs.declared.device.Sink.{Ghosts as SinkOf}
