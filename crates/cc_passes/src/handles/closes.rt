@@ -4,7 +4,7 @@ ghost use Rattle.cc_steps.specs.Walk.{IsOf};
 ghost use Rattle.cc_passes.specs.Passes.{walk_of, StaysOf};
 ghost use Rattle.cc_passes.specs.Calls.{BeginsClose, TurnsClose, TriesClose};
 
-use crate::handles::handle_inner::{HandleInner, Pass, with_pass};
+use crate::handles::handle_inner::{HandleInner, Pass, try_pass, with_pass};
 use crate::handles::refusals::{no_idle_sender, no_pending_sender};
 use crate::handles::results::closed_as;
 use crate::handles::return_codes::{BEGUN, WAITING};
@@ -49,21 +49,6 @@ fn turned(queue: &Queue, pass: Pass, total: &mut u64, served: &mut u32) -> (Pass
     }
 }
 
-/// Begins a close, if the pass can, and if the close was begun turns it once.
-#[inline(always)]
-fn tried(queue: &Queue, pass: Pass, total: &mut u64, served: &mut u32) -> (Pass, u32)
-    requires pass { IsOf queue.now (walk_of pass) }
-    requires numbers { (total.old ≡ 0) × (served.old ≡ 0) }
-    ensures here { IsOf queue.now (walk_of result.0) }
-    ensures tries { TriesClose (Some pass) (Some result.0) (record { code = result.1; number = total.new; served = served.new }) }
-{
-    let (pass, code) = begun(queue, pass);
-    if code != BEGUN {
-        return (pass, code);
-    }
-    turned(queue, pass, total, served)
-}
-
 impl HandleInner {
     /// Begins a close.
     #[inline(always)]
@@ -94,6 +79,10 @@ impl HandleInner {
         ensures same { self.new.words ≡ self.old.words }
         ensures stays { StaysOf self.old.pass self.new.pass }
     {
-        with_pass!(self, |queue, pass| tried(queue, pass, total, served))
+        try_pass!(
+            self,
+            |queue, pass| begun(queue, pass),
+            turned(queue, pass, total, served)
+        )
     }
 }

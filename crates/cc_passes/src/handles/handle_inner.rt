@@ -133,4 +133,26 @@ macro_rules! with_pass {
     };
 }
 
+/// The same of two steps: a begin, and if the call was begun a turn.
+macro_rules! try_pass {
+    ($inner:expr, |$queue:ident, $pass:ident| $begin:expr, $turn:expr) => {
+        match $inner.pass.take() {
+            Some($pass) => {
+                let $queue = &$inner.queue;
+                let ($pass, code) = $begin;
+                if code == $crate::handles::return_codes::BEGUN {
+                    let ($pass, code) = $turn;
+                    $crate::handles::handle_inner::put(&mut $inner.pass, $pass);
+                    code
+                } else {
+                    $crate::handles::handle_inner::put(&mut $inner.pass, $pass);
+                    code
+                }
+            }
+            None => $crate::handles::return_codes::NO_PASS,
+        }
+    };
+}
+
+pub(crate) use try_pass;
 pub(crate) use with_pass;

@@ -4,7 +4,7 @@ ghost use Rattle.cc_steps.specs.Walk.{IsOf};
 ghost use Rattle.cc_passes.specs.Passes.{walk_of, StaysOf};
 ghost use Rattle.cc_passes.specs.Calls.{fitting, BeginsSend, TurnsSend, TriesSend, TellsWorn};
 
-use crate::handles::handle_inner::{HandleInner, Pass, with_pass};
+use crate::handles::handle_inner::{HandleInner, Pass, try_pass, with_pass};
 use crate::handles::refusals::{no_idle_sender, no_pending_sender};
 use crate::handles::results::sent_as;
 use crate::handles::return_codes::{BAD_WORDS, BEGUN, FRESH, LONG, NO_PASS, WAITING, WORN};
@@ -72,27 +72,6 @@ fn turned(queue: &Queue, pass: Pass, place: &mut u64, served: &mut u32) -> (Pass
     }
 }
 
-/// Begins a send of this body, if there is one and the pass can, and if the send was begun turns it once.
-#[inline(always)]
-fn tried(
-    queue: &Queue,
-    pass: Pass,
-    body: Result<Body, u32>,
-    place: &mut u64,
-    served: &mut u32,
-) -> (Pass, u32)
-    requires pass { IsOf queue.now (walk_of pass) }
-    requires numbers { (place.old ≡ 0) × (served.old ≡ 0) }
-    ensures here { IsOf queue.now (walk_of result.0) }
-    ensures tries { TriesSend body (Some pass) (Some result.0) (record { code = result.1; number = place.new; served = served.new }) }
-{
-    let (pass, code) = begun(queue, pass, body);
-    if code != BEGUN {
-        return (pass, code);
-    }
-    turned(queue, pass, place, served)
-}
-
 impl HandleInner {
     /// The body of these words, if a body of the queue may have that many; or the code for which there is none.
     pub fn fitting(&self, words: &[u64]) -> Result<Body, u32>
@@ -131,7 +110,11 @@ impl HandleInner {
         ensures same { self.new.words ≡ self.old.words }
         ensures stays { StaysOf self.old.pass self.new.pass }
     {
-        with_pass!(self, |queue, pass| tried(queue, pass, body, place, served))
+        try_pass!(
+            self,
+            |queue, pass| begun(queue, pass, body),
+            turned(queue, pass, place, served)
+        )
     }
 
     /// Whether the sender is exhausted.

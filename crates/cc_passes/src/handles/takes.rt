@@ -4,7 +4,7 @@ ghost use Rattle.cc_steps.specs.Walk.{IsOf};
 ghost use Rattle.cc_passes.specs.Passes.{walk_of, StaysOf};
 ghost use Rattle.cc_passes.specs.Calls.{BeginsTake, TurnsTake, TriesTake, IfRoom, TellsGroup, IsIn};
 
-use crate::handles::handle_inner::{HandleInner, Pass, with_pass};
+use crate::handles::handle_inner::{HandleInner, Pass, try_pass, with_pass};
 use crate::handles::items::ItemForm;
 use crate::handles::refusals::{no_idle_receiver, no_pending_take};
 use crate::handles::results::taken_as;
@@ -56,27 +56,6 @@ fn turned<I: ItemForm>(
         },
         other => (other, why),
     }
-}
-
-/// Begins a take, if the pass can, and if the take was begun turns it once.
-#[inline(always)]
-fn tried<I: ItemForm>(
-    queue: &Queue,
-    pass: Pass,
-    item: &mut I,
-    total: &mut u64,
-    served: &mut u32,
-) -> (Pass, u32)
-    requires pass { IsOf queue.now (walk_of pass) }
-    requires numbers { (item.old ≡ I.form.none) × (total.old ≡ 0) × (served.old ≡ 0) }
-    ensures here { IsOf queue.now (walk_of result.0) }
-    ensures tries { TriesTake I.form (Some pass) (Some result.0) (record { code = result.1; item = item.new; total = total.new; served = served.new }) }
-{
-    let (pass, code) = begun(queue, pass);
-    if code != BEGUN {
-        return (pass, code);
-    }
-    turned(queue, pass, item, total, served)
 }
 
 impl HandleInner {
@@ -144,7 +123,11 @@ impl HandleInner {
         ensures same { self.new.words ≡ self.old.words }
         ensures stays { StaysOf self.old.pass self.new.pass }
     {
-        with_pass!(self, |queue, pass| tried(queue, pass, item, total, served))
+        try_pass!(
+            self,
+            |queue, pass| begun(queue, pass),
+            turned(queue, pass, item, total, served)
+        )
     }
 
     /// Whether it holds a receiver of this group that has no call.
