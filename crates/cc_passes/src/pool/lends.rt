@@ -6,7 +6,7 @@ ghost use Rattle.cc_passes.specs.Loans.{IsLoan, IsLent};
 ghost use Rattle.cc_passes.specs.declared.pool.kept.TheConstants.{TAKEN, FREE, OUT};
 
 use crate::handles::handle_inner::HandleInner;
-use crate::pool::kept::{FREE, Kept, Loan, OUT, TAKEN};
+use crate::pool::kept::{FREE, Kept, Loan, TAKEN};
 use crate::pool::place::Place;
 use crate::pool::plays::{Grab, Look, Release};
 use atomic_table::{Refused, Seat, Table};
@@ -75,13 +75,5 @@ impl Kept {
         let Loan { mut seat } = loan;
         self.fill(&mut seat, held);
         self.put_back(Loan { seat }, FREE);
-    }
-
-    /// Takes the place again whose pass is out.
-    #[inline(always)]
-    pub fn reclaim(&self) -> Option<Loan>
-        ensures { IfSome result (λ l. IsLoan self.now OUT l) }
-    {
-        self.take(OUT)
     }
 }

@@ -231,7 +231,7 @@ impl Pooled {
             return;
         }
         let kept = &row[at as usize];
-        if let Some(loan) = kept.reclaim() {
+        if let Some(loan) = kept.take(OUT) {
             kept.give_back(loan, held);
         }
     }
