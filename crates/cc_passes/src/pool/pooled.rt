@@ -90,25 +90,6 @@ impl Kept {
         }
         Tried::Made(told, None)
     }
-
-    /// Makes a call by the pass of this place, if the place is free.
-    #[inline(always)]
-    fn ask_once<T, O, A: Ask<T, O>>(&self, ask: &mut A, out: &mut O) -> Tried<T>
-        requires { A.is_new ask.old }
-        ensures tried { IsTriedOf (queue_of self.now) (λ old new told. A.tells ask.old old new told out.new) result }
-        ensures same { IsUnmade result (ask.new ≡ ask.old) }
-    {
-        let Some(loan) = self.take(FREE) else {
-            return Tried::NotFree;
-        };
-        let Loan { mut seat } = loan;
-        let tried = self.ask_there(&mut seat, ask, out);
-        match &tried {
-            Tried::Made(_, Some(_)) => self.put_back(Loan { seat }, OUT),
-            _ => self.put_back(Loan { seat }, FREE),
-        }
-        tried
-    }
 }
 
 /// A place of a search. A contract learns from a try alone what the try gave. So a search that is proved for all such places has
@@ -133,7 +114,16 @@ impl<T, O, A: Ask<T, O>> Spot<T, O, A> for Kept {
 
     #[inline(always)]
     fn ask(&self, ask: &mut A, out: &mut O) -> Tried<T> {
-        self.ask_once(ask, out)
+        let Some(loan) = self.take(FREE) else {
+            return Tried::NotFree;
+        };
+        let Loan { mut seat } = loan;
+        let tried = self.ask_there(&mut seat, ask, out);
+        match &tried {
+            Tried::Made(_, Some(_)) => self.put_back(Loan { seat }, OUT),
+            _ => self.put_back(Loan { seat }, FREE),
+        }
+        tried
     }
 }
 
