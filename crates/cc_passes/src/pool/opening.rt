@@ -116,35 +116,21 @@ fn all_rows(
     })
 }
 
-impl Pooled {
-    /// Opens a queue of bodies of at most this number of words, and puts its passes into places.
-    pub fn open(alloc: Global, config: &Config, words: u32) -> Result<Pooled, u32>
-        ensures opened { IfOk result (λ p. (refusal config.now words ≡ DONE) × HasPool config.now words p) }
-        ensures refused { IfErr result (λ code. IsRefusedAs (refusal config.now words) code) }
-        ensures told { IfErr result (λ code. code ≢ DONE) }
-    {
-        let config = check(config, words)?;
-        let Ok(opened) = Queue::open_checked(alloc, &config) else {
-            return Err(NO_MEMORY);
-        };
-        match all_rows(alloc, config.config(), words, opened) {
-            Ok(pool) => Ok(pool),
-            Err(_) => Err(NO_MEMORY),
-        }
-    }
-}
-
-/// Opens a queue so, in a box.
+/// Opens a queue of bodies of at most this number of words, and puts its passes into places: the queue in a box.
 pub fn open_boxed(alloc: Global, config: &Config, words: u32) -> Result<Box<Pooled>, u32>
     ensures opened { IfOk result (λ b. (refusal config.now words ≡ DONE) × HasPool config.now words b.value) }
     ensures refused { IfErr result (λ code. IsRefusedAs (refusal config.now words) code) }
     ensures told { IfErr result (λ code. code ≢ DONE) }
 {
-    match Pooled::open(alloc, config, words) {
-        Ok(pool) => match Box::new(alloc, pool) {
-            Ok(boxed) => Ok(boxed),
-            Err(_) => Err(NO_MEMORY),
-        },
-        Err(code) => Err(code),
+    let config = check(config, words)?;
+    let Ok(opened) = Queue::open_checked(alloc, &config) else {
+        return Err(NO_MEMORY);
+    };
+    let Ok(pool) = all_rows(alloc, config.config(), words, opened) else {
+        return Err(NO_MEMORY);
+    };
+    match Box::new(alloc, pool) {
+        Ok(boxed) => Ok(boxed),
+        Err(_) => Err(NO_MEMORY),
     }
 }
