@@ -69,21 +69,13 @@ impl HandleInner {
         with_pass!(self, |queue, pass| begun(queue, pass))
     }
 
-    /// Whether an item of this form has room for each body of the queue.
-    #[inline(always)]
-    fn has_room<I: ItemForm>(&self) -> bool
-        ensures { result ≡ nat_le self.now.words I.form.room }
-    {
-        self.longest <= I::room()
-    }
-
     /// One turn of a take, if its item has room for each body of the queue. An answer alone writes the item and the numbers.
     pub fn turn_take<I: ItemForm>(&mut self, item: &mut I, total: &mut u64, served: &mut u32) -> u32
         requires { (item.old ≡ I.form.none) × (total.old ≡ 0) × (served.old ≡ 0) }
         ensures turns { IfRoom I.form (nat_le self.old.words I.form.room) (TurnsTake I.form) self.old.pass self.new.pass (record { code = result; item = item.new; total = total.new; served = served.new }) }
         ensures same { self.new.words ≡ self.old.words }
     {
-        if self.has_room::<I>() {
+        if self.longest <= I::room() {
             self.turn_any(item, total, served)
         } else {
             WIDE
@@ -107,7 +99,7 @@ impl HandleInner {
         ensures tries { IfRoom I.form (nat_le self.old.words I.form.room) (TriesTake I.form) self.old.pass self.new.pass (record { code = result; item = item.new; total = total.new; served = served.new }) }
         ensures same { self.new.words ≡ self.old.words }
     {
-        if self.has_room::<I>() {
+        if self.longest <= I::room() {
             self.try_any(item, total, served)
         } else {
             WIDE
