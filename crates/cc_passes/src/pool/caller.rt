@@ -135,12 +135,11 @@ impl Pooled {
         ensures turns { TurnsBy TurnsSend (pass_of waiting.old) (pass_of waiting.new) result }
         ensures kept { IsWaitingOf self.now.queue waiting.new }
     {
-        let Some(mut held) = waiting.take(alloc) else {
-            return SendResult::only(NO_PASS);
-        };
         let mut told = SendResult::only(NO_PASS);
-        told.code = held.turn_send(&mut told.number, &mut told.served);
-        self.settle(waiting, place, held);
+        if let Some(mut held) = waiting.take(alloc) {
+            told.code = held.turn_send(&mut told.number, &mut told.served);
+            self.settle(waiting, place, held);
+        }
         told
     }
 
@@ -150,12 +149,11 @@ impl Pooled {
         ensures turns { TurnsBy TurnsClose (pass_of waiting.old) (pass_of waiting.new) result }
         ensures kept { IsWaitingOf self.now.queue waiting.new }
     {
-        let Some(mut held) = waiting.take(alloc) else {
-            return SendResult::only(NO_PASS);
-        };
         let mut told = SendResult::only(NO_PASS);
-        told.code = held.turn_close(&mut told.number, &mut told.served);
-        self.settle(waiting, place, held);
+        if let Some(mut held) = waiting.take(alloc) {
+            told.code = held.turn_close(&mut told.number, &mut told.served);
+            self.settle(waiting, place, held);
+        }
         told
     }
 
@@ -170,12 +168,11 @@ impl Pooled {
         ensures turns { TurnsBy (TurnsTake I.form) (pass_of waiting.old) (pass_of waiting.new) result }
         ensures kept { IsWaitingOf self.now.queue waiting.new }
     {
-        let Some(mut held) = waiting.take(alloc) else {
-            return TakeResult::only(NO_PASS);
-        };
         let mut told = TakeResult::only(NO_PASS);
-        told.code = held.turn_any(&mut told.item, &mut told.total, &mut told.served);
-        self.settle(waiting, place, held);
+        if let Some(mut held) = waiting.take(alloc) {
+            told.code = held.turn_any(&mut told.item, &mut told.total, &mut told.served);
+            self.settle(waiting, place, held);
+        }
         told
     }
 }
