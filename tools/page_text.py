@@ -1,7 +1,7 @@
 #!/usr/bin/env python3
 """The pages of `ccq show` and `ccq judge --page` as texts of their program: crates/cc_show/src/page.rt, in which
 docs/pages/index.html is cut into what goes before, between and after its run and its report, and
-crates/cc_log/src/fault_page.rt, in which docs/pages/fault.html is cut in the same way at its fault and its calls.
+crates/cc_cli/src/judging/fault_page.rt, in which docs/pages/fault.html is cut in the same way at its fault and its calls.
 
     tools/page_text.py            compares the texts with the pages; exit status 0 if they are their parts
     tools/page_text.py --write    writes them
@@ -16,7 +16,7 @@ from sources import TOP
 # Each page, its text, and the two parts that the program writes, each between its tags.
 PAGES = [
     ("docs/pages/index.html", "crates/cc_show/src/page.rt", "run", "report"),
-    ("docs/pages/fault.html", "crates/cc_log/src/fault_page.rt", "fault", "calls"),
+    ("docs/pages/fault.html", "crates/cc_cli/src/judging/fault_page.rt", "fault", "calls"),
 ]
 
 

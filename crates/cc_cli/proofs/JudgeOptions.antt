@@ -4,7 +4,7 @@ use Rattle.std.proofs.Common.{rules, ◌+◌, if◌then◌else◌, is_none, ◌�
 use Rattle.std.proofs.lemmas.List.{take-append-drop}
 use Rattle.std.specs.Str.{bytes_eq}
 use Rattle.cc_cli.specs.Names.{Numbered, Options, Reading}
-use Rattle.cc_log.specs.Judged.{no_options}
+use Rattle.cc_log.specs.Options.{no_options}
 use Rattle.cc_cli.specs.JudgeOptions.{by_reading, line_without_options, read_next, read_options}
 
 -- the word at a place, and those behind it

@@ -2,3 +2,4 @@ pub mod Lines
 pub mod Declined
 pub mod Explained
 pub mod JudgeOptions
+pub mod Judged

@@ -3,7 +3,7 @@
 use Rattle.std.specs.Prelude.{ℕ, ◌==◌, ◌+◌, ◌*◌, ◌-◌, ◌^◌, ◌&&◌, true, false, List, [], ◌∷◌, ◌++◌, codes, if◌then◌else◌, Option, Some, None, nat_le, nat_lt, is_none, length}
 use Rattle.std.specs.Str.{bytes_eq}
 use Rattle.std.specs.List.{before_first, after_first, position_or_len}
-use Rattle.cc_log.specs.Judged.{no_options}
+use Rattle.cc_log.specs.Options.{no_options}
 use Rattle.cc_cli.specs.Names.{Numbered, Options, Reading}
 
 -- the number below 2 ^ 64 that these digits write behind those of n

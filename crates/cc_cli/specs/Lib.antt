@@ -2,6 +2,7 @@ pub mod Names
 pub mod CommandLine
 pub mod Words
 pub mod JudgeOptions
+pub mod Judged
 pub mod Why
 pub mod Run
 pub mod Drive

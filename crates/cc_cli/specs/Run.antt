@@ -9,7 +9,7 @@ use Rattle.cc_io.specs.FaultLine.{Told, no_memory_line}
 use Rattle.cc_play.specs.Outcome.{line_of, status_of}
 use Rattle.cc_play.specs.Play.{Plays, Audits, failed_reads, failed_writes}
 use Rattle.cc_show.specs.Show.{Shows, failed_reads_of, failed_writes_of, shown_line, shown_status}
-use Rattle.cc_log.specs.Judged.{Judges}
+use Rattle.cc_cli.specs.Judged.{Judges}
 use Rattle.cc_cli.specs.Why.{Explains}
 
 -- the line if the file of this name can't be opened, with the system's reason

@@ -3,7 +3,7 @@
 //!
 //! `words` has the file that a line names, `--trace`, and help by its word. `run` does any line without these. A line whose first word
 //! is `drive` is read by `drive_line` and done by `driving`; any other line is read by `command_line` and done by `reading`,
-//! without threads. `judge_options` reads the options of `judge`.
+//! without threads. `judge_options` reads the options of `judge`, and `judging` judges a log.
 #![tactic(auto)]
 
 mod command_line;
@@ -12,6 +12,7 @@ mod driving;
 mod gate;
 pub mod hint;
 pub mod judge_options;
+mod judging;
 pub mod reading;
 pub mod run;
 mod why;

@@ -6,10 +6,10 @@ ghost use Rattle.cc_cli.specs.Run.{Declines, Helps, RefusesFile, Runs, unopened_
 ghost use Rattle.cc_io.specs.FaultLine.{Told};
 
 use crate::command_line::{Task, asked};
+use crate::judging::judge_input;
 use crate::why::why_input;
 use crate::words::CommandLine;
 use cc_io::{Pen, Sink, Source, out_of_memory, told, write_bytes};
-use cc_log::judge_input;
 use cc_play::play::play;
 use cc_play::{PlayFault, audit_bytes, tell};
 use cc_show::show::show;

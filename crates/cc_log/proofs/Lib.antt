@@ -3,4 +3,3 @@ pub mod Table
 pub mod Steps
 pub mod Ahead
 pub mod Reading
-pub mod Judged

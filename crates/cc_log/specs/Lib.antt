@@ -4,4 +4,4 @@ pub mod Lines
 pub mod Log
 pub mod Answers
 pub mod State
-pub mod Judged
+pub mod Options

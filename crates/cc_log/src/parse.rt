@@ -1,9 +1,9 @@
 //! The log that the lines of an input spell.
 ghost use Rattle.std.specs.Prelude.{◌≡◌, ◌<◌, ◌-◌, ◌^◌, ℕ, List, [], false, IfOk};
 ghost use Rattle.cc_log.specs.Answers.{Gives};
-ghost use Rattle.cc_log.specs.Judged.{no_options};
 ghost use Rattle.cc_log.specs.Lines.{HasInput};
 ghost use Rattle.cc_log.specs.Log.{Known, at_first, if_some, log_of};
+ghost use Rattle.cc_log.specs.Options.{no_options};
 ghost use Rattle.cc_log.specs.State.{Shows, log_view};
 
 use crate::fault::LogFault;

@@ -1,5 +1,5 @@
 use Rattle.std.proofs.Common.{◌≡◌}
-use Rattle.cc_log.proofs.page.write_calls.Given as goal
+use Rattle.cc_cli.proofs.judging.page.write_calls.Given as goal
 
 abbrev pub invariant-loop-place : goal.invariant-loop-place
 invariant-loop-place g l =

@@ -1,7 +1,7 @@
 //! The line of a verdict.
 
-use crate::parse::Log;
 use cc_judge::{Fault, Stay, Verdict};
+use cc_log::Log;
 use std::alloc::{AllocError, Global};
 
 /// The numbers of the lines of the calls at these places.

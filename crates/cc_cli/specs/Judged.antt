@@ -1,9 +1,10 @@
 -- The exit status of a judged log.
-use Rattle.std.specs.Prelude.{ℕ, ◌≡◌, ◌⊎◌, List, Option, None, Result, Ok, Err, false}
+use Rattle.std.specs.Prelude.{ℕ, ◌≡◌, ◌⊎◌, List, Option, Result, Ok, Err}
 use Rattle.cc_judge.specs.Verdict.{IsVerdict}
-use Rattle.cc_log.specs.Names.{AnswerFault, Call, LogFault, Options, Rules, Verdict}
+use Rattle.cc_judge.specs.declared.decide.Verdict.{Verdict}
 use Rattle.cc_log.specs.Lines.{HasInput}
 use Rattle.cc_log.specs.Log.{Refusal, Spelled, log_of}
+use Rattle.cc_cli.specs.Names.{AnswerFault, Call, LogFault, Options, Rules}
 
 -- the status of a verdict: clean, a fault, a log that can't be judged, or undecided
 abbrev pub verdict_status : Verdict → ℕ
@@ -44,7 +45,3 @@ IsDue options (Err refusal) status = status ≡ 2
 -- The input of a source was judged: the status is due, or says that memory was refused or that a device failed.
 abbrev pub Judges : Options → (left : Option (List ℕ)) → ℕ → Type 0
 Judges options left status = (status ≡ 3) ⊎ ((status ≡ 4) ⊎ ((input : List ℕ) × HasInput left input × IsDue options (log_of options.skew input) status))
-
--- no options
-abbrev pub no_options : Options
-no_options = record { capacity = None; skew = 0; page = false }

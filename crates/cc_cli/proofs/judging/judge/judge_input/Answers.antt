@@ -1,5 +1,5 @@
-use Rattle.cc_log.proofs.Judged.{judged_due, refused_due}
-use Rattle.cc_log.proofs.judge.judge_input.Goals as goal
+use Rattle.cc_cli.proofs.Judged.{judged_due, refused_due}
+use Rattle.cc_cli.proofs.judging.judge.judge_input.Goals as goal
 
 pub returns-in-Ok : goal.returns-in-Ok
 returns-in-Ok g c = judged_due c.args.options (g.R.Source.bytes_left c.args.source.now) c.in-Ok.log c.judge_log.result c.in-Ok.ensures.capacity c.in-Ok.ensures.due c.judge_log.ensures

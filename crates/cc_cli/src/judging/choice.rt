@@ -1,8 +1,7 @@
 //! Which calls the page of a judged log shows: those that the fault names, those of the same items, and some at the same times.
 
-use crate::line::{Body, Said};
-use crate::parse::Log;
 use cc_judge::{Fault, Stay};
+use cc_log::{Body, Log, Said};
 use indexmap::IndexSet;
 use std::alloc::{AllocError, Global};
 

@@ -2,12 +2,11 @@
 //! each shown call, and a text. `choice` has which calls are shown.
 ghost use Rattle.std.specs.Prelude.{◌≡◌, ◌<◌, ◌-◌, ◌^◌, OnOk};
 
-use crate::choice::{Choice, beside_fault, first_calls};
-use crate::fault_page::{BACK, FRONT, MIDDLE};
-use crate::line::{Said, body_text};
-use crate::parse::{Log, Shown};
+use crate::judging::choice::{Choice, beside_fault, first_calls};
+use crate::judging::fault_page::{BACK, FRONT, MIDDLE};
 use cc_io::{Sink, WriteFault, write_bytes};
 use cc_judge::{Fault, Stay, Verdict};
+use cc_log::{Log, Said, Shown, body_text};
 use std::alloc::{AllocError, Global};
 use std::slice::from_ref;
 

@@ -1,14 +1,13 @@
 //! Judging the log on an input.
 ghost use Rattle.std.specs.Prelude.{◌≡◌, ◌⊎◌, ◌<◌, ◌-◌, ◌^◌, IfOk};
 ghost use Rattle.cc_judge.specs.Verdict.{IsVerdict};
-ghost use Rattle.cc_log.specs.Judged.{IsJudged, IsRefused, Judges, told_status, verdict_status};
+ghost use Rattle.cc_cli.specs.Judged.{IsJudged, IsRefused, Judges, told_status, verdict_status};
 
-use crate::fault::LogFault;
-use crate::page::{AnswerFault, write_page};
-use crate::parse::{Log, Options, read_log};
-use crate::verdict_line::text_of;
+use crate::judging::page::{AnswerFault, write_page};
+use crate::judging::verdict_line::text_of;
 use cc_io::{Sink, Source, out_of_memory, told, write_bytes};
 use cc_judge::{Verdict, judge};
+use cc_log::{Log, LogFault, Options, read_log};
 use cc_play::{PlayFault, tell};
 use std::alloc::{AllocError, Global};
 

@@ -1,12 +1,9 @@
 -- The status of a judged log, by whether its answer was written.
 use Rattle.std.proofs.Common.{◌≡◌, ◌⊎◌, ℕ, List, Option, Result, Ok, Err, inl, inr, refl, sym, subst}
-use Rattle.cc_judge.specs.declared.log.Rules.{Rules}
-use Rattle.cc_judge.specs.declared.log.Call.{Call}
 use Rattle.cc_judge.specs.declared.decide.Verdict.{Verdict}
 use Rattle.cc_judge.specs.Verdict.{IsVerdict}
-use Rattle.cc_log.specs.declared.page.AnswerFault.{AnswerFault}
-use Rattle.cc_log.specs.Judged.{IsDue, IsJudged, IsRefused, Judges, told_status, verdict_status}
-use Rattle.cc_log.specs.Names.{Log, LogFault, Options}
+use Rattle.cc_cli.specs.Judged.{IsDue, IsJudged, IsRefused, Judges, told_status, verdict_status}
+use Rattle.cc_cli.specs.Names.{AnswerFault, Call, Log, LogFault, Options, Rules}
 use Rattle.cc_log.specs.Answers.{Gives}
 use Rattle.cc_log.specs.Lines.{HasInput}
 use Rattle.cc_log.specs.Log.{log_of}
