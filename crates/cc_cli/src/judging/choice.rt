@@ -35,6 +35,11 @@ fn mark(marks: &mut Vec<bool>, place: usize) {
     }
 }
 
+/// Whether the call at a place is marked.
+fn is_marked(marks: &[bool], place: usize) -> bool {
+    marks.get(place).copied().unwrap_or(false)
+}
+
 /// Marks the calls of a stay.
 fn mark_stay(marks: &mut Vec<bool>, stay: &Stay) {
     match stay {
@@ -99,11 +104,12 @@ fn body_of(said: Said) -> Option<Body> {
 /// The bodies of the items of the marked calls.
 fn bodies(alloc: Global, log: &Log, marks: &[bool]) -> Result<IndexSet<Body>, AllocError> {
     let mut bodies = IndexSet::new(alloc);
-    for (shown, marked) in log.notes.shown.iter().zip(marks.iter()) {
-        if *marked {
-            if let Some(body) = body_of(shown.line.said) {
-                let _new = bodies.insert(body)?;
-            }
+    for (place, shown) in log.notes.shown.iter().enumerate() {
+        if !is_marked(marks, place) {
+            continue;
+        }
+        if let Some(body) = body_of(shown.line.said) {
+            let _new = bodies.insert(body)?;
         }
     }
     Ok(bodies)
@@ -113,8 +119,8 @@ fn bodies(alloc: Global, log: &Log, marks: &[bool]) -> Result<IndexSet<Body>, Al
 /// overlaps all that follows.
 fn spans(alloc: Global, log: &Log, marks: &[bool]) -> Result<Vec<Span>, AllocError> {
     let mut spans = Vec::new(alloc);
-    for (call, marked) in log.calls.iter().zip(marks.iter()) {
-        if *marked {
+    for (place, call) in log.calls.iter().enumerate() {
+        if is_marked(marks, place) {
             spans.push(Span {
                 begin: call.begin,
                 end: call.end.unwrap_or(call.begin),
@@ -132,11 +138,23 @@ fn spans(alloc: Global, log: &Log, marks: &[bool]) -> Result<Vec<Span>, AllocErr
     Ok(spans)
 }
 
-/// Whether a call of these times overlaps one of the spans.
-fn overlaps(spans: &[Span], begin: u64, end: u64) -> bool {
+/// Whether the call at a place overlaps one of the spans.
+fn overlaps(log: &Log, place: usize, spans: &[Span]) -> bool {
+    let Some(call) = log.calls.get(place) else {
+        return false;
+    };
+    let end = call.end.unwrap_or(u64::MAX);
     let begun = spans.partition_point(|span| span.begin <= end);
     match spans.get(begun.wrapping_sub(1)) {
-        Some(span) => begin <= span.end,
+        Some(span) => call.begin <= span.end,
+        None => false,
+    }
+}
+
+/// Whether the item that a line sent, offered or took has one of these bodies.
+fn is_among(said: Said, bodies: &IndexSet<Body>) -> bool {
+    match body_of(said) {
+        Some(body) => bodies.contains(&body),
         None => false,
     }
 }
@@ -144,19 +162,15 @@ fn overlaps(spans: &[Span], begin: u64, end: u64) -> bool {
 /// Marks the calls of these items, and some that overlap one of the spans. Returns how many of the latter are left out.
 fn mark_beside(log: &Log, bodies: &IndexSet<Body>, spans: &[Span], marks: &mut Vec<bool>) -> usize {
     let (mut beside, mut left_out) = (0usize, 0usize);
-    for (place, (shown, call)) in log.notes.shown.iter().zip(log.calls.iter()).enumerate() {
-        let same = match body_of(shown.line.said) {
-            Some(body) => bodies.contains(&body),
-            None => false,
-        };
-        if place >= marks.len() || marks[place] {
+    for (place, shown) in log.notes.shown.iter().enumerate() {
+        if is_marked(marks, place) {
             continue;
         }
-        if same {
-            marks[place] = true;
-        } else if overlaps(spans, call.begin, call.end.unwrap_or(u64::MAX)) {
+        if is_among(shown.line.said, bodies) {
+            mark(marks, place);
+        } else if overlaps(log, place, spans) {
             if beside < BESIDE_LIMIT {
-                marks[place] = true;
+                mark(marks, place);
                 beside = beside.saturating_add(1);
             } else {
                 left_out = left_out.saturating_add(1);
