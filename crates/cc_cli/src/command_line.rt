@@ -10,7 +10,7 @@ use clap::{Command, Error};
 use std::alloc::{AllocError, Global};
 
 /// A task of the program.
-#[derive(Clone, Copy, Debug, PartialEq, Eq)]
+#[derive(Clone, Copy)]
 pub enum Task {
     /// A plan is played.
     Play,

@@ -5,7 +5,7 @@ use cc_drive::{Gate, Go, Point};
 use std::alloc::{AllocError, Global};
 
 /// A gate that holds no worker up.
-#[derive(Clone, Copy, Debug, PartialEq, Eq)]
+#[derive(Clone, Copy)]
 pub struct Open;
 
 impl Gate for Open {

@@ -8,7 +8,7 @@ use cc_io::{Sink, told};
 use cc_log::Options;
 
 /// An option that takes a number.
-#[derive(Clone, Copy, Debug, PartialEq, Eq)]
+#[derive(Clone, Copy)]
 pub enum Numbered {
     /// How many items the queue holds.
     Capacity,
@@ -17,7 +17,7 @@ pub enum Numbered {
 }
 
 /// The kind of a word of a line.
-#[derive(Clone, Copy, Debug, PartialEq, Eq)]
+#[derive(Clone, Copy)]
 pub enum Reading {
     /// No option.
     Word,

@@ -28,7 +28,7 @@ pub fn body_text(alloc: Global, body: Body, mark: &str) -> Result<String, AllocE
 }
 
 /// The call that a line describes.
-#[derive(Clone, Copy, Debug, PartialEq, Eq)]
+#[derive(Clone, Copy)]
 pub enum Said {
     /// A send that was accepted, or hasn't returned.
     Send(Body),
@@ -49,7 +49,7 @@ pub enum Said {
 }
 
 /// The times of a call, and what the line says of it.
-#[derive(Clone, Copy, Debug, PartialEq, Eq)]
+#[derive(Clone, Copy)]
 pub struct Line {
     /// When it began.
     pub begin: u64,

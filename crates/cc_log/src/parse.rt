@@ -18,7 +18,7 @@ use indexmap::IndexMap;
 use std::alloc::Global;
 
 /// The options by which a log is judged.
-#[derive(Clone, Copy, Debug, PartialEq, Eq)]
+#[derive(Clone, Copy)]
 pub struct Options {
     /// How many items the queue holds, if that is known.
     pub capacity: Option<u32>,

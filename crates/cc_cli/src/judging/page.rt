@@ -11,7 +11,7 @@ use std::alloc::{AllocError, Global};
 use std::slice::from_ref;
 
 /// Why an answer isn't written, or not whole.
-#[derive(Clone, Copy, Debug, PartialEq, Eq)]
+#[derive(Clone, Copy)]
 pub enum AnswerFault {
     /// Memory was refused.
     Memory,
