@@ -2,7 +2,7 @@
 //! code that takes has no answer but Got to handle.
 ghost use Rattle.std.specs.Prelude.{◌≡◌, [], IfSome};
 ghost use Rattle.std.specs.Thread.{IsSync};
-ghost use Rattle.cc_queue.specs.Opened.{HasOpened};
+ghost use Rattle.two_threads.specs.Opening.{IsNew};
 ghost use Rattle.cc_steps.specs.Noted.{IsNoteOf};
 ghost use Rattle.cc_steps.specs.Walk.{IsOf};
 ghost use Rattle.two_threads.specs.HandedOn.{BeginsWith, HasFirst, IsFirst};
@@ -77,17 +77,12 @@ fn hand_on<R: Threads + Wait + Sync>(
 }
 
 /// The first passes of a queue for two threads, on a thread each.
-fn hand_on_first<R: Threads + Wait + Sync>(
-    rt: &R,
-    config: &Config,
-    opened: &mut Opened,
-    body: Body,
-) -> Option<Item>
-    requires opened { HasOpened config.now opened.old }
-    requires alone { (config.now.senders ≡ 1) × (config.now.receivers ≡ 1) }
+fn hand_on_first<R: Threads + Wait + Sync>(rt: &R, opened: &mut Opened, body: Body) -> Option<Item>
+    requires opened { IsNew opened.old }
+    requires alone { (opened.old.queue.setting.config.senders ≡ 1) × (opened.old.queue.setting.config.receivers ≡ 1) }
     ensures { IfSome result (λ item. item.body ≡ body) }
 {
-    let (sender, receiver) = first_passes(config, opened)?;
+    let (sender, receiver) = first_passes(opened)?;
     hand_on(rt, &opened.queue, sender, receiver, body)
 }
 
@@ -103,7 +98,7 @@ pub fn handed_on<R: Threads + Wait + Sync>(
     ensures { IfSome result (λ item. item.body ≡ body) }
 {
     match Queue::open(alloc, config) {
-        Ok(mut opened) => hand_on_first(rt, config, &mut opened, body),
+        Ok(mut opened) => hand_on_first(rt, &mut opened, body),
         Err(_) => None,
     }
 }

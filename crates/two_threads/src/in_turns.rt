@@ -1,6 +1,6 @@
 //! Calls that one thread makes in turns, with their answers printed.
 ghost use Rattle.std.specs.Prelude.{IfOk, IfSome};
-ghost use Rattle.cc_queue.specs.Opened.{HasOpened};
+ghost use Rattle.two_threads.specs.Opening.{IsNew};
 ghost use Rattle.cc_steps.specs.Walk.{IsOf};
 
 use crate::opening::first_passes;
@@ -78,10 +78,10 @@ fn send_and_close<R: Wait + Print>(rt: &R, queue: &Queue, sender: Sender) -> io:
 }
 
 /// The first sender sends and closes, and then the first receiver takes all there is.
-fn pass_in_turns<R: Wait + Print>(rt: &R, config: &Config, opened: &mut Opened) -> io::Result<()>
-    requires { HasOpened config.now opened.old }
+fn pass_in_turns<R: Wait + Print>(rt: &R, opened: &mut Opened) -> io::Result<()>
+    requires { IsNew opened.old }
 {
-    let Some((sender, receiver)) = first_passes(config, opened) else {
+    let Some((sender, receiver)) = first_passes(opened) else {
         return Ok(());
     };
     if send_and_close(rt, &opened.queue, sender)? {
@@ -91,9 +91,10 @@ fn pass_in_turns<R: Wait + Print>(rt: &R, config: &Config, opened: &mut Opened) 
 }
 
 /// Opens a queue for one thread, which sends and then takes.
+#[tactic(auto, using(crate::proofs::IsNew::is_new))]
 pub fn one_thread<R: Wait + Print>(rt: &R, alloc: Global, config: &Config) -> io::Result<()> {
     match Queue::open(alloc, config) {
-        Ok(mut opened) => pass_in_turns(rt, config, &mut opened),
+        Ok(mut opened) => pass_in_turns(rt, &mut opened),
         Err(_) => Ok(()),
     }
 }

@@ -4,7 +4,7 @@
 
 ghost use Rattle.std.specs.Prelude.{◌≡◌, IfSome};
 ghost use Rattle.std.specs.Thread.{IsSync};
-ghost use Rattle.cc_queue.specs.Opened.{HasOpened};
+ghost use Rattle.two_threads.specs.Opening.{IsNew};
 ghost use Rattle.cc_steps.specs.Walk.{IsOf};
 
 mod handed_on;
@@ -82,26 +82,23 @@ fn pass<R: Threads + Wait + Sync>(
     )
 }
 
-/// The first passes of a queue that was opened with this configuration, on a thread each.
-fn pass_first<R: Threads + Wait + Sync>(
-    rt: &R,
-    config: &Config,
-    opened: &mut Opened,
-) -> Option<(Option<u64>, u64)>
-    requires { HasOpened config.now opened.old }
+/// The first passes of a queue that was just opened, on a thread each.
+fn pass_first<R: Threads + Wait + Sync>(rt: &R, opened: &mut Opened) -> Option<(Option<u64>, u64)>
+    requires { IsNew opened.old }
 {
-    let (sender, receiver) = first_passes(config, opened)?;
+    let (sender, receiver) = first_passes(opened)?;
     Some(pass(rt, &opened.queue, sender, receiver))
 }
 
 /// Opens a queue for two threads. None if it isn't opened.
+#[tactic(auto, using(crate::proofs::IsNew::is_new))]
 fn two_threads<R: Threads + Wait + Sync>(
     rt: &R,
     alloc: Global,
     config: &Config,
 ) -> Option<(Option<u64>, u64)> {
     match Queue::open(alloc, config) {
-        Ok(mut opened) => pass_first(rt, config, &mut opened),
+        Ok(mut opened) => pass_first(rt, &mut opened),
         Err(_) => None,
     }
 }
