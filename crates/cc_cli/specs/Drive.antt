@@ -1,5 +1,5 @@
 -- The answer of a run by threads, its texts, and its status.
-use Rattle.std.specs.Prelude.{ℕ, ◌≡◌, ◌⊎◌, ◌+◌, ◌*◌, ◌++◌, List, [], codes, Option, Result, Ok, Err}
+use Rattle.std.specs.Prelude.{ℕ, ◌≡◌, ◌⊎◌, ◌+◌, ◌++◌, List, [], codes, Option, Result, Ok, Err}
 use Rattle.std.specs.Io.KnownBytes.{Keeps, Appends}
 use Rattle.clap.specs.declared.error.kind.ErrorKind.{ErrorKind}
 use Rattle.cc_model.specs.Items.{IsPrefix}
@@ -10,6 +10,7 @@ use Rattle.cc_io.specs.FaultLine.{Told, no_memory_line}
 use Rattle.cc_drive.specs.declared.config.DriveConfig.{DriveConfig}
 use Rattle.cc_drive.specs.declared.config.DriveEnd.{DriveEnd}
 use Rattle.cc_drive.specs.declared.config.DriveFault.{DriveFault}
+use Rattle.cc_drive.specs.Ran.{IsWhole}
 use Rattle.cc_cli.specs.Line.{IsAsked}
 use Rattle.cc_cli.specs.Run.{Declines}
 use Rattle.cc_cli.specs.declared.driving.RunFault.{RunFault}
@@ -21,12 +22,6 @@ counts_text sent taken = word_text (codes "sent ") sent ++ word_text (codes "\nt
 -- the lines of the counts, and the line of the verdict
 unfoldable pub end_text : DriveEnd → List ℕ
 end_text e = counts_text e.sent e.taken ++ verdict_text e.verdict
-
--- all items of all senders were sent and taken, and the audit finds nothing wrong
-pub record IsWhole (c : DriveConfig) (e : DriveEnd) : Type 0 where
-  pub clean : e.verdict ≡ Verdict.Clean
-  pub all_taken : e.taken ≡ e.sent
-  pub all_sent : e.sent ≡ c.senders * c.items
 
 -- The bytes that a run leaves on the sink, with its number of failed writes: the whole text of its end, a prefix of it if a
 -- write failed, and nothing if it has no end.

@@ -3,7 +3,8 @@ ghost use Rattle.std.specs.Prelude.{◌≡◌, ◌<◌, ◌-◌, ◌^◌, Err, I
 ghost use Rattle.cc_io.specs.Written.{Writes};
 ghost use Rattle.cc_io.specs.FaultLine.{Told};
 ghost use Rattle.cc_cli.specs.declared.driving.RunFault.{RunFault};
-ghost use Rattle.cc_cli.specs.Drive.{IsWhole, Leaves, counts_text, end_text, line_of, status_of};
+ghost use Rattle.cc_drive.specs.Ran.{IsWhole};
+ghost use Rattle.cc_cli.specs.Drive.{Leaves, counts_text, end_text, line_of, status_of};
 
 use crate::gate::open_gates;
 use cc_audit::Verdict;
@@ -60,6 +61,7 @@ pub fn drive_to<R: Threads + Wait + Sync, W: Sink>(
 }
 
 /// Drives a queue by threads that no gate holds up.
+#[tactic(auto, using(cc_drive::proofs::Crewed::whole_if_ok))]
 fn driven<R: Threads + Wait + Sync>(
     rt: &R,
     alloc: Global,

@@ -1,9 +1,9 @@
 -- A run whose threads were all started and came to their ends.
-use Rattle.std.proofs.Common.{◌≡◌, ℕ, zero, suc, ◌+◌, ◌<◌, ◌≤◌, inl, inr, Bool, true, false, List, [], ◌∷◌, ◌++◌, ◌&&◌, length, map, Option, Some, None, IfSome, IfNone, IfErr, is_some, Result, Ok, Err, refl, sym, ap, ◌∙◌, subst, arith}
-use Rattle.std.specs.Prelude.{⊤}
+use Rattle.std.proofs.Common.{◌≡◌, ℕ, zero, suc, ◌+◌, ◌<◌, ◌≤◌, inl, inr, Bool, true, false, List, [], ◌∷◌, ◌++◌, ◌&&◌, length, map, Option, Some, None, IfSome, IfNone, IfOk, is_some, Result, Ok, Err, refl, sym, ap, ◌∙◌, subst, arith}
+use Rattle.std.specs.Prelude.{⊤, ◌⊎◌, MatchResult}
 use Rattle.std.specs.List.{All, AllByRecursion}
 use Rattle.std.proofs.lemmas.List.{length-map}
-use Rattle.cc_drive.specs.Names.{CloseAnswer, Config, ConfigFault, SendReceipt, TakeReceipt, DriveConfig, Worked, DriveFault, Refused, Crew}
+use Rattle.cc_drive.specs.Names.{CloseAnswer, Config, ConfigFault, SendReceipt, TakeReceipt, DriveConfig, DriveEnd, Ran, Worked, DriveFault, Refused, Crew}
 use Rattle.cc_steps.specs.Topic.{Topic}
 use Rattle.cc_steps.specs.Walk.{Walk, IsOf, fresh}
 use Rattle.cc_queue.specs.Met.{HasMet}
@@ -12,7 +12,7 @@ use Rattle.cc_queue.proofs.OnItsSide.{Told}
 use Rattle.cc_drive.specs.Back.{IsBack, SenderIsBack, ReceiverIsBack, SenderGave, ReceiverGave, calls}
 use Rattle.cc_drive.specs.Config.{queue_of, IsDue}
 use Rattle.cc_drive.specs.Crew.{AreGathered, IsCrew, present, least_missing, in_turn}
-use Rattle.cc_drive.specs.Ran.{ClosedAfter, EndedWith, HasCause, HasClosed, HasEnded, HasRun, IsTold, due}
+use Rattle.cc_drive.specs.Ran.{ClosedAfter, Driven, EndedWith, HasClosed, HasEnded, HasNoEnd, HasRun, IsEndOf, IsTold, IsWhole, due}
 use Rattle.cc_drive.specs.Jobs.{IsQueueOf}
 use Rattle.cc_drive.specs.Row.{InRow}
 use Rattle.cc_drive.specs.Start.{IsStarted, AreStarted}
@@ -104,39 +104,50 @@ least_below n m (Some x ∷ xs) e = let rest = least_below (n + 1) m xs e in ome
 least_below n m (None ∷ xs) e = let same : n ≡ m = cc e in omega (arith, same)
 
 due_below : (refused : Bool) (workers : ℕ) (sender receiver : Option ℕ) (closed whole : Bool) (told : DriveFault) → (refused ≡ false → (n : ℕ) → sender ≡ Some n → n ≤ workers) → (refused ≡ false → (n : ℕ) → receiver ≡ Some n → n ≤ workers)
-    → due refused workers sender receiver closed whole ≡ Some told → IsDue (Ok tt) workers told
-due_below true workers sender receiver closed whole told low low' e = (let is : DriveFault.Thread ≡ told = cc e in subst (IsDue (Ok tt) workers) is tt)
-due_below false workers (Some n) receiver closed whole told low low' e = (let is : DriveFault.Limit n ≡ told = cc e in subst (IsDue (Ok tt) workers) is (low refl n refl))
-due_below false workers None (Some n) closed whole told low low' e = (let is : DriveFault.Limit n ≡ told = cc e in subst (IsDue (Ok tt) workers) is (low' refl n refl))
-due_below false workers None None false whole told low low' e = (let is : DriveFault.Limit workers ≡ told = cc e in subst (IsDue (Ok tt) workers) is (omega arith))
-due_below false workers None None true false told low low' e = (let is : DriveFault.NoMemory ≡ told = cc e in subst (IsDue (Ok tt) workers) is tt)
+    → due refused workers sender receiver closed whole ≡ Some told → IsDue workers told
+due_below true workers sender receiver closed whole told low low' e = (let is : DriveFault.Thread ≡ told = cc e in subst (IsDue workers) is tt)
+due_below false workers (Some n) receiver closed whole told low low' e = (let is : DriveFault.Limit n ≡ told = cc e in subst (IsDue workers) is (low refl n refl))
+due_below false workers None (Some n) closed whole told low low' e = (let is : DriveFault.Limit n ≡ told = cc e in subst (IsDue workers) is (low' refl n refl))
+due_below false workers None None false whole told low low' e = (let is : DriveFault.Limit workers ≡ told = cc e in subst (IsDue workers) is (omega arith))
+due_below false workers None None true false told low low' e = (let is : DriveFault.NoMemory ≡ told = cc e in subst (IsDue workers) is tt)
 due_below false workers None None true true told low low' e = absurd (cc e)
 
-told_due : (z : Topic) (c : DriveConfig) (told : DriveFault) → IsTold z c told → IsDue (Ok tt) (c.senders + c.receivers) told
-told_due z c told (inl is) = subst (IsDue (Ok tt) (c.senders + c.receivers)) (sym is) tt
+told_due : (z : Topic) (c : DriveConfig) (told : DriveFault) → IsTold z c told → IsDue (c.senders + c.receivers) told
+told_due z c told (inl is) = subst (IsDue (c.senders + c.receivers)) (sym is) tt
 told_due z c told (inr e) =
     due_below (is_some e.refused) (c.senders + c.receivers) _ _ e.closed e.whole told
     (λ on n is. let below = least_below 0 n (map (λ d. d.pass) e.senders) is in let many = (all_started _ _ _ _ e.refused on e.started).0 in omega (arith, below, many, length-map e.senders (λ d. d.pass)))
     (λ on n is. let below = least_below c.senders n (map (λ d. d.pass) e.receivers) is in let many = (all_started _ _ _ _ e.refused on e.started).1 in omega (arith, below, many, length-map e.receivers (λ d. d.pass))) e.why
 
--- and its cause
-pub has_cause : {A : Type 0} (z : Topic) (c : DriveConfig) (r : Result A DriveFault) → IsQueueOf c z → IfErr r (IsTold z c) → IfErr r (HasCause (Ok tt) c)
-has_cause z c (Ok a) of told = tt
-has_cause z c (Err f) of (inl is) = inl is
-has_cause z c (Err f) of (inr e) = inr (z, of, e)
+-- that is its cause
+no_end : (z : Topic) (c : DriveConfig) (told : DriveFault) → IsQueueOf c z → IsTold z c told → HasNoEnd c told
+no_end z c told of is = record { due = told_due z c told is; cause = of_queue is }
+  where
+    of_queue : IsTold z c told → (told ≡ DriveFault.NoMemory) ⊎ ((z : Topic) × IsQueueOf c z × EndedWith z c told)
+    of_queue (inl none) = inl none
+    of_queue (inr e) = inr (z, of, e)
 
-pub all_due : {A : Type 0} (z : Topic) (c : DriveConfig) (r : Result A DriveFault) → IfErr r (IsTold z c) → IfErr r (IsDue (Ok tt) (c.senders + c.receivers))
-all_due z c (Ok a) told = tt
-all_due z c (Err f) told = told_due z c f told
+pub ran_for : (z : Topic) (c : DriveConfig) (r : Result Ran DriveFault) → IsQueueOf c z → MatchResult r (HasRun z c) (IsTold z c) → MatchResult r (HasRun z c) (HasNoEnd c)
+ran_for z c (Ok ran) of is = is
+ran_for z c (Err told) of is = no_end z c told of is
 
--- and so is missing memory, of a legal configuration
-pub memory_due : {A : Type 0} (valid : Result ⊤ ConfigFault) (workers : ℕ) (r : Result A DriveFault) → valid ≡ Ok tt → IfErr r (λ f. f ≡ DriveFault.NoMemory) → IfErr r (IsDue valid workers)
-memory_due valid workers (Ok a) fine none = tt
-memory_due valid workers (Err f) fine none = subst (λ (y : Result ⊤ ConfigFault × DriveFault). IsDue y.0 workers y.1) (λ i. (sym fine i, sym none i)) tt
+-- and so is missing memory
+pub no_memory : (c : DriveConfig) (told : DriveFault) → told ≡ DriveFault.NoMemory → HasNoEnd c told
+no_memory c told none = record { due = subst (IsDue (c.senders + c.receivers)) (sym none) tt; cause = inl none }
 
-pub memory_cause : {A : Type 0} (c : DriveConfig) (r : Result A DriveFault) → IfErr r (λ f. f ≡ DriveFault.NoMemory) → IfErr r (HasCause (Ok tt) c)
-memory_cause c (Ok a) none = tt
-memory_cause c (Err f) none = inl none
+-- a run that was settled
+pub driven_by : (z : Topic) (c : DriveConfig) (ran : Ran) (r : Result DriveEnd DriveFault) → IsQueueOf c z → HasRun z c ran → MatchResult r (IsEndOf ran) (λ f. f ≡ DriveFault.NoMemory) → Driven (Ok tt) c r
+driven_by z c ran (Ok e) of run end = (refl, record { whole = subst (λ (k : DriveConfig). IsWhole k e) run.of end.whole; queue = z; opened = of; ran = ran; run = run; end = end })
+driven_by z c ran (Err told) of run none = no_memory c told none
+
+-- of a configuration that has no fault
+pub driven_legal : (fault : Result ⊤ ConfigFault) (c : DriveConfig) (r : Result DriveEnd DriveFault) → fault ≡ Ok tt → Driven (Ok tt) c r → Driven fault c r
+driven_legal fault c r fine is = subst (λ f. Driven f c r) (sym fine) is
+
+-- all items of a drive that has an end
+pub whole_if_ok : (fault : Result ⊤ ConfigFault) (c : DriveConfig) (r : Result DriveEnd DriveFault) → Driven fault c r → IfOk r (IsWhole c)
+whole_if_ok fault c (Ok e) is = is.1.whole
+whole_if_ok fault c (Err told) is = tt
 
 -- a closer without an answer
 none_at : {A : Type 0} (P : Type 0) (x : Option A) → is_some x ≡ false → IfNone x P → P

@@ -1,7 +1,6 @@
 -- Workers that are gathered, one after another.
-use Rattle.std.proofs.Common.{◌≡◌, ◌≢◌, ℕ, suc, ◌+◌, length, subst, Bool, true, false, ◌&&◌, List, [], ◌∷◌, ◌++◌, Option, Some, None, IfSome, Result, Ok, Err, IfOk, if◌then◌else◌, map, is_some, refl, sym, ap, ◌∙◌, append_assoc, append-nil}
+use Rattle.std.proofs.Common.{◌≡◌, ◌≢◌, ℕ, suc, ◌+◌, length, subst, Bool, true, false, ◌&&◌, List, [], ◌∷◌, ◌++◌, Option, Some, None, IfSome, if◌then◌else◌, map, is_some, refl, sym, ap, ◌∙◌, append_assoc, append-nil}
 use Rattle.std.specs.List.{AllByRecursion}
-use Rattle.std.specs.Result.{OnOk}
 use Rattle.std.specs.Option.{option_to_list}
 use Rattle.cc_drive.specs.Row.{InRow}
 use Rattle.cc_drive.specs.Crew.{present, least_missing, in_turn, sooner}
@@ -54,15 +53,6 @@ first_too false b is = absurd (cc is)
 pub second_too : (a b : Bool) → (a && b) ≡ true → b ≡ true
 second_too true b is = is
 second_too false b is = absurd (cc is)
-
--- what holds in any case, and what follows of a result
-pub if_ok : {A E P : Type 0} (x : Result A E) → P → OnOk x P
-if_ok (Ok a) p = p
-if_ok (Err e) p = tt
-
-pub ok_weaker : {A E : Type 0} (x : Result A E) (P Q : A → Type 0) → ((a : A) → P a → Q a) → IfOk x P → IfOk x Q
-ok_weaker (Ok a) P Q f is = f a is
-ok_weaker (Err e) P Q f is = tt
 
 -- the results of workers, if each pass is back
 

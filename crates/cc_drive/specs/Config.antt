@@ -1,5 +1,5 @@
 -- The configuration of a run.
-use Rattle.std.specs.Prelude.{ℕ, ◌≡◌, ◌≤◌, ◌+◌, ◌-◌, ◌^◌, not, if◌then◌else◌, Result, Ok, Err, ⊤}
+use Rattle.std.specs.Prelude.{ℕ, ◌≤◌, ◌+◌, ◌-◌, ◌^◌, not, if◌then◌else◌, Result, Err, ⊤}
 use Rattle.cc_model.specs.Range.{within}
 use Rattle.cc_model.specs.Config.{config_fault}
 use Rattle.cc_drive.specs.Names.{Config, ConfigFault, DriveConfig, DriveFault}
@@ -20,10 +20,9 @@ queue_of c = record {
 abbrev pub drive_fault : DriveConfig → Result ⊤ ConfigFault
 drive_fault c = if not (within 1 63 c.senders) then Err ConfigFault.Senders else config_fault (queue_of c)
 
--- Why a run of this number of workers has no end, if its configuration has this fault or none: that fault if there is one,
--- and else never one of the configuration. At a limit is one of the workers, from 0, or the closer, whose number is the next.
-abbrev pub IsDue : Result ⊤ ConfigFault → (workers : ℕ) → DriveFault → Type 0
-IsDue (Err f) workers told = told ≡ DriveFault.Config f
-IsDue (Ok _) workers (DriveFault.Config f) = ⊥
-IsDue (Ok _) workers (DriveFault.Limit n) = n ≤ workers
-IsDue (Ok _) workers _ = ⊤
+-- Why a run of this number of workers can have no end, if its configuration has no fault: never a fault of the configuration.
+-- At a limit is one of the workers, from 0, or the closer, whose number is the next.
+abbrev pub IsDue : (workers : ℕ) → DriveFault → Type 0
+IsDue workers (DriveFault.Config f) = ⊥
+IsDue workers (DriveFault.Limit n) = n ≤ workers
+IsDue workers _ = ⊤

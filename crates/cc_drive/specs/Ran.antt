@@ -8,6 +8,7 @@ use Rattle.cc_queue.specs.Calls.{Begun, Completed}
 use Rattle.cc_queue.specs.Met.{HasMet}
 use Rattle.cc_queue.specs.Receipts.{receipts_by, sent, got}
 use Rattle.cc_drive.specs.Back.{SenderIsBack, ReceiverIsBack, SenderGave, ReceiverGave, IsNotClosed, calls}
+use Rattle.cc_drive.specs.Config.{IsDue}
 use Rattle.cc_drive.specs.Crew.{IsCrew, least_missing}
 use Rattle.cc_drive.specs.Jobs.{IsQueueOf}
 use Rattle.cc_drive.specs.Row.{InRow, Pairs}
@@ -69,13 +70,17 @@ pub record HasRun (z : Topic) (c : DriveConfig) (r : Ran) : Type 0 where
   pub sends : r.sends.items ≡ receipts_by sent r.senders.items
   pub takes : r.takes.items ≡ receipts_by got r.receivers.items
 
--- How a run ended: the verdict is clean, the numbers are those of the receipts, and all items of all senders were sent and taken.
-pub record IsEndOf (r : Ran) (e : DriveEnd) : Type 0 where
+-- All items of all senders were sent and taken, and the audit finds nothing wrong.
+pub record IsWhole (c : DriveConfig) (e : DriveEnd) : Type 0 where
   pub clean : e.verdict ≡ Verdict.Clean
+  pub all_taken : e.taken ≡ e.sent
+  pub all_sent : e.sent ≡ c.senders * c.items
+
+-- How a run ended: it is whole, and the numbers are those of the receipts.
+pub record IsEndOf (r : Ran) (e : DriveEnd) : Type 0 where
+  pub whole : IsWhole r.config e
   pub sent : e.sent ≡ length r.sends.items
   pub taken : e.taken ≡ length r.takes.items
-  pub all_taken : e.taken ≡ e.sent
-  pub all_sent : e.sent ≡ r.config.senders * r.config.items
 
 -- Why a run has no end, if it has none: a thread was refused; else the least sender, or else receiver, that came to a limit,
 -- or else the closer, whose number is that of all workers; else a receipt wasn't kept.
@@ -105,16 +110,26 @@ pub record EndedWith (z : Topic) (c : DriveConfig) (told : DriveFault) : Type 0 
 abbrev pub IsTold : Topic → DriveConfig → DriveFault → Type 0
 IsTold z c told = (told ≡ DriveFault.NoMemory) ⊎ EndedWith z c told
 
--- The end of a run of this configuration: some queue was opened for it, whose run came to that end.
+-- The end of a run of this configuration: it is whole, and some queue was opened for it, whose run came to that end.
 pub record HasEnd (c : DriveConfig) (e : DriveEnd) : Type 0 where
+  -- follows from `run` and `end`
+  pub whole : IsWhole c e
   pub queue : Topic
   pub opened : IsQueueOf c queue
   pub ran : Ran
   pub run : HasRun queue c ran
   pub end : IsEndOf ran e
 
--- The cause of a fault, if the configuration has this fault or none: that one; or memory was refused; or a queue was opened for
--- the configuration, and the threads of its run have ended so that this fault is due.
-abbrev pub HasCause : Result ⊤ ConfigFault → DriveConfig → DriveFault → Type 0
-HasCause (Err f) c told = told ≡ DriveFault.Config f
-HasCause (Ok _) c told = (told ≡ DriveFault.NoMemory) ⊎ ((z : Topic) × IsQueueOf c z × EndedWith z c told)
+-- A run of this configuration, which has no fault, has no end for this cause: memory was refused; or a queue was opened for the
+-- configuration, and the threads of its run have ended so that this is due.
+pub record HasNoEnd (c : DriveConfig) (told : DriveFault) : Type 0 where
+  -- follows from `cause`
+  pub due : IsDue (c.senders + c.receivers) told
+  pub cause : (told ≡ DriveFault.NoMemory) ⊎ ((z : Topic) × IsQueueOf c z × EndedWith z c told)
+
+-- The result of a drive, if the configuration has this fault or none: that fault; or else the end of a run, or the cause for
+-- which the run has none.
+abbrev pub Driven : Result ⊤ ConfigFault → DriveConfig → Result DriveEnd DriveFault → Type 0
+Driven fault c (Ok e) = (fault ≡ Ok tt) × HasEnd c e
+Driven (Err f) c (Err told) = told ≡ DriveFault.Config f
+Driven (Ok _) c (Err told) = HasNoEnd c told

@@ -1,10 +1,10 @@
 //! A run: threads that send while threads take, the close, and the audit.
-ghost use Rattle.std.specs.Prelude.{◌≡◌, ◌+◌, ◌*◌, IfOk, OnOk, IfErr, Ok, vec_len};
-ghost use Rattle.cc_drive.specs.Names.{Verdict, DriveFault};
+ghost use Rattle.std.specs.Prelude.{◌≡◌, ◌+◌, MatchResult, Ok, vec_len};
+ghost use Rattle.cc_drive.specs.Names.{DriveFault};
 ghost use Rattle.cc_queue.specs.Opened.{HasOpened};
-ghost use Rattle.cc_drive.specs.Config.{drive_fault, queue_of, IsDue};
+ghost use Rattle.cc_drive.specs.Config.{drive_fault, queue_of};
 ghost use Rattle.cc_drive.specs.Jobs.{ArePasses, AreReady, IsQueueOf};
-ghost use Rattle.cc_drive.specs.Ran.{HasCause, HasEnd, HasRun, IsEndOf, IsTold};
+ghost use Rattle.cc_drive.specs.Ran.{Driven, HasNoEnd, HasRun, IsEndOf, IsTold};
 
 use crate::closing::total_of;
 use crate::config::{DriveConfig, DriveEnd, DriveFault};
@@ -26,7 +26,7 @@ use std::thread::{Scope, Threads, scope, scope_env};
 ///
 /// A thread that is refused ends the starting of further ones, and the workers that run go on to their end. So do they if
 /// one of them reaches its limit or finds no memory for a receipt. Each fault has its cause in this run.
-#[tactic(auto, using(crate::proofs::Crews::if_ok))]
+#[tactic(auto, using(crate::proofs::Crewed::no_memory, crate::proofs::Crewed::driven_legal))]
 pub fn drive<G: Gate + Send, R: Threads + Wait + Sync>(
     rt: &R,
     alloc: Global,
@@ -34,13 +34,7 @@ pub fn drive<G: Gate + Send, R: Threads + Wait + Sync>(
     gates: Vec<G>,
 ) -> Result<DriveEnd, DriveFault>
     requires gates { vec_len gates ≡ config.now.senders + config.now.receivers }
-    ensures valid { OnOk result (drive_fault config.now ≡ Ok tt) }
-    ensures due { IfErr result (IsDue (drive_fault config.now) (config.now.senders + config.now.receivers)) }
-    ensures clean { IfOk result (λ e. e.verdict ≡ Verdict.Clean) }
-    ensures all_taken { IfOk result (λ e. e.taken ≡ e.sent) }
-    ensures all_sent { IfOk result (λ e. e.sent ≡ config.now.senders * config.now.items) }
-    ensures end { IfOk result (HasEnd config.now) }
-    ensures cause { IfErr result (HasCause (drive_fault config.now) config.now) }
+    ensures { Driven (drive_fault config.now) config.now result }
 {
     let of_queue = config.queue()?;
     let opened = Queue::open_checked(alloc, &of_queue)?;
@@ -57,12 +51,7 @@ fn drive_opened<G: Gate + Send, R: Threads + Wait + Sync>(
 ) -> Result<DriveEnd, DriveFault>
     requires gates { vec_len gates ≡ config.now.senders + config.now.receivers }
     requires opened { HasOpened (queue_of config.now) opened }
-    ensures due { IfErr result (IsDue (Ok tt) (config.now.senders + config.now.receivers)) }
-    ensures clean { IfOk result (λ e. e.verdict ≡ Verdict.Clean) }
-    ensures all_taken { IfOk result (λ e. e.taken ≡ e.sent) }
-    ensures all_sent { IfOk result (λ e. e.sent ≡ config.now.senders * config.now.items) }
-    ensures end { IfOk result (HasEnd config.now) }
-    ensures cause { IfErr result (HasCause (Ok tt) config.now) }
+    ensures { Driven (Ok tt) config.now result }
 {
     let Opened {
         queue,
@@ -81,6 +70,7 @@ fn drive_opened<G: Gate + Send, R: Threads + Wait + Sync>(
 }
 
 /// Deals the passes out to workers, the gates in their order, and runs these.
+#[tactic(auto, using(crate::proofs::Crewed::no_memory))]
 fn deal_and_run<G: Gate + Send, R: Threads + Wait + Sync>(
     rt: &R,
     alloc: Global,
@@ -91,12 +81,7 @@ fn deal_and_run<G: Gate + Send, R: Threads + Wait + Sync>(
 ) -> Result<DriveEnd, DriveFault>
     requires gates { vec_len gates ≡ config.now.senders + config.now.receivers }
     requires passes { ArePasses queue.now config.now passes }
-    ensures due { IfErr result (IsDue (Ok tt) (config.now.senders + config.now.receivers)) }
-    ensures clean { IfOk result (λ e. e.verdict ≡ Verdict.Clean) }
-    ensures all_taken { IfOk result (λ e. e.taken ≡ e.sent) }
-    ensures all_sent { IfOk result (λ e. e.sent ≡ config.now.senders * config.now.items) }
-    ensures end { IfOk result (HasEnd config.now) }
-    ensures cause { IfErr result (HasCause (Ok tt) config.now) }
+    ensures { Driven (Ok tt) config.now result }
 {
     let Passes {
         closer,
@@ -123,19 +108,14 @@ fn run_and_settle<G: Gate + Send, R: Threads + Wait + Sync>(
     workers: Workers<G>,
 ) -> Result<DriveEnd, DriveFault>
     requires ready { AreReady queue.now config.now workers }
-    ensures due { IfErr result (IsDue (Ok tt) (config.now.senders + config.now.receivers)) }
-    ensures clean { IfOk result (λ e. e.verdict ≡ Verdict.Clean) }
-    ensures all_taken { IfOk result (λ e. e.taken ≡ e.sent) }
-    ensures all_sent { IfOk result (λ e. e.sent ≡ config.now.senders * config.now.items) }
-    ensures end { IfOk result (HasEnd config.now) }
-    ensures cause { IfErr result (HasCause (Ok tt) config.now) }
+    ensures { Driven (Ok tt) config.now result }
 {
     let ran = run(rt, alloc, queue, config, workers)?;
     settle(alloc, queue, ran)
 }
 
 /// Runs all workers in threads, and closes between the senders' end and the receivers'.
-#[tactic(auto, using(crate::proofs::Crewed::all_due, crate::proofs::Crewed::has_cause))]
+#[tactic(auto, using(crate::proofs::Crewed::ran_for))]
 fn run<G: Gate + Send, R: Threads + Wait + Sync>(
     rt: &R,
     alloc: Global,
@@ -144,9 +124,7 @@ fn run<G: Gate + Send, R: Threads + Wait + Sync>(
     workers: Workers<G>,
 ) -> Result<Ran, DriveFault>
     requires ready { AreReady queue.now config.now workers }
-    ensures run { IfOk result (HasRun queue.now config.now) }
-    ensures cause { IfErr result (HasCause (Ok tt) config.now) }
-    ensures due { IfErr result (IsDue (Ok tt) (config.now.senders + config.now.receivers)) }
+    ensures { MatchResult result (HasRun queue.now config.now) (HasNoEnd config.now) }
 {
     let config = *config;
     scope(
@@ -154,8 +132,7 @@ fn run<G: Gate + Send, R: Threads + Wait + Sync>(
         rt,
         move |scope| -> Result<Ran, DriveFault>
             requires ready { AreReady queue.now config workers }
-            ensures run { IfOk result (HasRun queue.entry.now config) }
-            ensures told { IfErr result (IsTold queue.entry.now config) }
+            ensures { MatchResult result (HasRun queue.entry.now config) (IsTold queue.entry.now config) }
         { run_in(scope, rt, alloc, queue, config, workers) },
     )
 }
@@ -170,8 +147,7 @@ fn run_in<'s, E, G: Gate + Send + 's, R: Threads + Wait + Sync + 's>(
     workers: Workers<G>,
 ) -> Result<Ran, DriveFault>
     requires ready { AreReady queue.now config workers }
-    ensures run { IfOk result (HasRun queue.now config) }
-    ensures told { IfErr result (IsTold queue.now config) }
+    ensures { MatchResult result (HasRun queue.now config) (IsTold queue.now config) }
 {
     let Workers {
         closer,
@@ -208,8 +184,7 @@ fn run_in<'s, E, G: Gate + Send + 's, R: Threads + Wait + Sync + 's>(
 fn settle(alloc: Global, queue: &Queue, ran: Ran) -> Result<DriveEnd, DriveFault>
     requires queue { IsQueueOf ran.config queue.now }
     requires run { HasRun queue.now ran.config ran }
-    ensures memory { IfErr result (λ f. f ≡ DriveFault.NoMemory) }
-    ensures end { IfOk result (IsEndOf ran) }
+    ensures { MatchResult result (IsEndOf ran) (λ f. f ≡ DriveFault.NoMemory) }
 {
     let Ran {
         config: _,

@@ -1,4 +1,5 @@
 use Rattle.std.proofs.Common.{ap}
+use Rattle.std.proofs.lemmas.Result.{MatchResult-from_both}
 use Rattle.cc_drive.specs.Names.{Brief, Setting}
 use Rattle.cc_drive.proofs.Crewed.{are_of, has_ended}
 use Rattle.cc_drive.proofs.driver.run_in.Goals as goal
@@ -14,4 +15,4 @@ returns g c =
     let ready = c.requires.ready in
     let ended = has_ended c.args.queue.now c.args.config _ _ _ _ _ _ _ _ _ _ ready.closer ready.count_senders ready.count_receivers c.start_all-taking.ensures.started c.start_all-sending.ensures.started
     (c.close_behind-sent.ensures _ (c.join_senders-sent.ensures.back c.args.queue.now brief c.start_all-sending.ensures.promised)) (c.join_receivers-taken.ensures c.args.queue.now brief c.start_all-taking.ensures.promised) in
-    record { run = c.ran_of.ensures.run c.args.queue.now (ap (λ (s : Setting). s.config) ready.queue.setting) ended; told = c.ran_of.ensures.told c.args.queue.now ended }
+    MatchResult-from_both c.ran_of.result _ _ (c.ran_of.ensures.run c.args.queue.now (ap (λ (s : Setting). s.config) ready.queue.setting) ended) (c.ran_of.ensures.told c.args.queue.now ended)

@@ -16,8 +16,8 @@ audit_all-requires c =
     (settled _ _ _ _ _ _ c.requires.queue.setting c.requires.queue.some c.requires.run c.in-Ok.ensures.items c.meet_everyone.ensures.senders c.meet_everyone.ensures.receivers c.meet_everyone.ensures.one) in
     (s.all, (s.one, (omega arith, (s.group, (subst (IsPermutation _) (sym c.deref-3.ensures.value) s.sends, (subst (IsPermutation _) (sym c.deref-4.ensures.value) s.takes, s.total ∙ ap Some (sym c.total_of-total.ensures)))))))
 
-pub returns-clause-end : goal.returns-clause-end
-returns-clause-end c =
+pub returns : goal.returns
+returns c =
     let s = settled _ _ _ _ _ _ c.requires.queue.setting c.requires.queue.some c.requires.run c.in-Ok.ensures.items c.meet_everyone.ensures.senders c.meet_everyone.ensures.receivers c.meet_everyone.ensures.one in
     let k : Config = c.args.queue.now.setting.config in
     let clean = c.audit_all.ensures.none_left (none_left sent c.deref.result.now) (ap (receipts_left got) (group_of_map Live k 1 c.deref-2.result.now) ∙ none_left got (in_group k 1 c.deref-2.result.now)) in
