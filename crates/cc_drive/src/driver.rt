@@ -26,7 +26,7 @@ use std::thread::{Scope, Threads, scope, scope_env};
 ///
 /// A thread that is refused ends the starting of further ones, and the workers that run go on to their end. So do they if
 /// one of them reaches its limit or finds no memory for a receipt. Each fault has its cause in this run.
-#[tactic(auto, using(crate::proofs::Crewed::no_memory, crate::proofs::Crewed::driven_legal))]
+#[tactic(auto, using(crate::proofs::Crewed::no_memory))]
 pub fn drive<G: Gate + Send, R: Threads + Wait + Sync>(
     rt: &R,
     alloc: Global,
