@@ -36,7 +36,18 @@ FENCE = "mov rdx,2\nxchg [rcx+16],rdx\nret"
 # A turn of the queue whose second argument is a number.
 TURN = 'mov rdx,2\nxchg [rcx+16],rdx\nmov rdi,rax\nmov esi,5\ncall "cc_queue::turns::one"\nret\n'
 TURN += '.section ".text.cc_queue::turns::one","ax",@progbits\n"cc_queue::turns::one": mov rcx,[rdi]\nmov rcx,[rcx+8]\n'
+# The same behind a store of a register that calls keep.
+SAVED = "push r12\nmov r12,1\nxchg [rcx+8],r12\n"
+KEPT = TURN.replace("\nret\n", "\npop r12\nret\n")
 SMALL = {
+    "right: a turn that has nothing to do with a register that it keeps": SAVED + KEPT + "mov rax,[rcx+rsi*8]\nret",
+    "right: a turn that saves the register": SAVED + KEPT + "push r12\nmov r12,[rcx+rsi*8]\nmov rax,r12\npop r12\nret",
+    "a turn that reads the register": SAVED + KEPT + "mov rax,r12\nret",
+    "a turn that reads the register that it saves": SAVED + KEPT + "push r12\nmov rax,r12\nmov r12d,5\npop r12\nret",
+    "a turn that reads where it saved the register": SAVED + KEPT + "push r12\nmov r12d,5\nmov rax,[rsp]\npop r12\nret",
+    "a turn that doesn't restore the register": SAVED + KEPT + "push r12\nmov r12d,5\npop rax\nret",
+    "a turn that restores another": SAVED + KEPT + "push r12\npush rbx\npop r12\npop rbx\nret",
+    "what it found is used behind a turn": SAVED + KEPT.replace("pop r12", "mov rax,r12\npop r12") + "mov rax,[rcx+rsi*8]\nret",
     "right: a turn that needs no seat": TURNED + TURN + "mov rax,[rcx+rsi*8]\nret",
     "a turn that reads where a number points": TURNED + TURN + "mov rax,[rsi]\nret",
     "right: fenced by a swap": TURNED + "mov rsi,[rax+0x30]\n" + FENCE,

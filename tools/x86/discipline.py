@@ -177,7 +177,7 @@ def reads_by(function: Function, argument: str) -> bool:
 
 def is_dead(function: Function, k: int, register: str, others: dict) -> bool:
     """Whether on each path behind an instruction (-1: the entry) the register is written before it is read. If its lowest byte is
-    written alone, that byte may be read behind it, and the others may not."""
+    written alone, that byte may be read behind it, and the others may not. A call that keeps the register may save it."""
     seen, todo = set(), [(j, False) for j in ([0] if k < 0 else function.successors(k) or [])]
     while todo:
         j, has_new_byte = todo.pop()
@@ -188,9 +188,12 @@ def is_dead(function: Function, k: int, register: str, others: dict) -> bool:
         if i.name == "call":
             reference = function.reference(i)
             callee = others.get(reference.name) if reference is not None and reference.is_exact else None
-            if callee is None or register not in LOST_BY_A_CALL or not is_dead(callee, -1, register, others):
+            if callee is None:
                 return False
-            continue
+            if register in LOST_BY_A_CALL and is_dead(callee, -1, register, others):
+                continue
+            if register in LOST_BY_A_CALL or not keeps(callee, register):
+                return False
         then = function.successors(j)
         if i.name == "ret":
             if register in KEPT_BY_A_RETURN:
@@ -206,6 +209,44 @@ def is_dead(function: Function, k: int, register: str, others: dict) -> bool:
         elif register not in i.writes:
             todo += [(n, has_new_byte) for n in then]
     return True
+
+
+def keeps(function: Function, register: str) -> bool:
+    """Whether a function does no more with a register that a call keeps than to push it and to pop it again: what was in it at the
+    entry is not read otherwise, nor is the slot in which it was saved."""
+    if not function.before:
+        function.follow()
+    slots, seen, todo = set(), set(), [(0, "kept")]
+    while todo:
+        j, now = todo.pop()
+        if (j, now) in seen:
+            continue
+        seen.add((j, now))
+        i, height, then = function.instructions[j], function.before[j].height, function.successors(j)
+        if i.name == "ret" and now == "kept":
+            continue
+        if then is None or i.name == "ret" or (i.name == "call" and now != "free"):
+            return False
+        if i.name == "push" and i.operands[0].register == register and now == "kept":
+            slots.add(height - 8)
+            now = "saved"
+        elif i.name == "pop" and i.operands[0].register == register and now != "kept" and slots == {height}:
+            now = "kept"
+        elif now != "free" and (uses(i, register) or (register in i.writes and now == "kept")):
+            return False
+        elif register in i.writes:
+            now = "free"
+        todo += [(n, now) for n in then]
+    return not any(may_read(function, k, slot) for k in function.before for slot in slots)
+
+
+def may_read(function: Function, k: int, slot: int) -> bool:
+    """Whether a load by `rsp` itself reads this slot of the stack, or may."""
+    i = function.instructions[k]
+    if not i.loads or not i.memory or i.memory.base != "rsp":
+        return False
+    at = function.before[k].height + i.memory.offset
+    return bool(i.memory.index) or (at < slot + 8 and slot < at + max(each.size for each in i.operands))
 
 
 def is_lowest_byte(operand: Operand, register: str) -> bool:
