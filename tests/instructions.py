@@ -6,8 +6,7 @@
 Time differs from machine to machine, and the number of instructions doesn't. A program makes the same calls some hundred
 times under valgrind's callgrind, and then twice as often; the difference of both counts, divided by the calls, is what one
 costs. So opening, closing and the start of the program don't count. The limits are the counts of docs/BENCH.md, plus a
-hundredth, since another compiler writes other code of the crate; the pointer of C has a limit of its own, 672. --print prints
-the counts alone.
+hundredth, since another compiler writes other code of the crate. --print prints the counts alone.
 
 One thread makes all calls. The C program is linked with the archives that bindings/c links. Without valgrind, cargo or cc
 nothing is counted, and a line says so. The exit status is 0 if no count is above its limit.
@@ -24,18 +23,18 @@ CALLS = 300
 
 # What the crate's user writes, and the most instructions that it may cost.
 IN_RUST = {
-    "send and recv of a word": ("let (s, r) = channel::<u64>(64)?;", "s.send(i).unwrap(); assert_eq!(r.recv(), Ok(i));", 770),
-    "try_send and try_recv of a word": ("let (s, r) = channel::<u64>(64)?;", "s.try_send(i).unwrap(); assert_eq!(r.try_recv(), Ok(i));", 772),
-    "four words": ("let (s, r) = channel::<[u64; 4]>(64)?;", "s.send([i; 4]).unwrap(); assert_eq!(r.recv(), Ok([i; 4]));", 1107),
-    "two groups": ("let (s, r) = groups::<u64>(64, 2)?;", "s.send(i).unwrap(); for r in &r { assert_eq!(r.recv(), Ok(i)); }", 1337),
-    "a refused try_send": ("let (s, _r) = channel::<u64>(1)?; s.send(0).unwrap();", "assert!(s.try_send(i).is_err());", 453),
+    "send and recv of a word": ("let (s, r) = channel::<u64>(64)?;", "s.send(i).unwrap(); assert_eq!(r.recv(), Ok(i));", 758),
+    "try_send and try_recv of a word": ("let (s, r) = channel::<u64>(64)?;", "s.try_send(i).unwrap(); assert_eq!(r.try_recv(), Ok(i));", 760),
+    "four words": ("let (s, r) = channel::<[u64; 4]>(64)?;", "s.send([i; 4]).unwrap(); assert_eq!(r.recv(), Ok([i; 4]));", 1094),
+    "two groups": ("let (s, r) = groups::<u64>(64, 2)?;", "s.send(i).unwrap(); for r in &r { assert_eq!(r.recv(), Ok(i)); }", 1321),
+    "a refused try_send": ("let (s, _r) = channel::<u64>(1)?; s.send(0).unwrap();", "assert!(s.try_send(i).is_err());", 445),
 }
-# The pairs of the program in C: by handles, as the Rust crate makes them, and by one pointer. The pointer's has 113 more: each call
+# The pairs of the program in C: by handles, as the Rust crate makes them, and by one pointer. The pointer's has 106 more: each call
 # looks for a free place, takes it by an exchange and gives it back by a store, and an item has room for four words. The turns
 # are the same.
 IN_C = {
-    "vahepito_try_send and vahepito_try_take": ("handles", 562),
-    "vahepito_call_send and vahepito_call_take": ("pointer", 672),
+    "vahepito_try_send and vahepito_try_take": ("handles", 550),
+    "vahepito_call_send and vahepito_call_take": ("pointer", 657),
 }
 RUST = """use vahepito::{channel, groups};
 
