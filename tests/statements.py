@@ -27,7 +27,7 @@ CHANGES = [
     ("an export says less", "cc_capi", "src", FUNCTION + r"\n *ensures [^\n]*", r"\1"),
     ("a derived trait goes", "cc_broker", "src", r"#\[derive\(Drop\)\]\n(pub struct)", r"\1"),
     ("a code is another number", "cc_passes", "src", r"(pub const \w+: u32 = )\d+", r"\g<1>99"),
-    ("a name is from elsewhere", "cc_play", "src", r"(ghost use Rattle\.std\.specs\.)Prelude", r"\1Other"),
+    ("a name is from elsewhere", "cc_play", "src", r"(ghost use Rattle\.cc_play\.specs\.)Play", r"\1Other"),
     ("a function isn't public", "cc_show", "src", r"\npub fn", r"\nfn"),
     ("a law of a function that isn't public goes", "cc_drive", "src", r"(\npub\(crate\) fn send_all.*?)\n *ensures [^\n]*", r"\1"),
     ("a definition that such a law names", "cc_drive", "specs", r"(\nIsAskedInSend [^\n]* =) [^\n]*", r"\1 ⊤"),
