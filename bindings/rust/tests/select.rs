@@ -546,7 +546,7 @@ fn timers_have_their_moments() {
 /// A select that waits costs no processor time.
 #[test]
 fn a_select_that_waits_is_parked() {
-    /// The ticks, of a hundredth of a second, that this thread had.
+    /// The ticks, of a hundredth of a second, that this thread had. A thread that spins has 40 here, and valgrind costs some.
     fn ticks() -> u64 {
         let stat = std::fs::read_to_string("/proc/thread-self/stat").unwrap_or_default();
         let fields = stat.rsplit(')').next().unwrap_or_default();
@@ -571,7 +571,7 @@ fn a_select_that_waits_is_parked() {
     channels[1].0.send(5).unwrap();
     let (told, ticks) = waits.join().unwrap();
     assert_eq!(told, Ok(5));
-    assert!(ticks < 10, "it had {ticks} ticks while it waited");
+    assert!(ticks < 20, "it had {ticks} ticks while it waited");
 }
 
 /// A select goes to other threads, and many threads share and clone one.
