@@ -1,7 +1,9 @@
 //! Selects over several channels, channels of capacity 0, and timers.
+mod parking;
 #[path = "../src/channel/rounds.rs"]
 mod rounds;
 
+use parking::parked;
 use rounds::rounds;
 use std::collections::HashSet;
 use std::panic::{AssertUnwindSafe, catch_unwind};
@@ -546,32 +548,18 @@ fn timers_have_their_moments() {
 /// A select that waits costs no processor time.
 #[test]
 fn a_select_that_waits_is_parked() {
-    /// The ticks, of a hundredth of a second, that this thread had. A thread that spins has 40 here, and valgrind costs some.
-    fn ticks() -> u64 {
-        let stat = std::fs::read_to_string("/proc/thread-self/stat").unwrap_or_default();
-        let fields = stat.rsplit(')').next().unwrap_or_default();
-        let ticks = fields.split_whitespace().skip(11).take(2);
-        ticks.filter_map(|it| it.parse::<u64>().ok()).sum()
-    }
     let (channels, full) = ([open::<u32>(1), open(0)], open::<u32>(1));
     full.0.send(0).unwrap();
-    let waits = thread::spawn({
-        let (channels, full) = (channels.clone(), full.clone());
-        move || {
-            let told = select! {
-                recv(channels[0].1) -> told => told,
-                recv(channels[1].1) -> told => told,
-                send(full.0, 1) -> _ => Ok(0),
-                recv(after(LONG)) -> _ => Ok(0),
-            };
-            (told, ticks())
+    let waits = || {
+        select! {
+            recv(channels[0].1) -> told => told,
+            recv(channels[1].1) -> told => told,
+            send(full.0, 1) -> _ => Ok(0),
+            recv(after(LONG)) -> _ => Ok(0),
         }
-    });
-    thread::sleep(Duration::from_millis(400));
-    channels[1].0.send(5).unwrap();
-    let (told, ticks) = waits.join().unwrap();
-    assert_eq!(told, Ok(5));
-    assert!(ticks < 20, "it had {ticks} ticks while it waited");
+    };
+    let told = parked(waits, || channels[1].0.send(5).unwrap());
+    assert_eq!(told, [Ok(5); 2]);
 }
 
 /// A select goes to other threads, and many threads share and clone one.

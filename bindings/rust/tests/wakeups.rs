@@ -1,14 +1,16 @@
 //! No wake-up is lost: a search over all interleavings of the waiting (`src/event.rs` says
 //! what its steps are) and of the rendezvous (`src/channel/rendezvous.rs`), and threads that stop for good where one
 //! is lost.
+mod parking;
 #[path = "../src/channel/rounds.rs"]
 mod rounds;
 
+use parking::parked;
 use rounds::rounds;
 use std::collections::HashSet;
 use std::sync::mpsc;
 use std::thread;
-use std::time::{Duration, Instant};
+use std::time::Duration;
 use vahepito::{Receiver, RecvTimeoutError, SendError, Sender, channel};
 
 /// A step that a model leaves out or exchanges, to see that the search finds it.
@@ -1101,32 +1103,9 @@ fn a_close_wakes_all() {
 /// A waiter takes no processor time.
 #[test]
 fn waiting_is_parking() {
-    /// The ticks, of a hundredth of a second, that this process had.
-    fn ticks() -> u64 {
-        let stat = std::fs::read_to_string("/proc/thread-self/stat").unwrap_or_default();
-        let fields = stat
-            .rsplit(')')
-            .next()
-            .unwrap_or_default()
-            .split_whitespace();
-        fields
-            .skip(11)
-            .take(2)
-            .filter_map(|it| it.parse::<u64>().ok())
-            .sum()
-    }
     ends(|| {
         let (sender, receiver) = channel::<u64>(1).unwrap();
-        let waits = thread::spawn(move || {
-            let start = Instant::now();
-            let told = receiver.recv();
-            (told, start.elapsed(), ticks())
-        });
-        thread::sleep(Duration::from_millis(400));
-        sender.send(5).unwrap();
-        let (told, time, ticks) = waits.join().unwrap();
-        assert_eq!(told, Ok(5));
-        assert!(time >= Duration::from_millis(300));
-        assert!(ticks < 10, "it had {ticks} ticks while it waited");
+        let told = parked(|| receiver.recv(), || sender.send(5).unwrap());
+        assert_eq!(told, [Ok(5); 2]);
     });
 }
