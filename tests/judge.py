@@ -231,7 +231,7 @@ def judged(number):
     clean = f"judge clean: {len(calls) - answers.count('full') - closed} calls have a legal order, {full + closed} not judged"
     clean += f": {full} full, {closed} closed" * bool(full + closed)
     clean += f"; {answers.count('full')} may have found {capacity} in the queue" * bool(capacity)
-    same = run.stdout == clean + "\n" if right else run.stdout.startswith("judge fault: ")
+    same = run.stdout == clean + "\n" if right else run.stdout.startswith("judge fault: ") and "line 0" not in run.stdout
     same &= run.returncode == (0 if right else 1)
     # A fault of the capacity leaves no order of a queue with it.
     same &= possible or not ordered or not has_order(wide, ties, capacity)

@@ -239,8 +239,8 @@ def looks():
     return not wrong
 
 
-# Logs, each a line of calls: thread, begin, end or -, what it did, its item or -, and its answer if it has one. Each has the status and
-# the beginning of the verdict that is due, the options, and the lines that its page shows.
+# Logs, each a line of calls: thread, begin, end or -, what it did, its item or -, and its answer if it has one; `late` first, if the log
+# begins late. Each has the status and the beginning of the verdict that is due, the options, and the lines that its page shows.
 LOGS = [
     (1, "never sent", [], "a 1 2 take 9; b 2 3 send 8; b 4 5 send 7", [1, 2]),
     (1, "taken before sent", [], "a 1 3 take 7; b 2 3 send 5; b 5 8 send 7", [1, 2, 3]),
@@ -249,6 +249,7 @@ LOGS = [
     (1, "overtaken", [], "a 1 2 send 1; a 3 4 send 2; b 5 6 take 2", [1, 2, 3]),
     (1, "not empty", [], 'a 10 20 send 7; a 24 38 send 8; b<"\\é 26 60 take -; c 42 70 take 7; d 30 55 send 9 full; d 65 - take -', [1, 2, 3, 4, 5, 6]),
     (1, "not empty", ["--skew", "3"], "a 10 20 send 18446744073709551615; b 30 40 take -; b 50 60 take 18446744073709551615; c 70 80 send 18446744073709551614", [1, 2, 3]),
+    (1, "not empty", [], "late; a 1 2 close -; b 3 4 take -; b 5 6 take 7", [3, 4]),
     (1, "open after closed", [], "a 1 2 close -; b 3 4 send 7; c 5 6 take 7", [1, 2, 3]),
     (1, "closed early", [], "a 1 2 take - ended; b 3 4 close -", [1]),
     (1, "not full", ["--capacity", "2"], "a 1 2 send 1; a 4 9 send 2 full; b 5 6 take 1", [2, 3]),
@@ -260,6 +261,9 @@ def log_of(text):
     """The calls of such a log."""
     calls = []
     for words in (part.split() for part in text.split(";")):
+        if words == ["late"]:
+            calls.append({"begins": "late"})
+            continue
         thread, begin, end, act, item = words[:5]
         call = {"thread": thread, "begin": int(begin)} | ({} if end == "-" else {"end": int(end)})
         call[act] = True if act == "close" else None if item == "-" else [int(item)]

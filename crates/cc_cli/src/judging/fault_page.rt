@@ -146,7 +146,7 @@ const stays = fault.stays || [];
 const named = [...new Set([fault.take, fault.send, fault.first, fault.second, fault.closed, fault.call, ...stays.flatMap(stay => [...stay.sends, stay.take, stay.next])].filter(Number.isInteger))];
 const items = new Set(named.map(number => at.get(number)).filter(Boolean).map(its).filter(value => value !== null));
 const role = call => (named.includes(call.line) ? 'fault' : its(call) !== null && items.has(its(call)) ? 'same' : '');
-const left = stay => (stay.sends.length > 1 ? 'one of ' + list(stay.sends.map(of), 'and') : of(stay.sends[0]));
+const left = stay => (stay.sends.length > 1 ? 'one of ' + list(stay.sends.map(of), 'and') : stay.sends.length ? of(stay.sends[0]) : of(stay.take) + ', sent before the log,');
 const until = stay => (stay.take ? 'until ' + line(stay.take) + ' began to take it' : stay.next ? 'at least until ' + line(stay.next) + ' began' : 'to the end, since no call took it');
 const WHY = {
   'never sent': f => 'Line ' + f.take + ' took ' + of(f.take) + ', and no line sent it. No order has a send of this item before the take.',

@@ -66,13 +66,17 @@ fn push_line(
     text.push_str(one.as_str())
 }
 
-/// Appends a stay.
+/// Appends a stay. A send that the log lacks has no line.
 fn push_stay(alloc: Global, text: &mut String, log: &Log, stay: &Stay) -> Result<(), AllocError> {
     text.push_str("{\"sends\":[")?;
     match stay {
         Stay::Taken { send, take } => {
-            let send = format!(in alloc; "{}]", log.line_of(*send))?;
-            text.push_str(send.as_str())?;
+            let line = log.line_of(*send);
+            if line > 0 {
+                let send = format!(in alloc; "{line}")?;
+                text.push_str(send.as_str())?;
+            }
+            text.push_str("]")?;
             push_line(alloc, text, log, "take", *take)?;
         }
         Stay::Left { sends, next } => {

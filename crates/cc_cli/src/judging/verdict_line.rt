@@ -15,10 +15,13 @@ fn lines_at(alloc: Global, log: &Log, places: &[usize]) -> Result<String, AllocE
     Ok(text)
 }
 
-/// The lines of the sends of a stay.
+/// The lines of the sends of a stay. A log that begins late may lack the send of an item that it took.
 fn sends(alloc: Global, log: &Log, stay: &Stay) -> Result<String, AllocError> {
     match stay {
-        Stay::Taken { send, take: _ } => format!(in alloc; "line {}", log.line_of(*send)),
+        Stay::Taken { send, take: _ } => match log.line_of(*send) {
+            0 => String::from_str(alloc, "a send before the log"),
+            line => format!(in alloc; "line {line}"),
+        },
         Stay::Left { sends, next: _ } => lines_at(alloc, log, sends.as_slice()),
     }
 }
