@@ -17,6 +17,7 @@ while the program is killed.
 import json
 import os
 import random
+import re
 import shutil
 import subprocess
 import sys
@@ -199,6 +200,30 @@ def has_order(calls, ties, capacity):
     return go(0, (), False)
 
 
+# An item of the fault `not empty`: the line of its send or of several, the line that shows the queue closed, and the line of the
+# first take that may have it.
+STAY = re.compile(r"; (?:the item|one of the items) of (?:lines? ([\d, ]+)|a send before the log)(?:, sent before the queue was closed \(line (\d+)\))?, (?:(?:taken by|not taken before) line (\d+))?")
+
+
+def is_explained(calls, said):
+    """Whether what the fault `not empty` says of its items is so: the first was sent before the take that found none began, and
+    each other one before the take of the one before it, by the times or since the queue was closed."""
+    lines = dict(enumerate(calls, 1))
+    come_before = lambda first, second: lines[first].get("end", NEVER) < lines[second]["begin"]
+    accused = begins = int(re.match(r"judge fault: not empty: line (\d+) ", said)[1])
+    for sends, closed, take in STAY.findall(said):
+        timely = bool(sends) and all(come_before(int(send), begins) for send in sends.split(","))
+        if closed:
+            call = lines[int(closed)]
+            shows = "close" in call or call.get("answer") in ("closed", "ended")
+            if timely or not shows or not (int(closed) == begins or come_before(int(closed), begins)):
+                return False
+        elif not timely:
+            return False
+        begins = int(take or 0)
+    return not begins or come_before(accused, begins)
+
+
 def line_of(rng, call):
     """A line of the log: some items stand without their brackets, and some threads are numbers."""
     call = dict(call)
@@ -231,8 +256,10 @@ def judged(number):
     clean = f"judge clean: {len(calls) - answers.count('full') - closed} calls have a legal order, {full + closed} not judged"
     clean += f": {full} full, {closed} closed" * bool(full + closed)
     clean += f"; {answers.count('full')} may have found {capacity} in the queue" * bool(capacity)
-    same = run.stdout == clean + "\n" if right else run.stdout.startswith("judge fault: ") and "line 0" not in run.stdout
+    same = run.stdout == clean + "\n" if right else run.stdout.startswith("judge fault: ")
     same &= run.returncode == (0 if right else 1)
+    if run.stdout.startswith("judge fault: not empty: "):
+        same &= is_explained([{}] * late + wide[: len(calls)], run.stdout)
     # A fault of the capacity leaves no order of a queue with it.
     same &= possible or not ordered or not has_order(wide, ties, capacity)
     open_tie = bool(ties) and run.stdout == "judge undecided\n"

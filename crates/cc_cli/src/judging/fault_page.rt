@@ -143,10 +143,12 @@ const of = number => (at.get(number) && its(at.get(number)) !== null ? 'item ' +
 
 // ---- the fault: the calls that it names, why they have no order, and when an item was in the queue for certain
 const stays = fault.stays || [];
-const named = [...new Set([fault.take, fault.send, fault.first, fault.second, fault.closed, fault.call, ...stays.flatMap(stay => [...stay.sends, stay.take, stay.next])].filter(Number.isInteger))];
+const named = [...new Set([fault.take, fault.send, fault.first, fault.second, fault.closed, fault.call, ...stays.flatMap(stay => [...stay.sends, stay.take, stay.next, stay.closed])].filter(Number.isInteger))];
 const items = new Set(named.map(number => at.get(number)).filter(Boolean).map(its).filter(value => value !== null));
 const role = call => (named.includes(call.line) ? 'fault' : its(call) !== null && items.has(its(call)) ? 'same' : '');
-const left = stay => (stay.sends.length > 1 ? 'one of ' + list(stay.sends.map(of), 'and') : stay.sends.length ? of(stay.sends[0]) : of(stay.take) + ', sent before the log,');
+const left = stay => (stay.sends.length > 1 ? 'one of ' + list(stay.sends.map(of), 'and') : of(stay.sends.length ? stay.sends[0] : stay.take));
+// An item whose send hadn't ended may count since the queue was closed.
+const sent = stay => left(stay) + (stay.closed ? ', sent before the queue was closed (' + line(stay.closed) + '),' : '');
 const until = stay => (stay.take ? 'until ' + line(stay.take) + ' began to take it' : stay.next ? 'at least until ' + line(stay.next) + ' began' : 'to the end, since no call took it');
 const WHY = {
   'never sent': f => 'Line ' + f.take + ' took ' + of(f.take) + ', and no line sent it. No order has a send of this item before the take.',
@@ -156,7 +158,7 @@ const WHY = {
   'open after closed': f => 'Line ' + f.closed + (at.get(f.closed) && kind(at.get(f.closed)) === 'close' ? ' closed the queue' : ' found the queue closed') + ', and had ended before line ' + f.send + ' began. That send was not told that the queue is closed. A closed queue stays closed.',
   'closed early': f => 'Line ' + f.call + ' found the queue closed, and had ended before any close began.',
   'not full': f => 'Line ' + f.call + ' found the queue full. At no moment of this call can the queue have held ' + f.capacity + ' items: count each item whose send had begun, but none whose take had ended.',
-  'not empty': f => 'Line ' + f.take + ' found the queue empty. At each moment of this call an item was in the queue for certain: ' + list(stays.map(stay => left(stay) + ' ' + until(stay)), 'and then') + '.',
+  'not empty': f => 'Line ' + f.take + ' found the queue empty. At each moment of this call an item was in the queue for certain: ' + list(stays.map(stay => sent(stay) + ' ' + until(stay)), 'and then') + '.',
 };
 const sure = stays.map(stay => {
   const sends = stay.sends.map(number => at.get(number)).filter(Boolean);

@@ -3,6 +3,7 @@
 ghost use Rattle.std.specs.Prelude.{◌≡◌, ◌<◌, ◌-◌, ◌^◌, OnOk};
 
 use crate::judging::choice::{Choice, beside_fault, first_calls};
+use crate::judging::closed::{closed_by, next_call};
 use crate::judging::fault_page::{BACK, FRONT, MIDDLE};
 use cc_io::{Sink, WriteFault, write_bytes};
 use cc_judge::{Fault, Stay, Verdict};
@@ -66,8 +67,14 @@ fn push_line(
     text.push_str(one.as_str())
 }
 
-/// Appends a stay. A send that the log lacks has no line.
-fn push_stay(alloc: Global, text: &mut String, log: &Log, stay: &Stay) -> Result<(), AllocError> {
+/// Appends a stay that counts from this call on. A send that the log lacks has no line.
+fn push_stay(
+    alloc: Global,
+    text: &mut String,
+    log: &Log,
+    call: usize,
+    stay: &Stay,
+) -> Result<(), AllocError> {
     text.push_str("{\"sends\":[")?;
     match stay {
         Stay::Taken { send, take } => {
@@ -91,6 +98,9 @@ fn push_stay(alloc: Global, text: &mut String, log: &Log, stay: &Stay) -> Result
             }
         }
     }
+    if let Some(closed) = closed_by(log, stay, call) {
+        push_line(alloc, text, log, "closed", closed)?;
+    }
     text.push_str("}")
 }
 
@@ -106,17 +116,20 @@ fn push_two(
     push_line(alloc, text, log, second.0, second.1)
 }
 
-/// Appends stays.
+/// Appends stays, the first of which counts from this call on.
 fn push_stays(
     alloc: Global,
     text: &mut String,
     log: &Log,
+    call: usize,
     stays: &[Stay],
 ) -> Result<(), AllocError> {
     text.push_str(",\"stays\":[")?;
+    let mut from = call;
     for (at, stay) in stays.iter().enumerate() {
         text.push_str(if at == 0 { "" } else { "," })?;
-        push_stay(alloc, text, log, stay)?;
+        push_stay(alloc, text, log, from, stay)?;
+        from = next_call(stay, from);
     }
     text.push_str("]")
 }
@@ -154,12 +167,12 @@ fn push_fault(
                 ("send", *later_send),
                 ("take", *later_take),
             )?;
-            push_stays(alloc, text, log, from_ref(stay))
+            push_stays(alloc, text, log, *later_send, from_ref(stay))
         }
         Fault::NotEmpty { call, stays } => {
             text.push_str(",\"kind\":\"not empty\"")?;
             push_line(alloc, text, log, "take", *call)?;
-            push_stays(alloc, text, log, stays.as_slice())
+            push_stays(alloc, text, log, *call, stays.as_slice())
         }
         Fault::Reopened { closed, send } => {
             text.push_str(",\"kind\":\"open after closed\"")?;

@@ -1,5 +1,6 @@
 //! The line of a verdict.
 
+use crate::judging::closed::{closed_by, next_call};
 use cc_judge::{Fault, Stay, Verdict};
 use cc_log::Log;
 use std::alloc::{AllocError, Global};
@@ -51,13 +52,24 @@ fn item(stay: &Stay) -> &'static str {
     }
 }
 
-/// Items one after another, by the lines of their sends and takes.
-fn items(alloc: Global, log: &Log, stays: &[Stay]) -> Result<String, AllocError> {
+/// Items one after another, by the lines of their sends and takes, and by the line that shows the queue closed if an item
+/// counts for that. The first was in the queue when this call began, and each other one when the take before it began.
+fn items(alloc: Global, log: &Log, call: usize, stays: &[Stay]) -> Result<String, AllocError> {
     let mut text = String::new(alloc);
+    let mut from = call;
     for stay in stays {
         let (sends, leaves) = (sends(alloc, log, stay)?, leaves(alloc, log, stay)?);
-        let one = format!(in alloc; "; {} of {sends}, {leaves}", item(stay))?;
+        let one = format!(in alloc; "; {} of {sends}, ", item(stay))?;
         text.push_str(one.as_str())?;
+        if let Some(closed) = closed_by(log, stay, from) {
+            let closed = format!(in alloc;
+                "sent before the queue was closed (line {}), ",
+                log.line_of(closed)
+            )?;
+            text.push_str(closed.as_str())?;
+        }
+        text.push_str(leaves.as_str())?;
+        from = next_call(stay, from);
     }
     Ok(text)
 }
@@ -113,7 +125,7 @@ fn fault_text(alloc: Global, log: &Log, fault: &Fault) -> Result<String, AllocEr
             )
         }
         Fault::NotEmpty { call, stays } => {
-            let items = items(alloc, log, stays.as_slice())?;
+            let items = items(alloc, log, *call, stays.as_slice())?;
             format!(in alloc;
                 "judge fault: not empty: line {} found none, and at all its times the queue held an item{items}\n",
                 log.line_of(*call)
