@@ -35,7 +35,7 @@ use Rattle.cc_runs.proofs.Counted.{Counts}
 use Rattle.cc_runs.proofs.CounterRuns.{counter_holds, counter_ready}
 use Rattle.cc_runs.proofs.ChainRuns.{has_told, not_other, silent_takes, sides_are}
 
-combining_rank : (x : Chain) (own : ℕ) (at : Phase) → IsCombining at → (post_of x own at).rank ≡ 5
+pub combining_rank : (x : Chain) (own : ℕ) (at : Phase) → IsCombining at → (post_of x own at).rank ≡ 5
 combining_rank x own (Phase.ReadNext round) a = refl
 combining_rank x own (Phase.Counting job service) a = refl
 combining_rank x own (Phase.Sending job service) a = refl
@@ -45,7 +45,7 @@ combining_rank x own (Phase.WriteAnswerTag job item) a = refl
 combining_rank x own (Phase.WriteAnswerBody job item i) a = refl
 combining_rank x own (Phase.MarkDone job) a = refl
 combining_rank x own (Phase.HandOver at) a = refl
-combining_rank x own _ a = absurd a
+combining_rank x own _ a = absurd (cc)
 
 -- the request's words, on either side
 holds_request : (s : State) (x : Chain) (at : ℕ) (e : Entry) → ((j : ℕ) → j < request_long x e → request_words x (λ (f : NodeField). s.mem (Word.Node x at f)) j ≡ asked_words x e j) → HoldsRequest s x at e

@@ -10,6 +10,7 @@ pub mod Counted
 pub mod CounterRuns
 pub mod ChainRuns
 pub mod ChainLaws
+pub mod NodeLaws
 pub mod EndAnswered
 pub mod CallsMade
 pub mod SendNumbers
@@ -21,3 +22,7 @@ pub mod ListRuns
 pub mod AllReady
 pub mod Linear
 pub mod Bodies
+pub mod Progress
+pub mod SmallWaits
+pub mod WrongSteps
+pub mod Counts

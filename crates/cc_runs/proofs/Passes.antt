@@ -17,7 +17,7 @@ by-append p (x ∷ xs) ys = go (pass_of x == p) (by-append p xs ys)
     go true h = ap (λ (l : List Move). x ∷ l) h
     go false h = h
 
-others_move : (p : ℕ) (m : Move) (ms : List Move) → by p (m ∷ ms) ≡ [] → ((pass_of m == p) ≡ false) × (by p ms ≡ [])
+pub others_move : (p : ℕ) (m : Move) (ms : List Move) → by p (m ∷ ms) ≡ [] → ((pass_of m == p) ≡ false) × (by p ms ≡ [])
 others_move p m ms h = go (pass_of m == p) h
   where
     go : (b : Bool) → (if b then m ∷ by p ms else by p ms) ≡ [] → (b ≡ false) × (by p ms ≡ [])
@@ -31,6 +31,9 @@ moved_other : (c : Setting) (s : State) (m : Move) (p : ℕ) → (pass_of m == p
 moved_other c s (Move.Begin q call known) p off = hold_apart s.stand q p (begins c.config q call known (s.stand q)) (λ same. eqb-false q p off (sym same))
 moved_other c s (Move.Step q) p off = hold_apart s.stand q p _ (λ same. eqb-false q p off (sym same))
 moved_other c s (Move.Take q) p off = hold_apart s.stand q p (rests (s.stand q)) (λ same. eqb-false q p off (sym same))
+
+pub moved_apart : (c : Setting) (s : State) (m : Move) (p : ℕ) → pass_of m ≢ p → (moved c s m).stand p ≡ s.stand p
+moved_apart c s m p ne = moved_other c s m p (ne_eqb (pass_of m) p ne)
 
 others_stand : (c : Setting) (more seen : List Move) (p : ℕ) → by p more ≡ [] → (reached c (more ++ seen)).stand p ≡ (reached c seen).stand p
 others_stand c [] seen p none = refl

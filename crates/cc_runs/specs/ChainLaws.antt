@@ -1,5 +1,5 @@
 -- The laws of each chain after every run, whatever is served; and of a counter.
-use Rattle.std.specs.Prelude.{◌≡◌, ◌≢◌, ℕ, ◌+◌, ◌<◌, ◌≤◌, List, [], ◌∷◌, ◌++◌, length, Option, Some, None, Ok}
+use Rattle.std.specs.Prelude.{◌≡◌, ◌≢◌, ℕ, ◌+◌, ◌<◌, ◌≤◌, Bool, true, false, IsTrue, List, [], ◌∷◌, ◌++◌, length, Option, Some, None, Ok}
 use Rattle.std.specs.List.{AllByRecursion, slice_get}
 use Rattle.cc_model.specs.Record.{Record}
 use Rattle.cc_model.specs.Items.{HasAnswer, calls_of}
@@ -12,18 +12,21 @@ use Rattle.cc_runs.specs.Run.{IsRun, reached, passes, history_of}
 use Rattle.cc_runs.specs.Ready.{WhileUndecided, IsReady}
 use Rattle.cc_runs.specs.OnChain.{passes_on, calls_on, answers_on, FitsIn}
 
--- between its read of state 0 and its hand-over
+-- a combiner, from its read of state 0 to its hand-over
+abbrev pub is_combining : Phase → Bool
+is_combining (Phase.ReadNext round) = true
+is_combining (Phase.Counting job service) = true
+is_combining (Phase.Sending job service) = true
+is_combining (Phase.Taking job service) = true
+is_combining (Phase.WriteAnswer job told) = true
+is_combining (Phase.WriteAnswerTag job item) = true
+is_combining (Phase.WriteAnswerBody job item i) = true
+is_combining (Phase.MarkDone job) = true
+is_combining (Phase.HandOver at) = true
+is_combining _ = false
+
 abbrev pub IsCombining : Phase → Type 0
-IsCombining (Phase.ReadNext round) = Unit {0}
-IsCombining (Phase.Counting job service) = Unit {0}
-IsCombining (Phase.Sending job service) = Unit {0}
-IsCombining (Phase.Taking job service) = Unit {0}
-IsCombining (Phase.WriteAnswer job told) = Unit {0}
-IsCombining (Phase.WriteAnswerTag job item) = Unit {0}
-IsCombining (Phase.WriteAnswerBody job item i) = Unit {0}
-IsCombining (Phase.MarkDone job) = Unit {0}
-IsCombining (Phase.HandOver at) = Unit {0}
-IsCombining _ = ⊥
+IsCombining at = IsTrue (is_combining at)
 
 -- how many requests it has served since then
 abbrev pub served_by : Phase → ℕ

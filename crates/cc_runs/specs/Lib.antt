@@ -12,9 +12,16 @@ pub mod Run
 pub mod Ready
 pub mod OnChain
 pub mod ChainLaws
+pub mod NodeLaws
 pub mod CallsMade
 pub mod Passes
 pub mod MachineLaws
 pub mod Opening
 pub mod Linearizable
 pub mod SmallOrders
+pub mod Turns
+pub mod Ahead
+pub mod Progress
+pub mod SmallWaits
+pub mod WrongSteps
+pub mod Counts

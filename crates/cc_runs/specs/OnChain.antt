@@ -1,5 +1,5 @@
--- The passes of a chain, its calls and their answers.
-use Rattle.std.specs.Prelude.{ℕ, ◌<◌, ◌^◌, List}
+-- The chains of a machine, the passes of each, its calls and their answers.
+use Rattle.std.specs.Prelude.{ℕ, ◌+◌, ◌*◌, ◌<◌, ◌^◌, List}
 use Rattle.cc_model.specs.Body.{IsBody}
 use Rattle.cc_model.specs.Record.{Record}
 use Rattle.cc_runs.specs.Names.{Entry, Item, Answer, SendAnswer, CloseAnswer, TakeAnswer, Setting, Served, Chain, Config}
@@ -10,6 +10,20 @@ use Rattle.cc_runs.specs.State.{side}
 abbrev pub passes_on : Setting → Chain → ℕ
 passes_on c Chain.Send = c.config.senders
 passes_on c (Chain.Take g) = c.config.receivers
+
+-- the chains that there are: the counter has the senders' alone
+abbrev pub IsChainOf : Served → (groups : ℕ) → Chain → Type 0
+IsChainOf _ n Chain.Send = Unit {0}
+IsChainOf Served.List n (Chain.Take g) = g < n
+IsChainOf Served.Counter n (Chain.Take g) = ⊥
+
+abbrev pub IsChain : Setting → Chain → Type 0
+IsChain c x = IsChainOf c.served (groups c.config) x
+
+-- the pass of this number on its chain
+abbrev pub pass_on : Setting → Chain → ℕ → ℕ
+pass_on c Chain.Send p = p
+pass_on c (Chain.Take g) p = c.config.senders + (g * c.config.receivers + p)
 
 -- the configuration has this chain
 abbrev pub IsThere : Config → Chain → Type 0

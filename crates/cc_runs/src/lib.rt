@@ -8,11 +8,14 @@
 #![tactic(auto)]
 
 mod chain_laws;
+mod count_laws;
 mod encoding;
 mod fault;
 mod linear_laws;
 mod list_laws;
+mod node_laws;
 mod phase;
+mod progress_laws;
 mod run;
 mod run_laws;
 mod setting;
@@ -21,6 +24,9 @@ mod word;
 pub use chain_laws::{
     calls_end_answered, calls_wait_for_their_link, laws_of_calls, laws_of_chains, laws_of_counters,
     numbers_of_sends,
+};
+pub use count_laws::{
+    counts_are_near, counts_grow, ended_calls_are_seen, looks_find_full, looks_find_none,
 };
 pub use encoding::{
     CODE, body_in, body_words, count_word, further_words, item_of, list_reads, packed, request_in,
@@ -37,8 +43,15 @@ pub use list_laws::{
     numbers_stay_within, prefixes_of_runs_begin, prepared_node_is_busy, scans_are_short,
     steps_are_ready,
 };
+pub use node_laws::laws_of_nodes;
 pub use phase::{
     BodyWords, Counting, Event, Job, Kind, Parcel, Phase, Request, Round, Sending, Stand, Taking,
+};
+pub use progress_laws::{
+    ahead_is_bounded, answers_come_soon, calls_are_served, each_call_ends, each_call_is_answered,
+    it_is_someones_turn, moves_bring_nearer, no_call_is_stuck, open_calls_are_few, small_waits,
+    stopped_calls_stop_none_before, stopped_turns_stop_those_behind, turns_are_few,
+    waits_are_short, wrong_steps_are_refused,
 };
 pub use run::Move;
 pub use run_laws::{others_leave_a_pass, prefixes_know_no_more};

@@ -3,20 +3,10 @@ use Rattle.std.proofs.Common.{◌≡◌, ◌≤◌, ◌<◌, ◌+◌, ℕ, lengt
 use Rattle.cc_runs.specs.Names.{Entry, Pass, Call, Answer, SendAnswer, CloseAnswer, TakeAnswer, Setting, Served, Chain, BodyWords, Counting, Sending, Phase}
 use Rattle.cc_runs.specs.Codes.{item_of, tag_of, body_words, no_words, further_words, word, request_in, ret_of, code_of, value_of, sender_reads}
 use Rattle.cc_model.specs.Record.{Record}
-use Rattle.cc_runs.specs.Words.{groups}
 use Rattle.cc_runs.specs.State.{pass_at}
 use Rattle.cc_runs.specs.Run.{IsOn}
-pub use Rattle.cc_runs.specs.OnChain.{calls_on, answers_on}
+pub use Rattle.cc_runs.specs.OnChain.{IsChainOf, IsChain, calls_on, answers_on}
 use Rattle.cc_runs.proofs.Chains.View.{pass_on, told_words, no_word}
-
--- the chains that there are: the counter has the senders' alone
-abbrev pub IsChainOf : Served → (groups : ℕ) → Chain → Type 0
-IsChainOf _ n Chain.Send = Unit {0}
-IsChainOf Served.List n (Chain.Take g) = g < n
-IsChainOf Served.Counter n (Chain.Take g) = ⊥
-
-abbrev pub IsChain : Setting → Chain → Type 0
-IsChain c x = IsChainOf c.served (groups c.config) x
 
 -- the history has a side for it
 abbrev pub HasSide : Chain → Record → Type 0

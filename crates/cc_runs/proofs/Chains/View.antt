@@ -1,15 +1,10 @@
 -- A chain of a state, as the abstract chain sees it.
-use Rattle.std.proofs.Common.{ℕ, zero, suc, ◌+◌, ◌*◌}
+use Rattle.std.proofs.Common.{ℕ, zero, suc, ◌+◌}
 use Rattle.cc_runs.specs.Names.{Setting, Chain, NodeField, Word, Job, Request, Stand, Sending, Phase, Entry, Answer, TakeAnswer}
 use Rattle.cc_runs.specs.Codes.{request_in, further_words, tag_of}
 use Rattle.cc_runs.specs.State.{State}
-pub use Rattle.cc_runs.specs.OnChain.{passes_on as members}
+pub use Rattle.cc_runs.specs.OnChain.{passes_on as members, pass_on}
 use Rattle.cc_runs.proofs.Combining.Chain.{Post, Cell, Chain as Seen}
-
--- the pass of this number on its chain
-abbrev pub pass_on : Setting → Chain → ℕ → ℕ
-pass_on c Chain.Send p = p
-pass_on c (Chain.Take g) p = c.config.senders + (g * c.config.receivers + p)
 
 -- the words of a request: its tag, and those of its body; a take has none
 abbrev pub words_of : ℕ → (ℕ → ℕ) → ℕ → ℕ

@@ -1,0 +1,6 @@
+-- The counts of the list beside its history, after every run.
+pub mod Places
+pub mod State
+pub mod Ended
+pub mod Grow
+pub mod Laws

@@ -1,0 +1,195 @@
+-- The calls of a pass that is out of its chain are counted.
+use Rattle.std.proofs.Common.{◌≡◌, ℕ, zero, suc, ◌+◌, ◌<◌, ◌≤◌, Bool, true, false, ◌||◌, cond, List, [], ◌∷◌, length, Option, Some, None, inl, inr, refl, sym, ap, ◌∙◌, subst, arith}
+use Rattle.std.proofs.lemmas.Bool.{cases_lt, cases_eq, true≢false}
+use Rattle.std.proofs.lemmas.Option.{slice_get-get_or}
+use Rattle.std.specs.List.{AllByRecursion, slice_get, list_any}
+use Rattle.cc_model.specs.Items.{is_pass, shuts, calls_of}
+use Rattle.cc_runs.specs.Names.{Config, Pass, Entry, Answer, SendAnswer, CloseAnswer, Setting, Served, Chain, Phase, Sending, Job, Move}
+use Rattle.cc_runs.specs.State.{State, chain_of, pass_at}
+use Rattle.cc_runs.specs.Run.{passes, reached, IsRun, IsIdle}
+use Rattle.cc_runs.specs.ChainLaws.{IsOut}
+use Rattle.cc_runs.specs.Counts.{counted, mark_of, IsSeen, AreSeen}
+use Rattle.cc_runs.proofs.ChainLaws.{out_rank}
+use Rattle.cc_runs.proofs.ChainRuns.{not_other}
+use Rattle.cc_runs.proofs.Chains.View.{pass_on, post_of, post_at}
+use Rattle.cc_runs.proofs.Chains.Registers.{calls_on, answers_on, call_at, answer_at, no_answer, IsAnswer, HasSend, HasService}
+use Rattle.cc_runs.proofs.Chains.Ties.{Holds}
+use Rattle.cc_runs.proofs.Chains.Last.{chosen}
+use Rattle.cc_runs.proofs.Chains.Others.{IsOn}
+use Rattle.cc_runs.proofs.Chains.Serving.{Chains, chains_hold, chain_is, on_chain, sending_where}
+use Rattle.cc_runs.proofs.Chains.ReadAnswers.{named, name_is, other_name, calls_one}
+use Rattle.cc_runs.proofs.LinkedList.Invariant.{LInv}
+use Rattle.cc_runs.proofs.ListRuns.View.{enq_at, queue_of}
+use Rattle.cc_runs.proofs.ListRuns.Ties.{further}
+use Rattle.cc_runs.proofs.ListRuns.Facts.{lists}
+use Rattle.cc_runs.proofs.ListRuns.Invariant.{Parts}
+use Rattle.cc_runs.proofs.ListRuns.Runs.{Whole}
+use Rattle.cc_runs.proofs.Counts.Places.{within, up, once}
+use Rattle.cc_runs.proofs.Counts.State.{Late, Closing, late_at, closing_at, stage, count_now, count_late, either_count, shut_now}
+
+-- ---- the calls that a filter has chosen
+
+keeps : (count mark : ℕ) (z : Entry × Option Answer) (rest : List (Entry × Option Answer)) (b : Bool) → (b ≡ true → IsSeen count mark z) → AllByRecursion (IsSeen count mark) rest → AllByRecursion (IsSeen count mark) (cond b (z ∷ rest) rest)
+keeps count mark z rest true has all = (has refl, all)
+keeps count mark z rest false has all = all
+
+abbrev pub Each : (count mark : ℕ) → (Entry → Bool) → List Entry → List Answer → Type 0
+Each count mark f calls answers = (j : ℕ) → j < length calls → j < length answers → f (call_at calls j) ≡ true → IsSeen count mark (call_at calls j, Some (answer_at answers j))
+
+pub all_seen : (count mark : ℕ) (f : Entry → Bool) (calls : List Entry) (answers : List Answer) → Each count mark f calls answers → AllByRecursion (IsSeen count mark) (chosen f calls answers)
+all_seen count mark f [] answers each = tt
+all_seen count mark f (e ∷ calls) [] each = keeps count mark (e, None) (chosen f calls []) (f e) (λ is. tt) (all_seen count mark f calls [] (λ j less none is. absurd (omega (arith, none))))
+all_seen count mark f (e ∷ calls) (a ∷ answers) each =
+    keeps count mark (e, Some a) (chosen f calls answers) (f e) (λ is. each 0 (omega arith) (omega arith) is) (all_seen count mark f calls answers (λ j less inside is. each (suc j) (omega (arith, less)) (omega (arith, inside)) is))
+
+-- an answer to a take is always seen
+take_seen : (count mark g : ℕ) (e : Entry) (a : Answer) → IsAnswer Served.List (Chain.Take g) a → IsSeen count mark (e, Some a)
+take_seen count mark g e (Answer.Take told) is = tt
+take_seen count mark g e (Answer.Send told) is = absurd is
+take_seen count mark g e (Answer.Close told) is = absurd is
+
+-- ---- a pass out of its chain: each of its answered calls is marked
+
+module _ (c : Setting) (x : Chain) (s : State) (w : Holds c x s) (n : ℕ) (out : (post_at x (s.stand (pass_on c x n))).rank ≤ 2) where
+  abbrev is_its : Entry → Bool
+  is_its e = is_pass (named c x n) e.pass
+
+  marked : (j : ℕ) → j < length (calls_on x s.history) → is_its (call_at (calls_on x s.history) j) ≡ true → j < w.ghost.marked
+  marked j less is = elim (cases_lt j w.ghost.marked) [
+    | inl before ↦ before
+    | inr late ↦
+        let below : j < w.ghost.calls = omega (arith, less, w.ties.calls_are) in
+        let rank : 3 ≤ (post_at x (s.stand (pass_on c x (w.ghost.pass_of j)))).rank = w.inv.calls.open_low j (omega (arith, late)) below in
+        let theirs : is_its (call_at (calls_on x s.history) j) ≡ is_pass (named c x n) (named c x (w.ghost.pass_of j)) = ap (is_pass (named c x n)) ((w.ties.entered j below).pass_is ∙ name_is c x (w.ghost.pass_of j) (w.ties.pass_in j below)) in
+        absurd (elim (cases_eq (w.ghost.pass_of j) n) [
+          | inl same ↦ let low : 3 ≤ (post_at x (s.stand (pass_on c x n))).rank = subst (λ (q : ℕ). 3 ≤ (post_at x (s.stand (pass_on c x q))).rank) same rank in omega (arith, low, out)
+          | inr ne ↦ true≢false (sym is ∙ theirs ∙ other_name c x n (w.ghost.pass_of j) ne)
+        ])
+  ]
+
+-- ---- the senders' chain: what is marked is counted
+
+module _ (c : Config) (s : State) (chains : Chains (lists c) s) (whole : Whole c s) (w : Holds (lists c) Chain.Send s) where
+  abbrev k : Parts c s
+  k = whole.parts
+
+  abbrev calls : List Entry
+  calls = calls_on Chain.Send s.history
+
+  abbrev answers : List Answer
+  answers = answers_on Chain.Send s.history
+
+  get_answer : (j : ℕ) → j < length answers → slice_get answers j ≡ Some (answer_at answers j)
+  get_answer j less = slice_get-get_or answers j no_answer less
+
+  not_idle : (p : ℕ) (job : Job) (service : Sending) → (s.stand p).phase ≡ Phase.Sending job service → p < passes (lists c)
+  not_idle p job service stands = elim (cases_lt p (passes (lists c))) [
+    | inl l ↦ l
+    | inr l ↦ absurd (subst (λ (z : Phase). IsIdle z) stands (whole.posts.outside p l))
+  ]
+
+  -- the answer of the call that a service with a decided answer serves
+  module _ (job : Job) (service : Sending) (stands : (s.stand k.duty.e_pass).phase ≡ Phase.Sending job service) (two : (own : ℕ) → (post_of Chain.Send own (Phase.Sending job service)).stage ≡ 2) where
+    p : ℕ
+    p = k.duty.e_pass
+
+    less : k.duty.e_pass < passes (lists c)
+    less = not_idle k.duty.e_pass job service stands
+
+    on : IsOn (lists c) Chain.Send k.duty.e_pass
+    on = subst (λ (y : Chain). IsOn (lists c) y k.duty.e_pass) (sending_where (lists c) s chains k.duty.e_pass job service less stands).1 (on_chain (lists c) k.duty.e_pass less)
+
+    there : (s.stand (pass_on (lists c) Chain.Send on.number)).phase ≡ Phase.Sending job service
+    there = ap (λ (q : ℕ). (s.stand q).phase) (sym on.pass_is) ∙ stands
+
+    mine : w.ghost.server ≡ on.number + 1
+    mine = w.inv.server.server_is on.number on.inside (ap (λ (z : Phase). (post_of Chain.Send (s.stand (pass_on (lists c) Chain.Send on.number)).node z).rank) there)
+
+    decided : w.ghost.answers ≡ w.ghost.marked + 1
+    decided = w.inv.serving.decided on.number mine (ap (λ (z : Phase). (post_of Chain.Send (s.stand (pass_on (lists c) Chain.Send on.number)).node z).stage) there ∙ two (s.stand (pass_on (lists c) Chain.Send on.number)).node)
+
+    pub inside : w.ghost.marked < length answers
+    inside = omega (arith, decided, w.ties.answers_are)
+
+    pub serves : HasSend (call_at calls w.ghost.marked) (answer_at answers w.ghost.marked) service
+    serves = subst (λ (z : Phase). HasService Served.List Chain.Send (call_at calls w.ghost.marked) (answer_at answers w.ghost.marked) z) there (w.ties.served on.number mine)
+
+  last_count : (count : ℕ) → Late (s.stand k.duty.e_pass).phase count → (slice_get answers w.ghost.marked ≡ Some (Answer.Send (SendAnswer.Accepted count)))
+  last_count count (Late.last job node stands) =
+      get_answer w.ghost.marked (inside job (Sending.WriteLast count node) stands (λ own. refl)) ∙ ap (λ (a : Answer). Some a) (serves job (Sending.WriteLast count node) stands (λ own. refl))
+  last_count count (Late.then job node stands) =
+      get_answer w.ghost.marked (inside job (Sending.WriteCount count node) stands (λ own. refl)) ∙ ap (λ (a : Answer). Some a) (serves job (Sending.WriteCount count node) stands (λ own. refl))
+
+  last_shut : (total : ℕ) → Closing (s.stand k.duty.e_pass).phase total → (slice_get answers w.ghost.marked ≡ Some (Answer.Close (CloseAnswer.Shut total)))
+  last_shut total (Closing.last job stands) =
+      get_answer w.ghost.marked (inside job (Sending.WriteLastMark total) stands (λ own. refl)) ∙ ap (λ (a : Answer). Some a) (serves job (Sending.WriteLastMark total) stands (λ own. refl))
+  last_shut total (Closing.then job stands) =
+      get_answer w.ghost.marked (inside job (Sending.WriteShut total) stands (λ own. refl)) ∙ ap (λ (a : Answer). Some a) (serves job (Sending.WriteShut total) stands (λ own. refl))
+
+  i : LInv c.capacity c.life (further c + 1) (queue_of s k.duty) k.told
+  i = k.list.inv
+
+  count_seen : (j place : ℕ) → j < w.ghost.marked → slice_get answers j ≡ Some (Answer.Send (SendAnswer.Accepted place)) → place < counted s
+  count_seen j place before is = elim (either_count c s k) [
+    | inl now ↦ omega (arith, (within c 0 false calls answers k.ties.legal.sends whole.calls.senders j place is).1, count_now c s k now)
+    | inr late ↦
+        let seen : ℕ = (enq_at k.duty.e_call k.duty.from (s.stand k.duty.e_pass).phase).seen in
+        let last = last_count (enq_at k.duty.e_call k.duty.from (s.stand k.duty.e_pass).phase).seen (late_at k.duty.e_call k.duty.from (s.stand k.duty.e_pass).phase late.0 late.1) in
+        omega (
+          arith,
+          up c 0 false calls answers k.ties.legal.sends whole.calls.senders j w.ghost.marked place (enq_at k.duty.e_call k.duty.from (s.stand k.duty.e_pass).phase).seen before is last,
+          i.request.seen_late late.0 (omega (arith, late.1)),
+          count_late c s k late.0 late.1,
+          k.ties.accepted_is,
+        )
+  ]
+
+  any_shut : (l : List Answer) (j total : ℕ) → slice_get l j ≡ Some (Answer.Close (CloseAnswer.Shut total)) → list_any shuts l ≡ true
+  any_shut [] j total is = absurd (cc)
+  any_shut (a ∷ l) zero total is = let told : a ≡ Answer.Close (CloseAnswer.Shut total) = cc in ap (λ (b : Bool). b || list_any shuts l) (ap shuts told)
+  any_shut (a ∷ l) (suc j) total is = later (shuts a) (any_shut l j total is)
+    where
+      later : (b : Bool) → list_any shuts l ≡ true → (b || list_any shuts l) ≡ true
+      later true so = refl
+      later false so = so
+
+  mark_seen : (j total : ℕ) → j < w.ghost.marked → slice_get answers j ≡ Some (Answer.Close (CloseAnswer.Shut total)) → mark_of s ≡ 1
+  mark_seen j total before is = elim (cases_lt (stage c s k) 16) [
+    | inl early ↦ shut_now c s k (omega (arith, early)) (any_shut answers j total is)
+    | inr late ↦ absurd (once c 0 false calls answers k.ties.legal.sends j w.ghost.marked total (enq_at k.duty.e_call k.duty.from (s.stand k.duty.e_pass).phase).seen before is (last_shut _ (closing_at k.duty.e_call k.duty.from (s.stand k.duty.e_pass).phase late)))
+  ]
+
+  one_seen : (j : ℕ) (e : Entry) (a : Answer) → j < w.ghost.marked → slice_get answers j ≡ Some a → IsSeen (counted s) (mark_of s) (e, Some a)
+  one_seen j e (Answer.Send (SendAnswer.Accepted place)) before is = count_seen j place before is
+  one_seen j e (Answer.Close (CloseAnswer.Shut total)) before is = mark_seen j total before is
+  one_seen j e (Answer.Send SendAnswer.Full) before is = tt
+  one_seen j e (Answer.Send SendAnswer.Closed) before is = tt
+  one_seen j e (Answer.Send SendAnswer.Spent) before is = tt
+  one_seen j e (Answer.Close (CloseAnswer.Already total)) before is = tt
+  one_seen j e (Answer.Take told) before is = tt
+
+  -- each answered call of a sender that is out of the chain
+  seen_send : (n : ℕ) → (post_at Chain.Send (s.stand (pass_on (lists c) Chain.Send n))).rank ≤ 2 → Each (counted s) (mark_of s) (λ (e : Entry). is_pass (named (lists c) Chain.Send n) e.pass) (calls_on Chain.Send s.history) (answers_on Chain.Send s.history)
+  seen_send n out j less inside its = one_seen j (call_at calls j) (answer_at answers j) (marked (lists c) Chain.Send s w n out j less its) (get_answer j inside)
+
+-- of each chain
+seen_on : (c : Config) (s : State) (chains : Chains (lists c) s) (whole : Whole c s) (x : Chain) (hold : Holds (lists c) x s) (n : ℕ) → (post_at x (s.stand (pass_on (lists c) x n))).rank ≤ 2
+    → Each (counted s) (mark_of s) (λ (e : Entry). is_pass (named (lists c) x n) e.pass) (calls_on x s.history) (answers_on x s.history)
+seen_on c s chains whole Chain.Send hold n out = seen_send c s chains whole hold n out
+seen_on c s chains whole (Chain.Take g) hold n out =
+    λ j less inside its. take_seen (counted s) (mark_of s) g (call_at (calls_on (Chain.Take g) s.history) j) (answer_at (answers_on (Chain.Take g) s.history) j) (hold.ties.answered j (omega (arith, inside, hold.ties.answers_are)))
+
+pub ended : (c : Config) (some : 0 < c.bound) (moves : List Move) (run : IsRun (lists c) moves) (whole : Whole c (reached (lists c) moves)) (p : ℕ) → p < passes (lists c) → IsOut ((reached (lists c) moves).stand p).phase
+    → AreSeen c (counted (reached (lists c) moves)) (mark_of (reached (lists c) moves)) p (reached (lists c) moves).history
+ended c some moves run whole p less out =
+    let chains : Chains (lists c) (reached (lists c) moves) = chains_hold (lists c) some moves run in
+    let on : IsOn (lists c) (chain_of c p) p = on_chain (lists c) p less in
+    let low : (post_at (chain_of c p) ((reached (lists c) moves).stand (pass_on (lists c) (chain_of c p) on.number))).rank ≤ 2 =
+    subst (λ (q : ℕ). (post_at (chain_of c p) ((reached (lists c) moves).stand q)).rank ≤ 2) on.pass_is (out_rank (chain_of c p) ((reached (lists c) moves).stand p).node ((reached (lists c) moves).stand p).phase out) in
+    let hold : Holds (lists c) (chain_of c p) (reached (lists c) moves) = chains.holds (chain_of c p) (chain_is (lists c) p less) in
+    let are : calls_of (pass_at c p) (reached (lists c) moves).history ≡ chosen (λ (e : Entry). is_pass (named (lists c) (chain_of c p) on.number) e.pass) (calls_on (chain_of c p) (reached (lists c) moves).history) (answers_on (chain_of c p) (reached (lists c) moves).history) =
+    ap (λ (z : Pass). calls_of z (reached (lists c) moves).history) (ap (pass_at c) on.pass_is ∙ name_is (lists c) (chain_of c p) on.number on.inside)
+    ∙ calls_one (lists c) (chain_of c p) (reached (lists c) moves).history on.number on.inside (not_other (lists c) some moves run (chain_of c p)) in
+    subst (AllByRecursion (IsSeen (counted (reached (lists c) moves)) (mark_of (reached (lists c) moves)))) (sym are)
+    (all_seen (counted (reached (lists c) moves)) (mark_of (reached (lists c) moves)) (λ (e : Entry). is_pass (named (lists c) (chain_of c p) on.number) e.pass) (calls_on (chain_of c p) (reached (lists c) moves).history)
+    (answers_on (chain_of c p) (reached (lists c) moves).history) (seen_on c (reached (lists c) moves) chains whole (chain_of c p) hold on.number low))
