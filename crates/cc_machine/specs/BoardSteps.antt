@@ -51,16 +51,6 @@ stand_of who at = record { begun = who.begun; node = who.node; phase = at }
 abbrev pub phase_of : Board → Stepper → Phase
 phase_of b who = ((state_of b).stand who.pass).phase
 
--- it serves a request of a sender
-abbrev pub IsSending : Phase → Type 0
-IsSending (Phase.Sending job service) = Unit {0}
-IsSending _ = ⊥
-
--- it serves a take
-abbrev pub IsTaking : Phase → Type 0
-IsTaking (Phase.Taking job service) = Unit {0}
-IsTaking _ = ⊥
-
 -- the step of this stepper, in this phase, can be done
 pub record CanStep (b : Board) (who : Stepper) (at : Phase) : Type 0 where
   pub laid : IsLaid b

@@ -1,12 +1,11 @@
 //! The next atomic step of a pass, chosen by its place.
-ghost use Rattle.std.specs.Prelude.{◌≡◌, ◌<◌, ◌/◌, length, IfSome, IfNone};
-ghost use Rattle.cc_machine.specs.BoardSteps.{state_of, phase_of, IsLaid, CanStep, Stepped, stepper_at, Moved};
+ghost use Rattle.std.specs.Prelude.{◌≡◌, ◌<◌, ◌/◌, length};
+ghost use Rattle.cc_machine.specs.BoardSteps.{state_of, phase_of, IsLaid, CanStep, stepper_at, Moved};
 ghost use Rattle.cc_runs.specs.State.{chain_of};
-ghost use Rattle.cc_runs.specs.Lines.{event_at};
 ghost use Rattle.cc_machine.specs.Machine.{waits_at};
 
 use crate::board::{Board, Stepper};
-use cc_runs::{Chain, Event, Kind, NodeField, Phase, Stand, Word};
+use cc_runs::{Chain, Event, NodeField, Phase, Stand, Word};
 
 /// A quotient, without a division if it is 0, as is the group of every receiver if there is one group.
 fn quotient(number: usize, by: usize) -> usize
@@ -67,47 +66,6 @@ impl Board {
         self.load(Word::Node(self.chain(pass), stand.node, NodeField::State)) == 1
     }
 
-    /// The step in the phase of the pass. Each arm reads of that phase only what its step needs.
-    #[tactic(auto, using(crate::proofs::Stands::stands_at))]
-    fn step(&mut self, who: Stepper) -> Option<Kind>
-        requires pass { who.pass < length self.old.stands.items }
-        requires can { CanStep self.old who (phase_of self.old who) }
-        ensures some { IfSome result (λ kind. Stepped self.old who (phase_of self.old who) kind self.new) }
-        ensures none { IfNone result (self.new ≡ self.old) }
-        ensures idle { IfNone result (event_at (phase_of self.old who) ≡ Event.Idle) }
-    {
-        match self.stands[who.pass].phase {
-            Phase::ResetNext { call } => Some(self.reset_next(who, call)),
-            Phase::ResetState { call } => Some(self.reset_state(who, call)),
-            Phase::Exchange { call } => Some(self.exchange(who, call)),
-            Phase::WriteTag { put, request } => Some(self.write_tag(who, put, request)),
-            Phase::WriteBody {
-                put,
-                request,
-                index,
-            } => Some(self.write_body(who, put, request, index)),
-            Phase::Link { put } => Some(self.link(who, put)),
-            Phase::ReadState => Some(self.read_state(who)),
-            Phase::ReadNext { round } => Some(self.read_next(who, round)),
-            Phase::WriteAnswer { job, answer } => Some(self.write_answer(who, job, answer)),
-            Phase::WriteAnswerTag { job, item } => Some(self.write_answer_tag(who, job, item)),
-            Phase::WriteAnswerBody { job, item, index } => {
-                Some(self.write_answer_body(who, job, item, index))
-            }
-            Phase::MarkDone { job } => Some(self.mark_done(who, job)),
-            Phase::HandOver { at } => Some(self.hand_over(who, at)),
-            Phase::ReadAnswer => Some(self.read_answer(who)),
-            Phase::ReadAnswerTag { place } => Some(self.read_answer_tag(who, place)),
-            Phase::ReadAnswerBody { parcel, index } => {
-                Some(self.read_answer_body(who, parcel, index))
-            }
-            Phase::Counting { job, service } => Some(self.count(who, job, service)),
-            Phase::Sending { .. } => Some(self.send(who)),
-            Phase::Taking { .. } => Some(self.take(who)),
-            Phase::Idle | Phase::Finished { .. } => None,
-        }
-    }
-
     /// The next atomic step of a pass, if it has one.
     pub fn event(&mut self, who: Stepper) -> Event
         requires pass { who.pass < length self.old.stands.items }
@@ -115,7 +73,7 @@ impl Board {
         requires can { CanStep self.old who (phase_of self.old who) }
         ensures { Moved self.old who.pass result self.new }
     {
-        match self.step(who) {
+        match self.step(who, self.stand(who.pass).phase) {
             Some(kind) => Event::Did(kind),
             None => Event::Idle,
         }
