@@ -21,6 +21,7 @@ use Rattle.cc_queue.specs.Work.{IsOn, Turns, Waits, Enters, worked_to}
 use Rattle.cc_queue.specs.Calls.{Begun, Waited, Answered, Ended, Completed, IsSettled}
 use Rattle.cc_queue.specs.Codes.{IsSendAnswer, IsCloseAnswer}
 use Rattle.cc_queue.specs.Passes.{MadeLast, IsSend, IsClose, IsStill, HasStopped}
+use Rattle.cc_queue.proofs.Soon.{waits_briefly}
 use Rattle.cc_queue.proofs.AnswerKinds.{send_answered, close_answered}
 
 pub goes_self : (seen : List Move) → GoesOn seen seen
@@ -80,6 +81,7 @@ waited_so u v w begun node is list stand s e = subst (λ (x : Walk). Waited x w)
   stands = stands_on v w [] v.stand.begun v.stand.node Phase.ReadState (ap (λ (x : Walk). x.stand) e.worked) refl s list (seat_of v w Phase.ReadState e.worked) e.later (made_of v w Phase.ReadState e.worked);
   still = ap (λ (x : Walk). x.stand) e.worked ∙ (λ i. record { begun = v.stand.begun; node = v.stand.node; phase = (sym stand i).phase });
   did = e.did;
+  briefly = waits_briefly v w (ap (λ (x : Stand). x.phase) stand) s e;
 })
 
 -- a turn that is done, of a pass of a list

@@ -1,8 +1,11 @@
+pub mod Soon
+pub mod OneRun
 pub mod Headline
 pub mod Heeded
 pub mod AnswerKinds
 pub mod SendCount
 pub mod Meetings
+pub mod Counted
 pub mod OnItsSide
 pub mod Trying
 pub mod Seated

@@ -6,6 +6,7 @@ use Rattle.cc_runs.specs.ChainLaws.{IsLastPending}
 use Rattle.cc_runs.specs.Run.{begun_after}
 use Rattle.cc_steps.specs.Walk.{Walk}
 use Rattle.cc_queue.specs.Work.{tally, reads, marks, hands, scans}
+use Rattle.cc_queue.specs.Soon.{WaitsBriefly}
 use Rattle.cc_queue.specs.Headline.{StandsInOne, entry_of, name, history}
 
 -- A begun call is in one history as its pass's last call, and is pending there. It is linked into its chain, so that the
@@ -18,11 +19,12 @@ pub record Begun (v : Walk) (call : Call) (w : Walk) : Type 0 where
   pub reads : tally reads w.did ≡ tally reads v.did
   pub marks : tally marks w.did ≡ tally marks v.did
 
--- A turn that waits did one step, a read of the state which gave 1: the call is in its phase.
+-- A turn that waits did one step, a read of the state which gave 1: the call is in its phase. It hasn't waited long.
 pub record Waited (v w : Walk) : Type 0 where
   pub stands : StandsInOne v [] w
   pub still : w.stand ≡ v.stand
   pub did : w.did ≡ Kind.ReadState ∷ v.did
+  pub briefly : WaitsBriefly w
 
 -- A turn that is done read the state once. The answer is that of its pass's last call in one history. If the state was
 -- 2 it served nobody; if it was 0 it served at least its own call and at most `bound` calls, reading at most

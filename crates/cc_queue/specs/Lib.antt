@@ -1,11 +1,13 @@
 pub mod Names
 pub mod Headline
+pub mod Soon
 pub mod Work
 pub mod Codes
 pub mod Passes
 pub mod SendCount
 pub mod Calls
 pub mod Met
+pub mod Counted
 pub mod Noted
 pub mod Opened
 pub mod Receipts

@@ -1,12 +1,14 @@
 -- The knowledge of passes that have met.
-use Rattle.std.specs.Prelude.{◌≡◌, ℕ, ◌<◌, List, [], length, slice_index_or}
+use Rattle.std.specs.Prelude.{◌≡◌, ◌⊎◌, ℕ, ◌<◌, List, [], length, slice_index_or}
 use Rattle.std.specs.List.{All}
+use Rattle.cc_model.specs.Items.{Begins}
 use Rattle.cc_queue.specs.Names.{Move}
 use Rattle.cc_steps.specs.Topic.{Topic}
 use Rattle.cc_steps.specs.Seen.{Onward, Later}
 use Rattle.cc_steps.specs.Shown.{longer}
 use Rattle.cc_steps.specs.Walk.{Walk, IsOf, IsSound}
-use Rattle.cc_queue.specs.Headline.{StandsInOne}
+use Rattle.cc_steps.specs.Noted.{AreOfOneRun}
+use Rattle.cc_queue.specs.Headline.{StandsInOne, history}
 use Rattle.cc_queue.specs.Passes.{HasStopped}
 
 -- two passes are of one queue
@@ -29,6 +31,11 @@ pub record Sees (v w : Walk) : Type 0 where
 pub record HasMet (v w : Walk) : Type 0 where
   pub stands : StandsInOne v [] w
   pub same : w ≡ record v { seen = w.seen }
+
+-- The runs that two passes have seen are prefixes of one run. So one history begins the other, whether or not the passes met.
+pub record SeeOneRun (v w : Walk) : Type 0 where
+  pub run : AreOfOneRun v.seen w.seen
+  pub histories : Begins (history v) (history w) ⊎ Begins (history w) (history v)
 
 -- Two passes have met: both have seen now what the one that knew more had seen.
 pub record HaveMet (v w v' w' : Walk) : Type 0 where

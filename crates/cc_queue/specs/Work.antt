@@ -1,10 +1,10 @@
 -- A part of a call, as its seat sees it: the phase that its pass has come to, and the steps that it did.
-use Rattle.std.specs.Prelude.{◌≡◌, ℕ, ◌≤◌, ◌+◌, ◌==◌, if◌then◌else◌, ◌*◌, List, [], ◌∷◌, ◌++◌}
+use Rattle.std.specs.Prelude.{◌≡◌, ℕ, ◌≤◌, ◌+◌, ◌==◌, if◌then◌else◌, ◌*◌, List, [], ◌∷◌, ◌++◌, None}
 use Rattle.cc_queue.specs.Names.{Answer, Call, Config, Served, Chain, Job, Kind, Parcel, Phase, SendAnswer, Sending, Stand}
 use Rattle.cc_runs.specs.State.{chain_of}
 use Rattle.cc_steps.specs.Seen.{Onward}
 use Rattle.cc_steps.specs.Topic.{Topic}
-use Rattle.cc_steps.specs.Walk.{Walk, IsOf, IsSameSeat}
+use Rattle.cc_steps.specs.Walk.{Walk, IsOf, IsSameSeat, Found}
 use Rattle.cc_queue.specs.Headline.{entry_of}
 
 -- the pass is on this chain
@@ -101,6 +101,7 @@ pub record Turns (v : Walk) (at : Phase) (served : ℕ) (w : Walk) : Type 0 wher
 
 -- the pass read its state once, which says that its call waits
 pub record Waits (v w : Walk) : Type 0 where
+  pub found : Found v None 1 w
   pub worked : w ≡ worked_to v Phase.ReadState w
   pub did : w.did ≡ Kind.ReadState ∷ v.did
   pub later : Onward v.seen w.seen

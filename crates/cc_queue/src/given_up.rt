@@ -108,7 +108,8 @@ impl Receiver {
 }
 
 impl PendingSend {
-    /// Gives the sender up with its call, which may stay unanswered, and may stop its chain. It did nothing more.
+    /// Gives the sender up with its call. The call may still be answered. It stops no call that came before it in its chain. From its
+    /// turn to combine on it stops those that come after it.
     pub fn abandon(self) -> GivenUp
         ensures { result ≡ self }
     {
@@ -118,7 +119,8 @@ impl PendingSend {
 }
 
 impl PendingClose {
-    /// Gives the sender up with its call, which may stay unanswered, and may stop its chain. It did nothing more.
+    /// Gives the sender up with its call. The call may still be answered. It stops no call that came before it in its chain. From its
+    /// turn to combine on it stops those that come after it.
     pub fn abandon(self) -> GivenUp
         ensures { result ≡ self }
     {
@@ -128,7 +130,8 @@ impl PendingClose {
 }
 
 impl PendingTake {
-    /// Gives the receiver up with its call, which may stay unanswered, and may stop its chain. It did nothing more.
+    /// Gives the receiver up with its call. The call may still be answered. It stops no call that came before it in its chain. From its
+    /// turn to combine on it stops those that come after it.
     pub fn abandon(self) -> GivenUp
         ensures { result ≡ self }
     {

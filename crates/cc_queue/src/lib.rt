@@ -13,6 +13,7 @@ mod begins;
 mod blocking;
 mod bodies;
 mod combine;
+mod counts;
 mod given_up;
 mod meets;
 mod notes;

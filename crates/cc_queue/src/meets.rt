@@ -3,12 +3,12 @@ ghost use Rattle.std.specs.Prelude.{◌≡◌, [], length};
 ghost use Rattle.std.specs.List.{All};
 ghost use Rattle.cc_steps.specs.Shown.{longer};
 ghost use Rattle.cc_steps.specs.Walk.{Walk, IsOf};
-ghost use Rattle.cc_queue.specs.Met.{HasMet, HaveMet, EachHasMet, AreOf, IsOfOne, MayMeet, Sees, Swept, Gathered, HaveSeenOne};
+ghost use Rattle.cc_queue.specs.Met.{HasMet, HaveMet, EachHasMet, AreOf, IsOfOne, MayMeet, SeeOneRun, Sees, Swept, Gathered, HaveSeenOne};
 
 use crate::given_up::GivenUp;
 use crate::passes::{Receiver, Sender};
 use crate::queue::Queue;
-use cc_steps::looks::look;
+use cc_steps::looks::{have_seen_one_run, look};
 use cc_steps::seats::PassSeat;
 use cc_steps::words::Words;
 
@@ -26,6 +26,18 @@ fn meet_seats(words: &Words, one: &mut PassSeat, other: &mut PassSeat)
     other.is_sound();
 }
 
+/// The runs that two passes have seen are prefixes of one run. Nothing of the passes changes.
+#[tactic(auto, using(crate::proofs::OneRun::see_one_run))]
+fn compare_seats(words: &Words, one: &mut PassSeat, other: &mut PassSeat)
+    requires here { IsOf words.now one.old × IsOf words.now other.old }
+    ensures same { (one.new ≡ one.old) × (other.new ≡ other.old) }
+    ensures run { SeeOneRun one.old other.old }
+{
+    one.is_sound();
+    other.is_sound();
+    have_seen_one_run(words, one, other);
+}
+
 /// A pass that makes no step now, so that it can meet others: a sender, a receiver, or a pass that was given up.
 pub trait Meets: Sized {
     /// The view that clauses have of the pass.
@@ -38,6 +50,12 @@ pub trait Meets: Sized {
         ensures met { HasMet (walk self.old) (walk self.new) }
         ensures seen { (walk self.new).seen ≡ one.new.seen }
         ensures longest { one.new.seen ≡ longer one.old.seen (walk self.old).seen };
+
+    /// The runs that the pass of this seat and this pass have seen are prefixes of one run. Nothing of the passes changes.
+    fn compare_seat(&mut self, words: &Words, one: &mut PassSeat)
+        requires here { IsOf words.now one.old × IsOf words.now (walk self.old) }
+        ensures same { (one.new ≡ one.old) × (self.new ≡ self.old) }
+        ensures run { SeeOneRun one.old (walk self.old) };
 }
 
 impl Meets for Sender {
@@ -45,6 +63,10 @@ impl Meets for Sender {
 
     fn meet_seat(&mut self, words: &Words, one: &mut PassSeat) {
         meet_seats(words, one, &mut self.at.seat);
+    }
+
+    fn compare_seat(&mut self, words: &Words, one: &mut PassSeat) {
+        compare_seats(words, one, &mut self.at.seat);
     }
 }
 
@@ -54,6 +76,10 @@ impl Meets for Receiver {
     fn meet_seat(&mut self, words: &Words, one: &mut PassSeat) {
         meet_seats(words, one, &mut self.at.seat);
     }
+
+    fn compare_seat(&mut self, words: &Words, one: &mut PassSeat) {
+        compare_seats(words, one, &mut self.at.seat);
+    }
 }
 
 impl Meets for GivenUp {
@@ -61,6 +87,10 @@ impl Meets for GivenUp {
 
     fn meet_seat(&mut self, words: &Words, one: &mut PassSeat) {
         meet_seats(words, one, &mut self.seat);
+    }
+
+    fn compare_seat(&mut self, words: &Words, one: &mut PassSeat) {
+        compare_seats(words, one, &mut self.seat);
     }
 }
 
@@ -70,17 +100,32 @@ pub trait Live: Meets {
     fn meet<P: Meets>(&mut self, other: &mut P)
         requires { IsOfOne (Self.walk self.old) (P.walk other.old) }
         ensures { HaveMet (Self.walk self.old) (P.walk other.old) (Self.walk self.new) (P.walk other.new) };
+
+    /// The runs that the two passes have seen are prefixes of one run, whether or not they ever met. Nothing of the passes changes.
+    /// The call takes no memory and never waits.
+    fn has_seen_one_run<P: Meets>(&mut self, other: &mut P)
+        requires { IsOfOne (Self.walk self.old) (P.walk other.old) }
+        ensures same { (self.new ≡ self.old) × (other.new ≡ other.old) }
+        ensures run { SeeOneRun (Self.walk self.old) (P.walk other.old) };
 }
 
 impl Live for Sender {
     fn meet<P: Meets>(&mut self, other: &mut P) {
         other.meet_seat(&self.at.words, &mut self.at.seat);
     }
+
+    fn has_seen_one_run<P: Meets>(&mut self, other: &mut P) {
+        other.compare_seat(&self.at.words, &mut self.at.seat);
+    }
 }
 
 impl Live for Receiver {
     fn meet<P: Meets>(&mut self, other: &mut P) {
         other.meet_seat(&self.at.words, &mut self.at.seat);
+    }
+
+    fn has_seen_one_run<P: Meets>(&mut self, other: &mut P) {
+        other.compare_seat(&self.at.words, &mut self.at.seat);
     }
 }
 

@@ -1,5 +1,5 @@
 //! Notes of what a pass has seen, heeded by other passes: order between calls that a program hands over.
-ghost use Rattle.std.specs.Prelude.{◌≡◌, ◌<◌, ◌≤◌, IfErr, IfOk, OnErr, OnOk};
+ghost use Rattle.std.specs.Prelude.{◌≡◌, ◌<◌, ◌≤◌, [], IfErr, IfOk, OnErr, OnOk};
 ghost use Rattle.cc_queue.specs.Names.{Answer, Call};
 ghost use Rattle.cc_queue.specs.Noted.{CompletedAfter, HasHeeded, HeededIsFresh, HeededStays, IsOfOneQueue, JustHeeded, SendsAreFresh, TakesAreFresh, TurnsComplete};
 ghost use Rattle.cc_queue.specs.Met.{HasMet};
@@ -8,7 +8,7 @@ ghost use Rattle.cc_steps.specs.Shown.{longer};
 ghost use Rattle.cc_steps.specs.Walk.{IsOf};
 
 use crate::blocking::{send, take};
-use crate::passes::{Receiver, Sender};
+use crate::passes::{PendingClose, PendingSend, PendingTake, Receiver, Sender};
 use crate::queue::Queue;
 use cc_model::{Body, SendAnswer, TakeAnswer};
 use cc_steps::notes;
@@ -57,6 +57,46 @@ impl Receiver {
     {
         notes::heed(&self.at.words, &mut self.at.seat, note);
         self.at.seat.is_sound();
+    }
+}
+
+impl PendingSend {
+    /// Notes what the sender has seen, its pending send among it. It takes no memory and never waits.
+    pub fn note(&mut self) -> Note
+        ensures same { self.new ≡ self.old }
+        ensures noted { result ≡ noted_by self.old }
+    {
+        make_note(&self.at.words, &mut self.at.seat)
+    }
+}
+
+impl PendingClose {
+    /// Notes what the sender has seen, its pending close among it. It takes no memory and never waits.
+    pub fn note(&mut self) -> Note
+        ensures same { self.new ≡ self.old }
+        ensures noted { result ≡ noted_by self.old }
+    {
+        make_note(&self.at.words, &mut self.at.seat)
+    }
+}
+
+impl PendingTake {
+    /// Notes what the receiver has seen, its pending take among it. It takes no memory and never waits.
+    pub fn note(&mut self) -> Note
+        ensures same { self.new ≡ self.old }
+        ensures noted { result ≡ noted_by self.old }
+    {
+        make_note(&self.at.words, &mut self.at.seat)
+    }
+}
+
+impl Queue {
+    /// A note by which nothing was seen. It takes no memory and never waits.
+    pub fn blank_note(&self) -> Note
+        ensures here { IsNoteOf self.now result }
+        ensures nothing { result.seen ≡ [] }
+    {
+        notes::blank(&self.words)
     }
 }
 

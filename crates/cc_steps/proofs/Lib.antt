@@ -4,6 +4,7 @@ pub mod Keeps
 pub mod Longest
 pub mod Walks
 pub mod Joined
+pub mod Counted
 pub mod StepFacts
 pub mod ReadAnswers
 pub mod Own

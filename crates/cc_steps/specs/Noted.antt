@@ -1,9 +1,10 @@
 -- A contract sees of a note its table, and the run that its pass had seen.
-use Rattle.std.specs.Prelude.{◌≡◌, List, []}
+use Rattle.std.specs.Prelude.{◌≡◌, ◌⊎◌, List, []}
 use Rattle.atomic_table.specs.Seated.{TableId}
 use Rattle.atomic_table.specs.declared.shared.Seat.{Seat}
 use Rattle.cc_steps.specs.Names.{Setting, Move, View, Role}
 use Rattle.cc_steps.specs.Topic.{Topic}
+use Rattle.cc_steps.specs.Seen.{Later}
 use Rattle.cc_steps.specs.Walk.{Walk}
 
 -- a note as plain data: its table and setting, and the run, the newest move first
@@ -28,3 +29,7 @@ pub record IsPart (s : Seat (Unit {0}) View) : Type 0 where
 -- the note is of this topic
 abbrev pub IsNoteOf : Topic → Noted → Type 0
 IsNoteOf z n = (n.table_id ≡ z.table_id) × (n.setting ≡ z.setting)
+
+-- two runs are prefixes of one run: one of them goes on from the other
+abbrev pub AreOfOneRun : List Move → List Move → Type 0
+AreOfOneRun one other = Later one other ⊎ Later other one

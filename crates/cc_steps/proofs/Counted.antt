@@ -1,0 +1,100 @@
+-- A load by a seat that does no step: it changes no word and adds no move, and the seat has seen the longest run afterwards.
+use Rattle.std.proofs.Common.{◌≡◌, ℕ, List, [], ◌∷◌, ◌++◌, length, set, get_or, IsTrue, None, refl, sym, ap, ◌∙◌, subst, ⊎_elim, append-nil}
+use mathlib.Core.Option.{some}
+use lib.ListN.{get_elem?}
+use Rattle.atomic_table.specs.Seated.{TableId}
+use Rattle.atomic_table.specs.Table.{State, Me, keeps, Allows, Enters}
+use Rattle.atomic_table.proofs.Lists.{at_snoc}
+use Rattle.cc_steps.specs.Names.{Move, Object, Setting, Word, View, Role}
+use Rattle.cc_runs.specs.Words.{layout_of, exists}
+use Rattle.cc_steps.specs.Slots.{held, slot}
+use Rattle.cc_steps.specs.Seen.{stand_in, word_in, made_in, did_in}
+use Rattle.cc_steps.specs.Shown.{passing, Knows, Shown, stand_of}
+use Rattle.cc_steps.specs.Counted.{parting, FoundAt, Glimpsed, Watched, HasWatched}
+use Rattle.cc_steps.specs.Walk.{Walk, walk_of, Sound}
+use Rattle.cc_steps.proofs.Keeps.{word_found}
+use Rattle.cc_steps.proofs.Joined.{shown_views, viewed_as, viewed_set, set_found}
+use Rattle.cc_steps.proofs.Runs.{later_on, made-others, did-others, stand-others, step_safe}
+
+module _ (c : Setting) (s : State (Unit {0}) View) (h : Shown c s) (place : ℕ) where
+  -- the word in the slot is that of the longest run
+  pub found_at : FoundAt c h.log place (get_or s.words place 0)
+  unfolding word_in
+  found_at = record {
+    run = h.run;
+    found_is = λ w there is. ap (λ (x : ℕ). get_or s.words x 0) (sym is) ∙ sym (word_found (layout_of c.config) s.words w there) ∙ ap (λ (m : Word → ℕ). m w) h.words;
+  }
+
+-- a part of the longest run enters
+pub glimpses_so : (c : Setting) (slots place : ℕ) → Enters (Shown c) slots place (λ n w. Glimpsed c place n w)
+glimpses_so c slots place s h _ _ = (
+  parting c h.log,
+  shown_views c s h (s.views ++ parting c h.log ∷ [])
+      (λ j u e. ⊎_elim
+      (λ (was : get_elem? s.views j ≡ some u). h.views j u was)
+      (λ (same : parting c h.log ≡ u). subst (λ (y : View). Knows c h.log h.next h.owner h.top j y.role y) same (refl, ([], refl)))
+      (at_snoc s.views (parting c h.log) u j e)),
+  record { view = refl; found_at = found_at c s h place },
+)
+
+-- a pass sees the longest run
+pub watches_so : (c : Setting) (slots id : ℕ) (me : Me (Unit {0}) View) (place : ℕ) → me.0.role ≡ Role.Pass → Allows (Shown c) slots id me place (λ x. x) (λ x m'. Watched me.0 place x m'.0)
+watches_so c slots id me place is s h _ at _ =
+    let v : View = me.0 in
+    let known = viewed_as c s h id v Role.Pass is at in
+    let w : View = passing c v.number h.log in
+    let same : passing c v.number h.log ≡ passing v.setting v.number h.log = λ i. passing (sym known.0 i) v.number h.log in
+    let still : set s.words place (get_or s.words place 0) ≡ s.words = set_found s.words place in (
+      w,
+      keeps,
+      tt,
+      record {
+        log = h.log;
+        next = h.next;
+        owner = h.owner;
+        top = h.top;
+        run = h.run;
+        checked = h.checked;
+        wide = ap length still ∙ h.wide;
+        configured = λ i lt. ap (λ (l : List ℕ). get_or l i 0) still ∙ h.configured i lt;
+        words = ap (held (layout_of c.config)) still ∙ h.words;
+        views = viewed_set c s h s.views id w (λ j u _ e. h.views j u e) (refl, known.1, known.2, ([], refl, refl), (h.log, sym (append-nil h.log)));
+        unborn = h.unborn;
+        few = h.few;
+      },
+      record { view = same; mine = known.3; found_at = subst (λ (x : Setting). FoundAt x h.log place (get_or s.words place 0)) (sym known.0) (found_at c s h place) },
+    )
+
+-- ---- what that gives a pass
+
+module _ (z : TableId) (v : View) (place found : ℕ) (sound : Sound v) (u : View) (l : Watched v place found u) where
+  abbrev Next : View
+  Next = passing v.setting v.number u.seen
+
+  next_sound : Sound Next
+  next_sound = record { pass = refl; alone = refl; below = sound.below; checked = sound.checked; run = l.found_at.run }
+
+  pub sound_seen : Sound u
+  sound_seen = subst Sound (sym l.view) next_sound
+
+  module _ (object : Object) (there : IsTrue (exists (layout_of v.setting.config) (Word.Object object))) (is : slot (layout_of v.setting.config) (Word.Object object) ≡ place) where
+    next_watched : HasWatched (walk_of z v) object found (walk_of z Next)
+    next_watched = record {
+      same = λ i. record {
+        table_id = z;
+        setting = v.setting;
+        number = v.number;
+        seen = u.seen;
+        stand = (ap (λ (x : List Move). stand_in v.setting x v.number) l.mine.1 ∙ stand-others v.setting l.mine.0 v.seen v.number l.mine.2) i;
+        made = (ap (λ (x : List Move). made_in v.setting x v.number) l.mine.1 ∙ made-others v.setting l.mine.0 v.seen v.number l.mine.2) i;
+        did = (ap (λ (x : List Move). did_in v.setting x v.number) l.mine.1 ∙ did-others v.setting l.mine.0 v.seen v.number l.mine.2) i;
+      };
+      later = λ first g. later_on first v.seen u.seen (record { more = l.mine.0; is = l.mine.1 }) g;
+      mine = l.mine;
+      run = l.found_at.run;
+      ready = (step_safe v.setting sound.checked v.number u.seen u.seen None (stand_of Next) sound.below l.found_at.run refl);
+      found_is = l.found_at.found_is (Word.Object object) there is;
+    }
+
+    pub watched_then : (y : TableId) → y ≡ z → (w : Walk) → walk_of z v ≡ w → HasWatched w object found (walk_of y u)
+    watched_then y same w is_w = subst (λ (x : Walk × Walk). HasWatched x.0 object found x.1) (λ i. (is_w i, walk_of (sym same i) (sym l.view i))) next_watched
