@@ -3,6 +3,7 @@
 use Rattle.std.proofs.Common.{◌≡◌, ◌≢◌, ℕ, suc, ◌<◌, ◌⊎◌, inl, inr, List, [], ◌∷◌, length, refl, sym, ◌∙◌, subst, arith}
 use Rattle.cc_judge.specs.Faults.{IsRising}
 use Rattle.cc_judge.proofs.Places.{In, at_in}
+pub use Rattle.cc_judge.specs.Complete.{Once}
 
 -- the list without an element
 abbrev without : (p : ℕ) (xs : List ℕ) → In p xs → List ℕ
@@ -21,11 +22,6 @@ without_in p q (x ∷ xs) (inl here) (inl there) apart = absurd (apart (sym ther
 without_in p q (x ∷ xs) (inl here) (inr rest) apart = rest
 without_in p q (x ∷ xs) (inr later) (inl there) apart = inl there
 without_in p q (x ∷ xs) (inr later) (inr rest) apart = inr (without_in p q xs later rest apart)
-
--- no element is in the list twice
-abbrev pub Once : List ℕ → Type 0
-Once [] = Unit {0}
-Once (x ∷ xs) = (In x xs → ⊥) × Once xs
 
 rising_once : (xs : List ℕ) → IsRising xs → Once xs
 rising_once [] rising = tt

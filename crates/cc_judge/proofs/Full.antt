@@ -1,10 +1,10 @@
 -- A send finds the queue full only if as many items as the queue holds may have been in it.
-use Rattle.std.proofs.Common.{◌≡◌, ◌≢◌, ℕ, ◌<◌, ◌≤◌, ◌⊎◌, inl, inr, List, [], ◌∷◌, length, Option, Some, None, IsSome, refl, sym, ap, ◌∙◌, subst, arith}
+use Rattle.std.proofs.Common.{◌≡◌, ◌≢◌, ℕ, ◌<◌, ◌≤◌, ◌⊎◌, inl, inr, List, [], ◌∷◌, length, Option, Some, IsSome, refl, sym, ap, ◌∙◌, subst, arith}
 use Rattle.std.specs.List.{slice_get}
 use Rattle.std.proofs.lemmas.Bool.{cases_lt}
 use Rattle.cc_judge.specs.Names.{Act, Call, Rules, Step}
 use Rattle.cc_judge.specs.Order.{EndsBefore, IsCall, Does, IsRun, IsOrder}
-use Rattle.cc_judge.specs.Faults.{Did, Returned, Differ, IsIn, BeganBy, EndedBy, FewerAt, NotFull}
+use Rattle.cc_judge.specs.Faults.{Returned, Differ, EndedBy, FewerAt, NotFull}
 use Rattle.cc_judge.proofs.Places.{In, Before, before_first, before_second, in_order, in_at}
 use Rattle.cc_judge.proofs.Runs.{Earlier, Single, AtMostOnce, later, first, from_where, takes_front, gone, single_next, loosened}
 use Rattle.cc_judge.proofs.Orders.{returned_step, sent_in_log, in_log, in_time, on_before, one_send, apart}

@@ -10,3 +10,11 @@ pub mod Lines
 pub mod Shut
 pub mod Full
 pub mod Fullness
+pub mod RefusedClaims
+pub mod Weave
+pub mod Fifo
+pub mod Complete
+pub mod Views
+pub mod Weaker
+pub mod Shares
+pub mod Clips

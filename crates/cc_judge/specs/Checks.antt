@@ -1,5 +1,5 @@
 -- The result of one turn of a check.
-use Rattle.std.specs.Prelude.{◌≡◌, ℕ, ◌<◌, ◌≤◌, ◌⊎◌, List, Bool, true, false, Option, Some, None, slice_get, slice_set}
+use Rattle.std.specs.Prelude.{◌≡◌, ℕ, ◌≤◌, ◌⊎◌, List, Bool, true, false, Option, Some, None, slice_get, slice_set}
 use Rattle.cc_judge.specs.Names.{Call, Act, Leave, Step, Tie}
 use Rattle.cc_judge.specs.Faults.{Did, Returned, BeganBy, EndedBy, FewerAt}
 

@@ -3,6 +3,7 @@ ghost use Rattle.std.specs.Prelude.{IfOk, IfSome};
 ghost use Rattle.cc_judge.specs.Names.{Verdict, Fault};
 ghost use Rattle.cc_judge.specs.Table.{IsIndex};
 ghost use Rattle.cc_judge.specs.Faults.{Differ};
+ghost use Rattle.cc_judge.specs.Complete.{LogsWithoutFaultsHaveOrders};
 ghost use Rattle.cc_judge.specs.Verdict.{IsVerdict, Stands, Indexes, FaultsHaveNoOrder};
 
 use crate::closing::{is_closed_early, is_reopened, was_open};
@@ -129,6 +130,12 @@ fn index_of(
 #[tactic(auto, using(crate::proofs::NoOrder::no_order))]
 pub fn faults_have_no_order()
     ensures { FaultsHaveNoOrder }
+{}
+
+/// The law: a log without closes, and with no calls that only their lines order, has a legal order if it has none of the faults.
+#[tactic(auto, using(crate::proofs::Shares::completeness))]
+pub fn logs_without_faults_have_orders()
+    ensures { LogsWithoutFaultsHaveOrders }
 {}
 
 /// The first take whose item no call sent, or whose item was sent by a call that began after the take had ended.

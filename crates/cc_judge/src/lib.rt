@@ -6,6 +6,7 @@
 //! 1990).
 #![tactic(auto)]
 
+mod clauses;
 mod closing;
 mod crowd;
 mod decide;
@@ -19,6 +20,7 @@ mod share;
 mod table;
 mod times;
 
-pub use decide::{Fault, Verdict, faults_have_no_order, judge};
+pub use clauses::clauses_refuse;
+pub use decide::{Fault, Verdict, faults_have_no_order, judge, logs_without_faults_have_orders};
 pub use log::{Act, Call, Rules, Stay, Step, Tie};
 pub use order::is_order;

@@ -3,3 +3,4 @@ pub mod Table
 pub mod Steps
 pub mod Ahead
 pub mod Reading
+pub mod RefusedClaims

@@ -5,3 +5,4 @@ pub mod Log
 pub mod Answers
 pub mod State
 pub mod Options
+pub mod Refused

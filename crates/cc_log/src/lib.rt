@@ -4,6 +4,7 @@
 //! one, with `items` and `threads`, and `late` the calls that a log which begins late may lack.
 #![tactic(auto)]
 
+mod clauses;
 mod fault;
 mod items;
 mod late;
@@ -14,6 +15,7 @@ mod parse;
 mod state;
 mod threads;
 
+pub use clauses::definitions_refuse;
 pub use fault::{LineFault, LogFault};
 pub use line::{Body, Line, Said, body_text};
 pub use parse::{Log, Notes, Options, Shown, read_log};

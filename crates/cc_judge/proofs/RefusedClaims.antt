@@ -1,0 +1,71 @@
+-- The clauses refuse these claims.
+use Rattle.std.proofs.Common.{◌≡◌, ℕ, zero, suc, ◌<◌, List, [], ◌∷◌, length, Some, None, inl, inr, false, refl, sym, ap, ◌∙◌, arith}
+use Rattle.std.specs.List.{slice_get}
+use Rattle.cc_judge.specs.Names.{Act, Call, Rules}
+use Rattle.cc_judge.specs.Order.{EndsBefore}
+use Rattle.cc_judge.specs.Faults.{Passed, SentBefore, Fewer, IsIn, Returned}
+use Rattle.cc_judge.specs.Checks.{BeginsFrom, GoesOn, IsSurelyOut}
+use Rattle.cc_judge.specs.Refused.{RefusedClaims, call, waiting, handed, beside, two_wait, closed}
+
+-- a call that ended at a time didn't end before one that began by then
+late : (calls : List Call) (first second : ℕ) (one other : Call) (end : ℕ) → slice_get calls first ≡ Some one → slice_get calls second ≡ Some other → one.end ≡ Some end → other.begin < end → EndsBefore calls first second → ⊥
+late calls first second one other end here there ended by before =
+    let same : Some before.one ≡ Some one = sym before.one_is ∙ here in
+    let one_is : before.one ≡ one = cc in
+    let too : Some before.other ≡ Some other = sym before.other_is ∙ there in
+    let other_is : before.other ≡ other = cc in
+    let ends : Some before.end ≡ Some end = sym before.ended ∙ ap (λ (c : Call). c.end) one_is ∙ ended in
+    let end_is : before.end ≡ end = cc in
+    let begins : before.other.begin ≡ other.begin = ap (λ (c : Call). c.begin) other_is in
+    omega (arith, before.before, end_is, begins, by)
+
+untaken : (take : ℕ) → Passed (waiting 0 (Act.Send 0) ∷ []) 0 take → ⊥
+untaken zero p = absurd (cc (p.took.call_is, p.took.act_is))
+untaken (suc take) p = absurd (cc (p.took.call_is))
+
+took_nothing : (take : ℕ) → Returned (waiting 4 (Act.Send 0) ∷ []) take (Act.Took 0) → ⊥
+took_nothing zero r = absurd (cc (r.call_is, r.act_is))
+took_nothing (suc take) r = absurd (cc (r.call_is))
+
+not_out : IsSurelyOut (waiting 4 (Act.Send 0) ∷ []) 0 4 → ⊥
+not_out out = let gone = out 0 record { call = waiting 4 (Act.Send 0); call_is = refl; act_is = refl } record { call = waiting 4 (Act.Send 0); call_is = refl; by = omega arith } in took_nothing gone.0 gone.1
+
+over : (next : ℕ) → GoesOn (call 0 1 Act.Close ∷ []) 0 2 next → ⊥
+over next g = let same : Some g.call ≡ Some (call 0 1 Act.Close) = sym g.call_is in
+    let is : g.call ≡ call 0 1 Act.Close = cc in
+    absurd (omega (arith, g.not_ended 1 (ap (λ (c : Call). c.end) is)))
+
+-- a list of one element has no two of them
+one_of_two : (may : List ℕ) → length may < 2 → IsIn 0 may → IsIn 1 may → ⊥
+one_of_two [] few first second = absurd (cc (first.1))
+one_of_two (x ∷ []) few (zero, first) (zero, second) = absurd (cc (first, second))
+one_of_two (x ∷ []) few (suc k, first) second = absurd (cc (first))
+one_of_two (x ∷ []) few first (suc k, second) = absurd (cc (second))
+one_of_two (x ∷ y ∷ rest) few first second = absurd (omega (arith, few))
+
+is_in : (f : Fewer two_wait 2 (BeginsFrom two_wait None)) (i : ℕ) → slice_get two_wait i ≡ Some (waiting 0 Act.Taking) → IsIn i f.may
+is_in f i is = elim (f.others i record { call = waiting 0 Act.Taking; call_is = is; act_is = refl }) [ inl here ↦ here | inr none ↦ absurd none ]
+
+sent_beside : (rules : Rules) → rules.closes ≡ false → SentBefore rules beside 0 1 0 → ⊥
+sent_beside rules is_open s = elim s.before [
+  | inl before ↦ late beside 0 1 (call 0 5 (Act.Send 0)) (call 1 6 (Act.Send 1)) 5 refl refl refl (omega arith) before
+  | inr shut ↦ absurd (cc (is_open, shut.judged))
+]
+
+pub claims_refused : RefusedClaims
+claims_refused = record {
+  accepted_though_untaken = λ h. untaken h.0 h.1;
+  as_many_takes_as_items = λ f. one_of_two f.may f.fewer (is_in f 0 refl) (is_in f 1 refl);
+  clean_without_an_order = λ rules o. absurd (cc (o.legal.1));
+  closed_early_beside_a_close = λ rules c. late closed 1 0 (call 2 3 Act.Closed) (call 0 1 Act.Close) 3 refl refl refl (omega arith) (c.later 0 record { call = call 0 1 Act.Close; call_is = refl; act_is = refl });
+  covered_in_part = λ rules before. late beside 0 1 (call 0 5 (Act.Send 0)) (call 1 6 (Act.Send 1)) 5 refl refl refl (omega arith) before;
+  ended_while_open = λ e. absurd (cc (e));
+  full_before_a_send_began = not_out;
+  lines_turned_round = λ kept. absurd (omega (arith, kept 0 1 refl refl));
+  never_sent_of_a_sent_item = λ is. absurd (cc (is));
+  none_beside_an_item = λ d. absurd (cc (d.0));
+  overtaken_in_one_go = sent_beside;
+  overtakes_an_ended_call = λ next g. over next g;
+  taken_after_sent = λ t. late handed 1 0 (call 2 3 (Act.Took 0)) (call 0 1 (Act.Send 0)) 3 refl refl refl (omega arith) t.early;
+  taken_twice_by_one_call = λ t. t.apart refl;
+}

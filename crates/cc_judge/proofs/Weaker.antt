@@ -1,0 +1,99 @@
+-- An order of a log is one of a log that says less of its calls.
+use Rattle.std.proofs.Common.{◌≡◌, ℕ, zero, suc, ◌<◌, ◌≤◌, List, [], ◌∷◌, ◌++◌, Option, Some, None, IsSome, refl, sym, ap, ◌∙◌, subst, arith}
+use Rattle.std.specs.List.{slice_get}
+use Rattle.cc_judge.specs.Names.{Act, Call, Step, Rules}
+use Rattle.cc_judge.specs.Order.{MayHaveDone, IsOrder, IsLinearizable}
+
+-- the second log says no more of each call than the first: it began no later, ended no earlier or hasn't, and may have done as much
+pub record Weaker (calls loose : List Call) : Type 0 where
+  pub there : (p : ℕ) (c : Call) → slice_get calls p ≡ Some c → (d : Call) × (slice_get loose p ≡ Some d) × ((act : Act) → MayHaveDone c.act act → MayHaveDone d.act act)
+  pub back : (p : ℕ) (d : Call) → slice_get loose p ≡ Some d → (c : Call) × (slice_get calls p ≡ Some c) × (d.begin ≤ c.begin) × ((e : ℕ) → d.end ≡ Some e → (f : ℕ) × (c.end ≡ Some f) × (f ≤ e))
+
+some_of : (o : Option ℕ) → IsSome o → (e : ℕ) × (o ≡ Some e)
+some_of None some = cc
+some_of (Some e) some = (e, refl)
+
+is_some : (o : Option ℕ) (e : ℕ) → o ≡ Some e → IsSome o
+is_some o e is = subst IsSome (sym is) refl
+
+-- So a late log, a window, clocks that differ, and takes of which it isn't known what they took accuse no queue that a log with more
+-- in it wouldn't.
+pub weaken : (rules : Rules) (calls loose : List Call) (order : List Step) → Weaker calls loose → IsOrder rules calls order → IsOrder rules loose order
+weaken rules calls loose order w o = record {
+  each = λ k s is.
+      let i = o.each k s is in
+      let r = w.there s.place i.call i.call_is in
+      record { call = r.0; call_is = r.1; may = r.2 s.act i.may };
+  once = o.once;
+  whole = λ place d is ended.
+      let r = w.back place d is in
+      let e = some_of d.end ended in
+      let f = r.3 e.0 e.1 in
+      o.whole place r.0 r.1 (is_some r.0.end f.0 f.1);
+  in_time = λ j k s t less s_is t_is ends.
+      let one = w.back t.place ends.one ends.one_is in
+      let other = w.back s.place ends.other ends.other_is in
+      let f = one.3 ends.end ends.ended in
+      let by = f.2 in
+      let low = other.2 in
+      let less_than = ends.before in
+      o.in_time j k s t less s_is t_is (record { one = one.0; other = other.0; end = f.0; one_is = one.1; other_is = other.1; ended = f.1; before = omega (arith, by, low, less_than) });
+  in_line = o.in_line;
+  legal = o.legal;
+  closing = o.closing;
+}
+
+-- ---- late logs
+
+-- calls that began before the log, of which no more is known
+abbrev pub IsPast : List Call → Type 0
+IsPast past = (p : ℕ) (c : Call) → slice_get past p ≡ Some c → (c.begin ≡ 0) × (c.end ≡ None)
+
+-- the log has a legal order with some calls before it that it lacks
+abbrev pub IsLateLinearizable : Rules → List Call → Type 0
+IsLateLinearizable rules calls = (past : List Call) × IsPast past × IsLinearizable rules (calls ++ past)
+
+-- the same if each call is in the log that hadn't ended before a time
+abbrev pub IsPastBy : (head : ℕ) → List Call → Type 0
+IsPastBy head past = (p : ℕ) (c : Call) → slice_get past p ≡ Some c → (c.begin ≡ 0) × ((e : ℕ) × (c.end ≡ Some e) × (e < head))
+
+abbrev pub IsWindowLinearizable : (head : ℕ) → Rules → List Call → Type 0
+IsWindowLinearizable head rules calls = (past : List Call) × IsPastBy head past × IsLinearizable rules (calls ++ past)
+
+abbrev pub forgotten : List Call → List Call
+forgotten [] = []
+forgotten (c ∷ calls) = record { begin = 0; end = None; act = c.act } ∷ forgotten calls
+
+forgotten_past : (calls : List Call) → IsPast (forgotten calls)
+forgotten_past [] p c is = cc
+forgotten_past (x ∷ calls) zero c is = let e : c ≡ record { begin = 0; end = None; act = x.act } = cc in (ap (λ (y : Call). y.begin) e, ap (λ (y : Call). y.end) e)
+forgotten_past (x ∷ calls) (suc p) c is = forgotten_past calls p c is
+
+forgotten_weaker : (calls past : List Call) → Weaker (calls ++ past) (calls ++ forgotten past)
+forgotten_weaker [] [] = record { there = λ p c is. cc; back = λ p d is. cc }
+forgotten_weaker [] (x ∷ past) = record { there = there (forgotten_weaker [] past); back = back (forgotten_weaker [] past) }
+  where
+    there : Weaker past (forgotten past) → (p : ℕ) (c : Call) → slice_get (x ∷ past) p ≡ Some c → (d : Call) × (slice_get (forgotten (x ∷ past)) p ≡ Some d) × ((act : Act) → MayHaveDone c.act act → MayHaveDone d.act act)
+    there ih zero c is = let e : x ≡ c = cc in (record { begin = 0; end = None; act = x.act }, refl, λ act may. subst (λ (y : Call). MayHaveDone y.act act) (sym e) may)
+    there ih (suc p) c is = ih.there p c is
+
+    back : Weaker past (forgotten past) → (p : ℕ) (d : Call) → slice_get (forgotten (x ∷ past)) p ≡ Some d → (c : Call) × (slice_get (x ∷ past) p ≡ Some c) × (d.begin ≤ c.begin) × ((e : ℕ) → d.end ≡ Some e → (f : ℕ) × (c.end ≡ Some f) × (f ≤ e))
+    back ih zero d is =
+        let s : record { begin = 0; end = None; act = x.act } ≡ d = cc in
+        let b : 0 ≡ d.begin = ap (λ (y : Call). y.begin) s in
+        let n : None ≡ d.end = ap (λ (y : Call). y.end) s in
+        (x, refl, omega (arith, b), λ e ends. let clash : None ≡ Some e = n ∙ ends in cc)
+    back ih (suc p) d is = ih.back p d is
+forgotten_weaker (x ∷ calls) past = record { there = there (forgotten_weaker calls past); back = back (forgotten_weaker calls past) }
+  where
+    there : Weaker (calls ++ past) (calls ++ forgotten past) → (p : ℕ) (c : Call) → slice_get (x ∷ (calls ++ past)) p ≡ Some c → (d : Call) × (slice_get (x ∷ (calls ++ forgotten past)) p ≡ Some d) × ((act : Act) → MayHaveDone c.act act → MayHaveDone d.act act)
+    there ih zero c is = (c, is, λ act may. may)
+    there ih (suc p) c is = ih.there p c is
+
+    back : Weaker (calls ++ past) (calls ++ forgotten past) → (p : ℕ) (d : Call) → slice_get (x ∷ (calls ++ forgotten past)) p ≡ Some d → (c : Call) × (slice_get (x ∷ (calls ++ past)) p ≡ Some c) × (d.begin ≤ c.begin) × ((e : ℕ) → d.end ≡ Some e → (f : ℕ) × (c.end ≡ Some f) × (f ≤ e))
+    back ih zero d is = (d, is, omega arith, λ e ends. (e, ends, omega arith))
+    back ih (suc p) d is = ih.back p d is
+
+-- a late log of a queue whose whole log has an order has one
+pub late_is_fair : (rules : Rules) (calls past : List Call) → IsLinearizable rules (calls ++ past) → IsLateLinearizable rules calls
+late_is_fair rules calls past o = (forgotten past, forgotten_past past, (o.0, weaken rules (calls ++ past) (calls ++ forgotten past) o.0 (forgotten_weaker calls past) o.1))

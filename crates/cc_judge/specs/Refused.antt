@@ -1,0 +1,56 @@
+-- Refused claims: for each kind of mistake a small log, and a claim about it that the clause doesn't admit.
+use Rattle.std.specs.Prelude.{◌≡◌, ℕ, List, [], ◌∷◌, Option, Some, None, false, slice_get}
+use Rattle.cc_judge.specs.Names.{Act, Call, Rules}
+use Rattle.cc_judge.specs.Order.{Does, Allows, IsOrder}
+use Rattle.cc_judge.specs.Faults.{Passed, TakenBeforeSent, TakenTwice, SentBefore, Fewer, Covers, ClosedEarly}
+use Rattle.cc_judge.specs.Checks.{GoesOn, IsKept, IsSurelyOut, BeginsFrom}
+
+-- a claim that doesn't hold
+abbrev pub Refused : Type 0 → Type 0
+Refused claim = claim → ⊥
+
+-- a call that begins and ends at these times, and one that hasn't returned
+abbrev pub call : (begin end : ℕ) → Act → Call
+call begin end act = record { begin = begin; end = Some end; act = act }
+
+abbrev pub waiting : (begin : ℕ) → Act → Call
+waiting begin act = record { begin = begin; end = None; act = act }
+
+-- one item is sent, and then taken
+abbrev pub handed : List Call
+handed = call 0 1 (Act.Send 0) ∷ call 2 3 (Act.Took 0) ∷ []
+
+-- two sends, of which none ended before the other began
+abbrev pub beside : List Call
+beside = call 0 5 (Act.Send 0) ∷ call 1 6 (Act.Send 1) ∷ []
+
+-- two takes that haven't returned
+abbrev pub two_wait : List Call
+two_wait = waiting 0 Act.Taking ∷ waiting 0 Act.Taking ∷ []
+
+-- a close, and then a send that found the queue closed
+abbrev pub closed : List Call
+closed = call 0 1 Act.Close ∷ call 2 3 Act.Closed ∷ []
+
+-- a table in which the item has a place, and one in which each of two calls has its step, the later first
+abbrev pub placed : List (Option ℕ)
+placed = Some 0 ∷ []
+
+abbrev pub turned : List (Option ℕ)
+turned = Some 1 ∷ Some 0 ∷ []
+
+pub record RefusedClaims : Type 0 where
+  pub accepted_though_untaken : Refused ((take : ℕ) × Passed (waiting 0 (Act.Send 0) ∷ []) 0 take)
+  pub as_many_takes_as_items : Refused (Fewer two_wait 2 (BeginsFrom two_wait None))
+  pub clean_without_an_order : (rules : Rules) → Refused (IsOrder rules (call 0 1 (Act.Took 7) ∷ []) (record { place = 0; act = Act.Took 7 } ∷ []))
+  pub closed_early_beside_a_close : (rules : Rules) → Refused (ClosedEarly rules closed 1)
+  pub covered_in_part : (rules : Rules) → Refused (Covers rules beside 0 1 [])
+  pub ended_while_open : Refused (Allows false Act.Ended)
+  pub full_before_a_send_began : Refused (IsSurelyOut (waiting 4 (Act.Send 0) ∷ []) 0 4)
+  pub lines_turned_round : Refused (IsKept turned record { earlier = 0; later = 1 })
+  pub never_sent_of_a_sent_item : Refused (slice_get placed 0 ≡ Some None)
+  pub none_beside_an_item : Refused (Does None (7 ∷ []) Act.FoundNone (7 ∷ []))
+  pub overtaken_in_one_go : (rules : Rules) → rules.closes ≡ false → Refused (SentBefore rules beside 0 1 0)
+  pub overtakes_an_ended_call : (next : ℕ) → Refused (GoesOn (call 0 1 Act.Close ∷ []) 0 2 next)
+  pub taken_after_sent : Refused (TakenBeforeSent handed 0 1)
+  pub taken_twice_by_one_call : Refused (TakenTwice handed 1 1)

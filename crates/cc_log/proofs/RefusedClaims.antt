@@ -1,0 +1,10 @@
+-- The definitions refuse these claims.
+use Rattle.std.proofs.Common.{◌≡◌}
+use Rattle.cc_log.specs.Refused.{RefusedClaims}
+
+pub claims_refused : RefusedClaims
+claims_refused = record {
+  end_before_begin = λ claim. absurd (cc claim);
+  item_numbered_anew = λ claim. absurd (cc claim);
+  tie_lost = λ claim. absurd (cc claim);
+}

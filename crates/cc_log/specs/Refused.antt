@@ -1,0 +1,25 @@
+-- Refused claims: for each kind of mistake a small case, and a claim about it that doesn't hold.
+use Rattle.std.specs.Prelude.{◌≡◌, ℕ, List, [], ◌∷◌, Some, Ok}
+use Rattle.cc_log.specs.Names.{Last}
+use Rattle.cc_log.specs.Line.{Body, end_from}
+use Rattle.cc_log.specs.Log.{item_of, tie_with}
+
+-- a claim that doesn't hold
+abbrev pub Refused : Type 0 → Type 0
+Refused claim = claim → ⊥
+
+-- the body of this word
+abbrev pub word : ℕ → Body
+word n = (1, n, 0, 0, 0)
+
+-- the call that is the first of a log, and ended at 5
+abbrev pub until_five : Last
+until_five = record { begin = 2; end = Some 5; place = 0 }
+
+pub record RefusedClaims : Type 0 where
+  -- a call ends before it begins
+  pub end_before_begin : Refused (end_from 2 (Some 1) ≡ Ok (Some 1))
+  -- a body that is there has a new number
+  pub item_numbered_anew : Refused (item_of (word 7 ∷ []) (word 7) ≡ 1)
+  -- two calls that touch have no tie
+  pub tie_lost : Refused (tie_with 0 1 5 (Some until_five) ≡ [])
