@@ -18,11 +18,11 @@ at_hold Q p q here there = by_case (p == q) refl
 
 module _ {W S : Type 0} (c : Program W S) (plain : Plain S) where
   -- thread p comes from x to y by just these stores
-  abbrev Behind : ℕ → S → List (Waiting W) → S → Type 0
+  abbrev pub Behind : ℕ → S → List (Waiting W) → S → Type 0
   Behind p x [] y = x ≡ y
   Behind p x (e ∷ newer) y = (c.next p x ≡ Store e.word e.value) × (plain p x ≡ true) × Behind p (c.after p x 0) newer y
 
-  one_more : (p : ℕ) (x : S) (waiting : List (Waiting W)) (y : S) (w : W) (v : ℕ) → Behind p x waiting y → c.next p y ≡ Store w v → plain p y ≡ true → Behind p x (waiting ++ record { word = w; value = v } ∷ []) (c.after p y 0)
+  pub one_more : (p : ℕ) (x : S) (waiting : List (Waiting W)) (y : S) (w : W) (v : ℕ) → Behind p x waiting y → c.next p y ≡ Store w v → plain p y ≡ true → Behind p x (waiting ++ record { word = w; value = v } ∷ []) (c.after p y 0)
   one_more p x [] y w v b e is_plain = (ap (c.next p) b ∙ e, ap (plain p) b ∙ is_plain, ap (λ (z : S). c.after p z 0) b)
   one_more p x (d ∷ newer) y w v b e is_plain = (b.0, b.1, one_more p (c.after p x 0) newer y w v b.2 e is_plain)
 
@@ -39,7 +39,7 @@ module _ {W S : Type 0} (c : Program W S) (plain : Plain S) where
     none_waits p x (e ∷ newer) y b looks = absurd (looks (blind p x e newer y b))
 
   -- a store that is plain is one that may be
-  may_be : (p : ℕ) (own : S) (plainly : Bool) → is_plain plain p own plainly ≡ true → plain p own ≡ true
+  pub may_be : (p : ℕ) (own : S) (plainly : Bool) → is_plain plain p own plainly ≡ true → plain p own ≡ true
   may_be p own true e = e
   may_be p own false e = absurd (cc)
 

@@ -32,7 +32,7 @@ turns_add c plain s (buffers.Drains p ∷ later) seen =
     let before = turns_add c plain s later seen in (record { thread = p; told = 0 } ∷ before.0, ap (λ (l : List Turn). record { thread = p; told = 0 } ∷ l) before.1)
 
 module _ (c : Setting) (asks : ℕ → Ask) where
-  moves_add : (now ts : List Turn) → (more : List Move) × (moves_of c asks (now ++ ts) ≡ more ++ moves_of c asks ts)
+  pub moves_add : (now ts : List Turn) → (more : List Move) × (moves_of c asks (now ++ ts) ≡ more ++ moves_of c asks ts)
   moves_add [] ts = ([], refl)
   moves_add (t ∷ now) ts =
       let before = moves_add now ts in

@@ -1,4 +1,11 @@
 mod Buffers
+mod Stores
+mod Tied
+mod Posted
+mod Quiet
+mod Driven
+mod Early
+mod Crews
 mod Litmus
 mod Threads
 mod InTime

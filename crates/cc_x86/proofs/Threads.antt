@@ -20,7 +20,7 @@ use Rattle.cc_runs.specs.MachineLaws.{HistoryIsLegal, AnswersAreTold}
 use Rattle.cc_x86.specs.OnX86.{MayBegin, in_order, RunsAreThoseOfAtomicSteps, HistoryIsLegalOnX86}
 
 -- it has a step
-abbrev IsBusy : Phase → Type 0
+abbrev pub IsBusy : Phase → Type 0
 IsBusy Phase.Idle = ⊥
 IsBusy (Phase.Finished told) = ⊥
 IsBusy _ = Unit {0}
@@ -49,17 +49,17 @@ node_same c x own _ words told = refl
 
 -- ---- what a pass does at its place
 
-busy_next : (c : Setting) (x : Chain) (own : ℕ) (at : Phase) → IsBusy at → next_at c x own at ≡ as_thread (operation c x own at)
+pub busy_next : (c : Setting) (x : Chain) (own : ℕ) (at : Phase) → IsBusy at → next_at c x own at ≡ as_thread (operation c x own at)
 busy_next c x own Phase.Idle busy = absurd busy
 busy_next c x own (Phase.Finished told) busy = absurd busy
 busy_next c x own _ busy = refl
 
-busy_after : (c : Setting) (asks : ℕ → Ask) (p : ℕ) (s : Stand) (at : Phase) (x : ℕ) → IsBusy at → after_at c asks p s at x ≡ advanced c (chain_of c.config p) s x
+pub busy_after : (c : Setting) (asks : ℕ → Ask) (p : ℕ) (s : Stand) (at : Phase) (x : ℕ) → IsBusy at → after_at c asks p s at x ≡ advanced c (chain_of c.config p) s x
 busy_after c asks p s Phase.Idle x busy = absurd busy
 busy_after c asks p s (Phase.Finished told) x busy = absurd busy
 busy_after c asks p s _ x busy = refl
 
-busy_move : (asks : ℕ → Ask) (t : Turn) (at : Phase) → IsBusy at → move_at asks t at ≡ Move.Step t.thread
+pub busy_move : (asks : ℕ → Ask) (t : Turn) (at : Phase) → IsBusy at → move_at asks t at ≡ Move.Step t.thread
 busy_move asks t Phase.Idle busy = absurd busy
 busy_move asks t (Phase.Finished told) busy = absurd busy
 busy_move asks t _ busy = refl
@@ -73,31 +73,31 @@ busy_step Phase.Idle busy = absurd busy
 busy_step (Phase.Finished told) busy = absurd busy
 busy_step _ busy = tt
 
-idle_next : (c : Setting) (x : Chain) (own : ℕ) (at : Phase) → IsIdle at → next_at c x own at ≡ threads.Outside 0
+pub idle_next : (c : Setting) (x : Chain) (own : ℕ) (at : Phase) → IsIdle at → next_at c x own at ≡ threads.Outside 0
 idle_next c x own Phase.Idle idle = refl
 idle_next c x own _ idle = absurd idle
 
-idle_after : (c : Setting) (asks : ℕ → Ask) (p : ℕ) (s : Stand) (at : Phase) (x : ℕ) → IsIdle at → after_at c asks p s at x ≡ begins c.config p (asks x).call (asks x).known s
+pub idle_after : (c : Setting) (asks : ℕ → Ask) (p : ℕ) (s : Stand) (at : Phase) (x : ℕ) → IsIdle at → after_at c asks p s at x ≡ begins c.config p (asks x).call (asks x).known s
 idle_after c asks p s Phase.Idle x idle = refl
 idle_after c asks p s _ x idle = absurd idle
 
-idle_move : (asks : ℕ → Ask) (t : Turn) (at : Phase) → IsIdle at → move_at asks t at ≡ Move.Begin t.thread (asks t.told).call (asks t.told).known
+pub idle_move : (asks : ℕ → Ask) (t : Turn) (at : Phase) → IsIdle at → move_at asks t at ≡ Move.Begin t.thread (asks t.told).call (asks t.told).known
 idle_move asks t Phase.Idle idle = refl
 idle_move asks t _ idle = absurd idle
 
-finished_next : (c : Setting) (x : Chain) (own : ℕ) (at : Phase) → IsFinished at → next_at c x own at ≡ threads.Outside 0
+pub finished_next : (c : Setting) (x : Chain) (own : ℕ) (at : Phase) → IsFinished at → next_at c x own at ≡ threads.Outside 0
 finished_next c x own (Phase.Finished told) finished = refl
 finished_next c x own _ finished = absurd finished
 
-finished_after : (c : Setting) (asks : ℕ → Ask) (p : ℕ) (s : Stand) (at : Phase) (x : ℕ) → IsFinished at → after_at c asks p s at x ≡ rests s
+pub finished_after : (c : Setting) (asks : ℕ → Ask) (p : ℕ) (s : Stand) (at : Phase) (x : ℕ) → IsFinished at → after_at c asks p s at x ≡ rests s
 finished_after c asks p s (Phase.Finished told) x finished = refl
 finished_after c asks p s _ x finished = absurd finished
 
-finished_move : (asks : ℕ → Ask) (t : Turn) (at : Phase) → IsFinished at → move_at asks t at ≡ Move.Take t.thread
+pub finished_move : (asks : ℕ → Ask) (t : Turn) (at : Phase) → IsFinished at → move_at asks t at ≡ Move.Take t.thread
 finished_move asks t (Phase.Finished told) finished = refl
 finished_move asks t _ finished = absurd finished
 
-stands_so : (at : Phase) → IsIdle at ⊎ IsFinished at ⊎ IsBusy at
+pub stands_so : (at : Phase) → IsIdle at ⊎ IsFinished at ⊎ IsBusy at
 stands_so Phase.Idle = inl tt
 stands_so (Phase.Finished told) = inr (inl tt)
 stands_so _ = inr (inr tt)
@@ -164,7 +164,7 @@ module _ (c : Setting) (asks : ℕ → Ask) (s : State) (t : Turn) where
         )
 
   -- what callers begin, they may
-  abbrev Allowed : Move → Type 0
+  abbrev pub Allowed : Move → Type 0
   Allowed (Move.Begin p call known) = May c s (Move.Begin p call known)
   Allowed _ = Unit {0}
 
@@ -185,12 +185,12 @@ module _ (c : Setting) (asks : ℕ → Ask) (s : State) (t : Turn) where
       by_place inside does_so (inr (inr busy)) = subst Becomes (sym (busy_move asks t (s.stand t.thread).phase busy)) (steps inside does_so busy)
 
 module _ (c : Setting) (asks : ℕ → Ask) where
-  record IsSame (ts : List Turn) : Type 0 where
+  pub record IsSame (ts : List Turn) : Type 0 where
     pub run : IsRun c (moves_of c asks ts)
     pub mem : (reached c (moves_of c asks ts)).mem ≡ (atomic.reached (passes_as_threads c asks) (opened c) ts).words
     pub stand : (reached c (moves_of c asks ts)).stand ≡ (atomic.reached (passes_as_threads c asks) (opened c) ts).own
 
-  may_earlier : (m : Move) (ms : List Move) → MayBegin c (m ∷ ms) → MayBegin c ms × Allowed c asks (reached c ms) record { thread = 0; told = 0 } m
+  pub may_earlier : (m : Move) (ms : List Move) → MayBegin c (m ∷ ms) → MayBegin c ms × Allowed c asks (reached c ms) record { thread = 0; told = 0 } m
   may_earlier (Move.Begin p call known) ms may = (may.0, may.1)
   may_earlier (Move.Step p) ms may = (may, tt)
   may_earlier (Move.Take p) ms may = (may, tt)
@@ -212,7 +212,7 @@ module _ (c : Setting) (asks : ℕ → Ask) where
       same_state (turn_is_move c asks (reached c (moves_of c asks earlier)) t) acts allowed in
       record { run = (k.run, done.0); mem = done.1; stand = done.2 }
 
-  keeps : (ts : List Turn) → atomic.IsRun (passes_as_threads c asks) (opened c) ts → MayBegin c (moves_of c asks ts) → IsSame ts
+  pub keeps : (ts : List Turn) → atomic.IsRun (passes_as_threads c asks) (opened c) ts → MayBegin c (moves_of c asks ts) → IsSame ts
   keeps [] run may = record { run = tt; mem = refl; stand = refl }
   keeps (t ∷ earlier) run may =
       let both = may_earlier (move_at asks t ((atomic.reached (passes_as_threads c asks) (opened c) earlier).own t.thread).phase) (moves_of c asks earlier) may in

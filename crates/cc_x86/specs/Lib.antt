@@ -3,6 +3,10 @@ pub mod Program
 pub mod Sequential
 pub mod Buffered
 pub mod Fenced
+pub mod Posted
+pub mod Driven
 pub mod Litmus
 pub mod Threads
 pub mod OnX86
+pub mod Early
+pub mod Crews

@@ -12,3 +12,8 @@ pub use Rattle.cc_runs.specs.declared.setting.Served.{Served}
 pub use Rattle.cc_runs.specs.declared.setting.Setting.{Setting}
 pub use Rattle.cc_runs.specs.declared.word.Chain.{Chain}
 pub use Rattle.cc_runs.specs.declared.word.Word.{Word}
+pub use Rattle.cc_runs.specs.declared.word.NodeField.{NodeField}
+pub use Rattle.cc_runs.specs.declared.word.ItemField.{ItemField}
+pub use Rattle.cc_runs.specs.declared.phase.Job.{Job}
+pub use Rattle.cc_runs.specs.declared.phase.Round.{Round}
+pub use Rattle.cc_model.specs.declared.call.TakeAnswer.{TakeAnswer}

@@ -2,15 +2,17 @@
 //!
 //! There a store by a plain move waits in its thread's buffer, which that thread alone reads, and a locked instruction first
 //! lets the buffer drain. If the operation after each plain store is a store or a locked instruction, and neither a load of a
-//! shared word nor a return, then nothing that a thread reads or returns shows that there are store buffers. The laws here say
-//! so of any threads, and of the passes of the queue.
+//! shared word nor a return, then nothing that a thread reads or returns shows that there are store buffers. A thread may also
+//! load and return while its stores wait, if no other thread touches their words meanwhile, but by loads that find what was
+//! there before, and wait. The laws here say so of any threads, and of the passes of the queue.
 #![tactic(auto)]
 
 mod laws;
 mod litmus_laws;
 
 pub use laws::{
-    buffers_are_not_seen, histories_are_legal_on_x86, most_are_fenced,
-    runs_are_linearizable_on_x86, runs_are_those_of_atomic_steps,
+    buffers_are_not_seen, fenced_stores_are_orderly, histories_are_legal_on_x86, most_are_fenced,
+    posted_stores_are_not_seen, runs_are_linearizable_on_x86, runs_are_those_of_atomic_steps,
+    runs_with_early_stores_are_linearizable,
 };
 pub use litmus_laws::{message_passing, store_buffering};
