@@ -1,0 +1,12 @@
+pub mod States
+pub mod Order
+pub mod Sums
+pub mod Law
+pub mod Chains
+pub mod Small
+pub mod Exact
+pub mod Merge
+pub mod Use
+pub mod OneQueue
+pub mod Wrong
+pub mod SmallRun

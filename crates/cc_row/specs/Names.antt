@@ -1,0 +1,16 @@
+-- The types that specs, proofs and contracts of this crate speak of.
+pub use Rattle.cc_model.specs.declared.body.Body.{Body}
+pub use Rattle.cc_model.specs.declared.body.Words.{Words}
+pub use Rattle.cc_model.specs.declared.call.Call.{Call}
+pub use Rattle.cc_model.specs.declared.call.Item.{Item}
+pub use Rattle.cc_model.specs.declared.call.Answer.{Answer}
+pub use Rattle.cc_model.specs.declared.call.SendAnswer.{SendAnswer}
+pub use Rattle.cc_model.specs.declared.call.CloseAnswer.{CloseAnswer}
+pub use Rattle.cc_model.specs.declared.call.TakeAnswer.{TakeAnswer}
+pub use Rattle.cc_model.specs.declared.config.Config.{Config}
+pub use Rattle.cc_model.specs.declared.call.Pass.{Pass}
+pub use Rattle.cc_model.specs.declared.call.Entry.{Entry}
+pub use Rattle.cc_runs.specs.declared.word.Chain.{Chain}
+pub use Rattle.cc_runs.specs.declared.run.Move.{Move}
+pub use Rattle.cc_runs.specs.declared.setting.Served.{Served}
+pub use Rattle.cc_runs.specs.declared.setting.Setting.{Setting}

@@ -1,0 +1,11 @@
+//! A row of queues is one queue without a bound.
+//!
+//! A send that finds its queue full, or used up, closes it and uses a further one. A group goes on when its queue has ended.
+#![tactic(auto)]
+
+mod laws;
+
+pub use laws::{
+    chains_are_rows, exact_queues_are_one, one_queue_is_a_row, rows_are_linearizable,
+    rows_are_queues, small_row, small_run, wrong_rows_are_refused,
+};
