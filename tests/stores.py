@@ -9,7 +9,7 @@
 - In the MODULES the loads of shared words, and the stores that may be plain, are counted as beside them.
 - Of SMALL functions, in which the first exchange is turned, just those are accepted whose name begins with `right`.
 
-Without python3-capstone or `as` it says so, and does nothing. Exit status 0 if no case failed.
+Exit status 0 if no case failed, and 77 without python3-capstone, where nothing is done. Without `as` it says so, and leaves out SMALL.
 """
 import pathlib
 import shutil
@@ -27,7 +27,7 @@ try:
     from x86.objects import Refused
 except SystemExit:
     print("stores: SKIPPED: python3-capstone is not on this machine")
-    sys.exit(0)
+    sys.exit(77)
 
 # The handle is at rdi[0], the queue's description at rdi[0][0], and the words of its table from rdi[0][0][8] on.
 HEAD = "mov rax,[rdi]\nmov rcx,[rax]\nmov rcx,[rcx+8]\n"
