@@ -1,13 +1,14 @@
 #!/bin/bash
 # Tests `ccq show`: its traces are what tests/derive.py derives; the page in docs/pages is what the program writes of the plan
-# beside it; the page reads plans as `ccq play` does; its tour, scenarios and broken queues are what they say; random steps by hand lead to
-# the plan and the report of the page; and in a browser without a window, Chromium, each page is stepped through, driven and
-# looked at (tests/show/pages.py says how). So are pages of `ccq judge --page`.
+# beside it; the page reads plans as `ccq play` does; each sentence that it says of a state is decided by a second program, and so
+# is what is ahead of a pass that waits; its exercises have the shortest solutions; random steps by hand lead to the plan and the
+# report of the page; and in a browser without a window, Chromium, each page is stepped through, driven and looked at, each screen
+# of its lectures too (tests/show/pages.py says how). So are pages of `ccq judge --page`.
 #
 # Usage: tests/show.sh
 #
 # `rt run` in crates/ccq builds the program first. Prints a line for each step; what the machine
-# doesn't have is skipped, and its line says so. The exit status is 0 where no step failed.
+# doesn't have is skipped, and its line says so. The exit status is 0 if no step failed, 77 if none could be done.
 set -u
 cd "$(dirname "$0")/.." || exit 1
 case ${1-} in
@@ -19,7 +20,12 @@ tests=show
 . tests/steps.sh
 
 step 'the pages are the texts of the program' tools/page_text.py
-if has node; then step 'the plans of tests/rows.py, read by the page' tests/show/pages.py plans; fi
+if has node; then
+    step 'the plans of tests/rows.py, read by the page' tests/show/pages.py plans
+    step 'each sentence of each state of the lessons and exercises' tests/show/reads.py
+    step 'what is ahead of passes that wait, and whose turn it is' tests/show/progress.py
+    step 'shortest solutions of the exercises' tests/show/pages.py shortest
+fi
 if [ ! -x crates/ccq/out/ccq ]; then
     skip 'traces and pages' "crates/ccq/out/ccq isn't there"
     end_steps
@@ -43,7 +49,8 @@ if [ -z "$browser" ]; then
 fi
 step 'the pages of examples/, step by step' tests/show/pages.py walks
 step '1,000 steps by hand' tests/show/pages.py by_hand
-step 'lessons, own plans, links and keys' tests/show/pages.py learns
+step 'lessons, side by side, exercises, own plans, links and keys' tests/show/pages.py learns
+step 'lectures, a lesson of ten minutes, motion, and a site' tests/show/pages.py lectures
 step 'pages of judged logs' tests/show/pages.py judged
 step 'views, keys, sizes and contrasts' tests/show/pages.py looks
 step '20,000 events' tests/show/pages.py many

@@ -1,15 +1,16 @@
 #!/usr/bin/env python3
 """The machine in the page of `ccq show`, as JavaScript, written from the definitions in crates/cc_runs/specs: the table of
-steps (`line` of Lines, which names SendLines, TakeLines and CountLines), and all definitions that it names; and the broken
-tables of VARIANTS, each of which is that table with some lines changed.
+steps (`line` of Lines, which names SendLines, TakeLines and CountLines), what the laws of progress count (PROGRESS), and all
+definitions that these name; and the broken tables of VARIANTS, each of which is that table with some lines changed.
 
     tools/page_steps.py            compares the page with the definitions; exit status 0 if it has their machine
     tools/page_steps.py --write    writes the machine into the page
 
 A number is a BigInt, a list an array, a record an object, and a value of an enum an object with its variant's name in `is`
-and what the variant holds by the names of its fields, or by 0, 1 and so on.
+and what the variant holds by the names of its fields, or by 0, 1 and so on. A statement is whether it holds.
 """
 import copy
+import difflib
 import json
 import re
 import sys
@@ -21,11 +22,13 @@ from written import Part
 
 PAGE = Part(TOP / "docs/pages/index.html", "// <steps>\n", "// </steps>\n")
 HEAD = """\
-// The machine, by tools/page_steps.py: the table of steps of crates/cc_runs/specs, and the definitions that it names. Each of
-// CHANGES makes a broken table of it, by its name.
+// The machine, by tools/page_steps.py: the table of steps of crates/cc_runs/specs, what is ahead of a call, and the definitions
+// that these name. Each of CHANGES makes a broken table, by its name.
 const minus = (a, b) => a > b ? a - b : 0n;
 """
-# What the page calls, each by its crate, its file and its name.
+# What the laws of progress count, by its crate, its file and its name: the steps that are ahead of a call, and whose turn it is.
+PROGRESS = [("cc_runs", "Ahead", "ahead"), ("cc_runs", "Turns", "IsTurn")]
+# What the page calls.
 WANTED = [
     ("cc_runs", "Lines", "line"),
     ("cc_runs", "Codes", "list_reads"),
@@ -36,6 +39,7 @@ WANTED = [
     ("cc_runs", "Codes", "value_of"),
     ("cc_model", "Body", "body_of"),
     ("cc_model", "Body", "words_of"),
+    *PROGRESS,
 ]
 # Broken tables: a name, and each changed definition with the text that is in one of its lines and the text in its place.
 VARIANTS = {
@@ -63,10 +67,18 @@ LIBRARY = {
     "nat_lt": "({} < {})",
     "length": "BigInt({}.length)",
     "slice_index_or": "({}[{}] ?? {})",
+    "list_any": "{1}.some({0})",
+    "drop": "{1}.slice(Number({0}))",
+    "not": "(!{})",
+    "IsTrue": "{}",
+    "true": "true",
+    "false": "false",
 }
 # Operators in JavaScript, the looser ones first; ∷ binds tighter than all of them.
 OPERATORS = [
-    {"==": "({} === {})"},
+    {"×": "({} && {})"},
+    {"&&": "({} && {})"},
+    {"==": "({} === {})", "≡": "({} === {})", "<": "({} < {})"},
     {"+": "({} + {})", "-": "minus({}, {})"},
     {"*": "({} * {})", "/": "({} / {})", "%": "({} % {})"},
     {"^": "({} ** {})"},
@@ -88,15 +100,15 @@ class Names:
         file = self.reach.crates[crate].specs[module]
         mine = file.known.get(words[0])
         if mine:
-            return self.defined(crate, module, mine, words[0])
-        path = dict(file.imports + file.passed_on).get(words[0])
-        if not path:
+            return self.defined(crate, module, mine[0], words[0])
+        brought = next((one for one in file.imports if one.name == words[0]), None)
+        if not brought:
             return None, words[0]
-        target = self.reach.target((crate, "specs", module), path)
+        target = self.reach.target((crate, "specs", module), brought)
         if target[0] == "module":
             return self.meaning(target[1].name, target[2], words[1:])
         if target[0] == "definition":
-            return self.defined(target[1].name, target[2], target[3], words[0])
+            return self.defined(target[1].name, target[2], target[3][0], words[0])
         if target[0] == "type":
             return "constructor", words[-1], self.fields(target[1], target[2], words[-1])
         option = {"Some": ("0",), "None": ()}.get(words[0])
@@ -145,6 +157,11 @@ class Text:
             yes = self.expression()
             self.take("else")
             return f"({test} ? {yes} : {self.expression()})"
+        if self.peek() == "λ":
+            self.take()
+            name = self.take().rstrip(".")
+            self.known[name] = name
+            return f"({name}) => {self.expression()}"
         return self.operation(0)
 
     def operation(self, level):
@@ -302,13 +319,13 @@ def parameters(lines):
 
 
 def function(names, place, definition=None):
-    """A definition, or one that is changed, as a function of JavaScript, and the definitions that it names."""
+    """A definition, or one that is changed: its parameters, its cases, each with the tests that lead to its value, and the
+    definitions that it names."""
     definition = definition or names.reach.crates[place[0]].specs[place[1]].definitions[place[2]]
     given, lines = given_by(definition), equations(definition)
     if not lines:
         raise Unreadable(f"{'/'.join(place)} has no equations")
     own = parameters(lines)
-    head = f"({', '.join(given + own)}) =>"
     cases, named = [], []
     for line in lines:
         text = Text(line, names, place, {name: name for name in given})
@@ -318,14 +335,37 @@ def function(names, place, definition=None):
         value = text.expression()
         if text.tokens:
             raise Unreadable(f"{'/'.join(place)}: {' '.join(text.tokens)} isn't understood")
-        value = re.sub(r"^\((.*\?.*)\)$", r"\1", value)
-        cases.append((tests, value))
+        cases.append((tuple(tests), re.sub(r"^\((.*\?.*)\)$", r"\1", value)))
         named += text.named
-    if cases[0][0]:
-        returns = [(f"if ({' && '.join(tests)}) " if tests else "") + f"return {value};" for tests, value in cases]
-        return head + " {\n  " + "\n  ".join(returns) + "\n}", named
-    value = cases[0][1]
-    return head + (f" ({value})" if value.startswith("{") else f" {value}"), named
+    return given + own, cases, named
+
+
+def javascript(parameters, cases):
+    """A function of JavaScript with these cases, each of all tables or of the broken one that it names."""
+    head = f"({', '.join(parameters)}) =>"
+    if cases[0][1]:
+        tests = [[f"variant === '{variant}'" for variant in [variant] if variant] + list(tests) for variant, tests, _ in cases]
+        returns = [(f"if ({' && '.join(test)}) " if test else "") + f"return {value};" for test, (_, _, value) in zip(tests, cases)]
+        return head + " {\n  " + "\n  ".join(returns) + "\n}"
+    *broken, (_, _, value) = cases
+    value = "".join(f"variant === '{variant}' ? {other} : " for variant, _, other in broken) + value
+    return head + (f" ({value})" if value.startswith("{") else f" {value}")
+
+
+def merged(place, cases, broken):
+    """The cases of a definition with those of its broken tables: the cases of a broken table come before the one that they replace."""
+    all_cases = [(None, *case) for case in cases]
+    for variant, others in broken:
+        mine = [(tests, value) for other, tests, value in all_cases if not other]
+        for kind, begin, end, first, last in reversed(difflib.SequenceMatcher(None, mine, others, autojunk=False).get_opcodes()):
+            if kind == "equal":
+                continue
+            added = [(variant, *case) for case in others[first:last]]
+            if any(case[0] not in [tests for _, tests, _ in added] for case in mine[begin:end]):
+                raise Unreadable(f"{variant} leaves out a case of {'/'.join(place)}")
+            at = [k for k, (other, _, _) in enumerate(all_cases) if not other][begin]
+            all_cases[at:at] = added
+    return all_cases
 
 
 def changed(names):
@@ -353,19 +393,21 @@ def shown(text):
 
 
 def machine():
-    names, functions, left = Names(), {}, list(WANTED)
+    names, found, left = Names(), {}, list(WANTED)
     while left:
         place = left.pop()
-        if place not in functions:
-            functions[place], named = function(names, place)
-            left += named
+        if place not in found:
+            found[place] = function(names, place)
+            left += found[place][2]
     changes, shows = changed(names)
+    broken = {}
     for (place, variant), definition in changes.items():
-        text, named = function(names, place, definition)
-        if any(other not in functions for other in named):
-            raise Unreadable(f"{variant} names a definition that the table doesn't")
-        functions[place] = f"variant === '{variant}' ? {text} : {functions[place]}"
-    table = "".join(f"const {place[1]}_{place[2]} = {text};\n" for place, text in sorted(functions.items()))
+        given, cases, named = function(names, place, definition)
+        if given != found[place][0] or any(other not in found for other in named):
+            raise Unreadable(f"{variant} has other parameters, or names a definition that the table doesn't")
+        broken.setdefault(place, []).append((variant, cases))
+    texts = {place: javascript(given, merged(place, cases, broken.get(place, []))) for place, (given, cases, _) in found.items()}
+    table = "".join(f"const {place[1]}_{place[2]} = {text};\n" for place, text in sorted(texts.items()))
     wanted = ", ".join(f"{module}_{name}" for _, module, name in WANTED)
     return (HEAD + "const CHANGES = " + json.dumps(shows, indent=1) + ";\nconst tableOf = variant => {\n" + table
             + f"return {{ {wanted} }};\n}};\n")

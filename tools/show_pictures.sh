@@ -1,6 +1,6 @@
 #!/bin/bash
-# The pictures of docs/pictures that show a page as a browser without a window draws it: docs/pages/index.html at one event of a
-# scenario, and docs/pages/fault.html. docs/pictures/show.sums tells of each its page, the part of it, its size, and a sum of the
+# The pictures of docs/pictures that show a page as a browser without a window draws it: docs/pages/index.html at a screen of a
+# lecture and at one event of each of four scenarios, and docs/pages/fault.html. docs/pictures/show.sums tells of each its page, the part of it, its size, and a sum of the
 # page that it was drawn from; so a picture that isn't of today's page is found without a browser.
 #
 # Usage: tools/show_pictures.sh [--write]
@@ -14,10 +14,11 @@ folder=docs/pictures
 record=$folder/show.sums
 
 # The pictures: the name, the page, the part of it, and how high the window is.
-pictures='show-combining index.html #lesson=bodies_of_words&event=75&view=run 830
-show-freed index.html #lesson=full&event=85&view=run 800
-show-close index.html #lesson=close_and_drain&event=44&view=run 800
-show-groups index.html #lesson=two_groups&event=101&view=run 800
+pictures='show-lecture index.html #lecture=three&screen=4 768
+show-combining index.html #lesson=bodies_of_words&event=75&view=run 740
+show-freed index.html #lesson=full&event=85&view=run 740
+show-close index.html #lesson=close_and_drain&event=44&view=run 740
+show-groups index.html #lesson=two_groups&event=101&view=run 740
 judge-fault fault.html # 468'
 
 # What the record has to be.
@@ -32,7 +33,7 @@ record_of() {
 draw() {
     local picture page part height
     while read -r picture page part height; do
-        "$1" --headless --no-sandbox --disable-gpu --hide-scrollbars --force-device-scale-factor=1 \
+        "$1" --headless --no-sandbox --disable-gpu --hide-scrollbars --force-device-scale-factor=1 --force-prefers-reduced-motion \
             --user-data-dir="$room/profile" --window-size="1366,$height" --virtual-time-budget=2000 \
             --screenshot="$PWD/$folder/$picture.png" "file://$PWD/docs/pages/$page$part" \
             >"$room/log" 2>&1 </dev/null || return 1

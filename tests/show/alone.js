@@ -1,10 +1,17 @@
-// The page's machine without its pictures, by node. Prints a line of JSON for each run.
+// The page's machine and its texts without its pictures, by node. Prints a line of JSON for each run.
 //
 //     node tests/show/alone.js steps PAGE SEED STEPS WORDS ..   for each page that is named, the plan and the report after random steps,
 //                                                               in bodies of at most so many words; the laws and an order of all calls hold
 //     node tests/show/alone.js lessons PAGE                     of each lesson its plan, and the report of the right table; fails if a moment
 //                                                               isn't the event that it names, or a broken table breaks no law or another
 //     node tests/show/alone.js plans PAGE FILE ..               whether the page reads each file as a plan, and the report of its run
+//     node tests/show/alone.js tells PAGE                       of each lesson and exercise, and of some random runs, by each table, all
+//                                                               texts of each state; and at each moment all texts with one word of
+//                                                               the state taken away
+//     node tests/show/alone.js waits PAGE SEED RUNS             of random runs the schedule, and at each event of each pass that waits how
+//                                                               many steps are ahead of it, and whose turn it is
+//     node tests/show/alone.js shortest PAGE                    of each exercise the least number of steps that reaches its goal, and of
+//                                                               its solution the number of steps after which it does
 'use strict';
 const fs = require('fs');
 const path = require('path');
@@ -12,9 +19,11 @@ const vm = require('vm');
 
 const element = (page, id) => new RegExp('<script[^>]* id="' + id + '">([^]*?)</script>').exec(page)[1];
 const driveAtRandom = vm.runInThisContext('(' + fs.readFileSync(path.join(__dirname, 'hands.js'), 'utf8').replace(/^\/\/.*\n/gm, '') + ')');
-const machineOf = page => vm.runInThisContext('(() => {' + element(page, 'machine') + '\nreturn Machine; })()');
+const partsOf = page => vm.runInThisContext('(() => {' + element(page, 'machine') + element(page, 'telling') + '\nreturn [Machine, Telling]; })()');
+const machineOf = page => partsOf(page)[0];
 const assert = (holds, what) => { if (!holds) throw new Error(what); };
 const say = what => console.log(JSON.stringify(what));
+const TABLES = machine => ['', ...Object.keys(machine.CHANGES)];
 
 // What holds of each run of the right table: no law is broken, and each answer of an order of all calls is that of a queue that
 // does one call after another; and the plan that is exported is read again, and has the same run.
@@ -25,6 +34,60 @@ function holds(machine, run, name) {
   assert(!fault, name + ' has an order in which ' + (fault && machine.answerText(fault.answer)) + ' is ' + (fault && fault.wanted));
   const again = machine.open(machine.planOfText(run.planText()));
   assert(again.events.length === run.now && again.reportText() === run.reportText(), name + ': the plan that is exported has another run');
+}
+
+// A word by the name that traces give it.
+function nameOf(w) {
+  const chain = w.x < 0 ? 'e.' : 'd' + (w.x + 1) + '.', field = w.field === 'body' ? 'body' + w.n : w.field;
+  if (w.at === 'tail') return chain + 'tail';
+  if (w.at === 'node') return chain + field + '[' + w.i + ']';
+  if (w.at === 'item') return 'list.' + field + '[' + w.i + ']';
+  return w.g === undefined ? 'list.' + field : 'd' + (w.g + 1) + '.' + field;
+}
+
+// All texts of a state.
+function textsOf(telling, run) {
+  const chains = [...Array(run.groups + 1).keys()].map(k => telling.chain(run, k - 1));
+  const passes = [...Array(run.rows).keys()].map(row => ({ name: run.passName(row), text: telling.pass(run, row).text }));
+  return { now: run.now, event: telling.event(run), chains, list: telling.list(run), passes, waits: telling.waits(run).map(one => one.text), program: telling.program(run), broken: telling.broken(run), order: telling.order(run), report: run.reportText() };
+}
+
+// Random numbers by Park and Miller, and a random plan: small, so that its passes meet.
+const dice = state => n => { state = state * 48271 % 2147483647; return state % n; };
+function randomPlan(random) {
+  const some = (least, most) => least + random(most - least + 1), groups = some(1, 2);
+  const calls = () => Array.from({ length: some(1, 5) }, () => random(10) ? Array.from({ length: some(1, 4) }, () => random(100)) : 'close');
+  const senders = Array.from({ length: some(1, 4) }, calls);
+  return { version: 2, groups, capacity: some(1, 3), bound: [1, 1, 2, 3, 8][random(5)], life: [2, 5, 100][random(3)], senders, receivers: Array.from({ length: groups * some(1, 3) }).map(() => some(1, 5)), schedule: [] };
+}
+
+// Makes random steps of passes, and returns the names of these passes. A pass goes on for a while, or not.
+function stepAtRandom(run, random, most, each) {
+  const steps = [], stay = [0, 5, 9][random(3)];
+  let row = random(run.rows);
+  for (let n = 0; n < most; n++) {
+    if (random(10) >= stay) row = random(run.rows);
+    if (!run.step(row)) continue;
+    steps.push(run.passName(row));
+    each();
+  }
+  return steps;
+}
+
+// The words of a state that aren't 0, with the texts of the state without each of them.
+function withoutWords(machine, telling, run) {
+  const seen = new Map();
+  for (const e of run.events.slice(0, run.now)) seen.set(machine.keyOf(e.w), e.w);
+  for (let x = -1; x < run.groups; x++) seen.set(machine.keyOf(machine.tail(x)), machine.tail(x));
+  for (const w of [machine.object('last'), machine.object('cursor'), ...run.got.map((_, g) => machine.object('head', g)), ...[...Array(run.capacity + 1).keys()].map(i => machine.item(i, 'passed'))]) seen.set(machine.keyOf(w), w);
+  return [...seen].filter(([, w]) => run.read(w) !== 0n).map(([key, w]) => {
+    const less = Object.create(run, { read: { value: other => machine.keyOf(other) === key ? 0n : run.read(other) } });
+    try {
+      return { word: nameOf(w), texts: textsOf(telling, less) };
+    } catch (fault) {
+      return { word: nameOf(w), texts: null };
+    }
+  });
 }
 
 const TASKS = {
@@ -58,9 +121,9 @@ const TASKS = {
       holds(machine, right, lesson.id);
       const shown = lesson.table ? machine.open(plan(), lesson.table) : right;
       assert(!shown.faults.length, lesson.id + ': ' + shown.faults[0]);
-      lesson.moments.forEach(([event, kind], k) => {
-        assert(k === 0 || event > lesson.moments[k - 1][0], lesson.id + ': moment ' + (k + 1) + ' is not after the one before');
-        assert(shown.events[event - 1] && shown.events[event - 1].kind === kind, lesson.id + ': event ' + event + ' is no ' + kind);
+      for (const [run, moments] of [[shown, lesson.moments], ...(lesson.table ? [[right, lesson.right.moments]] : [])]) moments.forEach(([event, kind], k) => {
+        assert(k === 0 || event > moments[k - 1][0], lesson.id + ': moment ' + (k + 1) + ' is not after the one before');
+        assert(run.events[event - 1] && run.events[event - 1].kind === kind, lesson.id + ': event ' + event + ' is no ' + kind);
       });
       if (lesson.table) {
         const first = shown.events.find(e => e.breaks.length);
@@ -83,5 +146,100 @@ const TASKS = {
       say({ file, refused, is_long: !!run && run.faults.length > 0, report: run ? run.reportText() : '' });
     }
   },
+
+  tells([name]) {
+    const page = fs.readFileSync(name, 'utf8'), [machine, telling] = partsOf(page);
+    const lanesOf = run => { const laid = telling.layOut(run.events, null); return { turns: laid.turns.map(turn => telling.turnTitle(run, turn)), reads: [...laid.waits.values()].flat().map(wait => telling.waitText(run, wait)) }; };
+    const statesOf = run => [...Array(run.events.length + 1).keys()].map(n => { run.goTo(n); return textsOf(telling, run); });
+    for (const lesson of JSON.parse(element(page, 'lessons'))) for (const table of TABLES(machine)) {
+      const run = machine.open(machine.planOfText(JSON.stringify(lesson.plan)), table);
+      const is_own = table === '' || table === lesson.table, { title, text, moments } = is_own ? telling.lessonPart(lesson, table) : { title: '', text: '', moments: [] };
+      const pair = is_own && lesson.table ? machine.beside(run, table ? '' : lesson.table) : null;
+      const states = statesOf(run);
+      const less = moments.map(([event]) => { run.goTo(event); return { event, words: withoutWords(machine, telling, run) }; });
+      say({ id: lesson.id, table, plan: JSON.stringify(lesson.plan), title, text, moments, lost: (table && is_own && lesson.lost) || '', states, less, lanes: lanesOf(run),
+        parting: pair ? telling.parting(pair) : '', other: pair ? pair.run.variant : '', beside: pair ? pair.upTo : [], screens: is_own && (table || !lesson.table) && moments.length ? telling.screens(lesson, pair) : [] });
+    }
+    TABLES(machine).forEach((table, k) => [1, 2, 3, 4].forEach(seed => {
+      const random = dice(100 * k + seed), plan = JSON.stringify(randomPlan(random)), run = machine.open(machine.planOfText(plan), table);
+      const states = [textsOf(telling, run)], steps = stepAtRandom(run, random, 200, () => states.push(textsOf(telling, run)));
+      say({ id: 'random ' + seed, table, plan, steps, states, lanes: lanesOf(run) });
+    }));
+    for (const exercise of JSON.parse(element(page, 'exercises'))) {
+      const run = machine.open(machine.planOfText(JSON.stringify(exercise.plan)), exercise.table || ''), from = run.now;
+      telling.makeSteps(run, exercise.solution);
+      const tasks = [...Array(run.events.length + 1 - from).keys()].map(n => { run.goTo(from + n); return telling.task(run, exercise).text; });
+      say({ id: exercise.id, table: exercise.table || '', plan: JSON.stringify(exercise.plan), from, solution: exercise.solution, goal: exercise.goal, laws: (exercise.goal.breaks || []).map(law => machine.LAWS[law][0]), tasks,
+        again: telling.stepsOf(run, from), states: statesOf(run), lanes: lanesOf(run) });
+    }
+  },
+
+  waits([name, seed, runs]) {
+    const machine = machineOf(fs.readFileSync(name, 'utf8')), random = dice(Number(seed));
+    for (let k = 0; k < Number(runs); k++) {
+      const plan = JSON.stringify(randomPlan(random)), run = machine.open(machine.planOfText(plan)), waits = [];
+      const steps = stepAtRandom(run, random, 700, () => waits.push([...Array(run.rows).keys()].map(row => [run.passName(row), run.waitOf(row)]).filter(([, wait]) => wait).map(([pass, wait]) => [pass, wait.ahead, wait.turns.map(run.passName)])));
+      say({ plan, steps, waits });
+    }
+  },
+
+  shortest([name]) {
+    const page = fs.readFileSync(name, 'utf8'), [machine, telling] = partsOf(page);
+    for (const exercise of JSON.parse(element(page, 'exercises'))) {
+      const opened = () => machine.open(machine.planOfText(JSON.stringify(exercise.plan)), exercise.table || '');
+      const run = opened(), from = run.now;
+      telling.makeSteps(run, exercise.solution);
+      say({ id: exercise.id, least: leastSteps(machine, opened(), exercise.goal), solved: machine.reached(run, exercise.goal) - from, steps: exercise.solution.reduce((sum, [, count]) => sum + count, 0) });
+    }
+  },
 };
+
+// The least number of steps after which a run reaches a goal: all states that n steps lead to, for n = 1, 2 and so on. A read of a
+// state that is 1 leads to no other state.
+function leastSteps(machine, run, goal) {
+  const from = run.now, texts = new WeakMap(), numbers = new Map(), values = [], sides = run.history.map(() => ''), undone = [];
+  const small = (_, value) => typeof value === 'bigint' ? Number(value) : value;
+  const standText = stand => { if (!texts.has(stand)) texts.set(stand, JSON.stringify([stand.made, stand.node, stand.place], small)); return texts.get(stand); };
+  const put = (w, value) => { const key = machine.keyOf(w); if (!numbers.has(key)) { numbers.set(key, values.length); values.push(0); } values[numbers.get(key)] = Number(value); };
+  const answers = e => e.answer && e.answer[0].is, knows = call => Object.values(call.knows).join();
+  function redo(e) {
+    run.redo(e);
+    put(e.w, e.value);
+    undone.push(sides[e.x + 1]);
+    sides[e.x + 1] += (e.enters ? '|' + e.enters.row + ' ' + knows(e.enters) : '') + (e.decides ? '>' + machine.answerText(e.decides) : '') + (e.marks ? '.' : '');
+  }
+  function undo(e) {
+    run.undo(e);
+    put(e.w, e.found);
+    sides[e.x + 1] = undone.pop();
+  }
+  const isGoal = e => goal.breaks ? e.breaks.some(law => goal.breaks.includes(law))
+    : answers(e) === goal.returns && (goal.returns === 'Empty' ? run.got[e.x] < run.accepted.length : run.accepted.length - Math.min(...run.got) < run.capacity);
+  const pathTo = state => { const path = []; for (; state.e; state = state.before) path.unshift(state); return path; };
+  let level = [{ e: null, before: null }], here = [];
+  const seen = new Set();
+  for (let steps = 1; level.length; steps++) {
+    const next = [];
+    for (const state of level) {
+      const path = pathTo(state);
+      let same = 0;
+      while (same < here.length && same < path.length && here[same] === path[same]) same++;
+      while (here.length > same) undo(here.pop().e);
+      for (; same < path.length; same++) { redo(path[same].e); here.push(path[same]); }
+      for (let row = 0; row < run.rows; row++) {
+        const e = run.nextEvent(row);
+        if (!e || e.waits) continue;
+        e.breaks = run.brokenBy(e);
+        redo(e);
+        if (isGoal(e)) return steps;
+        const key = run.stands.map(standText).join('') + values.join() + sides.join('/');
+        if (!seen.has(key)) { seen.add(key); next.push({ e, before: state }); }
+        undo(e);
+      }
+    }
+    level = next;
+  }
+  return Infinity;
+}
+
 TASKS[process.argv[2]](process.argv.slice(3));

@@ -7,11 +7,13 @@
     tests/show/pages.py by_node      the same steps of the pages' machine alone, by node, with the laws
     tests/show/pages.py lessons      the tour, scenarios and broken queues of docs/pages/index.html, by node
     tests/show/pages.py plans        each plan of tests/rows.py is read or refused as by `ccq play`, by node
-    tests/show/pages.py learns       the index: each lesson by clicks and keys, a queue of one's own, plans, links, keys
+    tests/show/pages.py learns       the index: each lesson by clicks and keys, side by side, exercises, a queue of one's own, plans, links, keys
+    tests/show/pages.py lectures     each screen of each lecture; the path of docs/TEACHING.md; motion; the page as a site serves it
+    tests/show/pages.py shortest     the solutions of the exercises are shortest ones, by node
     tests/show/pages.py judged       pages of `ccq judge --page`: one of each fault, of a clean log, and of 100,000 calls
-    tests/show/pages.py looks        buttons, keys and turns; what is in view; a phone; sizes; contrasts in both schemes
+    tests/show/pages.py looks        buttons, keys and turns; what is in view; a phone, 320 pixels and 200 %; contrasts in both schemes
 
-All but by_node, lessons and plans need Chromium, whose name is in the environment variable `browser`. After steps by hand the
+All but by_node, lessons, plans and shortest need Chromium, whose name is in the environment variable `browser`. After steps by hand the
 plan that the page exports is played by `ccq`, and its report has to be that of the page, byte for byte. Exit status 0 if all is
 as it should be.
 """
@@ -37,6 +39,8 @@ INDEX = TOP / "docs/pages/index.html"
 PROGRAM = pathlib.Path(os.environ.get("CCQ", TOP / "crates/ccq/out/ccq"))
 PLANS = sorted(path for path in (TOP / "examples").glob("*.json") if not path.name.startswith("receipts"))
 LAPTOP, PHONE = {"width": 1366, "height": 768}, {"width": 390, "height": 844}
+# A small phone, and a laptop at 200 %.
+SMALL, ZOOMED = {"width": 320, "height": 640}, {"width": 683, "height": 384}
 STEPS = 100
 SLOWEST = 20  # milliseconds of the median of all steps, each with its layout
 
@@ -73,14 +77,17 @@ def plan_of_many_events():
                        "receivers": [400] * 4, "schedule": schedule}).encode()
 
 
-def in_browser(jobs, dark=False):
-    """What the test of each of these jobs returns, in one browser without a window. Ends if that fails or has a console's line."""
-    files = {"/": '<!DOCTYPE html><meta charset="utf-8"><body>' + "".join(f'<script src="{name}"></script>' for name in ("jobs.js", "hands.js", "tests.js")),
-             "/index.html": INDEX.read_text(), "/jobs.js": "const jobs = " + json.dumps(jobs), **{f"/{name}": (HERE / name).read_text() for name in ("hands.js", "tests.js")}}
-    answers = queue.Queue()
+def in_browser(jobs, dark=False, still=True):
+    """What the test of each of these jobs returns, in one browser without a window, with motion or without. Ends if that fails, has a
+    console's line, or asks for what it isn't to have."""
+    files = {"/": '<!DOCTYPE html><meta charset="utf-8"><link rel="icon" href="data:,"><body>' + "".join(f'<script src="{name}"></script>' for name in ("jobs.js", "hands.js", "tests.js")),
+             "/pages/": INDEX.read_text(), "/index.html": INDEX.read_text(), "/jobs.js": "const jobs = " + json.dumps(jobs), **{f"/{name}": (HERE / name).read_text() for name in ("hands.js", "tests.js")}}
+    answers, strange = queue.Queue(), []
 
     class Harness(BaseHTTPRequestHandler):
         def do_GET(self):
+            if self.path not in files:
+                strange.append(self.path)
             self.send_response(200 if self.path in files else 404)
             self.send_header("Content-Type", "text/javascript" if self.path.endswith(".js") else "text/html")
             self.end_headers()
@@ -98,7 +105,7 @@ def in_browser(jobs, dark=False):
     threading.Thread(target=server.serve_forever, daemon=True).start()
     with tempfile.TemporaryDirectory(ignore_cleanup_errors=True) as room, open(os.path.join(room, "console"), "w+") as console:
         browser = subprocess.Popen(
-            [os.environ["browser"], "--headless", "--no-sandbox", "--disable-gpu", "--enable-logging=stderr", "--window-size=1400,1600",
+            [os.environ["browser"], *(["--force-prefers-reduced-motion"] if still else []), "--headless", "--no-sandbox", "--disable-gpu", "--enable-logging=stderr", "--window-size=1400,1600",
              f"--user-data-dir={room}/profile", f"--blink-settings=preferredColorScheme={0 if dark else 1}", f"http://127.0.0.1:{server.server_port}/"],
             stdin=subprocess.DEVNULL, stdout=console, stderr=console)
         try:
@@ -111,8 +118,8 @@ def in_browser(jobs, dark=False):
             server.shutdown()
         console.seek(0)
         lines = [line for line in console if "CONSOLE" in line and "favicon" not in line]
-    if lines or not found:
-        sys.exit("".join(lines) or "the browser gave no answer")
+    if lines or strange or not found:
+        sys.exit("".join(lines) or ("the page asks for " + ", ".join(strange) if strange else "the browser gave no answer"))
     return found
 
 
@@ -211,11 +218,47 @@ def plans():
 
 def learns():
     index = {"src": "/index.html", **LAPTOP}
-    jobs = [{"test": "lessons", **index}, {"test": "own", **index}, {"test": "keys", **index},
+    jobs = [{"test": "lessons", **index}, {"test": "beside", **index}, {"test": "exercises", **index}, {"test": "own", **index}, {"test": "keys", **index},
             *({"test": "link", "text": plan.read_text(), **index} for plan in PLANS)]
     right = True
     for job, answer in zip(jobs, in_browser(jobs)):
         right &= not failed(job["test"], answer) and (job["test"] != "own" or all(is_report_of("a queue of one's own", one) for one in answer))
+    return right
+
+
+def steps_of_path():
+    """The steps of the path in docs/TEACHING.md: the rows of its table, each with what is pressed and what the screen says then."""
+    keys, steps = {"\u2192": "ArrowRight"}, []
+    for press, says in re.findall(r"^\| \d+:\d\d \| (.*?) \| (.*?) \|", (TOP / "docs/TEACHING.md").read_text(), re.M):
+        pressed = re.findall(r"`([^`]+)`(?: (\d+) times)?", press)
+        steps.append({"press": [keys.get(key, key) for key, times in pressed for _ in range(int(times or 1))], "says": re.findall(r'"([^"]+)"', says)})
+    if len(steps) < 10 or not all(step["press"] and step["says"] for step in steps):
+        sys.exit("docs/TEACHING.md has no path of ten steps")
+    if "(docs/TEACHING.md)" not in (TOP / "README.md").read_text() or "(pages/index.html)" not in (TOP / "docs/TEACHING.md").read_text():
+        sys.exit("README doesn't lead to docs/TEACHING.md, or that not to the page")
+    return steps
+
+
+def lectures():
+    """The lecture; the teacher's path, from README on; motion; and the page as a site serves it."""
+    steps = steps_of_path()
+    index = {"src": "/pages/", **LAPTOP}
+    wrong = 0
+    for still in (True, False):
+        jobs = [{"test": "motion", "still": still, **index}] + [{"test": "lecture", **index}, {"test": "path", "steps": steps, **index}, {"test": "served", **index}] * still
+        for job, answer in zip(jobs, in_browser(jobs, still=still)):
+            wrong += failed(job["test"], answer)
+    return not wrong
+
+
+def shortest():
+    """Of each exercise no run with fewer steps than its solution reaches the goal."""
+    right = True
+    for line in output("node", HERE / "alone.js", "shortest", INDEX).splitlines():
+        exercise = json.loads(line)
+        if not exercise["least"] == exercise["solved"] == exercise["steps"]:
+            print(f"{exercise['id']}: the solution has {exercise['steps']} steps, solves it with {exercise['solved']}, and {exercise['least']} are enough")
+            right = False
     return right
 
 
@@ -226,7 +269,7 @@ def looks():
     turns = page_of(json.dumps({"capacity": 2, "bound": 2, "life": 10, "senders": [[1, 2, 3]], "receivers": [2], "schedule": []}).encode())
     index = {"src": "/index.html"}
     light = [{"test": "hands", "page": empty, **LAPTOP}, {"test": "player", "page": pages["bodies_of_words"], **LAPTOP}, {"test": "turns", "page": turns, **LAPTOP},
-             {"test": "sizes", **index, **LAPTOP}, {"test": "sizes", **index, **PHONE}, {"test": "phone", **index, **PHONE},
+             {"test": "sizes", **index, **LAPTOP}, {"test": "sizes", **index, **PHONE}, *({"test": "covered", **index, **size} for size in (SMALL, PHONE, ZOOMED, LAPTOP)), {"test": "phone", **index, **PHONE},
              *({"test": "in_view", "page": page, **LAPTOP} for page in [*pages.values(), large]),
              *({"test": "phone", "page": page, **PHONE} for page in pages.values())]
     colours = [{"test": "contrasts", **page, **size} for page in ({"page": pages["bodies_of_words"]}, {"page": pages["two_groups"]}, {"src": "/index.html#lesson=handed_past"})
@@ -326,7 +369,7 @@ def judged():
 
 
 def main(words):
-    tasks = {task.__name__: task for task in (walks, many, by_hand, by_node, lessons, plans, learns, judged, looks)}
+    tasks = {task.__name__: task for task in (walks, many, by_hand, by_node, lessons, plans, learns, lectures, shortest, judged, looks)}
     if len(words) != 1 or words[0] not in tasks:
         print(f"usage: tests/show/pages.py {' | '.join(tasks)}", file=sys.stderr)
         return 64

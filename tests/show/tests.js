@@ -4,12 +4,58 @@
 
 const assert = (holds, what) => { if (!holds) throw new Error(what); };
 const visible = element => element.getClientRects().length > 0;
-const key = (target, name) => {
-  const event = new target.ownerDocument.defaultView.KeyboardEvent('keydown', { key: name, bubbles: true, cancelable: true });
+const key = (target, name, more = {}) => {
+  const event = new target.ownerDocument.defaultView.KeyboardEvent('keydown', { key: name, bubbles: true, cancelable: true, ...more });
   target.dispatchEvent(event);
   return event.defaultPrevented;
 };
 const whereOf = $ => Number(/^event (\d+) of/.exec($('where').textContent)[1]);
+
+const bare = text => text.replace(/[*`]|\[\[|\]\]/g, '').replace(/\s+/g, ' ').trim();
+const textOf = element => element.textContent.replace(/\s+/g, ' ').trim();
+const same = (found, due, what) => assert(JSON.stringify(found) === JSON.stringify(due), what + ' is ' + JSON.stringify(found) + ', and ' + JSON.stringify(due) + ' is due');
+
+// The machine of the page and its texts, by which a run is made again beside the one that is drawn.
+function partsOf(page, view) {
+  if (!view.parts_of_the_page) {
+    const script = page.createElement('script');
+    script.textContent = 'window.parts_of_the_page = { Machine, Telling }';
+    page.body.append(script);
+  }
+  return view.parts_of_the_page;
+}
+
+// The boxes of an element: of each the names over it, its lines, and the text of its arrow.
+const boxesIn = element => [...element.querySelectorAll('.boxes > li')].map(li => [[...li.querySelectorAll('.end')].map(textOf), [...li.querySelector('.box').children].map(textOf), textOf(li.querySelector('.stack ~ .arrow') || li.ownerDocument.createElement('i'))]);
+const boxesDue = boxes => boxes.map(box => [box.ends.map(end => end.text), box.lines, box.arrow ? box.arrow.text : '']);
+
+// The texts that are drawn of a run are those that tests/show/reads.py decides.
+function isDrawn($, { Telling }, run, prefix, when) {
+  for (let x = -1; x < run.groups; x++) {
+    const told = Telling.chain(run, x), element = $(prefix + 'chain' + x);
+    same(textOf(element.querySelector('.head')), told.head.map(bare).join(' '), 'the turn in the ' + told.name + when);
+    same(boxesIn(element), [...boxesDue(told.done).map(([ends, lines, arrow]) => [[...ends, 'marked done'], lines, arrow]), ...boxesDue(told.boxes)], 'the ' + told.name + when);
+    same([...element.querySelectorAll('.word')].map(textOf), told.spare.map(one => one.text), 'what is in no chain' + when);
+  }
+  const told = Telling.list(run);
+  same(boxesIn($(prefix + 'list')), boxesDue([...told.rows.flat(), ...told.free]), 'the list' + when);
+  same([...$(prefix + 'list').querySelectorAll('.word')].map(textOf), told.words.map(word => word.name + ' ' + word.text), 'the words of the list' + when);
+}
+
+// All cards of the run that is driven.
+function isShown($, parts, run, when) {
+  const { Telling } = parts, line = Telling.program(run);
+  assert(textOf($('event')).startsWith(bare(Telling.event(run).join(' '))), 'the event is ' + textOf($('event')) + when);
+  isDrawn($, parts, run, '', when);
+  same([...$('waits').children].map(textOf), Telling.waits(run).map(one => bare(one.text)), 'who waits' + when);
+  same([...$('names').querySelectorAll('.step')].map(button => textOf(button.children[2])), [...Array(run.rows).keys()].map(row => Telling.pass(run, row).text), 'the passes' + when);
+  if (line) {
+    same(textOf($('holds')), bare(line.holds), 'what holds' + when);
+    same(textOf($('program').querySelector('.lit').firstChild), line.line.trim(), 'the line' + when);
+  }
+  const broken = Telling.broken(run);
+  same(textOf($('breaks')), broken.length ? 'Broken: ' + broken.map(one => one.text + ' (event ' + one.event + ')').join(' ') : '', 'what is broken' + when);
+}
 
 // The luminance of a colour and the contrast of two, by WCAG 2.
 const luminance = ([r, g, b]) => [r, g, b].map(v => v / 255).map(v => v <= 0.04045 ? v / 12.92 : ((v + 0.055) / 1.055) ** 2.4).reduce((sum, v, i) => sum + v * [0.2126, 0.7152, 0.0722][i], 0);
@@ -122,15 +168,15 @@ const tests = {
     // reset the link and the state, exchange, two words of the request, link, and six reads of a state that waits
     step(1, 12);
     assert(whereOf($) === 15, 'fifteen clicks lead to ' + $('where').textContent);
-    assert(cells().join() === '6\u00d7St', 'the waits are ' + cells().join());
+    assert(cells().join() === '6\u00d7', 'the waits are ' + cells().join());
     $('back').click();
     step(0);
     step(1, 3);
-    assert(cells().length === 1 && /^St 8\u00d7$/.test(cells()[0]), 'the waits around a step of another pass are ' + cells().join());
+    assert(cells().join() === 'waits 8\u00d7', 'the waits around a step of another pass are ' + cells().join());
     assert($('branches').options.length === 3 && $('branches').value === '2', 'there are ' + $('branches').options.length + ' runs');
     $('branches').value = '1';
     $('branches').dispatchEvent(new Event('change'));
-    assert($('where').textContent === 'event 15 of 15' && cells().join() === '6\u00d7St', 'the first branch is at ' + $('where').textContent);
+    assert($('where').textContent === 'event 15 of 15' && cells().join() === '6\u00d7', 'the first branch is at ' + $('where').textContent);
     $('branches').value = '0';
     $('branches').dispatchEvent(new Event('change'));
     assert($('where').textContent === 'event 0 of 0', 'the run of the plan is at ' + $('where').textContent);
@@ -145,13 +191,13 @@ const tests = {
     for (const place of [page.body, $('next'), $('speed'), $('names').querySelector('.step'), $('lanes'), $('slider')]) {
       assert(key(place, ' ') && $('play').textContent === 'stop' && key(place, ' ') && $('play').textContent === 'play', 'space does not play at ' + place.id);
     }
-    assert(key(player, 'PageDown') && /Decided: accepted 0/.test($('event').textContent), 'Page down leads to ' + $('event').textContent);
+    assert(key(player, 'PageDown') && /Decided: accepted as item 0/.test($('event').textContent), 'Page down leads to ' + $('event').textContent);
     const first = whereOf($);
     $('after').click();
-    assert(/Decided: accepted 1/.test($('event').textContent), 'the next decision is ' + $('event').textContent);
+    assert(/Decided: accepted as item 1/.test($('event').textContent), 'the next decision is ' + $('event').textContent);
     $('before').click();
     assert(whereOf($) === first, 'back to a decision leads elsewhere');
-    assert(/tail/.test($('chain-1').textContent) && /served/.test($('chain-1').querySelector('.end.serves').textContent), 'no node is being served');
+    assert(/tail/.test($('chain-1').textContent) && /being served/.test($('chain-1').querySelector('.end.serves').textContent), 'no node is being served');
     // s3 serves its own call first, then that of s2, and then that of s1 (examples/README.md)
     assert(key(page.body, 'D') || key(page.body, 'd'), 'the keys of decisions do nothing');
     key(player, 'Home');
@@ -160,7 +206,11 @@ const tests = {
     const turns = [...$('turns').querySelectorAll('.turn text')].map(text => text.textContent);
     assert(turns.includes('s3 for s3, s2, s1'), 'the turns are ' + turns.join('; '));
     key(player, 'Home');
-    assert(/dummy: no item to take/.test($('list').textContent) && /passed by 0 of 1/.test($('list').textContent) && !/taken by all/.test($('list').textContent), 'the dummy is ' + $('list').textContent);
+    assert(/dummy/.test($('list').textContent) && /passed by 0 of 1/.test($('list').textContent), 'the dummy is ' + $('list').textContent);
+    // at the end play begins again
+    key(player, 'End');
+    $('speed').value = 1000;
+    assert(key(player, ' ') && whereOf($) === 0 && key(player, ' '), 'play at the end leads to ' + $('where').textContent);
     for (const [speed, least] of [[1000, 1], [33, 8]]) {
       $('speed').value = speed;
       key(player, 'Home');
@@ -193,32 +243,249 @@ const tests = {
     return true;
   },
 
-  // Each lesson by its link, its moments by keys, and the line that is lit; a broken queue breaks a law, and the right one doesn't.
-  async lessons({ $, page, view, wait }) {
-    for (const link of [...page.querySelectorAll('#choose a[data-id]')]) {
+  // Each lesson by its link, by each of its tables: its title and text, its moments by keys, and all that is drawn at each; a broken
+  // queue breaks a law, and the right one beside it doesn't.
+  lessons({ $, page, view }) {
+    const parts = partsOf(page, view), { Machine, Telling } = parts;
+    for (const lesson of JSON.parse($('lessons').textContent)) {
+      const link = page.querySelector('#choose a[data-of=lesson][data-id=' + lesson.id + ']');
       link.click();
-      assert(link.classList.contains('here') && $('lesson-title').textContent.includes(link.textContent), 'the link opens ' + $('lesson-title').textContent);
-      const moments = $('moments').querySelectorAll('button').length;
-      for (let k = 0; k < moments; k++) {
-        assert(key(page.body, 'm'), 'm is not taken');
-        assert($('moments').querySelector('.here').textContent === String(k + 1) && $('moment-text').textContent.length > 20, 'moment ' + (k + 1) + ' of ' + link.textContent + ' is not shown');
-        assert($('program').querySelectorAll('.lit').length === 1 && $('holds').textContent.length > 60, 'no line is lit at ' + $('event').textContent);
-      }
-      key($('player'), 'End');
-      const is_broken = link.closest('#broken') !== null;
-      assert(($('breaks').textContent !== '') === is_broken, link.textContent + ' says of laws: ' + $('breaks').textContent);
-      if (is_broken) {
-        assert(/Lost|Got twice|Refused/.test($('law').textContent) && $('law').querySelector('ins'), 'the law and the change are not shown');
-        $('compare').click();
+      assert(link.classList.contains('here') && page.querySelectorAll('#choose .here').length === 1, 'the link isn\'t marked as the one that is open');
+      for (const table of lesson.table ? [lesson.table, ''] : ['']) {
+        if (lesson.table && !table) $('compare').click();
+        const { title, text, moments } = Telling.lessonPart(lesson, table), run = Machine.open(Machine.planOfText(JSON.stringify(lesson.plan)), table);
+        const pair = lesson.table ? Machine.beside(run, table ? '' : lesson.table) : null;
+        assert(textOf($('lesson-title')).endsWith(title) && textOf($('lesson-text')) === bare(text), lesson.id + ' has the title ' + textOf($('lesson-title')) + ' and the text ' + textOf($('lesson-text')));
+        key($('player'), 'Home');
+        moments.forEach(([event, , moment], k) => {
+          assert(key(page.body, 'm'), 'm is not taken');
+          const when = ' at moment ' + (k + 1) + ' of ' + title;
+          assert(whereOf($) === event && textOf($('moments').querySelector('.here')) === String(k + 1), 'm leads to ' + $('where').textContent + when);
+          same(textOf($('moment-text')), bare(moment), 'the moment' + when);
+          run.goTo(event);
+          isShown($, parts, run, when);
+          assert(!$('other').hidden === !!pair, 'the other queue is ' + ($('other').hidden ? 'hidden' : 'shown') + when);
+          if (!pair) return;
+          pair.follow();
+          isDrawn($, parts, pair.run, 'other-', ' of the other queue' + when);
+          same([textOf($('side-event')), textOf($('other-event'))], [run, pair.run].map(one => bare(Telling.event(one).join(' '))), 'the events of both' + when);
+          assert(textOf($('parting')).startsWith(Telling.parting(pair)), 'the parting is ' + textOf($('parting')) + when);
+        });
         key($('player'), 'End');
-        assert($('breaks').textContent === '' && /no law is broken/.test($('law').textContent), 'the right table breaks a law');
+        assert(($('breaks').textContent !== '') === (table !== ''), title + ' says of laws: ' + $('breaks').textContent);
+        assert(!lesson.table || (table ? textOf($('law')).includes(bare(lesson.lost)) : /no law is broken/.test($('law').textContent)) && $('law').querySelector('ins'), title + ' says of the law: ' + textOf($('law')));
+        // to where the two queues part, and all steps of the run, each with its line
+        if (pair) {
+          $('parting').querySelector('button').click();
+          assert(whereOf($) === pair.parts + 1, 'the button leads to ' + $('where').textContent + ' of ' + title);
+        }
+        key($('player'), 'Home');
+        for (let i = Number($('slider').max); i > 0; i--) {
+          key(page.body, 'ArrowRight');
+          assert($('program').querySelectorAll('.lit').length === 1, 'no line is lit at ' + $('event').textContent);
+        }
       }
-      // each step of the run has its line
-      key($('player'), 'Home');
-      for (let i = Number($('slider').max); i > 0; i--) {
-        key(page.body, 'ArrowRight');
-        assert($('program').querySelectorAll('.lit').length === 1, 'no line is lit at ' + $('event').textContent);
+    }
+    return true;
+  },
+
+  // Side by side: on and off by its button, for a branch by hand too.
+  beside({ $, page }) {
+    page.querySelector('#choose a[data-id=handed_past]').click();
+    assert($('pair').getAttribute('aria-pressed') === 'true' && visible($('other')), 'the other queue is not beside');
+    const [left, right] = [$('sides').children[0], $('other')].map(side => side.getBoundingClientRect());
+    assert(left.right <= right.left && Math.abs(left.top - right.top) < 2, 'the two queues are not side by side');
+    same(['side-title', 'other-title'].map(id => textOf($(id))), ['The broken queue', 'The right queue'], 'the titles of the two');
+    $('pair').click();
+    assert($('pair').getAttribute('aria-pressed') === 'false' && !visible($('other')), 'the other queue stays');
+    $('pair').click();
+    // a branch: s1 alone, and then s2
+    key($('player'), 'Home');
+    for (let k = 0; k < 6; k++) key(page.body, '1');
+    for (let k = 0; k < 6; k++) key(page.body, '2');
+    for (let k = 0; k < 21; k++) key(page.body, '1');
+    assert(/^Broken: A hand-over/.test($('breaks').textContent), 'the branch breaks ' + $('breaks').textContent);
+    assert(/part at event 32\./.test($('parting').textContent), 'the branch says: ' + textOf($('parting')));
+    // the right queue hands over to s2, and the broken one leaves it behind
+    const box = (id, name) => [...$(id).querySelectorAll('.box')].map(one => [...one.children].map(textOf)).find(lines => lines[0] === name);
+    same(['other-chain-1', 'chain-1'].map(id => box(id, 'node 1')), [['node 1', 's2 sends 2', 'state 0: serve'], ['node 1', 's2 sends 2', 'state 1: wait']], 'the node of s2');
+    return true;
+  },
+
+  // The lecture: each screen of each lesson has its title, one sentence, the chain, the list and the line of the program, in large
+  // letters, in view without scrolling, with at most ten controls; and the keys of a presenter's clicker lead through all of them.
+  async lecture({ $, page, view, wait }) {
+    const parts = partsOf(page, view), { Machine, Telling } = parts, root = page.documentElement;
+    const lessons = JSON.parse($('lessons').textContent).filter(lesson => lesson.moments.length);
+    const size = element => parseFloat(view.getComputedStyle(element).fontSize);
+    page.querySelector('#choose a[data-id=lone]').click();
+    assert(key(page.body, 'l') && visible($('lecture')) && !visible($('stage')), 'l does not begin the lecture');
+    let count = 0;
+    for (const lesson of lessons) {
+      const runs = new Map(), open = table => { if (!runs.has(table)) runs.set(table, Machine.open(Machine.planOfText(JSON.stringify(lesson.plan)), table)); return runs.get(table); };
+      const pair = lesson.table ? Machine.beside(open(lesson.table), '') : null, screens = Telling.screens(lesson, pair);
+      for (const [at, screen] of screens.entries()) {
+        const when = ' at screen ' + (at + 1) + ' of ' + lesson.id, run = open(screen.table);
+        run.goTo(screen.event);
+        same([textOf($('lecture-title')), textOf($('lecture-text')), textOf($('lecture-count'))], [screen.title, bare(screen.text), 'screen ' + (at + 1) + ' of ' + screens.length], 'the screen' + when);
+        const sides = [...$('lecture-sides').children], shown = screen.kind === 'pair' ? [run, pair.follow().run] : [run];
+        same(sides.length, shown.length, 'the number of pictures' + when);
+        sides.forEach((side, k) => {
+          const [chain, list] = side.querySelectorAll('.part'), e = shown[k].now ? shown[k].events[shown[k].now - 1] : shown[k].events[0];
+          const told = Telling.chain(shown[k], e.x), due = Telling.list(shown[k]);
+          same(boxesIn(chain), [...boxesDue(told.done).map(([ends, lines, arrow]) => [[...ends, 'marked done'], lines, arrow]), ...boxesDue(told.boxes)], 'the chain' + when);
+          assert(textOf(chain.querySelector('h3')).endsWith(told.head.map(bare).join(' ')), 'the turn is ' + textOf(chain.querySelector('h3')) + when);
+          same(boxesIn(list), boxesDue([...due.rows.flat(), ...due.free]), 'the list' + when);
+          assert(chain.getBoundingClientRect().bottom <= list.getBoundingClientRect().top + 1, 'the list is above the chain' + when);
+          for (const strip of side.querySelectorAll('.strip')) assert(strip.scrollWidth <= strip.clientWidth + 1, 'a row of nodes is wider than its room' + when);
+          assert(size(chain.querySelector('.boxes')) >= (shown.length > 1 ? 13 : 17) && size(list.querySelector('.boxes')) >= (shown.length > 1 ? 12.5 : 14), 'the nodes have letters of ' + size(chain.querySelector('.boxes')) + ' and ' + size(list.querySelector('.boxes')) + when);
+        });
+        same([...$('lecture-line').querySelectorAll('code')].map(textOf), shown.map(one => Telling.program(one)).filter(told => told).map(told => told.line.trim()), 'the line of the program' + when);
+        assert(size($('lecture-title')) >= 24 && size($('lecture-text')) >= 22 && size($('lecture-line')) >= 20, 'the letters are small' + when);
+        assert(root.scrollHeight <= root.clientHeight && root.scrollWidth <= root.clientWidth, 'the screen has to be scrolled, ' + root.scrollHeight + ' of ' + root.clientHeight + when);
+        const controls = [...page.querySelectorAll('button, select, input, textarea, a[href], summary')].filter(visible);
+        assert(controls.length <= 10, 'there are ' + controls.length + ' controls' + when);
+        if (at === 0) assert(key(page.body, 'ArrowRight') && key(page.body, 'PageUp') && key(page.body, ' ') && key(page.body, 'Backspace'), 'a key is not taken' + when);
+        assert(key(page.body, 'PageDown'), 'Page down is not taken' + when);
+        count++;
       }
+    }
+    assert(count === lessons.reduce((sum, lesson) => sum + 1 + lesson.moments.length + (lesson.right ? 1 + lesson.right.moments.length : 0), 0) && count > 110, count + ' screens were seen');
+    assert($('lecture-next').disabled, 'the last screen has a next one');
+    key(page.body, 'b');
+    assert(page.body.classList.contains('blank') && key(page.body, 'PageDown') && !page.body.classList.contains('blank'), 'b does not blank the screen');
+    key(page.body, 'Home');
+    await wait(300);
+    assert(view.location.hash === '#lecture=full_early&screen=0', 'the address is ' + view.location.hash);
+    view.location.hash = '#lecture=three&screen=4';
+    await wait(50);
+    assert(/marks node 1 done/.test($('lecture-text').textContent), 'the address leads to ' + $('lecture-text').textContent);
+    $('lecture-lesson').value = 'take';
+    $('lecture-lesson').dispatchEvent(new view.Event('change'));
+    assert($('lecture-title').textContent === 'A take', 'the list of lessons leads to ' + $('lecture-title').textContent);
+    key(page.body, 'PageDown');
+    assert(key(page.body, 'Escape') && !visible($('lecture')) && visible($('stage')) && whereOf($) === 35, 'Escape leads to ' + $('where').textContent);
+    $('to-lecture').click();
+    assert($('lecture-count').textContent === 'screen 2 of 6', 'the lecture begins at ' + $('lecture-count').textContent);
+    return true;
+  },
+
+  // Each exercise: its hint, a solution by keys, the shortest one by its button, and its state in the address.
+  async exercises({ $, page, view, wait }) {
+    const exercises = JSON.parse($('exercises').textContent), rowOf = name => [...$('caller').options].findIndex(option => option.text === name);
+    for (const exercise of exercises) {
+      page.querySelector('#choose a[data-of=exercise][data-id=' + exercise.id + ']').click();
+      assert(textOf($('lesson-title')) === 'Exercise: ' + exercise.title && visible($('task')) && !visible($('task-hint')), 'the exercise is ' + textOf($('lesson-title')));
+      $('hint-button').click();
+      same(textOf($('task-hint')), 'Hint: ' + bare(exercise.hint), 'the hint');
+      const from = whereOf($);
+      for (const [name, count] of exercise.solution) {
+        for (let k = 0; k < count; k++) {
+          assert(textOf($('task-state')) === 'Not solved yet.', exercise.id + ' is solved early: ' + textOf($('task-state')));
+          assert(key(page.body, String(rowOf(name) + 1)), 'the key of ' + name + ' is not taken');
+        }
+      }
+      const steps = exercise.solution.reduce((sum, [, count]) => sum + count, 0), text = exercise.solution.map(one => one.join('.')).join('-');
+      assert(textOf($('task-state')).startsWith('Solved at event ' + (from + steps) + ':') && textOf($('task-length')).startsWith('Your schedule has ' + steps + ' steps.'), exercise.id + ' says ' + textOf($('task')));
+      await wait(250);
+      const address = '#exercise=' + exercise.id + '&steps=' + text + '&event=' + (from + steps);
+      same(view.location.hash, address, 'the address');
+      $('again').click();
+      assert(whereOf($) === from && textOf($('task-state')) === 'Not solved yet.', 'start again leads to ' + $('where').textContent);
+      view.location.hash = '';
+      await wait(30);
+      view.location.hash = address;
+      await wait(30);
+      assert(whereOf($) === from + steps && /^Solved/.test(textOf($('task-state'))), 'the address leads to ' + $('where').textContent + ', ' + textOf($('task-state')));
+      $('again').click();
+      $('solve').click();
+      key($('player'), 'End');
+      assert(whereOf($) === from + steps && /^Solved/.test(textOf($('task-state'))), 'the solution leads to ' + $('where').textContent);
+    }
+    // the steps of a pass until its call returns or it waits: s1 enters alone and returns, and r1 then takes
+    page.querySelector('#choose a[data-of=exercise][data-id=empty]').click();
+    assert(key(page.body, '!', { shiftKey: true, code: 'Digit1' }) && whereOf($) === 28 && /The call returns/.test($('event').textContent), 'shift and 1 lead to ' + textOf($('event')));
+    $('names').querySelector('.leap[data-row="1"]').click();
+    assert(/The call returns: got 7 as item 0/.test($('event').textContent), 'the button leads to ' + textOf($('event')));
+    page.querySelector('#choose a[data-id=three]').click();
+    key($('player'), 'Home');
+    for (const digit of ['1', '1', '1']) key(page.body, digit);
+    key(page.body, '@', { shiftKey: true, code: 'Digit2' });
+    assert(/waits/.test(textOf($('names').querySelectorAll('.step')[1])) && whereOf($) === 10, 's2 goes to ' + $('where').textContent);
+    return true;
+  },
+
+  // At this size nothing scrolls sideways, and what has the focus is not covered.
+  covered({ $, page, view, job }) {
+    const root = page.documentElement;
+    for (const open of [() => {}, () => page.querySelector('#choose a[data-id=three]').click(), () => page.querySelector('#choose a[data-id=marked_early]').click(), () => page.querySelector('#choose a[data-of=exercise]').click(),
+      () => page.querySelector('#choose a[data-id=bodies_of_words]').click()]) {
+      open();
+      key($('player'), 'End');
+      const at = Number($('slider').max);
+      for (let part = 0; part <= 4; part++) {
+        $('slider').value = Math.round(at * part / 4);
+        $('slider').dispatchEvent(new view.Event('input'));
+        assert(page.scrollingElement.scrollWidth <= root.clientWidth, 'the page is ' + page.scrollingElement.scrollWidth + ' wide on a screen of ' + root.clientWidth + ', at ' + textOf($('lesson-title')));
+      }
+      for (const element of page.querySelectorAll('button, select, input, textarea, a[href], summary, [tabindex="0"]')) {
+        if (!visible(element) || !element.checkVisibility() || element.closest('.skip')) continue;
+        element.scrollIntoView({ block: 'nearest' });
+        element.focus();
+        const { left, right, top } = element.getBoundingClientRect(), x = Math.max(2, Math.min((left + right) / 2, root.clientWidth - 2));
+        const over = page.elementFromPoint(x, Math.min(top + 8, root.clientHeight - 2));
+        assert(over && (element.contains(over) || over.contains(element) || over.closest('label') && over.closest('label').contains(element)), (element.id || textOf(element).slice(0, 40)) + ' is covered by ' + (over ? over.id || over.outerHTML.slice(0, 80) : 'nothing') + ' at ' + textOf($('lesson-title')));
+      }
+    }
+    // the lecture scrolls down if it has to, and not sideways
+    page.querySelector('#choose a[data-id=full_early]').click();
+    key(page.body, 'l');
+    for (let k = 0; k < 12; k++) {
+      assert(page.scrollingElement.scrollWidth <= root.clientWidth, 'screen ' + (k + 1) + ' of the lecture is ' + page.scrollingElement.scrollWidth + ' wide');
+      key(page.body, 'PageDown');
+    }
+    return true;
+  },
+
+  // Nodes move from state to state, unless the reader's system asks for less motion.
+  async motion({ $, page, view, job, wait }) {
+    assert(view.matchMedia('(prefers-reduced-motion: reduce)').matches === job.still, 'motion is not what was asked for');
+    page.querySelector('#choose a[data-id=three]').click();
+    let moved = 0;
+    for (const lecture of [false, true]) {
+      if (lecture) key(page.body, 'l');
+      for (let k = 0; k < 8; k++) {
+        key(page.body, lecture ? 'PageDown' : 'm');
+        moved += page.getAnimations().filter(one => one.effect.getKeyframes().some(frame => /translate/.test(frame.transform || ''))).length;
+      }
+    }
+    assert(job.still ? page.getAnimations().length === 0 : moved >= 4, moved + ' nodes moved');
+    await wait(1500);
+    assert(page.getAnimations().length === 0, 'a motion does not end');
+    return true;
+  },
+
+  // All over the page, as a site serves it: the harness looks whether it asks for anything else.
+  async served({ $, page, wait }) {
+    for (const link of page.querySelectorAll('#choose a[data-id]')) link.click();
+    key(page.body, 'l');
+    key(page.body, 'PageDown');
+    key(page.body, 'Escape');
+    $('export').click();
+    await wait(300);
+    for (const link of page.querySelectorAll('a[href]')) assert(/^(#|blob:)/.test(link.getAttribute('href')), 'a link leads to ' + link.href);
+    return true;
+  },
+
+  // The path of docs/TEACHING.md: each step is what a teacher presses, and what the screen says then.
+  async path({ $, page, view, job, wait }) {
+    for (const { press, says } of job.steps) {
+      for (const one of press) {
+        const link = [...page.querySelectorAll('a, button')].filter(visible).find(element => textOf(element) === one);
+        if (link) link.click(); else assert(key(page.activeElement || page.body, one), one + ' is no key and no button at ' + textOf($('lesson-title')));
+        await wait(20);
+      }
+      for (const text of says) assert(textOf({ textContent: page.body.innerText }).includes(text), 'the screen does not say "' + text + '" after ' + press.join(', '));
     }
     return true;
   },
@@ -233,13 +500,16 @@ const tests = {
     for (let k = 0; k < 300; k++) key(page.body, String(1 + k * 5 % 7));
     assert(whereOf($) > 150, 'it went to ' + $('where').textContent);
     exported();
+    $('import').value = '';
+    $('open-plan').click();
+    assert($('import-hint').textContent === '' && /1 sender, 1 receiver; 51 events/.test($('config').textContent), 'the example of a plan is refused: ' + $('import-hint').textContent);
     $('import').value = found[0].plan;
     $('open-plan').click();
     assert($('import-hint').textContent === '', 'a plan that was exported is refused: ' + $('import-hint').textContent);
     key($('player'), 'End');
     exported();
     assert(found[1].plan === found[0].plan && found[1].report === found[0].report, 'a plan that was exported and opened is another one');
-    for (const [text, why] of [['{', /JSON/], ['[]', /object/], ['{"capacity":0}', /key/], [found[0].plan.replace('"capacity":2', '"capacity":4097'), /1 to 4096/]]) {
+    for (const [text, why] of [['{', /JSON/], ['[]', /object/], ['{"capacity":0}', /key/], [found[0].plan.replace('"capacity":2', '"capacity":4097'), /1 to 4096/], ['{"capacity":1,"bound":1,"life":1,"senders":[["clos"]],"receivers":[1],"schedule":[]}', /"close"/]]) {
       $('import').value = text;
       $('open-plan').click();
       assert(why.test($('import-hint').textContent), text + ' is refused by: ' + $('import-hint').textContent);
@@ -262,18 +532,20 @@ const tests = {
     for (const term of terms) {
       term.focus();
       assert(!$('tip').hidden && $('tip').textContent.length > 20, term.textContent + ' has no explanation by the focus');
+      same(textOf($(term.getAttribute('aria-describedby'))), $('tip').textContent, 'what a screen reader says of ' + term.textContent);
       key(term, 'Escape');
       assert($('tip').hidden, 'Escape leaves the explanation');
       term.dispatchEvent(new term.ownerDocument.defaultView.MouseEvent('mouseover', { bubbles: true }));
       assert(!$('tip').hidden, term.textContent + ' has no explanation by the pointer');
       term.blur();
     }
+    for (const element of page.querySelectorAll('*')) for (const { name, value } of element.attributes) assert(!/[<>]|\[\[|\]\]/.test(value.replace(/\[\[[\d\["]/, '').replace(/\]\]/g, '')) || name === 'placeholder' && JSON.parse(value), 'an attribute has mark-up: ' + name + '=' + value.slice(0, 80));
     const event = $('event');
     assert(event.getAttribute('role') === 'status' && event.getAttribute('aria-live') === 'polite' && event.getAttribute('aria-atomic') === 'true', 'a step is not read out');
     key($('player'), 'Home');
     for (let i = 0; i < 60; i++) {
       key(page.body, 'ArrowRight');
-      assert(/^[sr]\d (reads|changes|writes|swaps|adds) .*\. \(\w\w \w+\)$/.test(event.textContent), 'the sentence of a step is ' + event.textContent);
+      assert(/^[sr]\d (reads|changes|writes|swaps|adds) .*\. \(\w+\)$/.test(event.textContent), 'the sentence of a step is ' + event.textContent);
     }
     key($('player'), 'Home');
     assert(key(page.body, '2') && $('branches').options.length === 2 && whereOf($) === 1, 'the key of a pass does not step');
@@ -337,7 +609,7 @@ const tests = {
       $('slider').dispatchEvent(new Event('input'));
       if (part % 2) $('after').click();
       const bar = $('player').getBoundingClientRect().bottom;
-      const parts = { turns: $('turns'), lane: $('names').querySelector('.pass.moved'), 'lit line': $('program').querySelector('.lit'), 'list': $('list').querySelector('.box'), 'what holds': $('holds') };
+      const parts = { chain: $('chain-1').querySelector('.box'), turns: $('turns'), lane: $('names').querySelector('.pass.moved'), 'lit line': $('program').querySelector('.lit'), 'list': $('list').querySelector('.box'), 'what holds': $('holds') };
       for (const [name, element] of Object.entries(parts)) {
         if (!element) continue;
         const { top, bottom } = element.getBoundingClientRect();

@@ -7,6 +7,8 @@ pub const FRONT: &[u8] = b"\
 <head>
 <meta charset=\"utf-8\">
 <meta name=\"viewport\" content=\"width=device-width, initial-scale=1\">
+<meta http-equiv=\"Content-Security-Policy\" content=\"default-src 'none'; script-src 'unsafe-inline'; style-src 'unsafe-inline'; img-src data:; base-uri 'none'; form-action 'none'\">
+<link rel=\"icon\" href=\"data:,\">
 <title>CC-Queue, step by step</title>
 <style>
 :root {
@@ -14,7 +16,7 @@ pub const FRONT: &[u8] = b"\
   --back: #f6f7f9; --card: #ffffff; --ink: #1a2130; --dim: #566075; --line: #cfd5df; --edge: #7c8698; --mark: #b3261e;
   --enter: #2a66c4; --wait: #9a5c00; --serve: #1a7548; --hand: #8a3fb8; --answer: #0a7380; --rest: #667085;
   --touch: #fff0b8; --touch-line: #b98900; --turn: #dcefe4; --was: #fbe4e2; --is: #dff2e6;
-  --names: 250px; --bar: 100px;
+  --names: 268px; --bar: 100px;
 }
 @media (prefers-color-scheme: dark) {
   :root {
@@ -24,7 +26,8 @@ pub const FRONT: &[u8] = b"\
   }
 }
 * { box-sizing: border-box; }
-html { scroll-padding-top: 8px; }
+[hidden] { display: none !important; }
+html { scroll-padding-top: calc(var(--bar) + 12px); }
 body { margin: 0; background: var(--back); color: var(--ink); font: 14px/1.45 system-ui, sans-serif; }
 header, main, footer { max-width: 1680px; margin: 0 auto; padding: 0 14px; }
 header { display: flex; flex-wrap: wrap; gap: 2px 18px; align-items: center; padding-top: 6px; padding-bottom: 4px; }
@@ -39,58 +42,64 @@ nav a, .pick { display: inline-flex; align-items: center; min-height: 32px; padd
 .skip:focus { left: 8px; top: 4px; background: var(--card); padding: 8px; z-index: 9; }
 .dim { color: var(--dim); }
 .card { background: var(--card); border: 1px solid var(--line); border-radius: 8px; padding: 8px 11px; margin: 0 0 8px; min-width: 0; }
-code, .mono { font-family: ui-monospace, \"DejaVu Sans Mono\", Menlo, monospace; font-size: 12.5px; }
+code, .mono { font-family: ui-monospace, \"DejaVu Sans Mono\", Menlo, monospace; font-size: .95em; }
+.mono { font-size: 12.5px; }
 .row { display: flex; flex-wrap: wrap; gap: 5px 6px; align-items: center; }
-button, select, input, textarea { font: inherit; color: inherit; background: var(--back); border: 1px solid var(--edge); border-radius: 6px; }
+button, select, input, textarea { font: inherit; color: inherit; background: var(--back); border: 1px solid var(--edge); border-radius: 6px; max-width: 100%; }
 button, select, input:not([type=checkbox]):not([type=range]) { padding: 2px 10px; min-height: 32px; }
 button { min-width: 32px; }
 button, select, summary, label.file { cursor: pointer; }
 button:hover, select:hover { border-color: var(--ink); }
 button:disabled { color: var(--dim); cursor: default; border-style: dashed; }
-button.here, .pick.here { background: var(--touch); border-color: var(--touch-line); color: var(--ink); }
+button.here, .pick.here, button[aria-pressed=true] { background: var(--touch); border-color: var(--touch-line); color: var(--ink); }
 :focus-visible { outline: 3px solid var(--enter); outline-offset: 1px; }
 ::placeholder { color: var(--dim); opacity: 1; }
 input[type=checkbox] { width: 20px; height: 20px; margin: 6px; vertical-align: middle; }
 summary { font-weight: 600; min-height: 32px; padding: 5px 0; }
 kbd { border: 1px solid var(--edge); border-radius: 4px; padding: 0 4px; font: 12.5px ui-monospace, monospace; }
 .term { border-bottom: 1px dotted currentColor; font-style: normal; cursor: help; }
-#tip { position: absolute; z-index: 20; max-width: 320px; background: var(--ink); color: var(--card); border-radius: 6px; padding: 6px 10px; font-size: 13px; }
+#tip { position: absolute; z-index: 20; max-width: min(320px, 94vw); background: var(--ink); color: var(--card); border-radius: 6px; padding: 6px 10px; font-size: 13px; }
 .bad { background: var(--mark); color: var(--card); padding: 8px 12px; border-radius: 8px; margin: 0 0 8px; font-weight: 600; }
 .good { color: var(--serve); font-weight: 600; }
-.intro { display: grid; grid-template-columns: minmax(280px, 5fr) minmax(300px, 6fr); gap: 6px 24px; align-items: center; }
+.intro { display: grid; grid-template-columns: minmax(0, 5fr) minmax(300px, 6fr); gap: 6px 24px; align-items: center; }
 .intro ol { margin: 0 0 8px; padding-left: 20px; } .intro li { margin-bottom: 5px; }
 .picture { overflow-x: auto; } .intro svg { width: 100%; min-width: 600px; max-height: 290px; height: auto; }
 .intro svg text, #turns text, #lanes text { fill: var(--ink); font: 13px system-ui, sans-serif; }
 .intro svg .node { fill: var(--back); stroke: var(--edge); stroke-width: 1.5; } .intro svg .busy { fill: var(--turn); stroke: var(--serve); }
 .intro svg .small { font-size: 13px; fill: var(--dim); }
 .link { stroke: var(--ink); stroke-width: 1.6; fill: none; } .tip-of-link { fill: var(--ink); stroke: none; }
-.choose { display: grid; grid-template-columns: 10fr 8fr 6fr; gap: 4px 20px; }
-#tour, #examples { columns: 2; column-gap: 30px; } .choose li { break-inside: avoid; }
+.choose { display: grid; grid-template-columns: 9fr 8fr 7fr 6fr; gap: 4px 20px; }
+#tour, #examples { columns: 2; column-gap: 24px; } .choose li { break-inside: avoid; }
 .choose ol, .choose ul { margin: 0; padding: 0 0 0 22px; } .choose ul { list-style: none; padding-left: 0; }
-.own { display: grid; grid-template-columns: repeat(auto-fit, minmax(150px, 1fr)); gap: 6px 12px; align-items: end; }
+.own { display: grid; grid-template-columns: repeat(auto-fit, minmax(min(100%, 150px), 1fr)); gap: 6px 12px; align-items: end; }
 .own label { display: block; font-size: 13px; } .own input, .own select { display: block; width: 100%; }
-#stage { display: grid; grid-template-columns: minmax(0, 1fr); gap: 0 8px; }
+#stage { display: grid; grid-template-columns: minmax(0, 1fr); gap: 0 8px; scroll-margin-top: calc(0px - var(--bar) - 4px); }
 #player { position: sticky; top: 0; z-index: 3; box-shadow: 0 3px 8px rgb(0 0 0 / 12%); }
 #stage:focus, #player:focus { outline: none; }
-#slider { flex: 1 1 120px; min-width: 90px; height: 32px; margin: 0; padding: 0; accent-color: var(--enter); }
+#slider { flex: 1 1 90px; min-width: 60px; height: 32px; margin: 0; padding: 0; accent-color: var(--enter); }
 #where { font-variant-numeric: tabular-nums; }
 #event { margin: 5px 0 0; min-height: 2.9em; }
 #breaks:not(:empty) { background: var(--mark); color: var(--card); border-radius: 6px; padding: 4px 10px; margin-top: 4px; font-weight: 600; }
-#more-toggle { display: none; }
+#player:not(.open) #more { display: none; } #more { width: 100%; }
 @media (min-width: 1100px) {
   #event { min-height: 1.45em; }
   #stage { grid-template-columns: minmax(0, 1fr) 436px; grid-template-rows: auto auto auto auto auto auto 1fr; }
-  #stage > * { grid-column: 1; } #player { grid-column: 1 / -1; }
-  #code { grid-column: 2; grid-row: 2 / span 6; align-self: start; position: sticky; top: calc(var(--bar) + 8px); max-height: calc(100vh - var(--bar) - 34px); overflow: auto; }
+  #stage > * { grid-column: 1; } #stage > #player { grid-column: 1 / -1; }
+  #stage > #code { grid-column: 2; grid-row: 2 / span 6; align-self: start; position: sticky; top: calc(var(--bar) + 8px); max-height: calc(100vh - var(--bar) - 34px); overflow: auto; }
+  #stage:not(.pair) .side .parts { flex-wrap: nowrap; } #stage:not(.pair) .side .outside { flex: 1 100 0; min-width: 180px; } .side .parts > .strip { flex: 0 1 auto; }
+  #stage.pair > #lesson, #stage.pair > #sides { grid-column: 1 / -1; } #stage.pair > #code { grid-row: 4 / span 4; }
 }
+/* On a low screen, as at 200 %, the player scrolls with the page. */
+@media (max-height: 520px), (max-width: 640px) and (max-height: 700px) { #player { position: static; } #stage > #code { position: static; max-height: none; } html { scroll-padding-top: 8px; } }
 .top { display: flex; flex-wrap: wrap; gap: 2px 16px; align-items: center; justify-content: space-between; }
 #body { width: 10.5em; }
 #hint { color: var(--wait); font-weight: 600; }
 .moment { display: grid; grid-template-columns: auto 1fr; gap: 8px; align-items: start; margin-top: 4px; }
 #moments { display: flex; flex-wrap: wrap; gap: 4px; }
-#lanes { display: grid; grid-template-columns: var(--names) minmax(0, 1fr); overflow: auto; max-height: max(178px, calc(100vh - 500px)); position: relative; }
+#task { margin-top: 4px; } #task > * { margin-bottom: 4px; }
+#lanes { display: grid; grid-template-columns: var(--names) minmax(0, 1fr); overflow: auto; max-height: max(118px, calc(100vh - 652px)); position: relative; }
 #turns svg, #lanes svg { display: block; }
-#lanes .code { font: 600 12px ui-monospace, \"DejaVu Sans Mono\", monospace; fill: var(--card); text-anchor: middle; }
+#lanes .code { font: 600 12px system-ui, sans-serif; fill: var(--card); text-anchor: middle; }
 #lanes .later .code { fill: var(--ink); }
 #lanes text.tick, #turns text.side { fill: var(--dim); font-size: 12px; }
 #lanes .lane { stroke: var(--line); }
@@ -104,29 +113,30 @@ kbd { border: 1px solid var(--edge); border-radius: 4px; padding: 0 4px; font: 1
 .pass .step { flex: 1; min-width: 0; display: flex; gap: 6px; align-items: center; text-align: left; }
 .pass .step span { flex: 1; overflow: hidden; text-overflow: ellipsis; color: var(--dim); font-size: 12.5px; }
 .pass .step b { min-width: 22px; }
-.pass .step code { font-size: 12px; font-weight: 700; }
+.pass .step i.next { font-size: 12px; font-style: normal; font-weight: 600; }
 .pass.moved .step { border-color: var(--ink); border-width: 2px; }
 .dot { display: inline-block; flex: none; width: 11px; height: 11px; border-radius: 3px; margin-right: 3px; }
 .legend { font-size: 12.5px; margin: 4px 0 0; } .legend span { display: inline-block; margin-right: 10px; }
 .strip { overflow-x: auto; padding-bottom: 3px; }
-.boxes { display: flex; flex-wrap: nowrap; align-items: stretch; list-style: none; margin: 0; padding: 0; width: max-content; }
+.boxes { display: flex; flex-wrap: nowrap; align-items: stretch; list-style: none; margin: 0; padding: 0; width: max-content; font-size: 12.5px; }
 .boxes > li { display: flex; align-items: flex-end; }
-.parts { display: flex; flex-wrap: wrap; gap: 4px 36px; align-items: flex-end; } .parts > * { max-width: 100%; min-width: 0; } .outside h3 { margin: 0; }
-.boxes.loose > li { margin-right: 8px; }
+.parts { display: flex; flex-wrap: wrap; gap: 4px 2.2em; align-items: flex-end; } .parts > * { max-width: 100%; min-width: 0; } .outside h3 { margin: 0; }
+.boxes.loose > li { margin-right: .7em; }
+.boxes .done-one { margin-right: .6em; } .boxes .apart { border-left: 2px dotted var(--edge); padding-left: .9em; }
 .stack { display: flex; flex-direction: column; justify-content: flex-end; }
-.ends { display: flex; gap: 8px; justify-content: center; min-height: 36px; align-items: flex-end; }
-.end { display: flex; flex-direction: column; align-items: center; font-size: 12.5px; line-height: 1.2; font-weight: 600; color: var(--enter); white-space: nowrap; }
-.end.tail { color: var(--answer); } .end.cursor { color: var(--hand); } .end.looks { color: var(--wait); } .end.serves { color: var(--serve); }
+.ends { display: flex; gap: .7em; justify-content: center; min-height: 2.7em; align-items: flex-end; }
+.end { display: flex; flex-direction: column; align-items: center; line-height: 1.2; font-weight: 600; color: var(--enter); white-space: nowrap; }
+.end.tail { color: var(--answer); } .end.cursor { color: var(--hand); } .end.looks { color: var(--wait); } .end.serves { color: var(--serve); } .end.note { color: var(--dim); font-weight: 400; }
 .end.touch { background: var(--touch); color: var(--ink); border-radius: 4px 4px 0 0; padding: 0 4px; }
-.end svg path { stroke: currentColor; stroke-width: 2; fill: none; } .end svg .tip-of-link { fill: currentColor; stroke: none; }
-.box { display: block; border: 1.5px solid var(--edge); border-radius: 6px; padding: 2px 8px; font-size: 12.5px; line-height: 1.35; background: var(--back); min-width: 84px; white-space: nowrap; }
+.end svg { width: 1.1em; height: 1.1em; } .end svg path { stroke: currentColor; stroke-width: 2; fill: none; } .end svg .tip-of-link { fill: currentColor; stroke: none; }
+.box { display: block; border: 1.5px solid var(--edge); border-radius: 6px; padding: .15em .6em; line-height: 1.35; background: var(--back); min-width: 6.6em; white-space: nowrap; }
 .box.touch, tr.touch td, .word.touch { background: var(--touch); border-color: var(--touch-line); }
 .box.touch .dim, tr.touch .pending { color: var(--ink); }
 .box.serve { border-color: var(--serve); border-width: 2.5px; } .box.wait { border-color: var(--wait); }
 .box.done, .box.dummy { border-style: dashed; } .box.free { border-style: dotted; color: var(--dim); } .box.prepare { border-color: var(--hand); border-style: dashed; border-width: 2px; }
-.tagline { display: block; }
-.arrow { flex: none; align-self: flex-end; padding: 0 3px; margin-bottom: 20px; color: var(--dim); font-size: 12.5px; white-space: nowrap; display: flex; flex-direction: column; align-items: center; }
-.arrow svg { display: block; } .arrow.none { color: var(--wait); } .arrow.none .link { stroke: var(--wait); stroke-dasharray: 3 3; }
+.line { display: block; }
+.arrow { flex: none; align-self: flex-end; padding: 0 .25em; margin-bottom: 1.5em; color: var(--dim); white-space: nowrap; display: flex; flex-direction: column; align-items: center; }
+.arrow svg { display: block; width: 2.8em; height: 1.1em; } .arrow.none { color: var(--wait); } .arrow.none .link { stroke: var(--wait); stroke-dasharray: 3 3; }
 .arrow.wrong { color: var(--mark); font-weight: 600; }
 .words { display: flex; flex-wrap: wrap; gap: 3px 5px; margin-top: 6px; }
 .word { border: 1px solid var(--line); border-radius: 5px; padding: 1px 6px; font-size: 12.5px; }
@@ -134,15 +144,23 @@ table { border-collapse: collapse; width: 100%; font-size: 12.5px; }
 td, th { padding: 0 10px 0 0; border: 0; vertical-align: top; white-space: nowrap; text-align: left; font-weight: inherit; }
 .two { display: grid; grid-template-columns: repeat(auto-fit, minmax(min(100%, 400px), 1fr)); gap: 0 8px; align-items: start; }
 .columns { display: grid; grid-template-columns: repeat(auto-fit, minmax(min(100%, 230px), 1fr)); gap: 0 12px; }
+#sides { display: grid; grid-template-columns: minmax(0, 1fr); gap: 0 8px; align-items: start; }
+@media (min-width: 900px) { .pair #sides, #lecture.pair #lecture-sides { grid-template-columns: minmax(0, 1fr) minmax(0, 1fr); } }
+.side { min-width: 0; } .side > h2, .side > p { padding: 0 2px; margin: 0 0 4px; } #side-event, #other-event { min-height: 2.9em; } #side-event:empty { display: none; }
+.chains { display: flex; flex-wrap: wrap; gap: 0 8px; }
+.chain { flex: 1 1 0; min-width: min(100%, 260px); } .chain h2, .chain > div, .chain .head { display: inline; } .chain h2 { margin-right: 8px; } .chain .head { color: var(--dim); font-size: 13px; }
+.chain.idle { flex: 0 1 auto; min-width: 0; align-self: flex-start; } .chain.idle .nodes { display: none; }
+.nodes { display: flex; flex-wrap: wrap; gap: 0 16px; align-items: flex-end; } .nodes > * { min-width: 0; max-width: 100%; } .nodes .words { margin: 0 0 6px; }
+.of-list h2, .of-list > div, .of-list > div > .words { display: inline; } .of-list .word { display: inline-block; margin: 0 4px 3px 0; } .of-list h2 { margin-right: 8px; }
 .list { position: relative; max-height: 190px; overflow: auto; }
 .pending { color: var(--wait); }
 .program { list-style: none; margin: 0; padding: 0; font: 12.5px/1.5 ui-monospace, \"DejaVu Sans Mono\", Menlo, monospace; }
 .program li { display: flex; justify-content: space-between; gap: 8px; padding: 0 6px; border-left: 4px solid transparent; white-space: pre; }
-.program li span:last-child { color: var(--dim); }
+.program li span:last-child { color: var(--dim); font-family: system-ui, sans-serif; font-size: 12px; }
 .program li.lit { background: var(--touch); border-left-color: var(--touch-line); font-weight: 700; } .program li.lit span:last-child { color: var(--ink); }
 .program li.changed { border-left-color: var(--mark); background: var(--was); } .program li.changed.lit { background: var(--touch); }
 #code-head { position: sticky; top: -8px; margin-top: -8px; padding-top: 8px; background: var(--card); }
-#holds { border-bottom: 1px solid var(--line); padding-bottom: 3px; min-height: 7.4em; } .part:first-child h3 { margin-top: 5px; }
+#holds { border-bottom: 1px solid var(--line); padding-bottom: 3px; min-height: 5em; } .part:first-child h3 { margin-top: 5px; }
 #law .row { flex-wrap: nowrap; align-items: flex-start; } #law .row button { flex: none; } #law .row span { padding-top: 5px; }
 .change { font-size: 12.5px; white-space: pre-wrap; overflow-wrap: anywhere; margin: 2px 0; padding: 2px 6px; border-radius: 4px; display: block; text-decoration: none; }
 del.change { background: var(--was); } ins.change { background: var(--is); }
@@ -152,32 +170,52 @@ dl { display: grid; grid-template-columns: auto 1fr; gap: 2px 14px; margin: 0; f
 dt { font-weight: 600; } dd { margin: 0; color: var(--dim); }
 footer { padding-bottom: 24px; font-size: 13px; }
 body.bare header, body.bare #intro, body.bare #choose, body.bare footer { display: none; } body.bare main { padding-top: 8px; }
-@media (max-width: 1180px) { .intro { grid-template-columns: minmax(0, 1fr); } }
+/* The lecture: one moment a screen. */
+body.lecture > header, body.lecture > main, body.lecture > footer, body.lecture > .skip { display: none; }
+#lecture { min-height: 100vh; display: grid; grid-template-columns: minmax(0, 1fr); grid-template-rows: auto auto 1fr auto auto; gap: 8px; padding: 14px 26px; max-width: 1680px; margin: 0 auto; }
+#lecture h2 { font-size: clamp(20px, 2.3vw, 34px); line-height: 1.2; margin: 0; } #lecture .top { align-items: baseline; }
+#lecture-count { font-size: clamp(14px, 1.3vw, 20px); color: var(--dim); white-space: nowrap; }
+#lecture-text { font-size: clamp(18px, 2vw, 30px); line-height: 1.35; margin: 0; min-height: 1.35em; }
+#lecture-sides { display: grid; grid-template-columns: minmax(0, 1fr); gap: 10px 26px; align-items: center; }
+#lecture h3 { font-size: clamp(15px, 1.35vw, 20px); margin: 0 0 2px; font-weight: 400; } #lecture .side > h2 { font-size: clamp(17px, 1.6vw, 24px); }
+#lecture .part-chain .boxes { font-size: var(--of-chain, 20px); } #lecture .part-list .boxes { font-size: var(--of-list, 20px); } #lecture.pair h3 { font-size: clamp(14px, 1.1vw, 18px); } #lecture.pair #lecture-sides { align-items: start; } #lecture.pair .part { margin-bottom: 4px; }
+#lecture .part { margin-bottom: 10px; }
+#lecture-line { margin: 0; min-height: 3.4em; font-size: clamp(16px, 1.75vw, 26px); display: grid; grid-template-columns: repeat(auto-fit, minmax(min(100%, 420px), 1fr)); gap: 4px 26px; align-items: center; }
+#lecture-line p { margin: 0; background: var(--touch); border-left: 6px solid var(--touch-line); border-radius: 4px; padding: 4px 14px; }
+#lecture-line span { color: var(--dim); font-size: .75em; margin-right: 1em; } #lecture-line p span { color: var(--ink); }
+#lecture-line code { font-size: .95em; white-space: pre-wrap; font-weight: 600; }
+#lecture nav { gap: 8px; align-items: center; } #lecture nav button, #lecture nav select { min-height: 40px; font-size: 16px; } #lecture nav .gap { flex: 1; }
+body.blank #lecture > * { visibility: hidden; } body.blank { background: #000; }
+@media (max-width: 1180px) { .intro { grid-template-columns: minmax(0, 1fr); } .choose { grid-template-columns: 1fr 1fr; } }
 @media (max-width: 900px) { .choose { grid-template-columns: minmax(0, 1fr); } #tour, #examples { columns: auto 220px; } .choose li { margin: 2px 0; } }
 @media (max-width: 640px) {
-  :root { --names: 96px; }
+  :root { --names: 104px; }
   header, main, footer { padding-left: 8px; padding-right: 8px; }
   .card { padding: 7px 8px; }
-  .pass .step span, .pass .step code { display: none; }
-  .moment { grid-template-columns: 1fr; }
-  #more-toggle { display: inline-block; } #player:not(.open) #more { display: none; }
-  #more { width: 100%; }
+  .pass .step span, .pass .step i.next { display: none; }
+  .moment { grid-template-columns: minmax(0, 1fr); }
   #event { font-size: 13px; max-height: 8.4em; overflow: auto; }
   #event .dim { display: none; }
-  dl { grid-template-columns: 1fr; } dd { margin-bottom: 6px; }
-  .program { font-size: 12px; }
+  dl { grid-template-columns: minmax(0, 1fr); } dd { margin-bottom: 6px; }
+  .program { font-size: 12px; } .program li { white-space: pre-wrap; } .program li span { overflow-wrap: anywhere; }
+  #lecture { padding: 8px; }
+  #lecture nav .gap { display: none; }
 }
-@media (prefers-reduced-motion: no-preference) { .box, .word { transition: background-color .12s; } }
+@media (max-width: 400px) { .program li span:last-child { display: none; } .pass { padding-right: 2px; gap: 2px; } }
+@media (prefers-reduced-motion: no-preference) {
+  .box.touch, .word.touch, .end.touch { animation: flash .6s ease-out; }
+  @keyframes flash { from { box-shadow: 0 0 0 6px var(--touch-line); } to { box-shadow: 0 0 0 0 transparent; } }
+}
 @media print {
   :root { color-scheme: light; --back: #fff; --card: #fff; --ink: #000; --dim: #444; --line: #999; --edge: #555; --mark: #8c1d18; --enter: #1d4f9e; --wait: #7a4900; --serve: #125c38; --hand: #6b2d92; --answer: #075b66; --rest: #555; --touch: #fff0b8; --touch-line: #8a6700; --turn: #dcefe4; --was: #fbe4e2; --is: #dff2e6; }
-  * { print-color-adjust: exact; -webkit-print-color-adjust: exact; }
+  * { print-color-adjust: exact; -webkit-print-color-adjust: exact; animation: none !important; }
   body { font-size: 10pt; } #program { columns: 2; } .part { break-inside: avoid; } .intro svg { min-width: 0; }
-  nav, #choose, footer, .skip, #player .row, #add, #moments, #lesson .row, .more, #law button, #texts, #tip { display: none !important; }
-  #player, #code, #code-head { position: static; box-shadow: none; max-height: none; overflow: visible; }
+  nav, #choose, footer, .skip, #player .row, #moments, #lesson .row, .more, .leap, #add, #texts, #tip, #parting button, #task .row { display: none !important; }
+  #player, #stage > #code, #code-head { position: static; box-shadow: none; max-height: none; overflow: visible; }
   #lanes, .list, .strip { max-height: none; overflow: visible; } #cells, #turns { overflow: hidden; }
-  #law button, #law details:not([open]) { display: none; }
-  .card { break-inside: avoid; }
-  #stage { display: block; }
+  #law button { border: 0; padding: 0; min-height: 0; background: none; font-weight: 600; } #law .row span { padding-top: 0; } #law details:not([open]) { display: none; }
+  .card { break-inside: avoid; } .boxes { width: auto; flex-wrap: wrap; }
+  #stage { display: block; } #lecture { min-height: 0; padding: 0; }
 }
 </style>
 </head>
@@ -185,7 +223,7 @@ body.bare header, body.bare #intro, body.bare #choose, body.bare footer { displa
 <a class=\"skip\" href=\"#stage\">To the run</a>
 <header>
 <h1>CC-Queue, step by step</h1>
-<nav aria-label=\"Parts of this page\"><a href=\"#choose\">Tour and scenarios</a><a href=\"#stage\">The run</a><a href=\"#own\">Your own queue</a><a href=\"#glossary\">Words</a><a href=\"#keys\">Keys</a></nav>
+<nav aria-label=\"Parts of this page\"><a href=\"#choose\">Tour and exercises</a><a href=\"#stage\">The run</a><a href=\"#lecture=lone\">Lecture</a><a href=\"#own\">Your own queue</a><a href=\"#glossary\">Words</a><a href=\"#keys\">Keys</a></nav>
 </header>
 <main>
 <noscript><p class=\"bad\">The pictures are drawn by the script of this page, which is turned off. The events and the report are in its source.</p></noscript>
@@ -194,40 +232,41 @@ body.bare header, body.bare #intro, body.bare #choose, body.bare footer { displa
 <h2 id=\"intro-title\">The algorithm in five sentences</h2>
 <div class=\"intro\">
 <ol>
-<li>CC-Queue is a first-in, first-out queue that many threads use at once: senders append items, and receivers take them.</li>
-<li>Senders don't contend for a lock: each swaps a <dfn class=\"term\" tabindex=\"0\" data-word=\"node\">node</dfn> into a <dfn class=\"term\" tabindex=\"0\" data-word=\"chain\">chain</dfn> and writes its request there, and one of them, the <dfn class=\"term\" tabindex=\"0\" data-word=\"combiner\">combiner</dfn>, serves the requests of all, up to a <dfn class=\"term\" tabindex=\"0\" data-word=\"bound\">bound</dfn>, and then hands over.</li>
-<li>The items are in a linked list whose first node is a <dfn class=\"term\" tabindex=\"0\" data-word=\"dummy\">dummy</dfn>, so that senders append at one end while receivers, who have chains of their own, take at the other.</li>
-<li>Each <dfn class=\"term\" tabindex=\"0\" data-word=\"step\">step</dfn> of a thread reads or changes one word, the steps of all threads interleave in any order, and for every order it is proved that items leave in the order in which they came.</li>
-<li>On this page you choose the order: follow the tour, make the steps of each <dfn class=\"term\" tabindex=\"0\" data-word=\"pass\">pass</dfn> yourself, and see what broken queues lose.</li>
+<li>CC-Queue is a first-in, first-out queue that many threads use at once: each <dfn class=\"term\" tabindex=\"0\" role=\"button\" data-word=\"pass\" aria-describedby=\"word-pass\">pass</dfn> is one of them, a sender that appends items or a receiver that takes them.</li>
+<li>Senders don't contend for a lock: each swaps a <dfn class=\"term\" tabindex=\"0\" role=\"button\" data-word=\"node\" aria-describedby=\"word-node\">node</dfn> into a <dfn class=\"term\" tabindex=\"0\" role=\"button\" data-word=\"chain\" aria-describedby=\"word-chain\">chain</dfn> and writes its request there, and one of them, the <dfn class=\"term\" tabindex=\"0\" role=\"button\" data-word=\"combiner\" aria-describedby=\"word-combiner\">combiner</dfn>, serves the requests of all, up to a <dfn class=\"term\" tabindex=\"0\" role=\"button\" data-word=\"bound\" aria-describedby=\"word-bound\">bound</dfn>, and then hands over.</li>
+<li>The items are in a linked list whose first node is a <dfn class=\"term\" tabindex=\"0\" role=\"button\" data-word=\"dummy\" aria-describedby=\"word-dummy\">dummy</dfn>, so that senders append at one end while receivers, who have chains of their own, take at the other.</li>
+<li>Each <dfn class=\"term\" tabindex=\"0\" role=\"button\" data-word=\"step\" aria-describedby=\"word-step\">step</dfn> of a pass reads or changes one word, the steps of all passes interleave in any order, and for every order it is proved that items leave in the order in which they came.</li>
+<li>On this page you choose the order: follow the tour, make the steps of each pass yourself, see what broken queues lose, and solve exercises.</li>
 </ol>
-<div class=\"picture\" tabindex=\"0\" role=\"group\" aria-label=\"picture of the chains and the list\"><svg viewBox=\"0 0 620 250\" role=\"img\" aria-label=\"Three senders on their chain, of which the first combines and appends to the list; a receiver combines on its own chain and takes from the other end of the list.\">
+<div class=\"picture\" tabindex=\"0\" role=\"group\" aria-label=\"picture of the chains and the list\"><svg viewBox=\"0 0 620 250\" role=\"img\" aria-label=\"Two receivers on their chain, of which the first combines and takes from the head of the list; three senders on theirs, of which the first combines and appends after the last node.\">
 <defs><marker id=\"tip-of-arrow\" viewBox=\"0 0 10 10\" refX=\"9\" refY=\"5\" markerWidth=\"7\" markerHeight=\"7\" orient=\"auto\"><path class=\"tip-of-link\" d=\"M0 0L10 5L0 10z\"/></marker></defs>
-<text x=\"8\" y=\"18\">The chain of the senders</text><text x=\"430\" y=\"18\">The chain of the receivers</text>
-<rect class=\"node busy\" x=\"8\" y=\"28\" width=\"74\" height=\"42\" rx=\"6\"/><text x=\"18\" y=\"46\">s1: 7</text><text class=\"small\" x=\"18\" y=\"63\">serves</text>
-<rect class=\"node\" x=\"112\" y=\"28\" width=\"74\" height=\"42\" rx=\"6\"/><text x=\"122\" y=\"46\">s2: 8</text><text class=\"small\" x=\"122\" y=\"63\">waits</text>
-<rect class=\"node\" x=\"216\" y=\"28\" width=\"74\" height=\"42\" rx=\"6\"/><text x=\"226\" y=\"46\">s3: 9</text><text class=\"small\" x=\"226\" y=\"63\">waits</text>
-<path class=\"link\" d=\"M82 49H110\" marker-end=\"url(#tip-of-arrow)\"/><path class=\"link\" d=\"M186 49H214\" marker-end=\"url(#tip-of-arrow)\"/>
-<rect class=\"node busy\" x=\"430\" y=\"28\" width=\"74\" height=\"42\" rx=\"6\"/><text x=\"440\" y=\"46\">r1: take</text><text class=\"small\" x=\"440\" y=\"63\">serves</text>
-<rect class=\"node\" x=\"534\" y=\"28\" width=\"74\" height=\"42\" rx=\"6\"/><text x=\"544\" y=\"46\">r2: take</text><text class=\"small\" x=\"544\" y=\"63\">waits</text>
-<path class=\"link\" d=\"M504 49H532\" marker-end=\"url(#tip-of-arrow)\"/>
+<text x=\"8\" y=\"18\">The chain of the receivers</text><text x=\"320\" y=\"18\">The chain of the senders</text>
+<rect class=\"node busy\" x=\"8\" y=\"28\" width=\"74\" height=\"42\" rx=\"6\"/><text x=\"18\" y=\"46\">r1: take</text><text class=\"small\" x=\"18\" y=\"63\">serves</text>
+<rect class=\"node\" x=\"112\" y=\"28\" width=\"74\" height=\"42\" rx=\"6\"/><text x=\"122\" y=\"46\">r2: take</text><text class=\"small\" x=\"122\" y=\"63\">waits</text>
+<path class=\"link\" d=\"M82 49H110\" marker-end=\"url(#tip-of-arrow)\"/>
+<rect class=\"node busy\" x=\"320\" y=\"28\" width=\"74\" height=\"42\" rx=\"6\"/><text x=\"330\" y=\"46\">s1: 7</text><text class=\"small\" x=\"330\" y=\"63\">serves</text>
+<rect class=\"node\" x=\"424\" y=\"28\" width=\"74\" height=\"42\" rx=\"6\"/><text x=\"434\" y=\"46\">s2: 8</text><text class=\"small\" x=\"434\" y=\"63\">waits</text>
+<rect class=\"node\" x=\"528\" y=\"28\" width=\"74\" height=\"42\" rx=\"6\"/><text x=\"538\" y=\"46\">s3: 9</text><text class=\"small\" x=\"538\" y=\"63\">waits</text>
+<path class=\"link\" d=\"M394 49H422\" marker-end=\"url(#tip-of-arrow)\"/><path class=\"link\" d=\"M498 49H526\" marker-end=\"url(#tip-of-arrow)\"/>
 <text x=\"8\" y=\"195\">The list</text>
 <rect class=\"node\" x=\"70\" y=\"170\" width=\"92\" height=\"40\" rx=\"6\" stroke-dasharray=\"5 4\"/><text x=\"84\" y=\"195\">dummy</text>
 <rect class=\"node\" x=\"200\" y=\"170\" width=\"92\" height=\"40\" rx=\"6\"/><text x=\"214\" y=\"195\">item 4</text>
 <rect class=\"node\" x=\"330\" y=\"170\" width=\"92\" height=\"40\" rx=\"6\"/><text x=\"344\" y=\"195\">item 5</text>
 <rect class=\"node\" x=\"460\" y=\"170\" width=\"92\" height=\"40\" rx=\"6\"/><text x=\"474\" y=\"195\">item 6</text>
 <path class=\"link\" d=\"M162 190H198\" marker-end=\"url(#tip-of-arrow)\"/><path class=\"link\" d=\"M292 190H328\" marker-end=\"url(#tip-of-arrow)\"/><path class=\"link\" d=\"M422 190H458\" marker-end=\"url(#tip-of-arrow)\"/>
-<path class=\"link\" d=\"M45 70C45 130 506 90 506 168\" marker-end=\"url(#tip-of-arrow)\"/><text x=\"112\" y=\"86\">s1 appends 7, 8 and 9</text>
-<path class=\"link\" d=\"M467 70C467 120 116 110 116 168\" marker-end=\"url(#tip-of-arrow)\"/><text x=\"210\" y=\"152\">r1 takes 4, the oldest item</text>
-<text class=\"small\" x=\"92\" y=\"226\">head</text><text class=\"small\" x=\"494\" y=\"226\">last</text>
+<path class=\"link\" d=\"M45 70C45 125 116 110 116 168\" marker-end=\"url(#tip-of-arrow)\"/><text x=\"126\" y=\"128\">r1 takes 4, the oldest item</text>
+<path class=\"link\" d=\"M357 70C357 125 506 105 506 168\" marker-end=\"url(#tip-of-arrow)\"/><text x=\"446\" y=\"100\">s1 appends 7, 8 and 9</text>
+<text class=\"small\" x=\"98\" y=\"226\">head</text><text class=\"small\" x=\"494\" y=\"226\">last</text>
 </svg></div>
 </div>
 </section>
 <section class=\"card\" id=\"choose\" aria-labelledby=\"choose-title\">
-<h2 id=\"choose-title\">Tour and scenarios: each opens a run that you can drive on</h2>
+<h2 id=\"choose-title\">Each of these opens a run that you can drive on</h2>
 <div class=\"choose\">
 <div><h3>Guided tour</h3><ol id=\"tour\"></ol></div>
 <div><h3>Scenarios</h3><ul id=\"examples\"></ul></div>
-<div><h3>Broken queues: what goes wrong, and the law that breaks</h3><ul id=\"broken\"></ul></div>
+<div><h3>Broken queues, beside the right one</h3><ul id=\"broken\"></ul></div>
+<div><h3>Exercises</h3><ul id=\"exercise-list\"></ul></div>
 </div>
 <details id=\"own\"><summary>Your own queue, or a plan</summary>
 <form id=\"own-form\" class=\"own\">
@@ -244,7 +283,7 @@ body.bare header, body.bare #intro, body.bare #choose, body.bare footer { displa
 <button>open this queue</button>
 </form>
 <h3>Open a plan: paste its JSON, or choose a file</h3>
-<textarea id=\"import\" class=\"mono\" aria-label=\"a plan in JSON\" placeholder='{\"capacity\":2,\"bound\":2,\"life\":10,\"senders\":<dfn class=\"term\" tabindex=\"0\" data-word=\"7\">7</dfn>,\"receivers\":[1],\"schedule\":[[\"s1\",100],[\"r1\",100]]}'></textarea>
+<textarea id=\"import\" class=\"mono\" aria-label=\"a plan in JSON\" placeholder='{\"capacity\":2,\"bound\":2,\"life\":10,\"senders\":[[7]],\"receivers\":[1],\"schedule\":[[\"s1\",100],[\"r1\",100]]}'></textarea>
 <div class=\"row\" style=\"margin-top:5px\"><button id=\"open-plan\" type=\"button\">open this plan</button><input id=\"file\" type=\"file\" accept=\".json,application/json\" aria-label=\"a file with a plan\"></div>
 <p id=\"import-hint\" role=\"status\"></p>
 </details>
@@ -272,24 +311,31 @@ body.bare header, body.bare #intro, body.bare #choose, body.bare footer { displa
 <div id=\"breaks\" role=\"alert\"></div>
 </div>
 <section class=\"card\" id=\"lesson\" aria-labelledby=\"lesson-title\">
-<div class=\"top\"><h2 id=\"lesson-title\"></h2><div class=\"row\"><button id=\"stop-before\" title=\"the stop before (p)\">&#171; stop</button><button id=\"stop-next\" title=\"the next stop (n)\">next stop &#187;</button></div></div>
+<div class=\"top\"><h2 id=\"lesson-title\"></h2><div class=\"row\"><button id=\"stop-before\" title=\"the stop before (p)\">&#171; stop</button><button id=\"stop-next\" title=\"the next stop (n)\">next stop &#187;</button><button id=\"to-lecture\" title=\"one moment a screen, in large letters (l)\">lecture</button><button id=\"pair\" aria-pressed=\"false\" title=\"the same steps by the other table\">side by side</button><button id=\"compare\"></button></div></div>
 <p id=\"lesson-text\"></p>
 <div class=\"moment\" id=\"moment\"><div id=\"moments\" role=\"group\" aria-label=\"moments of this run\"></div><div id=\"moment-text\"></div></div>
-<p class=\"dim\" id=\"config\"></p>
+<p id=\"parting\" hidden></p>
+<div id=\"task\" hidden><p id=\"task-state\" role=\"status\"></p><p id=\"task-hint\" hidden></p><div class=\"row\"><button id=\"hint-button\">hint</button><button id=\"solve\">a shortest solution</button><button id=\"again\">start again</button><span class=\"dim\" id=\"task-length\"></span></div></div>
+</section>
+<section id=\"sides\" aria-label=\"The chains and the list\">
+<div class=\"side\"><h2 id=\"side-title\"></h2><p id=\"side-event\"></p><div class=\"chains\" id=\"chains\"></div><section class=\"card of-list\" aria-labelledby=\"list-title\"><h2 id=\"list-title\">The list</h2><div id=\"list\"></div></section></div>
+<div class=\"side\" id=\"other\" hidden><h2 id=\"other-title\"></h2><p id=\"other-event\"></p><div class=\"chains\" id=\"other-chains\"></div><section class=\"card of-list\" aria-label=\"The list of the other queue\"><h2>The list</h2><div id=\"other-list\"></div></section></div>
 </section>
 <section class=\"card\" id=\"passes\" aria-labelledby=\"lanes-title\">
 <div class=\"top\">
 <h2 id=\"lanes-title\">The passes: press one to step</h2>
-<form id=\"add\" class=\"row\">
+<form id=\"add\" class=\"row\" hidden>
 <select id=\"caller\" aria-label=\"the pass that gets a further call\"></select>
 <input id=\"body\" aria-label=\"the words of the item\" placeholder=\"one to four words\" autocomplete=\"off\" inputmode=\"numeric\">
 <button id=\"add-send\">add send</button><button id=\"add-close\" type=\"button\">add close</button><button id=\"add-take\" type=\"button\">add take</button>
-<label id=\"all-label\"><input id=\"all\" type=\"checkbox\"> all passes</label>
 </form>
+<span class=\"dim\" id=\"config\"></span>
+<label id=\"all-label\"><input id=\"all\" type=\"checkbox\"> all passes</label>
 </div>
 <p id=\"hint\" role=\"status\" hidden></p>
 <div id=\"turns\"></div>
 <div id=\"lanes\" tabindex=\"0\" role=\"group\" aria-label=\"lanes of the passes\"><div id=\"names\"></div><div id=\"cells\"></div></div>
+<div id=\"waits\"></div>
 <p class=\"legend\" id=\"legend\"></p>
 </section>
 <section class=\"card\" id=\"law-card\" aria-labelledby=\"law-title\" hidden>
@@ -300,12 +346,8 @@ body.bare header, body.bare #intro, body.bare #choose, body.bare footer { displa
 <div id=\"code-head\"><h2 id=\"code-title\">The program, and the line of this step</h2><div id=\"holds\"></div></div>
 <div id=\"program\"></div>
 </section>
-<section class=\"card\" aria-labelledby=\"list-title\">
-<h2 id=\"list-title\">The list</h2>
-<div id=\"list\"></div>
-</section>
 <div id=\"rest\">
-<div class=\"two\" id=\"chains\"></div>
+<div class=\"chains\" id=\"more-chains\"></div>
 <section class=\"card\" aria-labelledby=\"history-title\">
 <h2 id=\"history-title\">The history so far, in the order of the swaps</h2>
 <div id=\"history\" class=\"columns\"></div>
@@ -322,42 +364,66 @@ body.bare header, body.bare #intro, body.bare #choose, body.bare footer { displa
 </div>
 </section>
 </main>
+<section id=\"lecture\" hidden aria-label=\"Lecture\">
+<div class=\"top\"><h2 id=\"lecture-title\"></h2><span id=\"lecture-count\"></span></div>
+<p id=\"lecture-text\" role=\"status\" aria-live=\"polite\"></p>
+<div id=\"lecture-sides\"></div>
+<div id=\"lecture-line\"></div>
+<nav aria-label=\"Lecture\"><button id=\"lecture-back\" title=\"the screen before (left arrow, Page up)\">&#8592; back</button><select id=\"lecture-lesson\" aria-label=\"the lesson\"></select><span class=\"gap\"></span><button id=\"lecture-full\" title=\"the whole screen (f)\">full screen</button><button id=\"lecture-leave\" title=\"back to the run (Escape)\">leave</button><button id=\"lecture-next\" title=\"the next screen (right arrow, space, Page down)\">next &#8594;</button></nav>
+</section>
 <footer>
 <section id=\"keys\"><h2>Keys</h2>
 <p><kbd>&#8592;</kbd> <kbd>&#8594;</kbd> one event; <kbd>space</kbd> plays and stops, except in a field for text, and <kbd>Enter</kbd> presses a button; <kbd>d</kbd> <kbd>D</kbd> the next
-decision, and the one before; <kbd>1</kbd> to <kbd>9</kbd> a step of the first to ninth pass; <kbd>n</kbd> <kbd>p</kbd> the next stop, and the one before;
-<kbd>m</kbd> <kbd>M</kbd> the next moment of a stop, and the one before; <kbd>Esc</kbd> hides the explanation of a word. In the player <kbd>Home</kbd> and <kbd>End</kbd> go to the
-first and the last event, <kbd>Page up</kbd> and <kbd>Page down</kbd> to decisions. A step that the run doesn't have next begins a branch.</p></section>
+decision, and the one before; <kbd>1</kbd> to <kbd>9</kbd> a step of the first to ninth pass, and with <kbd>Shift</kbd> its steps until its call returns or it waits; <kbd>n</kbd> <kbd>p</kbd> the next stop,
+and the one before; <kbd>m</kbd> <kbd>M</kbd> the next moment of a stop, and the one before; <kbd>l</kbd> the lecture; <kbd>Esc</kbd> hides the explanation of a word. In the player <kbd>Home</kbd> and
+<kbd>End</kbd> go to the first and the last event, <kbd>Page up</kbd> and <kbd>Page down</kbd> to decisions. A step that the run doesn't have next begins a branch.</p>
+<p>In a lecture <kbd>&#8594;</kbd>, <kbd>space</kbd>, <kbd>Enter</kbd> and <kbd>Page down</kbd> show the next screen, <kbd>&#8592;</kbd>, <kbd>Backspace</kbd> and <kbd>Page up</kbd> the one before, <kbd>Home</kbd> and
+<kbd>End</kbd> the first and the last of the lesson; <kbd>f</kbd> fills the whole screen, <kbd>b</kbd> or <kbd>.</kbd> blanks it, and <kbd>Esc</kbd> leaves. Presenters' clickers press these keys.</p></section>
 <section id=\"glossary\"><h2>Words</h2><dl id=\"words\"></dl></section>
 <details><summary>What a step of each kind does</summary><dl id=\"kinds\"></dl></details>
 </footer>
 <div id=\"tip\" role=\"tooltip\" hidden></div>
+<script type=\"application/json\" id=\"exercises\">
+[
+{\"id\":\"empty\",\"title\":\"Empty beside an item\",\"text\":\"Make a take return Empty while an accepted item is in the queue. The queue is the right one, so this is no fault: find out why.\",\"hint\":\"An answer is fixed at its [[decision]], and returned later. Stop r1 in between, and let s1 send.\",\"plan\":{\"capacity\":2,\"bound\":2,\"life\":10,\"senders\":[[7]],\"receivers\":[1],\"schedule\":[]},\"goal\":{\"returns\":\"Empty\"},\"solution\":[[\"r1\",9],[\"s1\",20],[\"r1\",5]]},
+{\"id\":\"full\",\"title\":\"Full beside a free node\",\"text\":\"The capacity is 1, and s1 has sent 5. Make the send of 6 return Full while no item waits. The queue is the right one.\",\"hint\":\"Full takes effect when the scan begins. Stop s2 before it reads its answer, and let r1 take the item.\",\"plan\":{\"capacity\":1,\"bound\":2,\"life\":10,\"senders\":[[5],[6]],\"receivers\":[1],\"schedule\":[[\"s1\",28]]},\"goal\":{\"returns\":\"Full\"},\"solution\":[[\"s2\",19],[\"r1\",14],[\"s2\",1]]},
+{\"id\":\"passed_over\",\"title\":\"A call is passed over\",\"text\":\"At the bound, which is 1 here, this combiner hands over to the node after the one where it has to stop. Make it hand over past a call that waits.\",\"hint\":\"The combiner needs a link to follow: let both senders link their requests before s1 stops.\",\"plan\":{\"capacity\":2,\"bound\":1,\"life\":10,\"senders\":[[1],[2]],\"receivers\":[0],\"schedule\":[]},\"table\":\"handed_past\",\"goal\":{\"breaks\":[\"hand\"]},\"solution\":[[\"s1\",25],[\"s2\",6],[\"s1\",2]]},
+{\"id\":\"left_behind\",\"title\":\"Lose an item by an early mark\",\"text\":\"This combiner follows the next link of a node only after it has marked the node done. Make its hand-over miss, so that the item of a send is lost.\",\"hint\":\"Let s1 serve s2 and mark its node done. Then s2 returns and begins its next send before s1 reads the link.\",\"plan\":{\"capacity\":2,\"bound\":2,\"life\":10,\"senders\":[[1],[2,3]],\"receivers\":[0],\"schedule\":[]},\"table\":\"marked_early\",\"goal\":{\"breaks\":[\"hand\"]},\"solution\":[[\"s1\",26],[\"s2\",6],[\"s1\",18],[\"s2\",3],[\"s1\",2]]},
+{\"id\":\"lost\",\"title\":\"Lose an item of a group\",\"text\":\"s1 has sent 5, for two groups. This queue uses a list node as soon as one group has gone past it. Make the take of r2 return Empty, although 5 waits for group 2.\",\"hint\":\"Let group 1 go past node 0, and then let s1 use node 0 for its send of 6.\",\"plan\":{\"version\":2,\"groups\":2,\"capacity\":1,\"bound\":2,\"life\":10,\"senders\":[[[5],[6]]],\"receivers\":[1,1],\"schedule\":[[\"s1\",28]]},\"table\":\"one_group\",\"goal\":{\"breaks\":[\"empty\",\"fifo\"]},\"solution\":[[\"r1\",14],[\"s1\",16],[\"r2\",9]]},
+{\"id\":\"twice\",\"title\":\"Get an item twice\",\"text\":\"s1 has sent 5. A take of this queue frees the node that is the dummy from then on. Make r1 get one item twice.\",\"hint\":\"After the take of 5 node 1 is the dummy and counts as free. A send that uses node 1 links it to itself.\",\"plan\":{\"capacity\":1,\"bound\":2,\"life\":10,\"senders\":[[5,6]],\"receivers\":[3],\"schedule\":[[\"s1\",28]]},\"table\":\"freed_dummy\",\"goal\":{\"breaks\":[\"fifo\"]},\"solution\":[[\"r1\",14],[\"s1\",21],[\"r1\",46]]}
+]
+</script>
 <script type=\"application/json\" id=\"lessons\">
 [
-{\"kind\":\"tour\",\"id\":\"lone\",\"title\":\"A lone send\",\"text\":\"One [[pass]], s1, sends the item 7 and no other pass moves. It swaps its [[node]] into the [[tail]] of the send [[chain]], finds that no pass combines, and serves its own call.\",\"plan\":{\"capacity\":2,\"bound\":2,\"life\":10,\"senders\":[[7]],\"receivers\":[1],\"schedule\":[[\"s1\",28]]},\"moments\":[[3,\"Exchange\",\"s1 swaps its own node into the tail and gets node 0. With this step the call enters the [[history]]: its place among all sends is fixed.\"],[6,\"Link\",\"The request is written, and s1 links its node to the one that it put into the tail. Only now can a [[combiner]] serve the request.\"],[7,\"ReadState\",\"State 0: s1 is the combiner. State 1 would mean wait, and state 2 done.\"],[20,\"LinkLast\",\"The list node with the item 7 is linked to the last node. This step is the [[decision]]: accepted 0.\"],[27,\"HandOver\",\"No further request is linked. s1 stores 0 into the state of the node in the tail: the call that gets this node combines next.\"],[28,\"ReadAnswer\",\"s1 reads its answer, and its call returns.\"]]},
-{\"kind\":\"tour\",\"id\":\"three\",\"title\":\"Three sends that one serves\",\"text\":\"Three senders have linked their requests before any is served. s1 is the [[combiner]]: it serves all three in one [[turn]], in the order of their swaps, while s2 and s3 only read their own states.\",\"plan\":{\"capacity\":4,\"bound\":4,\"life\":10,\"senders\":[[1],[2],[3]],\"receivers\":[0],\"schedule\":[[\"s1\",6],[\"s2\",6],[\"s3\",6],[\"s2\",2],[\"s3\",2],[\"s1\",58],[\"s2\",2],[\"s3\",2]]},\"moments\":[[18,\"Link\",\"Three requests are linked: node 0 of s1, node 1 of s2, node 2 of s3. The tail names node 3, which has no request yet.\"],[19,\"ReadState\",\"s2 reads state 1 and waits. It reads its own node alone, so it disturbs no other pass.\"],[42,\"ReadNext\",\"s1 reads the next link before it serves: node 1 has a successor, so its request is complete.\"],[59,\"MarkDone\",\"s1 has written the answer of s2 and marks node 1 done. s2 may return from now on.\"],[79,\"HandOver\",\"All three are served. s1 hands over to node 3, the node in the tail.\"],[84,\"ReadAnswer\",\"s3 returns, and has not touched the list at all.\"]]},
-{\"kind\":\"tour\",\"id\":\"bound\",\"title\":\"The hand-over at the bound\",\"text\":\"The [[bound]] is 2: a [[combiner]] serves at most two calls in one [[turn]]. s1 serves s1 and s2, and hands over to s3, so that no pass serves others for ever.\",\"plan\":{\"capacity\":4,\"bound\":2,\"life\":10,\"senders\":[[1],[2],[3]],\"receivers\":[0],\"schedule\":[[\"s1\",6],[\"s2\",6],[\"s3\",8],[\"s1\",39],[\"s3\",22],[\"s2\",2]]},\"moments\":[[57,\"MarkDone\",\"s1 has served two calls, as many as the bound.\"],[58,\"HandOver\",\"[[Hand-over]]: s1 stores 0 into the state of node 2, on which s3 waits.\"],[60,\"ReadState\",\"s3 reads 0, and is the combiner now. At no moment did two passes combine.\"],[73,\"LinkLast\",\"s3 serves its own call: accepted 2.\"]]},
-{\"kind\":\"tour\",\"id\":\"take\",\"title\":\"A take\",\"text\":\"The item 7 is in the list. r1 takes it: the receivers have a [[chain]] of their own, and the list begins with its [[dummy]], the node of the item that was taken last.\",\"plan\":{\"capacity\":2,\"bound\":2,\"life\":10,\"senders\":[[7]],\"receivers\":[1],\"schedule\":[[\"s1\",28],[\"r1\",23]]},\"moments\":[[35,\"ReadObject\",\"r1 combines on the take chain and reads the [[head]]: node 0 is the dummy.\"],[37,\"ReadDummyNext\",\"The next link of the dummy names node 1, so the list has an item.\"],[39,\"ReadItem\",\"r1 reads the word of the item, 7, while node 1 is still in the list.\"],[40,\"WriteObject\",\"The head moves to node 1, which is the dummy from now on.\"],[42,\"AddPassed\",\"r1 adds 1 to the [[passed]] count of node 0. This is the decision, got 0, and it frees node 0 for a later send.\"]]},
-{\"kind\":\"tour\",\"id\":\"empty\",\"title\":\"Empty, and a send in between\",\"text\":\"s1 has prepared a list node and stops one step before the link. A take that runs now returns Empty, and rightly: the send has not taken effect yet.\",\"plan\":{\"capacity\":2,\"bound\":2,\"life\":10,\"senders\":[[7]],\"receivers\":[2],\"schedule\":[[\"s1\",19],[\"r1\",14],[\"s1\",9],[\"r1\",23]]},\"moments\":[[19,\"ReadObject\",\"Node 1 holds the item 7, and no link leads to it.\"],[28,\"ReadDummyNext\",\"r1 reads null in the next link of the dummy. This load decides Empty.\"],[34,\"LinkLast\",\"s1 links node 1: accepted 0. The send takes effect after the take.\"],[56,\"AddPassed\",\"The second take gets the item.\"]]},
-{\"kind\":\"tour\",\"id\":\"scan\",\"title\":\"Full, and when it takes effect\",\"text\":\"The [[capacity]] is 1, and the item 5 waits. The send of s2 scans all list nodes for a free one. During the scan r1 takes the item, and the send still returns Full: it takes effect when its scan begins.\",\"plan\":{\"capacity\":1,\"bound\":2,\"life\":10,\"senders\":[[5],[6]],\"receivers\":[1],\"schedule\":[[\"s1\",28],[\"s2\",14],[\"r1\",23],[\"s2\",6]]},\"moments\":[[41,\"ReadObject\",\"s2 reads the [[cursor]], at which its scan begins. Both list nodes are busy at this moment: Full takes effect here.\"],[42,\"ReadPassed\",\"Node 0 is the dummy, and no group has gone past it: it is busy.\"],[56,\"AddPassed\",\"r1 takes the item 5. Node 0 is free from now on, but s2 has read it already.\"],[66,\"ReadPassed\",\"Node 1 is the dummy now, and busy. The scan is over: this load decides Full.\"]],\"opens\":\"order\"},
-{\"kind\":\"tour\",\"id\":\"again\",\"title\":\"A node that is used again\",\"text\":\"The [[capacity]] is 1, so the list has two ordinary nodes. r1 takes the item 5, which frees node 0. The send of s2 uses node 0 again, and no item is lost.\",\"plan\":{\"capacity\":1,\"bound\":2,\"life\":10,\"senders\":[[5],[7]],\"receivers\":[2],\"schedule\":[[\"s1\",28],[\"r1\",23],[\"s2\",28],[\"r1\",23]]},\"moments\":[[42,\"AddPassed\",\"All groups have gone past node 0: it is free.\"],[65,\"ReadPassed\",\"The scan of s2 begins at the cursor and finds node 0 free.\"],[67,\"ResetListNode\",\"s2 clears the passed count and the next link of node 0. The node is out of the list, so no take can read it.\"],[71,\"LinkLast\",\"Node 0 is linked after node 1: accepted 1.\"],[93,\"AddPassed\",\"r1 takes the item 7 and frees node 1.\"]]},
-{\"kind\":\"tour\",\"id\":\"close\",\"title\":\"A close\",\"text\":\"s1 sends 5, closes the queue, and tries to send 6. The [[closing mark]] is a list node of its own, so a close is never Full. Receivers take what is left, and then get Ended.\",\"plan\":{\"capacity\":2,\"bound\":2,\"life\":10,\"senders\":[[5,\"close\",6]],\"receivers\":[2],\"schedule\":[[\"s1\",65],[\"r1\",38]]},\"moments\":[[42,\"LinkLast\",\"The closing mark is linked after the item 5. This step decides the close: shut 1.\"],[44,\"WriteObject\",\"s1 sets the shut word. A send that reads it returns Closed.\"],[60,\"ReadObject\",\"The send of 6 reads 1 and is decided: closed.\"],[79,\"AddPassed\",\"r1 takes the item 5, which was accepted before the close.\"],[98,\"ReadItem\",\"The node after the dummy has the tag 0: it is the mark. The take returns Ended, and so does each later one.\"]]},
-{\"kind\":\"tour\",\"id\":\"groups\",\"title\":\"Two groups\",\"text\":\"Two [[group]]s of receivers read one list: r1 is group 1, and r2 is group 2. Each group has its own [[head]] and gets every item. A node is free when both groups have gone past it.\",\"plan\":{\"version\":2,\"groups\":2,\"capacity\":1,\"bound\":2,\"life\":10,\"senders\":[[[5],[6],[6]]],\"receivers\":[2,2],\"schedule\":[[\"s1\",28],[\"r1\",23],[\"s1\",20],[\"r2\",23],[\"s1\",28],[\"r1\",23],[\"r2\",23]]},\"moments\":[[42,\"AddPassed\",\"Group 1 got the item 5. Node 0 is passed by 1 of 2 groups, and is not free.\"],[66,\"ReadPassed\",\"No node is free, so the send of 6 is Full: the slower group holds the sender back.\"],[85,\"AddPassed\",\"Group 2 got the item 5 too. Both groups have gone past node 0: it is free.\"],[114,\"LinkLast\",\"The next send of 6 uses node 0: accepted 1.\"],[159,\"AddPassed\",\"Each group got 5 and then 6.\"]]},
-{\"kind\":\"tour\",\"id\":\"order\",\"title\":\"An order of all calls\",\"text\":\"Calls overlap, and yet there is one order of all calls in which each answer is that of a queue that does one call after another. Each call takes effect between its swap and its [[decision]]. Every run of the algorithm is linearizable in this sense, and that is proved: the law is RunsAreLinearizable in crates/cc_runs. The card \\\"An order of all calls\\\" shows this order for the run on the page.\",\"plan\":{\"capacity\":1,\"bound\":2,\"life\":10,\"senders\":[[5],[6]],\"receivers\":[2],\"schedule\":[[\"s1\",19],[\"r1\",14],[\"s1\",9],[\"s2\",14],[\"r1\",23],[\"s2\",6]]},\"moments\":[[28,\"ReadDummyNext\",\"The take is Empty while the send of 5 is in between: in the order the take comes first.\"],[34,\"LinkLast\",\"The send of 5 takes effect: it comes second.\"],[55,\"ReadObject\",\"The scan of the send of 6 begins. If the send will be Full, it takes effect here.\"],[70,\"AddPassed\",\"The take of 5 takes effect.\"],[80,\"ReadPassed\",\"The send of 6 is decided: Full. In the order it comes before the take of 5, at the load of the cursor.\"]],\"opens\":\"order\"},
-{\"kind\":\"example\",\"id\":\"bodies_of_words\",\"title\":\"Items of one to four words\",\"text\":\"Three senders send items of one to four words, and one pass serves them all.\",\"plan\":{\"version\":2,\"groups\":1,\"capacity\":4,\"bound\":4,\"life\":10,\"senders\":[[[1],[2,20]],[[3,30,300]],[[4,40,400,4000]]],\"receivers\":[4],\"schedule\":[[\"s3\",9],[\"s2\",8],[\"s1\",6],[\"s3\",200],[\"s1\",200],[\"r1\",200]]},\"moments\":[]},
+{\"kind\":\"tour\",\"id\":\"lone\",\"title\":\"A lone send\",\"text\":\"s1 sends 7, and no other [[pass]] moves. s1 swaps its [[node]] into the [[tail]] of the send [[chain]], finds that no pass combines, and serves its own request.\",\"plan\":{\"capacity\":2,\"bound\":2,\"life\":10,\"senders\":[[7]],\"receivers\":[1],\"schedule\":[[\"s1\",28]]},\"moments\":[[3,\"Exchange\",\"s1 swaps node 1 into the tail and gets node 0: its call enters the [[history]] as the 1st send.\"],[6,\"Link\",\"s1 links node 0 to node 1, the node in the tail: only now can a [[combiner]] serve the request.\"],[7,\"ReadState\",\"s1 reads state 0: no pass combines, so s1 is the combiner.\"],[20,\"LinkLast\",\"s1 links list node 1, which has the item 7, to node 0: this step is the [[decision]], accepted as item 0.\"],[27,\"HandOver\",\"No further request is linked, so s1 hands over to node 1, the node in the tail.\"],[28,\"ReadAnswer\",\"s1 reads its answer: its call returns accepted as item 0.\"]]},
+{\"kind\":\"tour\",\"id\":\"three\",\"title\":\"Three sends that one serves\",\"text\":\"Three senders link their requests before any is served. s1 is the [[combiner]]: it serves all three in one [[turn]], in the order of their swaps, while s2 and s3 only read their own states.\",\"plan\":{\"capacity\":4,\"bound\":4,\"life\":10,\"senders\":[[1],[2],[3]],\"receivers\":[0],\"schedule\":[[\"s1\",6],[\"s2\",6],[\"s3\",6],[\"s2\",2],[\"s3\",2],[\"s1\",58],[\"s2\",2],[\"s3\",2]]},\"moments\":[[18,\"Link\",\"Three requests are linked now: node 0 of s1, node 1 of s2 and node 2 of s3. The tail names node 3, which no call has.\"],[19,\"ReadState\",\"s2 reads state 1 and begins to wait: it reads its own node alone, and changes no word.\"],[42,\"ReadNext\",\"s1 reads the next link of node 1 before it serves s2: it names node 2, so the request of s2 is whole.\"],[59,\"MarkDone\",\"s1 has written the answer of s2 and marks node 1 done: from now on s2 may return.\"],[79,\"HandOver\",\"s1 has served three requests, and hands over to node 3, the node in the tail.\"],[84,\"ReadAnswer\",\"s3 reads its answer: its call returns accepted as item 2. s3 has not touched the list.\"]]},
+{\"kind\":\"tour\",\"id\":\"bound\",\"title\":\"The hand-over at the bound\",\"text\":\"The [[bound]] is 2: a [[combiner]] serves at most two requests in one [[turn]]. s1 serves s1 and s2, and hands over to s3.\",\"plan\":{\"capacity\":4,\"bound\":2,\"life\":10,\"senders\":[[1],[2],[3]],\"receivers\":[0],\"schedule\":[[\"s1\",6],[\"s2\",6],[\"s3\",8],[\"s1\",39],[\"s3\",22],[\"s2\",2]]},\"moments\":[[57,\"MarkDone\",\"s1 marks node 1 done: it has served two requests, as many as the bound.\"],[58,\"HandOver\",\"s1 hands over to node 2 of s3, the first call without an answer.\"],[60,\"ReadState\",\"s3 reads state 0: no pass combines, so s3 is the combiner. At no moment did two passes combine.\"],[73,\"LinkLast\",\"s3 serves its own request: this step is the decision, accepted as item 2.\"]]},
+{\"kind\":\"tour\",\"id\":\"take\",\"title\":\"A take\",\"text\":\"s1 has sent 7, and r1 takes it. The receivers have a [[chain]] of their own. The list begins with its [[dummy]], a node with no item to take.\",\"plan\":{\"capacity\":2,\"bound\":2,\"life\":10,\"senders\":[[7]],\"receivers\":[1],\"schedule\":[[\"s1\",28],[\"r1\",23]]},\"moments\":[[35,\"ReadObject\",\"r1 combines in the take chain and reads the [[head]]: node 0 is the dummy.\"],[37,\"ReadDummyNext\",\"r1 reads the next link of the dummy: it names node 1, so the list has an item.\"],[39,\"ReadItem\",\"r1 reads the word of the item, 7, in node 1, which is still in the list.\"],[40,\"WriteObject\",\"r1 moves the head to node 1: this is the dummy from now on.\"],[42,\"AddPassed\",\"r1 adds 1 to the [[passed]] count of node 0: this step is the [[decision]], got 7 as item 0. Node 0 is free from now on.\"]]},
+{\"kind\":\"tour\",\"id\":\"empty\",\"title\":\"Empty, and a send in between\",\"text\":\"s1 has prepared a list node and stops one step before the link. A take that runs now returns Empty, and rightly: the send has not taken effect yet.\",\"plan\":{\"capacity\":2,\"bound\":2,\"life\":10,\"senders\":[[7]],\"receivers\":[2],\"schedule\":[[\"s1\",19],[\"r1\",14],[\"s1\",9],[\"r1\",23]]},\"moments\":[[19,\"ReadObject\",\"s1 stops before the link: node 1 has the item 7, and no link of the list names it.\"],[28,\"ReadDummyNext\",\"r1 reads null in the next link of the dummy: this step is the decision, empty.\"],[34,\"LinkLast\",\"s1 links list node 1, which has the item 7, to node 0: the send takes effect now, after the take.\"],[56,\"AddPassed\",\"r1 takes the item 7: it is the second take of r1.\"]]},
+{\"kind\":\"tour\",\"id\":\"scan\",\"title\":\"Full, and when it takes effect\",\"text\":\"The [[capacity]] is 1, and the item 5 waits. The send of 6 scans all list nodes for a free one. During the scan r1 takes the item, and the send still returns Full: it takes effect when its scan begins.\",\"plan\":{\"capacity\":1,\"bound\":2,\"life\":10,\"senders\":[[5],[6]],\"receivers\":[1],\"schedule\":[[\"s1\",28],[\"s2\",14],[\"r1\",23],[\"s2\",6]]},\"moments\":[[41,\"ReadObject\",\"s2 reads the [[cursor]], and its scan begins at node 0: both list nodes are busy at this moment, and the Full of this send takes effect here.\"],[42,\"ReadPassed\",\"s2 reads that no group has gone past node 0, which is the dummy: it is busy.\"],[56,\"AddPassed\",\"r1 takes the item 5: node 0 is free from now on, but s2 has read it already.\"],[66,\"ReadPassed\",\"s2 reads that no group has gone past node 1, which is the dummy now: this step is the decision, full.\"]],\"opens\":\"order\"},
+{\"kind\":\"tour\",\"id\":\"again\",\"title\":\"A node that is used again\",\"text\":\"The [[capacity]] is 1, so the list has two ordinary nodes. r1 takes the item 5, which frees node 0. The send of 7 uses node 0 again, and no item is lost.\",\"plan\":{\"capacity\":1,\"bound\":2,\"life\":10,\"senders\":[[5],[7]],\"receivers\":[2],\"schedule\":[[\"s1\",28],[\"r1\",23],[\"s2\",28],[\"r1\",23]]},\"moments\":[[42,\"AddPassed\",\"r1 takes the item 5: every group has gone past node 0, and it is free from now on.\"],[65,\"ReadPassed\",\"s2 begins its scan at the cursor, and finds node 0 free.\"],[67,\"ResetListNode\",\"s2 clears the next link of node 0, as it did the passed count: node 0 is not in the list, so no take can read it.\"],[71,\"LinkLast\",\"s2 links list node 0, which has the item 7, to node 1: this step is the decision, accepted as item 1.\"],[93,\"AddPassed\",\"r1 takes the item 7: node 1 is free from now on.\"]]},
+{\"kind\":\"tour\",\"id\":\"close\",\"title\":\"A close\",\"text\":\"s1 sends 5, closes the queue, and tries to send 6. The [[closing mark]] is a list node of its own, so a close is never Full. r1 takes what is left, and then gets Ended.\",\"plan\":{\"capacity\":2,\"bound\":2,\"life\":10,\"senders\":[[5,\"close\",6]],\"receivers\":[2],\"schedule\":[[\"s1\",65],[\"r1\",38]]},\"moments\":[[42,\"LinkLast\",\"s1 links the closing mark to node 1: this step is the [[decision]], shut after 1 item.\"],[44,\"WriteObject\",\"s1 sets the shut word: the later send reads it, and returns Closed.\"],[60,\"ReadObject\",\"s1 serves the send of 6 and reads that the queue is shut: this step is the decision, closed.\"],[79,\"AddPassed\",\"r1 takes the item 5, which was accepted before the close.\"],[98,\"ReadItem\",\"r1 reads the tag of the node after the dummy: it is 0, so this node is the mark, and this step is the decision, ended after 1 item.\"]]},
+{\"kind\":\"tour\",\"id\":\"groups\",\"title\":\"Two groups\",\"text\":\"Two [[group]]s of receivers read one list: r1 is group 1, and r2 is group 2. Each group has its own [[head]] and gets every item. A node is free when both groups have gone past it.\",\"plan\":{\"version\":2,\"groups\":2,\"capacity\":1,\"bound\":2,\"life\":10,\"senders\":[[[5],[6],[6]]],\"receivers\":[2,2],\"schedule\":[[\"s1\",28],[\"r1\",23],[\"s1\",20],[\"r2\",23],[\"s1\",28],[\"r1\",23],[\"r2\",23]]},\"moments\":[[42,\"AddPassed\",\"Group 1 takes the item 5: one of two groups has gone past node 0, and it is not free.\"],[66,\"ReadPassed\",\"The send of 6 finds no free node: this step is the decision, full. Group 2 has not taken the item 5, and holds the sender back.\"],[85,\"AddPassed\",\"Group 2 takes the item 5 too: every group has gone past node 0, and it is free from now on.\"],[114,\"LinkLast\",\"The next send of 6 uses node 0: this step is the decision, accepted as item 1.\"],[159,\"AddPassed\",\"Group 2 takes the item 6: each group got 5 and then 6.\"]]},
+{\"kind\":\"tour\",\"id\":\"order\",\"title\":\"An order of all calls\",\"text\":\"Calls overlap, and yet there is one order of all calls in which each answer is that of a queue that does one call after another. Each call takes effect between its swap and its [[decision]]. Every run of the algorithm is linearizable in this sense, and that is proved: the law is RunsAreLinearizable in crates/cc_runs. The card \\\"An order of all calls\\\" shows this order for the run on the page.\",\"plan\":{\"capacity\":1,\"bound\":2,\"life\":10,\"senders\":[[5],[6]],\"receivers\":[2],\"schedule\":[[\"s1\",19],[\"r1\",14],[\"s1\",9],[\"s2\",14],[\"r1\",23],[\"s2\",6]]},\"moments\":[[28,\"ReadDummyNext\",\"r1 reads null in the next link of the dummy: the take is Empty while the send of 5 is under way, and is 1st in the order.\"],[34,\"LinkLast\",\"s1 links list node 1, which has the item 5, to node 0: the send takes effect now, and is 2nd in the order.\"],[55,\"ReadObject\",\"s2 reads the cursor, and its scan begins at node 0: the Full of this send takes effect here, and is 3rd in the order.\"],[70,\"AddPassed\",\"r1 takes the item 5: the take is 4th in the order.\"],[80,\"ReadPassed\",\"s2 reads that no group has gone past node 1, which is the dummy now: this step is the decision, full. In the order it comes before the take of 5.\"]],\"opens\":\"order\"},
+{\"kind\":\"example\",\"id\":\"bodies_of_words\",\"title\":\"Items of one to four words\",\"text\":\"Three senders send items of one to four words. s3 serves the first send of each.\",\"plan\":{\"version\":2,\"groups\":1,\"capacity\":4,\"bound\":4,\"life\":10,\"senders\":[[[1],[2,20]],[[3,30,300]],[[4,40,400,4000]]],\"receivers\":[4],\"schedule\":[[\"s3\",9],[\"s2\",8],[\"s1\",6],[\"s3\",200],[\"s1\",200],[\"r1\",200]]},\"moments\":[]},
 {\"kind\":\"example\",\"id\":\"full\",\"title\":\"A full queue\",\"text\":\"A send finds no free node, and a node that a take freed is used again.\",\"plan\":{\"capacity\":1,\"bound\":2,\"life\":10,\"senders\":[[5,6],[7]],\"receivers\":[1],\"schedule\":[[\"s1\",500],[\"r1\",500],[\"s2\",500]]},\"moments\":[]},
-{\"kind\":\"example\",\"id\":\"close_and_drain\",\"title\":\"Close and drain\",\"text\":\"A close, the answers after it, and takes to the end.\",\"plan\":{\"capacity\":2,\"bound\":2,\"life\":10,\"senders\":[[5,\"close\",6,\"close\"]],\"receivers\":[3],\"schedule\":[[\"s1\",500],[\"r1\",500]]},\"moments\":[]},
+{\"kind\":\"example\",\"id\":\"close_and_drain\",\"title\":\"Close and drain\",\"text\":\"s1 closes the queue. A later send returns Closed, and a later close Already. r1 takes what is left, and then gets Ended.\",\"plan\":{\"capacity\":2,\"bound\":2,\"life\":10,\"senders\":[[5,\"close\",6,\"close\"]],\"receivers\":[3],\"schedule\":[[\"s1\",500],[\"r1\",500]]},\"moments\":[]},
 {\"kind\":\"example\",\"id\":\"two_groups\",\"title\":\"Two groups, one slow\",\"text\":\"Two groups take every item, and the slower group holds the sender back.\",\"plan\":{\"version\":2,\"groups\":2,\"capacity\":1,\"bound\":2,\"life\":10,\"senders\":[[[5],[6],[6],[6],\"close\"]],\"receivers\":[3,3],\"schedule\":[[\"s1\",48],[\"r1\",23],[\"s1\",20],[\"r2\",23],[\"s1\",28],[\"r1\",23],[\"s1\",100],[\"r2\",100],[\"r1\",100]]},\"moments\":[]},
 {\"kind\":\"example\",\"id\":\"two_sends_combined\",\"title\":\"Two sends, one combiner\",\"text\":\"Two sends swap, and the pass of the first send serves both.\",\"plan\":{\"capacity\":2,\"bound\":2,\"life\":10,\"senders\":[[7],[9]],\"receivers\":[0],\"schedule\":[[\"s1\",3],[\"s2\",100],[\"s1\",100]]},\"moments\":[]},
-{\"kind\":\"example\",\"id\":\"bound_one\",\"title\":\"Bound 1\",\"text\":\"The combiner hands over after one call, and the second send is pending.\",\"plan\":{\"capacity\":2,\"bound\":1,\"life\":10,\"senders\":[[7],[9]],\"receivers\":[0],\"schedule\":[[\"s1\",3],[\"s2\",100],[\"s1\",100]]},\"moments\":[]},
-{\"kind\":\"example\",\"id\":\"cut_before_the_link\",\"title\":\"Cut before the link\",\"text\":\"A send that stops one step before its decision is pending.\",\"plan\":{\"capacity\":2,\"bound\":2,\"life\":10,\"senders\":[[7]],\"receivers\":[1],\"schedule\":[[\"s1\",19]]},\"moments\":[]},
+{\"kind\":\"example\",\"id\":\"bound_one\",\"title\":\"Bound 1\",\"text\":\"The combiner hands over after one request, and the second send is pending at the end.\",\"plan\":{\"capacity\":2,\"bound\":1,\"life\":10,\"senders\":[[7],[9]],\"receivers\":[0],\"schedule\":[[\"s1\",3],[\"s2\",100],[\"s1\",100]]},\"moments\":[]},
+{\"kind\":\"example\",\"id\":\"cut_before_the_link\",\"title\":\"Cut before the link\",\"text\":\"A send that stops one step before its decision is pending at the end.\",\"plan\":{\"capacity\":2,\"bound\":2,\"life\":10,\"senders\":[[7]],\"receivers\":[1],\"schedule\":[[\"s1\",19]]},\"moments\":[]},
 {\"kind\":\"example\",\"id\":\"one_item\",\"title\":\"One item\",\"text\":\"One item is sent and taken.\",\"plan\":{\"capacity\":2,\"bound\":2,\"life\":10,\"senders\":[[7]],\"receivers\":[1],\"schedule\":[[\"s1\",100],[\"r1\",100]]},\"moments\":[]},
-{\"kind\":\"broken\",\"id\":\"marked_early\",\"title\":\"Marked done before the next link is read\",\"text\":\"This [[combiner]] marks a node done first, and reads the next link of the node after that. In between, the owner of the node returns, begins another send, and clears the link.\",\"plan\":{\"capacity\":4,\"bound\":4,\"life\":10,\"senders\":[[1,5],[2,4],[3]],\"receivers\":[3],\"schedule\":[[\"s1\",6],[\"s2\",6],[\"s3\",6],[\"s1\",38],[\"s2\",5],[\"s1\",3],[\"s2\",5],[\"s3\",4],[\"s1\",29],[\"r1\",72],[\"s3\",2]]},\"moments\":[[56,\"MarkDone\",\"s1 marks the node of s2 done, and has not read the next link of that node yet.\"],[59,\"ResetNext\",\"s2 has returned and begins its next send: it clears the next link, which was the way to s3.\"],[63,\"HandOver\",\"s1 finds null and hands over, to the node of s2. The call of s3, which is the first without an answer, is skipped.\"],[70,\"ReadState\",\"s3 waits, and no pass will ever serve it.\"],[81,\"ReadNext\",\"s1 sends again. It got the node with state 0, so it serves its own call, past the calls of s3 and s2.\"],[164,\"AddPassed\",\"r1 gets the item 5 in the place of the item 3, which was never sent.\"]],\"table\":\"marked_early\",\"breaks\":\"hand\",\"lost\":\"Lost: the item 3 of s3, whose send never returns.\"},
-{\"kind\":\"broken\",\"id\":\"handed_past\",\"title\":\"Handed over past a request\",\"text\":\"At the bound this [[combiner]] reads one link too many, and hands over to the node after the one where it has to stop.\",\"plan\":{\"capacity\":4,\"bound\":1,\"life\":10,\"senders\":[[1],[2],[3]],\"receivers\":[3],\"schedule\":[[\"s1\",6],[\"s2\",6],[\"s3\",6],[\"s1\",22],[\"s3\",22],[\"s2\",4],[\"r1\",60],[\"s2\",2]]},\"moments\":[[37,\"MarkDone\",\"s1 has served one call, as many as the bound. The next request is that of s2.\"],[39,\"HandOver\",\"s1 hands over to the node of s3, past the request of s2.\"],[42,\"ReadNext\",\"s3 serves its own call, and the first call without an answer is that of s2.\"],[62,\"ReadAnswer\",\"s3 returns accepted 1, and by the history this is the answer of s2.\"],[103,\"AddPassed\",\"r1 gets the item 3 in the place of the item 2.\"]],\"table\":\"handed_past\",\"breaks\":\"hand\",\"lost\":\"Lost: the item 2 of s2, whose send never returns.\"},
-{\"kind\":\"broken\",\"id\":\"freed_dummy\",\"title\":\"Freed while the node is the dummy\",\"text\":\"This take adds to the [[passed]] count of the node that it took the item from. But this node is the [[dummy]] from now on, and a send may use it.\",\"plan\":{\"capacity\":1,\"bound\":2,\"life\":10,\"senders\":[[5,6]],\"receivers\":[3],\"schedule\":[[\"s1\",28],[\"r1\",23],[\"s1\",29],[\"r1\",46]]},\"moments\":[[42,\"AddPassed\",\"r1 took the item 5 out of node 1, and frees node 1, which is the dummy.\"],[67,\"ResetListNode\",\"The next send finds node 1 free and clears it, while the head names it.\"],[72,\"LinkLast\",\"Node 1 is linked to itself.\"],[94,\"AddPassed\",\"r1 gets the item 6 from node 1.\"],[117,\"AddPassed\",\"r1 gets the item 6 again: the link of node 1 leads to node 1.\"]],\"table\":\"freed_dummy\",\"breaks\":\"reset\",\"lost\":\"Got twice: the item 6.\"},
-{\"kind\":\"broken\",\"id\":\"one_group\",\"title\":\"Freed after one group\",\"text\":\"This send uses a node as soon as one [[group]] has gone past it. Another group may still need the node.\",\"plan\":{\"version\":2,\"groups\":2,\"capacity\":2,\"bound\":2,\"life\":10,\"senders\":[[[5],[6],[7]]],\"receivers\":[1,3],\"schedule\":[[\"s1\",56],[\"r1\",23],[\"s1\",28],[\"r2\",42]]},\"moments\":[[70,\"AddPassed\",\"Group 1 has gone past node 0. Node 0 is still the dummy of group 2.\"],[94,\"ResetListNode\",\"The third send uses node 0 and clears it.\"],[95,\"ResetListNode\",\"Now the next link of node 0 is null, and group 2 has lost its way to the items 5 and 6.\"],[116,\"ReadDummyNext\",\"r2 reads null after the dummy and returns Empty, while three items wait for group 2.\"]],\"table\":\"one_group\",\"breaks\":\"reset\",\"lost\":\"Lost for group 2: the items 5, 6 and 7.\"},
-{\"kind\":\"broken\",\"id\":\"full_early\",\"title\":\"Full two nodes early\",\"text\":\"This scan ends two nodes early. One node early would be right: the last node of a scan is the one that was linked last, and it is always busy.\",\"plan\":{\"capacity\":3,\"bound\":2,\"life\":10,\"senders\":[[5,6,7,8,9]],\"receivers\":[5],\"schedule\":[[\"s1\",98],[\"r1\",46],[\"s1\",35],[\"r1\",60]]},\"moments\":[[98,\"ReadPassed\",\"The queue is full, and the scan of the send of 8 has read node 0 busy.\"],[135,\"AddPassed\",\"r1 takes 5 and 6, which frees the nodes 0 and 1.\"],[145,\"ReadPassed\",\"The scan goes on and finds node 1 free. Node 0 is free too, and stays outside the list.\"],[174,\"ReadPassed\",\"The scan of the send of 9 has read two busy nodes and ends: Full. Node 0 is free, and only two items wait.\"]],\"table\":\"full_early\",\"breaks\":\"full\",\"lost\":\"Refused: the item 9, although only 2 of 3 items wait.\"}
+{\"kind\":\"broken\",\"id\":\"marked_early\",\"title\":\"Marked done before the link is followed\",\"text\":\"This [[combiner]] follows the next link of a node only after it has marked the node done. In between, the owner of the node returns, begins another send, and clears the link.\",\"plan\":{\"capacity\":4,\"bound\":4,\"life\":10,\"senders\":[[1,5],[2,4],[3]],\"receivers\":[3],\"schedule\":[[\"s1\",6],[\"s2\",6],[\"s3\",6],[\"s1\",38],[\"s2\",5],[\"s1\",3],[\"s2\",5],[\"s3\",4],[\"s1\",29],[\"r1\",72],[\"s3\",2]]},\"moments\":[[56,\"MarkDone\",\"s1 marks node 1 of s2 done: only its next step reads the link by which it goes on.\"],[59,\"ResetNext\",\"s2 has returned and begins its next send: it clears the next link of node 1, which led to node 2 of s3.\"],[63,\"HandOver\",\"s1 found null in that link, and hands over to node 1, the node in the tail: the call of s3 is the first without an answer, and is skipped.\"],[70,\"ReadState\",\"s3 reads state 1 and begins to wait: no link leads to its node any more.\"],[81,\"ReadNext\",\"s1 sends again and got node 1 with state 0: it serves its own request, past those of s3 and s2.\"],[164,\"AddPassed\",\"r1 gets 5 as item 2: by the history item 2 is that of s3, whose send still waits.\"]],\"table\":\"marked_early\",\"breaks\":\"hand\",\"lost\":\"Lost: the items 3 and 4. At the end of this run their sends wait for ever: no pass has a next step that changes a word.\",\"right\":{\"title\":\"The link is read before the request is served\",\"text\":\"The right [[combiner]] reads the next link of a node before it serves the request. s2 returns and clears its link as before, and s1 already knows that node 2 is next.\",\"moments\":[[38,\"ReadNext\",\"s1 reads the next link of node 1 before it serves s2: it names node 2, so the request of s2 is whole.\"],[55,\"MarkDone\",\"s1 has written the answer of s2 and marks node 1 done: from now on s2 may return.\"],[56,\"ReadNext\",\"s1 goes on to node 2 of s3, the first call without an answer.\"],[59,\"ResetNext\",\"s2 has returned and begins its next send: it clears the next link of node 1, and s1 is at node 2 already.\"],[82,\"LinkLast\",\"s1 serves the request of s3: this step is the decision, accepted as item 2.\"],[162,\"AddPassed\",\"r1 gets 3 as item 2: no accepted item is lost.\"],[173,\"ReadAnswer\",\"s3 reads its answer: its call returns accepted as item 2.\"]]}},
+{\"kind\":\"broken\",\"id\":\"handed_past\",\"title\":\"Handed over past a request\",\"text\":\"At the [[bound]] this [[combiner]] reads one link too many, and hands over to the node after the one where it has to stop.\",\"plan\":{\"capacity\":4,\"bound\":1,\"life\":10,\"senders\":[[1],[2],[3]],\"receivers\":[3],\"schedule\":[[\"s1\",6],[\"s2\",6],[\"s3\",6],[\"s1\",22],[\"s3\",22],[\"s2\",21],[\"s3\",21],[\"r1\",69],[\"s2\",2]]},\"moments\":[[37,\"MarkDone\",\"s1 marks node 0 done: it has served one request, as many as the bound. The next request is that of s2, in node 1.\"],[39,\"HandOver\",\"s1 hands over to node 2 of s3, past the request of s2.\"],[42,\"ReadNext\",\"s3 serves its own request, and the first call without an answer is that of s2.\"],[62,\"ReadAnswer\",\"s3 reads its answer: its call returns accepted as item 1. By the history this is the answer of s2.\"],[120,\"AddPassed\",\"r1 gets 3 as item 1: by the history item 1 is that of s2, whose send still waits.\"]],\"table\":\"handed_past\",\"breaks\":\"hand\",\"lost\":\"Lost: the item 2. At the end of this run its send waits for ever: no pass has a next step that changes a word.\",\"right\":{\"title\":\"Handed over to the next request\",\"text\":\"The right [[combiner]] hands over to the node where it stops. At the [[bound]] that is the node of the next request.\",\"moments\":[[37,\"MarkDone\",\"s1 marks node 0 done: it has served one request, as many as the bound. The next request is that of s2, in node 1.\"],[38,\"HandOver\",\"s1 hands over to node 1 of s2, the first call without an answer.\"],[40,\"ReadState\",\"s3 reads state 1 and begins to wait: it reads its own node alone, and changes no word.\"],[62,\"ReadState\",\"s2 reads state 0: no pass combines, so s2 is the combiner.\"],[75,\"LinkLast\",\"s2 serves its own request: this step is the decision, accepted as item 1.\"],[139,\"AddPassed\",\"r1 gets 2 as item 1: no accepted item is lost.\"]]}},
+{\"kind\":\"broken\",\"id\":\"freed_dummy\",\"title\":\"Freed while the node is the dummy\",\"text\":\"This take adds to the [[passed]] count of the node that it took the item from. But this node is the [[dummy]] from now on, and a send may use it.\",\"plan\":{\"capacity\":1,\"bound\":2,\"life\":10,\"senders\":[[5,6]],\"receivers\":[3],\"schedule\":[[\"s1\",28],[\"r1\",23],[\"s1\",29],[\"r1\",46]]},\"moments\":[[42,\"AddPassed\",\"r1 takes the item 5 out of node 1, and adds 1 to the passed count of node 1, which is the dummy now.\"],[67,\"ResetListNode\",\"The next send finds node 1 free and clears its passed count, while the head names it.\"],[72,\"LinkLast\",\"s1 links node 1 to itself.\"],[94,\"AddPassed\",\"r1 gets 6 as item 1: the head names node 1, and so does its next link.\"],[117,\"AddPassed\",\"r1 gets 6 as item 2: the same item again.\"]],\"table\":\"freed_dummy\",\"breaks\":\"reset\",\"lost\":\"Got twice: the item 6.\",\"right\":{\"title\":\"The old dummy is freed\",\"text\":\"The right take adds to the [[passed]] count of the old [[dummy]]. The new dummy stays busy, so no send uses it.\",\"moments\":[[42,\"AddPassed\",\"r1 takes the item 5 out of node 1, and adds 1 to the passed count of node 0, the old dummy.\"],[66,\"ResetListNode\",\"The next send finds node 0 free and clears its passed count: node 0 is not in the list, so no take can read it.\"],[71,\"LinkLast\",\"s1 links list node 0, which has the item 6, to node 1: this step is the decision, accepted as item 1.\"],[93,\"AddPassed\",\"r1 gets 6 as item 1: no accepted item is lost.\"],[111,\"ReadDummyNext\",\"r1 reads null in the next link of the dummy: this step is the decision, empty.\"]]}},
+{\"kind\":\"broken\",\"id\":\"one_group\",\"title\":\"Freed after one group\",\"text\":\"This send uses a node as soon as one [[group]] has gone past it. Another group may still need the node.\",\"plan\":{\"version\":2,\"groups\":2,\"capacity\":2,\"bound\":2,\"life\":10,\"senders\":[[[5],[6],[7]]],\"receivers\":[1,3],\"schedule\":[[\"s1\",56],[\"r1\",23],[\"s1\",28],[\"r2\",60]]},\"moments\":[[70,\"AddPassed\",\"Group 1 takes the item 5: one of two groups has gone past node 0, which is still the dummy of group 2.\"],[94,\"ResetListNode\",\"The next send finds node 0 free and clears its passed count, while the head of group 2 names it.\"],[95,\"ResetListNode\",\"s1 clears the next link of node 0: group 2 has lost its way to the items 5 and 6.\"],[116,\"ReadDummyNext\",\"r2 reads null in the next link of the dummy: this step is the decision, empty, while 3 items wait for group 2.\"]],\"table\":\"one_group\",\"breaks\":\"reset\",\"lost\":\"Lost for group 2: the items 5, 6 and 7.\",\"right\":{\"title\":\"Freed after every group\",\"text\":\"The right send uses a node only after every [[group]] has gone past it. So the send of 7 returns Full, and group 2 gets its items.\",\"moments\":[[70,\"AddPassed\",\"Group 1 takes the item 5: one of two groups has gone past node 0, which is still the dummy of group 2.\"],[95,\"ReadPassed\",\"The send of 7 finds no free node: this step is the decision, full. Group 2 has not taken the item 5, and holds the sender back.\"],[114,\"AddPassed\",\"Group 2 takes the item 5 too: every group has gone past node 0, and it is free from now on.\"],[137,\"AddPassed\",\"Group 2 takes the item 6: no accepted item is lost.\"]]}},
+{\"kind\":\"broken\",\"id\":\"full_early\",\"title\":\"Full two nodes early\",\"text\":\"This scan ends two nodes early. One node early would change no answer: the last node of a scan is the one that was linked last, and it is busy.\",\"plan\":{\"capacity\":3,\"bound\":2,\"life\":10,\"senders\":[[5,6,7,8,9]],\"receivers\":[5],\"schedule\":[[\"s1\",98],[\"r1\",46],[\"s1\",51],[\"r1\",78]]},\"moments\":[[98,\"ReadPassed\",\"The scan of the send of 8 reads node 0, which is busy: 3 items wait, so the queue is full.\"],[135,\"AddPassed\",\"r1 takes the item 6: the nodes 0 and 1 are free now.\"],[145,\"ReadPassed\",\"The scan of the send of 8 goes on and finds node 1 free: node 0 is free too.\"],[174,\"ReadPassed\",\"The scan of the send of 9 has read two busy nodes: this step is the decision, full, while only 2 of 3 items wait and node 0 is free.\"]],\"table\":\"full_early\",\"breaks\":\"full\",\"lost\":\"Refused: the item 9, while only 2 of 3 items wait.\",\"right\":{\"title\":\"Full after a whole scan\",\"text\":\"The right scan reads every node once before it returns Full. So the send of 9 finds node 0.\",\"moments\":[[98,\"ReadPassed\",\"The scan of the send of 8 reads node 0, which is busy: 3 items wait, so the queue is full.\"],[135,\"AddPassed\",\"r1 takes the item 6: the nodes 0 and 1 are free now.\"],[145,\"ReadPassed\",\"The scan of the send of 8 goes on and finds node 1 free: node 0 is free too.\"],[175,\"ReadPassed\",\"The scan of the send of 9 has read two busy nodes, and finds node 0 free.\"],[181,\"LinkLast\",\"s1 links list node 0, which has the item 9, to node 1: this step is the decision, accepted as item 4.\"],[249,\"AddPassed\",\"r1 gets 9 as item 4: no accepted item is lost.\"]]}}
 ]
+</script>
+<script type=\"text/plain\" id=\"run\">";
+
+/// The text between the run and the report.
+pub const MIDDLE: &[u8] = b"\
 </script>
 <script id=\"machine\">
 // Runs without pictures: a plan, or what the program wrote, played by the machine of the definitions, and further steps by hand.
@@ -369,30 +435,30 @@ const CALL_LIMIT = 65536;     // of each pass, that of a plan
 const BRANCH_LIMIT = 20;
 const CLEAN = 'audit clean';  // the verdict on each run, which is proved
 
-// ---- Kinds of events: a name, two letters, a group of kinds, and what such a step does.
+// ---- Kinds of events: a name, two letters, a word, a group of kinds, and what such a step does.
 
 const KINDS = [null,
-  ['ResetState', 'Rs', 'enter', 'stores 1, waiting, into the state of its own node'],
-  ['Exchange', 'Ex', 'enter', 'swaps its own node into the tail of its chain: here the call enters the history'],
-  ['ReadState', 'St', 'wait', 'reads the state of its node: 0 to serve, 1 to wait, 2 if the answer is there'],
-  ['HandOver', 'Ho', 'hand', 'stores 0, serve, into the state of the node where it stops: the pass of that node serves next'],
-  ['ReadObject', 'Or', 'serve', 'reads a word of the list'],
-  ['WriteObject', 'Ow', 'serve', 'writes a word of the list'],
-  ['ResetNext', 'Rn', 'enter', 'stores null into the next link of its own node'],
-  ['WriteRequest', 'Wq', 'enter', 'writes a word of its request into its node'],
-  ['Link', 'Lk', 'enter', 'links its node to the one that it put into the tail'],
-  ['ReadNext', 'Nx', 'serve', 'reads the next link of the node that it would serve'],
-  ['ReadRequest', 'Rq', 'serve', 'reads a word of the request that it serves'],
-  ['WriteAnswer', 'Wa', 'serve', 'writes a word of the answer'],
-  ['MarkDone', 'Dn', 'hand', 'stores 2, done, into the state of the node that it served'],
-  ['ReadAnswer', 'An', 'answer', 'reads a word of its answer'],
-  ['ReadPassed', 'Ps', 'serve', 'reads the number of groups that passed a list node: it is free if all have'],
-  ['ResetListNode', 'Rl', 'serve', 'clears a word of the free list node'],
-  ['WriteItem', 'Wi', 'serve', 'writes a word of the item into the list node'],
-  ['LinkLast', 'Ll', 'serve', 'links the list node to the last one: here the send is accepted, or the queue is shut'],
-  ['ReadDummyNext', 'Dx', 'serve', 'reads the next link of the dummy: null if the list is empty'],
-  ['ReadItem', 'Ri', 'serve', 'reads a word of the item'],
-  ['AddPassed', 'Ap', 'serve', 'adds 1 to the groups that passed the old dummy: here the item is got'],
+  ['ResetState', 'Rs', 'set 1', 'enter', 'stores 1, waiting, into the state of its own node'],
+  ['Exchange', 'Ex', 'swap', 'enter', 'swaps its own node into the tail of its chain: here the call enters the history'],
+  ['ReadState', 'St', 'state?', 'wait', 'reads the state of its node: 0 to serve, 1 to wait, 2 if the answer is there'],
+  ['HandOver', 'Ho', 'hand', 'hand', 'stores 0, serve, into the state of the node where it stops: the pass of that node serves next'],
+  ['ReadObject', 'Or', 'read', 'serve', 'reads a word of the list'],
+  ['WriteObject', 'Ow', 'write', 'serve', 'writes a word of the list'],
+  ['ResetNext', 'Rn', 'clear', 'enter', 'stores null into the next link of its own node'],
+  ['WriteRequest', 'Wq', 'ask', 'enter', 'writes a word of its request into its node'],
+  ['Link', 'Lk', 'link', 'enter', 'links its node to the one that it put into the tail'],
+  ['ReadNext', 'Nx', 'next?', 'serve', 'reads the next link of the node that it would serve'],
+  ['ReadRequest', 'Rq', 'asked?', 'serve', 'reads a word of the request that it serves'],
+  ['WriteAnswer', 'Wa', 'reply', 'serve', 'writes a word of the answer'],
+  ['MarkDone', 'Dn', 'done', 'hand', 'stores 2, done, into the state of the node that it served'],
+  ['ReadAnswer', 'An', 'answer', 'answer', 'reads a word of its answer'],
+  ['ReadPassed', 'Ps', 'free?', 'serve', 'reads the number of groups that passed a list node: it is free if all have'],
+  ['ResetListNode', 'Rl', 'reset', 'serve', 'clears a word of the free list node'],
+  ['WriteItem', 'Wi', 'item', 'serve', 'writes a word of the item into the list node'],
+  ['LinkLast', 'Ll', 'append', 'serve', 'links the list node to the last one: here the send is accepted, or the queue is shut'],
+  ['ReadDummyNext', 'Dx', 'first?', 'serve', 'reads the next link of the dummy: null if the list is empty'],
+  ['ReadItem', 'Ri', 'item?', 'serve', 'reads a word of the item'],
+  ['AddPassed', 'Ap', 'passed', 'serve', 'adds 1 to the groups that passed the old dummy: here the item is got'],
 ];
 const number = {};
 KINDS.forEach((kind, i) => { if (kind) number[kind[0]] = i; });
@@ -407,8 +473,8 @@ const keyOf = w => [w.at, w.x, w.i, w.field, w.n, w.g].join(' ');
 const callText = call => call.take ? 'take' : call.close ? 'close' : 'send ' + call.send.join(' ');
 
 // <steps>
-// The machine, by tools/page_steps.py: the table of steps of crates/cc_runs/specs, and the definitions that it names. Each of
-// CHANGES makes a broken table of it, by its name.
+// The machine, by tools/page_steps.py: the table of steps of crates/cc_runs/specs, what is ahead of a call, and the definitions
+// that these name. Each of CHANGES makes a broken table, by its name.
 const minus = (a, b) => a > b ? a - b : 0n;
 const CHANGES = {
  \"marked_early\": [
@@ -472,6 +538,108 @@ const Body_in_all = (v0) => {
   if (v0.is === 'Four') return v0[0];
 };
 const Body_words_of = (b) => Body_in_all(b.words);
+const Items_is_pass = (v0, v1) => {
+  if (v0.is === 'Sender' && v1.is === 'Sender') return (v0[0] === v1[0]);
+  if (v0.is === 'Receiver' && v1.is === 'Receiver') return (v0[0] === v1[0]);
+  return false;
+};
+const Record_of_group = (h, g) => h.takes[g] ?? Record_silent();
+const Record_silent = () => ({ calls: [], answers: [] });
+const Ahead_ahead = (c, x, k, s) => (Ahead_serving_part(c.config, x, k, BigInt(OnChain_answers_on(x, s.history).length), Ahead_combiner(c, x, s)) + Ahead_shares(Ahead_entering_left, c, x, k, s, OnChain_passes_on(c, x)));
+const Ahead_combiner = (c, x, s) => Ahead_combiner_among(c, x, s, OnChain_passes_on(c, x));
+const Ahead_combiner_among = (c, x, s, v3) => {
+  if (v3 === 0n) return { is: 'Idle' };
+  if (v3 >= 1n) return ChainLaws_is_combining(s.stand(OnChain_pass_on(c, x, (v3 - 1n))).phase) ? s.stand(OnChain_pass_on(c, x, (v3 - 1n))).phase : Ahead_combiner_among(c, x, s, (v3 - 1n));
+};
+const Ahead_counting_left = (v0) => {
+  if (v0.is === 'ReadTag') return 7n;
+  if (v0.is === 'ReadBody') return (3n + minus(3n, v0.index));
+  if (v0.is === 'ReadCount') return 2n;
+  if (v0.is === 'WriteCount') return 1n;
+};
+const Ahead_entering_left = (v0) => {
+  if (v0.is === 'WriteTag') return 6n;
+  if (v0.is === 'WriteBody') return (2n + minus(3n, v0.index));
+  if (v0.is === 'Link') return 1n;
+  return 0n;
+};
+const Ahead_sending_left = (c, v1) => {
+  if (v1.is === 'ReadTag') return (c.capacity + 21n);
+  if (v1.is === 'ReadBody') return ((c.capacity + 17n) + minus(3n, v1.index));
+  if (v1.is === 'ReadShut') return (c.capacity + 16n);
+  if (v1.is === 'ReadTotal') return 1n;
+  if (v1.is === 'ReadCount') return (c.capacity + 15n);
+  if (v1.is === 'ReadLastToClose') return 4n;
+  if (v1.is === 'LinkMark') return 3n;
+  if (v1.is === 'WriteLastMark') return 2n;
+  if (v1.is === 'WriteShut') return 1n;
+  if (v1.is === 'ReadCursor') return (c.capacity + 14n);
+  if (v1.is === 'ReadPassed') return (13n + minus((c.capacity + 1n), v1.reads));
+  if (v1.is === 'ResetPassed') return 12n;
+  if (v1.is === 'ResetItemNext') return 11n;
+  if (v1.is === 'WriteItemTag') return 10n;
+  if (v1.is === 'WriteItemBody') return (6n + minus(3n, v1.index));
+  if (v1.is === 'ReadLast') return 5n;
+  if (v1.is === 'LinkItem') return 4n;
+  if (v1.is === 'WriteLast') return 3n;
+  if (v1.is === 'WriteCount') return 2n;
+  if (v1.is === 'WriteCursor') return 1n;
+};
+const Ahead_service = (c, v1) => {
+  if (v1.is === 'Send') return (c.capacity + 24n);
+  if (v1.is === 'Take') return 19n;
+};
+const Ahead_serving_left = (c, x, v2) => {
+  if (v2.is === 'ReadNext') return (v2.round.served === 0n) ? (Ahead_service(c, x) + 2n) : 2n;
+  if (v2.is === 'Counting') return (Ahead_counting_left(v2.service) + 4n);
+  if (v2.is === 'Sending') return (Ahead_sending_left(c, v2.service) + 4n);
+  if (v2.is === 'Taking') return (Ahead_taking_left(v2.service) + 9n);
+  if (v2.is === 'WriteAnswer') return (Ahead_writing_left(v2.answer) + 2n);
+  if (v2.is === 'WriteAnswerTag') return 8n;
+  if (v2.is === 'WriteAnswerBody') return (4n + minus(3n, v2.index));
+  if (v2.is === 'MarkDone') return 3n;
+  if (v2.is === 'HandOver') return 1n;
+  return 0n;
+};
+const Ahead_serving_part = (c, x, k, answers, at) => (minus(k, (answers + Ahead_taken_on(at))) * (Ahead_service(c, x) + 3n)) + ((answers < (k + Turns_decided(at))) ? Ahead_serving_left(c, x, at) : 0n);
+const Ahead_share = (left, c, x, k, s, n) => Turns_is_among(c, x, k, s, n) ? left(s.stand(OnChain_pass_on(c, x, n)).phase) : 0n;
+const Ahead_shares = (left, c, x, k, s, v5) => {
+  if (v5 === 0n) return 0n;
+  if (v5 >= 1n) return (Ahead_share(left, c, x, k, s, (v5 - 1n)) + Ahead_shares(left, c, x, k, s, (v5 - 1n)));
+};
+const Ahead_taken_on = (v0) => {
+  if (v0.is === 'ReadNext') return (v0.round.served === 0n) ? 1n : 0n;
+  if (v0.is === 'Counting') return 1n;
+  if (v0.is === 'Sending') return minus(1n, Turns_decided({ is: 'Sending', job: v0.job, service: v0.service }));
+  if (v0.is === 'Taking') return 1n;
+  return 0n;
+};
+const Ahead_taking_left = (v0) => {
+  if (v0.is === 'ReadHead') return 11n;
+  if (v0.is === 'ReadTaken') return 10n;
+  if (v0.is === 'ReadDummyNext') return 9n;
+  if (v0.is === 'ReadItemTag') return 8n;
+  if (v0.is === 'ReadItemBody') return (4n + minus(3n, v0.index));
+  if (v0.is === 'WriteHead') return 3n;
+  if (v0.is === 'WriteTaken') return 2n;
+  if (v0.is === 'AddPassed') return 1n;
+};
+const Ahead_writing_left = (v0) => {
+  if (v0.is === 'Take' && v0[0].is === 'Got') return 7n;
+  return 2n;
+};
+const ChainLaws_is_combining = (v0) => {
+  if (v0.is === 'ReadNext') return true;
+  if (v0.is === 'Counting') return true;
+  if (v0.is === 'Sending') return true;
+  if (v0.is === 'Taking') return true;
+  if (v0.is === 'WriteAnswer') return true;
+  if (v0.is === 'WriteAnswerTag') return true;
+  if (v0.is === 'WriteAnswerBody') return true;
+  if (v0.is === 'MarkDone') return true;
+  if (v0.is === 'HandOver') return true;
+  return false;
+};
 const Codes_behind = (further, index, next, on) => (index < further) ? next : on;
 const Codes_body_in = (v0, words) => {
   if (v0 === 0n) return Body_body_of([words.first]);
@@ -555,7 +723,7 @@ const Lines_after_answer = (job, v1) => {
   if (v1.is === 'Take' && v1[0].is === 'Got') return { is: 'WriteAnswerTag', job, item: v1[0][0] };
   return { is: 'MarkDone', job };
 };
-const Lines_after_done = variant === 'handed_past' ? (bound, job) => ({ is: 'ReadNext', round: { at: job.next, served: (job.round.served + 1n) } }) : (bound, job) => ((job.round.served + 1n) === bound) ? { is: 'HandOver', at: job.next } : { is: 'ReadNext', round: { at: job.next, served: (job.round.served + 1n) } };
+const Lines_after_done = (bound, job) => variant === 'handed_past' ? { is: 'ReadNext', round: { at: job.next, served: (job.round.served + 1n) } } : ((job.round.served + 1n) === bound) ? { is: 'HandOver', at: job.next } : { is: 'ReadNext', round: { at: job.next, served: (job.round.served + 1n) } };
 const Lines_after_exchange = (v0, own, call) => {
   if (v0.is === 'Send') return { is: 'WriteTag', put: own, request: Codes_request_in(call) };
   if (v0.is === 'Take') return { is: 'Link', put: own };
@@ -577,7 +745,7 @@ const Lines_group_of = (v0) => {
   if (v0.is === 'Send') return 0n;
   if (v0.is === 'Take') return v0[0];
 };
-const Lines_line = variant === 'handed_past' ? (c, x, own, v0, v1) => {
+const Lines_line = (c, x, own, v0, v1) => {
   if (v0.is === 'Idle') return Lines_none(c, x, own, { is: 'Idle' });
   if (v0.is === 'ResetNext') return Lines_store(c, x, own, { is: 'ResetNext' }, { is: 'Node', 0: x, 1: own, 2: { is: 'Next' } }, 0n, { is: 'ResetState', call: v0.call });
   if (v0.is === 'ResetState') return Lines_store(c, x, own, { is: 'ResetState' }, { is: 'Node', 0: x, 1: own, 2: { is: 'State' } }, 1n, { is: 'Exchange', call: v0.call });
@@ -586,28 +754,7 @@ const Lines_line = variant === 'handed_past' ? (c, x, own, v0, v1) => {
   if (v0.is === 'WriteBody') return Lines_store(c, x, own, { is: 'WriteRequest' }, { is: 'Node', 0: x, 1: own, 2: { is: 'Body', 0: v0.index } }, Codes_word(v0.request.body, v0.index), Codes_behind(Codes_further_words(v0.request.tag), v0.index, { is: 'WriteBody', put: v0.put, request: v0.request, index: (v0.index + 1n) }, { is: 'Link', put: v0.put }));
   if (v0.is === 'Link') return Lines_store(c, x, own, { is: 'Link' }, { is: 'Node', 0: x, 1: own, 2: { is: 'Next' } }, (v0.put + 1n), { is: 'ReadState' });
   if (v0.is === 'ReadState') return Lines_load(c, x, own, { is: 'ReadState' }, { is: 'Node', 0: x, 1: own, 2: { is: 'State' } }, Lines_after_state(own, v1));
-  if (v0.is === 'ReadNext') return Lines_load(c, x, own, { is: 'ReadNext' }, { is: 'Node', 0: x, 1: v0.round.at, 2: { is: 'Next' } }, ((v0.round.served === c.config.bound) ? ((v1 === 0n) ? { is: 'HandOver', at: v0.round.at } : { is: 'HandOver', at: minus(v1, 1n) }) : Lines_after_next(c.served, x, v0.round, v1)));
-  if (v0.is === 'Counting') return { ...Lines_step(c, x, own, CountLines_kind_of(v0.service), CountLines_operation(v0.job.round.at, v0.service), CountLines_goes(v0.job, v0.service, v1)), decides: CountLines_decides(v0.service, v1) };
-  if (v0.is === 'Sending') return { ...Lines_step(c, x, own, SendLines_kind_of(v0.service), SendLines_operation(c.config, v0.job.round.at, v0.service), SendLines_goes(c.config, v0.job, v0.service, v1)), decides: SendLines_decides(c.config, v0.service, v1) };
-  if (v0.is === 'Taking') return { ...Lines_step(c, x, own, TakeLines_kind_of(v0.service), TakeLines_operation(Lines_group_of(x), v0.service), TakeLines_goes(v0.job, v0.service, v1)), decides: TakeLines_decides(v0.service, v1) };
-  if (v0.is === 'WriteAnswer') return Lines_store(c, x, own, { is: 'WriteAnswer' }, { is: 'Node', 0: x, 1: v0.job.round.at, 2: { is: 'Ret' } }, Codes_ret_of(c.served, v0.answer), Lines_after_answer(v0.job, v0.answer));
-  if (v0.is === 'WriteAnswerTag') return Lines_store(c, x, own, { is: 'WriteAnswer' }, { is: 'Node', 0: x, 1: v0.job.round.at, 2: { is: 'Tag' } }, Codes_tag_of(v0.item), { is: 'WriteAnswerBody', job: v0.job, item: v0.item, index: 0n });
-  if (v0.is === 'WriteAnswerBody') return Lines_store(c, x, own, { is: 'WriteAnswer' }, { is: 'Node', 0: x, 1: v0.job.round.at, 2: { is: 'Body', 0: v0.index } }, Codes_word(Codes_body_words(v0.item), v0.index), Codes_behind(Codes_further_words(Codes_tag_of(v0.item)), v0.index, { is: 'WriteAnswerBody', job: v0.job, item: v0.item, index: (v0.index + 1n) }, { is: 'MarkDone', job: v0.job }));
-  if (v0.is === 'MarkDone') return Lines_store(c, x, own, { is: 'MarkDone' }, { is: 'Node', 0: x, 1: v0.job.round.at, 2: { is: 'State' } }, 2n, Lines_after_done(c.config.bound, v0.job));
-  if (v0.is === 'HandOver') return Lines_store(c, x, own, { is: 'HandOver' }, { is: 'Node', 0: x, 1: v0.at, 2: { is: 'State' } }, 0n, { is: 'ReadAnswer' });
-  if (v0.is === 'ReadAnswer') return Lines_load(c, x, own, { is: 'ReadAnswer' }, { is: 'Node', 0: x, 1: own, 2: { is: 'Ret' } }, Lines_after_ret(c.served, x, v1));
-  if (v0.is === 'ReadAnswerTag') return Lines_load(c, x, own, { is: 'ReadAnswer' }, { is: 'Node', 0: x, 1: own, 2: { is: 'Tag' } }, { is: 'ReadAnswerBody', parcel: Codes_parcel(v0.place, v1, Codes_no_words()), index: 0n });
-  if (v0.is === 'ReadAnswerBody') return Lines_load(c, x, own, { is: 'ReadAnswer' }, { is: 'Node', 0: x, 1: own, 2: { is: 'Body', 0: v0.index } }, Codes_behind(Codes_further_words(v0.parcel.tag), v0.index, { is: 'ReadAnswerBody', parcel: Codes_with_read(v0.parcel, v0.index, v1), index: (v0.index + 1n) }, { is: 'Finished', answer: { is: 'Take', 0: { is: 'Got', 0: Codes_item_in(Codes_with_read(v0.parcel, v0.index, v1)) } } }));
-  if (v0.is === 'Finished') return Lines_none(c, x, own, { is: 'Finished', answer: v0.answer });
-} : variant === 'marked_early' ? (c, x, own, v0, v1) => {
-  if (v0.is === 'Idle') return Lines_none(c, x, own, { is: 'Idle' });
-  if (v0.is === 'ResetNext') return Lines_store(c, x, own, { is: 'ResetNext' }, { is: 'Node', 0: x, 1: own, 2: { is: 'Next' } }, 0n, { is: 'ResetState', call: v0.call });
-  if (v0.is === 'ResetState') return Lines_store(c, x, own, { is: 'ResetState' }, { is: 'Node', 0: x, 1: own, 2: { is: 'State' } }, 1n, { is: 'Exchange', call: v0.call });
-  if (v0.is === 'Exchange') return Lines_swap(c, x, own, { is: 'Exchange' }, { is: 'Tail', 0: x }, (own + 1n), v0.call, minus(v1, 1n), Lines_after_exchange(x, own, v0.call));
-  if (v0.is === 'WriteTag') return Lines_store(c, x, own, { is: 'WriteRequest' }, { is: 'Node', 0: x, 1: own, 2: { is: 'Tag' } }, v0.request.tag, { is: 'WriteBody', put: v0.put, request: v0.request, index: 0n });
-  if (v0.is === 'WriteBody') return Lines_store(c, x, own, { is: 'WriteRequest' }, { is: 'Node', 0: x, 1: own, 2: { is: 'Body', 0: v0.index } }, Codes_word(v0.request.body, v0.index), Codes_behind(Codes_further_words(v0.request.tag), v0.index, { is: 'WriteBody', put: v0.put, request: v0.request, index: (v0.index + 1n) }, { is: 'Link', put: v0.put }));
-  if (v0.is === 'Link') return Lines_store(c, x, own, { is: 'Link' }, { is: 'Node', 0: x, 1: own, 2: { is: 'Next' } }, (v0.put + 1n), { is: 'ReadState' });
-  if (v0.is === 'ReadState') return Lines_load(c, x, own, { is: 'ReadState' }, { is: 'Node', 0: x, 1: own, 2: { is: 'State' } }, Lines_after_state(own, v1));
+  if (variant === 'handed_past' && v0.is === 'ReadNext') return Lines_load(c, x, own, { is: 'ReadNext' }, { is: 'Node', 0: x, 1: v0.round.at, 2: { is: 'Next' } }, ((v0.round.served === c.config.bound) ? ((v1 === 0n) ? { is: 'HandOver', at: v0.round.at } : { is: 'HandOver', at: minus(v1, 1n) }) : Lines_after_next(c.served, x, v0.round, v1)));
   if (v0.is === 'ReadNext') return Lines_load(c, x, own, { is: 'ReadNext' }, { is: 'Node', 0: x, 1: v0.round.at, 2: { is: 'Next' } }, Lines_after_next(c.served, x, v0.round, v1));
   if (v0.is === 'Counting') return { ...Lines_step(c, x, own, CountLines_kind_of(v0.service), CountLines_operation(v0.job.round.at, v0.service), CountLines_goes(v0.job, v0.service, v1)), decides: CountLines_decides(v0.service, v1) };
   if (v0.is === 'Sending') return { ...Lines_step(c, x, own, SendLines_kind_of(v0.service), SendLines_operation(c.config, v0.job.round.at, v0.service), SendLines_goes(c.config, v0.job, v0.service, v1)), decides: SendLines_decides(c.config, v0.service, v1) };
@@ -615,29 +762,8 @@ const Lines_line = variant === 'handed_past' ? (c, x, own, v0, v1) => {
   if (v0.is === 'WriteAnswer') return Lines_store(c, x, own, { is: 'WriteAnswer' }, { is: 'Node', 0: x, 1: v0.job.round.at, 2: { is: 'Ret' } }, Codes_ret_of(c.served, v0.answer), Lines_after_answer(v0.job, v0.answer));
   if (v0.is === 'WriteAnswerTag') return Lines_store(c, x, own, { is: 'WriteAnswer' }, { is: 'Node', 0: x, 1: v0.job.round.at, 2: { is: 'Tag' } }, Codes_tag_of(v0.item), { is: 'WriteAnswerBody', job: v0.job, item: v0.item, index: 0n });
   if (v0.is === 'WriteAnswerBody') return Lines_store(c, x, own, { is: 'WriteAnswer' }, { is: 'Node', 0: x, 1: v0.job.round.at, 2: { is: 'Body', 0: v0.index } }, Codes_word(Codes_body_words(v0.item), v0.index), Codes_behind(Codes_further_words(Codes_tag_of(v0.item)), v0.index, { is: 'WriteAnswerBody', job: v0.job, item: v0.item, index: (v0.index + 1n) }, { is: 'MarkDone', job: v0.job }));
-  if (v0.is === 'MarkDone') return Lines_store(c, x, own, { is: 'MarkDone' }, { is: 'Node', 0: x, 1: v0.job.round.at, 2: { is: 'State' } }, 2n, { is: 'FollowNext', was: v0.job });
-  if (v0.is === 'FollowNext') return Lines_load(c, x, own, { is: 'ReadNext' }, { is: 'Node', 0: x, 1: v0.was.round.at, 2: { is: 'Next' } }, ((v1 === 0n) ? { is: 'HandOver', at: v0.was.round.at } : Lines_after_done(c.config.bound, { ...v0.was, next: minus(v1, 1n) })));
-  if (v0.is === 'HandOver') return Lines_store(c, x, own, { is: 'HandOver' }, { is: 'Node', 0: x, 1: v0.at, 2: { is: 'State' } }, 0n, { is: 'ReadAnswer' });
-  if (v0.is === 'ReadAnswer') return Lines_load(c, x, own, { is: 'ReadAnswer' }, { is: 'Node', 0: x, 1: own, 2: { is: 'Ret' } }, Lines_after_ret(c.served, x, v1));
-  if (v0.is === 'ReadAnswerTag') return Lines_load(c, x, own, { is: 'ReadAnswer' }, { is: 'Node', 0: x, 1: own, 2: { is: 'Tag' } }, { is: 'ReadAnswerBody', parcel: Codes_parcel(v0.place, v1, Codes_no_words()), index: 0n });
-  if (v0.is === 'ReadAnswerBody') return Lines_load(c, x, own, { is: 'ReadAnswer' }, { is: 'Node', 0: x, 1: own, 2: { is: 'Body', 0: v0.index } }, Codes_behind(Codes_further_words(v0.parcel.tag), v0.index, { is: 'ReadAnswerBody', parcel: Codes_with_read(v0.parcel, v0.index, v1), index: (v0.index + 1n) }, { is: 'Finished', answer: { is: 'Take', 0: { is: 'Got', 0: Codes_item_in(Codes_with_read(v0.parcel, v0.index, v1)) } } }));
-  if (v0.is === 'Finished') return Lines_none(c, x, own, { is: 'Finished', answer: v0.answer });
-} : (c, x, own, v0, v1) => {
-  if (v0.is === 'Idle') return Lines_none(c, x, own, { is: 'Idle' });
-  if (v0.is === 'ResetNext') return Lines_store(c, x, own, { is: 'ResetNext' }, { is: 'Node', 0: x, 1: own, 2: { is: 'Next' } }, 0n, { is: 'ResetState', call: v0.call });
-  if (v0.is === 'ResetState') return Lines_store(c, x, own, { is: 'ResetState' }, { is: 'Node', 0: x, 1: own, 2: { is: 'State' } }, 1n, { is: 'Exchange', call: v0.call });
-  if (v0.is === 'Exchange') return Lines_swap(c, x, own, { is: 'Exchange' }, { is: 'Tail', 0: x }, (own + 1n), v0.call, minus(v1, 1n), Lines_after_exchange(x, own, v0.call));
-  if (v0.is === 'WriteTag') return Lines_store(c, x, own, { is: 'WriteRequest' }, { is: 'Node', 0: x, 1: own, 2: { is: 'Tag' } }, v0.request.tag, { is: 'WriteBody', put: v0.put, request: v0.request, index: 0n });
-  if (v0.is === 'WriteBody') return Lines_store(c, x, own, { is: 'WriteRequest' }, { is: 'Node', 0: x, 1: own, 2: { is: 'Body', 0: v0.index } }, Codes_word(v0.request.body, v0.index), Codes_behind(Codes_further_words(v0.request.tag), v0.index, { is: 'WriteBody', put: v0.put, request: v0.request, index: (v0.index + 1n) }, { is: 'Link', put: v0.put }));
-  if (v0.is === 'Link') return Lines_store(c, x, own, { is: 'Link' }, { is: 'Node', 0: x, 1: own, 2: { is: 'Next' } }, (v0.put + 1n), { is: 'ReadState' });
-  if (v0.is === 'ReadState') return Lines_load(c, x, own, { is: 'ReadState' }, { is: 'Node', 0: x, 1: own, 2: { is: 'State' } }, Lines_after_state(own, v1));
-  if (v0.is === 'ReadNext') return Lines_load(c, x, own, { is: 'ReadNext' }, { is: 'Node', 0: x, 1: v0.round.at, 2: { is: 'Next' } }, Lines_after_next(c.served, x, v0.round, v1));
-  if (v0.is === 'Counting') return { ...Lines_step(c, x, own, CountLines_kind_of(v0.service), CountLines_operation(v0.job.round.at, v0.service), CountLines_goes(v0.job, v0.service, v1)), decides: CountLines_decides(v0.service, v1) };
-  if (v0.is === 'Sending') return { ...Lines_step(c, x, own, SendLines_kind_of(v0.service), SendLines_operation(c.config, v0.job.round.at, v0.service), SendLines_goes(c.config, v0.job, v0.service, v1)), decides: SendLines_decides(c.config, v0.service, v1) };
-  if (v0.is === 'Taking') return { ...Lines_step(c, x, own, TakeLines_kind_of(v0.service), TakeLines_operation(Lines_group_of(x), v0.service), TakeLines_goes(v0.job, v0.service, v1)), decides: TakeLines_decides(v0.service, v1) };
-  if (v0.is === 'WriteAnswer') return Lines_store(c, x, own, { is: 'WriteAnswer' }, { is: 'Node', 0: x, 1: v0.job.round.at, 2: { is: 'Ret' } }, Codes_ret_of(c.served, v0.answer), Lines_after_answer(v0.job, v0.answer));
-  if (v0.is === 'WriteAnswerTag') return Lines_store(c, x, own, { is: 'WriteAnswer' }, { is: 'Node', 0: x, 1: v0.job.round.at, 2: { is: 'Tag' } }, Codes_tag_of(v0.item), { is: 'WriteAnswerBody', job: v0.job, item: v0.item, index: 0n });
-  if (v0.is === 'WriteAnswerBody') return Lines_store(c, x, own, { is: 'WriteAnswer' }, { is: 'Node', 0: x, 1: v0.job.round.at, 2: { is: 'Body', 0: v0.index } }, Codes_word(Codes_body_words(v0.item), v0.index), Codes_behind(Codes_further_words(Codes_tag_of(v0.item)), v0.index, { is: 'WriteAnswerBody', job: v0.job, item: v0.item, index: (v0.index + 1n) }, { is: 'MarkDone', job: v0.job }));
+  if (variant === 'marked_early' && v0.is === 'MarkDone') return Lines_store(c, x, own, { is: 'MarkDone' }, { is: 'Node', 0: x, 1: v0.job.round.at, 2: { is: 'State' } }, 2n, { is: 'FollowNext', was: v0.job });
+  if (variant === 'marked_early' && v0.is === 'FollowNext') return Lines_load(c, x, own, { is: 'ReadNext' }, { is: 'Node', 0: x, 1: v0.was.round.at, 2: { is: 'Next' } }, ((v1 === 0n) ? { is: 'HandOver', at: v0.was.round.at } : Lines_after_done(c.config.bound, { ...v0.was, next: minus(v1, 1n) })));
   if (v0.is === 'MarkDone') return Lines_store(c, x, own, { is: 'MarkDone' }, { is: 'Node', 0: x, 1: v0.job.round.at, 2: { is: 'State' } }, 2n, Lines_after_done(c.config.bound, v0.job));
   if (v0.is === 'HandOver') return Lines_store(c, x, own, { is: 'HandOver' }, { is: 'Node', 0: x, 1: v0.at, 2: { is: 'State' } }, 0n, { is: 'ReadAnswer' });
   if (v0.is === 'ReadAnswer') return Lines_load(c, x, own, { is: 'ReadAnswer' }, { is: 'Node', 0: x, 1: own, 2: { is: 'Ret' } }, Lines_after_ret(c.served, x, v1));
@@ -655,10 +781,20 @@ const Lines_serves = (v0, x, job) => {
 const Lines_step = (c, x, own, what, does, to) => ({ event: { is: 'Did', 0: what }, does, goes: to, node: own, enters: { is: 'None' }, decides: { is: 'None' } });
 const Lines_store = (c, x, own, what, word, value, to) => Lines_step(c, x, own, what, { is: 'Store', 0: word, 1: value }, to);
 const Lines_swap = (c, x, own, what, word, value, call, node, to) => ({ ...Lines_step(c, x, own, what, { is: 'Swap', 0: word, 1: value }, to), node, enters: { is: 'Some', 0: call } });
+const OnChain_answers_on = (x, h) => State_side(x, h).answers;
+const OnChain_calls_on = (x, h) => State_side(x, h).calls;
+const OnChain_pass_on = (c, v1, p) => {
+  if (v1.is === 'Send') return p;
+  if (v1.is === 'Take') return (c.config.senders + ((v1[0] * c.config.receivers) + p));
+};
+const OnChain_passes_on = (c, v1) => {
+  if (v1.is === 'Send') return c.config.senders;
+  if (v1.is === 'Take') return c.config.receivers;
+};
 const SendLines_after = (c, at) => ((at + 1n) % (c.capacity + 1n));
 const SendLines_any_config = () => ({ senders: 0n, receivers: 0n, capacity: 0n, bound: 0n, life: 0n, per_sender: 0n, groups: 0n });
 const SendLines_by_count = (c, request, count) => (request.tag === 0n) ? { is: 'On', 0: { is: 'ReadLastToClose', total: count } } : ((count === c.life) ? { is: 'Decides', 0: { is: 'Send', 0: { is: 'Spent' } } } : { is: 'On', 0: { is: 'ReadCursor', parcel: { place: count, tag: request.tag, body: request.body } } });
-const SendLines_by_passed = variant === 'full_early' ? (c, parcel, at, reads, passed) => (passed === Words_groups(c)) ? { is: 'On', 0: { is: 'ResetPassed', parcel, node: at } } : (((reads + 1n) === c.capacity) ? { is: 'Decides', 0: { is: 'Send', 0: { is: 'Full' } } } : { is: 'On', 0: { is: 'ReadPassed', parcel, node: SendLines_after(c, at), reads: (reads + 1n) } }) : variant === 'one_group' ? (c, parcel, at, reads, passed) => (0n < passed) ? { is: 'On', 0: { is: 'ResetPassed', parcel, node: at } } : ((reads === (c.capacity + 1n)) ? { is: 'Decides', 0: { is: 'Send', 0: { is: 'Full' } } } : { is: 'On', 0: { is: 'ReadPassed', parcel, node: SendLines_after(c, at), reads: (reads + 1n) } }) : (c, parcel, at, reads, passed) => (passed === Words_groups(c)) ? { is: 'On', 0: { is: 'ResetPassed', parcel, node: at } } : ((reads === (c.capacity + 1n)) ? { is: 'Decides', 0: { is: 'Send', 0: { is: 'Full' } } } : { is: 'On', 0: { is: 'ReadPassed', parcel, node: SendLines_after(c, at), reads: (reads + 1n) } });
+const SendLines_by_passed = (c, parcel, at, reads, passed) => variant === 'one_group' ? (0n < passed) ? { is: 'On', 0: { is: 'ResetPassed', parcel, node: at } } : ((reads === (c.capacity + 1n)) ? { is: 'Decides', 0: { is: 'Send', 0: { is: 'Full' } } } : { is: 'On', 0: { is: 'ReadPassed', parcel, node: SendLines_after(c, at), reads: (reads + 1n) } }) : variant === 'full_early' ? (passed === Words_groups(c)) ? { is: 'On', 0: { is: 'ResetPassed', parcel, node: at } } : (((reads + 1n) === c.capacity) ? { is: 'Decides', 0: { is: 'Send', 0: { is: 'Full' } } } : { is: 'On', 0: { is: 'ReadPassed', parcel, node: SendLines_after(c, at), reads: (reads + 1n) } }) : (passed === Words_groups(c)) ? { is: 'On', 0: { is: 'ResetPassed', parcel, node: at } } : ((reads === (c.capacity + 1n)) ? { is: 'Decides', 0: { is: 'Send', 0: { is: 'Full' } } } : { is: 'On', 0: { is: 'ReadPassed', parcel, node: SendLines_after(c, at), reads: (reads + 1n) } });
 const SendLines_by_shut = (request, v1) => {
   if (v1 === 0n) return { is: 'On', 0: { is: 'ReadCount', request } };
   if (v1 >= 1n) return (request.tag === 0n) ? { is: 'On', 0: { is: 'ReadTotal' } } : { is: 'Decides', 0: { is: 'Send', 0: { is: 'Closed' } } };
@@ -706,6 +842,11 @@ const ServiceLine_phase_of = (in_service, job, v2) => {
   if (v2.is === 'Tells') return { is: 'WriteAnswer', job, answer: v2[0] };
 };
 const ServiceLine_store = (kind, word, value, next) => ({ kind, does: { is: 'Store', 0: word, 1: value }, next });
+const State_pass_at = (c, p) => (p < c.senders) ? { is: 'Sender', 0: (p + 1n) } : { is: 'Receiver', 0: (minus(p, c.senders) + 1n) };
+const State_side = (v0, h) => {
+  if (v0.is === 'Send') return h.sends;
+  if (v0.is === 'Take') return Record_of_group(h, v0[0]);
+};
 const TakeLines_by_next = (dummy, taken, v2) => {
   if (v2 === 0n) return { is: 'Decides', 0: { is: 'Take', 0: { is: 'Empty' } } };
   if (v2 >= 1n) return { is: 'On', 0: { is: 'ReadItemTag', dummy, taken, node: (v2 - 1n) } };
@@ -718,28 +859,51 @@ const TakeLines_decides = (service, found) => ServiceLine_answer_of(TakeLines_li
 const TakeLines_goes = (job, service, found) => ServiceLine_phase_of(TakeLines_in_service, job, TakeLines_line(0n, service, found).next);
 const TakeLines_in_service = (job, service) => ({ is: 'Taking', job, service });
 const TakeLines_kind_of = (service) => TakeLines_line(0n, service, 0n).kind;
-const TakeLines_line = variant === 'freed_dummy' ? (g, v1, v2) => {
+const TakeLines_line = (g, v1, v2) => {
   if (v1.is === 'ReadHead') return ServiceLine_load({ is: 'ReadObject' }, { is: 'Object', 0: { is: 'Head', 0: g } }, { is: 'On', 0: { is: 'ReadTaken', dummy: minus(v2, 1n) } });
   if (v1.is === 'ReadTaken') return ServiceLine_load({ is: 'ReadObject' }, { is: 'Object', 0: { is: 'Taken', 0: g } }, { is: 'On', 0: { is: 'ReadDummyNext', dummy: v1.dummy, taken: v2 } });
   if (v1.is === 'ReadDummyNext') return ServiceLine_load({ is: 'ReadDummyNext' }, { is: 'Item', 0: v1.dummy, 1: { is: 'Next' } }, TakeLines_by_next(v1.dummy, v1.taken, v2));
   if (v1.is === 'ReadItemTag') return ServiceLine_load({ is: 'ReadItem' }, { is: 'Item', 0: v1.node, 1: { is: 'Tag' } }, TakeLines_by_tag(v1.dummy, v1.taken, v1.node, v2));
   if (v1.is === 'ReadItemBody') return ServiceLine_load({ is: 'ReadItem' }, { is: 'Item', 0: v1.node, 1: { is: 'Body', 0: v1.index } }, { is: 'On', 0: Codes_behind(Codes_further_words(v1.parcel.tag), v1.index, { is: 'ReadItemBody', dummy: v1.dummy, node: v1.node, parcel: Codes_with_read(v1.parcel, v1.index, v2), index: (v1.index + 1n) }, { is: 'WriteHead', dummy: v1.dummy, node: v1.node, parcel: Codes_with_read(v1.parcel, v1.index, v2) }) });
-  if (v1.is === 'WriteHead') return ServiceLine_store({ is: 'WriteObject' }, { is: 'Object', 0: { is: 'Head', 0: g } }, (v1.node + 1n), { is: 'On', 0: { is: 'WriteTaken', dummy: v1.node, parcel: v1.parcel } });
-  if (v1.is === 'WriteTaken') return ServiceLine_store({ is: 'WriteObject' }, { is: 'Object', 0: { is: 'Taken', 0: g } }, (v1.parcel.place + 1n), { is: 'On', 0: { is: 'AddPassed', dummy: v1.dummy, parcel: v1.parcel } });
-  if (v1.is === 'AddPassed') return ServiceLine_add({ is: 'AddPassed' }, { is: 'Item', 0: v1.dummy, 1: { is: 'Passed' } }, 1n, { is: 'Decides', 0: { is: 'Take', 0: { is: 'Got', 0: Codes_item_in(v1.parcel) } } });
-} : (g, v1, v2) => {
-  if (v1.is === 'ReadHead') return ServiceLine_load({ is: 'ReadObject' }, { is: 'Object', 0: { is: 'Head', 0: g } }, { is: 'On', 0: { is: 'ReadTaken', dummy: minus(v2, 1n) } });
-  if (v1.is === 'ReadTaken') return ServiceLine_load({ is: 'ReadObject' }, { is: 'Object', 0: { is: 'Taken', 0: g } }, { is: 'On', 0: { is: 'ReadDummyNext', dummy: v1.dummy, taken: v2 } });
-  if (v1.is === 'ReadDummyNext') return ServiceLine_load({ is: 'ReadDummyNext' }, { is: 'Item', 0: v1.dummy, 1: { is: 'Next' } }, TakeLines_by_next(v1.dummy, v1.taken, v2));
-  if (v1.is === 'ReadItemTag') return ServiceLine_load({ is: 'ReadItem' }, { is: 'Item', 0: v1.node, 1: { is: 'Tag' } }, TakeLines_by_tag(v1.dummy, v1.taken, v1.node, v2));
-  if (v1.is === 'ReadItemBody') return ServiceLine_load({ is: 'ReadItem' }, { is: 'Item', 0: v1.node, 1: { is: 'Body', 0: v1.index } }, { is: 'On', 0: Codes_behind(Codes_further_words(v1.parcel.tag), v1.index, { is: 'ReadItemBody', dummy: v1.dummy, node: v1.node, parcel: Codes_with_read(v1.parcel, v1.index, v2), index: (v1.index + 1n) }, { is: 'WriteHead', dummy: v1.dummy, node: v1.node, parcel: Codes_with_read(v1.parcel, v1.index, v2) }) });
+  if (variant === 'freed_dummy' && v1.is === 'WriteHead') return ServiceLine_store({ is: 'WriteObject' }, { is: 'Object', 0: { is: 'Head', 0: g } }, (v1.node + 1n), { is: 'On', 0: { is: 'WriteTaken', dummy: v1.node, parcel: v1.parcel } });
   if (v1.is === 'WriteHead') return ServiceLine_store({ is: 'WriteObject' }, { is: 'Object', 0: { is: 'Head', 0: g } }, (v1.node + 1n), { is: 'On', 0: { is: 'WriteTaken', dummy: v1.dummy, parcel: v1.parcel } });
   if (v1.is === 'WriteTaken') return ServiceLine_store({ is: 'WriteObject' }, { is: 'Object', 0: { is: 'Taken', 0: g } }, (v1.parcel.place + 1n), { is: 'On', 0: { is: 'AddPassed', dummy: v1.dummy, parcel: v1.parcel } });
   if (v1.is === 'AddPassed') return ServiceLine_add({ is: 'AddPassed' }, { is: 'Item', 0: v1.dummy, 1: { is: 'Passed' } }, 1n, { is: 'Decides', 0: { is: 'Take', 0: { is: 'Got', 0: Codes_item_in(v1.parcel) } } });
 };
 const TakeLines_operation = (g, service) => TakeLines_line(g, service, 0n).does;
+const Turns_IsAmong = (c, x, k, s, n) => Turns_is_among(c, x, k, s, n);
+const Turns_IsTurn = (c, x, k, s, n) => Turns_IsTurnAt(c, x, k, s, n, s.stand(OnChain_pass_on(c, x, n)).phase);
+const Turns_IsTurnAt = (c, x, k, s, n, at) => {
+  if (at.is === 'WriteTag') return Turns_IsAmong(c, x, k, s, n);
+  if (at.is === 'WriteBody') return Turns_IsAmong(c, x, k, s, n);
+  if (at.is === 'Link') return Turns_IsAmong(c, x, k, s, n);
+  if (at.is === 'ReadState') return ((s.mem({ is: 'Node', 0: x, 1: s.stand(OnChain_pass_on(c, x, n)).node, 2: { is: 'State' } }) === 0n) && (BigInt(OnChain_answers_on(x, s.history).length) < k));
+  return (ChainLaws_is_combining(at) && (BigInt(OnChain_answers_on(x, s.history).length) < (k + Turns_decided(at))));
+};
+const Turns_decided = (v0) => {
+  if (v0.is === 'Sending' && v0.service.is === 'WriteLastMark') return 1n;
+  if (v0.is === 'Sending' && v0.service.is === 'WriteShut') return 1n;
+  if (v0.is === 'Sending' && v0.service.is === 'WriteLast') return 1n;
+  if (v0.is === 'Sending' && v0.service.is === 'WriteCount') return 1n;
+  if (v0.is === 'Sending' && v0.service.is === 'WriteCursor') return 1n;
+  if (v0.is === 'WriteAnswer') return 1n;
+  if (v0.is === 'WriteAnswerTag') return 1n;
+  if (v0.is === 'WriteAnswerBody') return 1n;
+  if (v0.is === 'MarkDone') return 1n;
+  return 0n;
+};
+const Turns_has_later = (who, k, calls) => calls.slice(Number(k)).some((e) => Items_is_pass(who, e.pass));
+const Turns_is_among = (c, x, k, s, n) => (Turns_is_in(s.stand(OnChain_pass_on(c, x, n)).phase) && (!Turns_has_later(State_pass_at(c.config, OnChain_pass_on(c, x, n)), k, OnChain_calls_on(x, s.history))));
+const Turns_is_in = (v0) => {
+  if (v0.is === 'Idle') return false;
+  if (v0.is === 'ResetNext') return false;
+  if (v0.is === 'ResetState') return false;
+  if (v0.is === 'Exchange') return false;
+  if (v0.is === 'Finished') return false;
+  return true;
+};
 const Words_groups = (c) => c.groups;
-return { Lines_line, Codes_list_reads, Codes_further_words, Codes_tag_sender, Codes_tag_number, Codes_code_of, Codes_value_of, Body_body_of, Body_words_of };
+return { Lines_line, Codes_list_reads, Codes_further_words, Codes_tag_sender, Codes_tag_number, Codes_code_of, Codes_value_of, Body_body_of, Body_words_of, Ahead_ahead, Turns_IsTurn };
 };
 // </steps>
 
@@ -748,7 +912,11 @@ function table(variant) {
   if (!TABLES.has(variant)) TABLES.set(variant, tableOf(variant));
   return TABLES.get(variant);
 }
-const { Codes_list_reads, Codes_further_words, Codes_tag_sender, Codes_tag_number, Codes_code_of, Codes_value_of, Body_body_of, Body_words_of } = table('');
+const { Codes_list_reads, Codes_further_words, Codes_tag_sender, Codes_tag_number, Codes_code_of, Codes_value_of, Body_body_of, Body_words_of, Ahead_ahead, Turns_IsTurn } = table('');
+// The places of a pass that combines, from its read of state 0 to its hand-over; the last but one is of a broken table.
+const COMBINES = new Set(['ReadNext', 'Sending', 'Taking', 'WriteAnswer', 'WriteAnswerTag', 'WriteAnswerBody', 'MarkDone', 'FollowNext', 'HandOver']);
+// The places of a call that hasn't swapped yet.
+const OUTSIDE = new Set(['Idle', 'ResetNext', 'ResetState', 'Exchange']);
 
 const chainAt = x => x < 0 ? { is: 'Send' } : { is: 'Take', 0: BigInt(x) };
 const chainNumber = chain => chain.is === 'Send' ? -1 : Number(chain[0]);
@@ -822,6 +990,7 @@ function planOfText(text) {
   if (sends.length < 1 || sends.length > 64) throw new Error('A plan has 1 to 64 senders.');
   plan.calls = sends.map((mine, k) => list(mine, 'Sender ' + (k + 1)).map(call => {
     if (call === \"'close\") return { close: true };
+    if (typeof call === 'string' && call[0] === \"'\") throw new Error('A call of sender ' + (k + 1) + ' is \"' + call.slice(1) + '\", and it may be an item or \"close\".');
     const words = second ? list(call, 'Each send of sender ' + (k + 1)) : [call];
     if (words.length < 1 || words.length > 4) throw new Error('A body has one to four words.');
     return { send: words.map(word => whole(word, 'A word of sender ' + (k + 1), 0, LARGEST - 1n)) };
@@ -856,6 +1025,8 @@ const LAWS = {
 
 // Opens the queue of a plan and plays its events to the last one; by a broken table, if `variant` names it. `report` is what
 // the program wrote of the run.
+//
+// Who serves whom is in the words: a combiner serves the request in the node at which it is.
 function open(plan, variant = '', report = null) {
   const { capacity, bound, life, groups } = plan;
   const { Lines_line } = table(variant);
@@ -864,7 +1035,7 @@ function open(plan, variant = '', report = null) {
   const senders = calls.length, receivers = takes.length / groups;
   let version = plan.version;
   const rows = senders + groups * receivers;
-  const setting = { served: { is: 'List' }, config: { capacity: BigInt(capacity), bound: BigInt(bound), life: BigInt(life), groups: BigInt(groups) } };
+  const setting = { served: { is: 'List' }, config: { senders: BigInt(senders), receivers: BigInt(receivers), capacity: BigInt(capacity), bound: BigInt(bound), life: BigInt(life), groups: BigInt(groups) } };
 
   const passName = row => row < senders ? 's' + (row + 1) : 'r' + (row - senders + 1);
   const chainOf = row => row < senders ? -1 : Math.floor((row - senders) / receivers);
@@ -876,8 +1047,8 @@ function open(plan, variant = '', report = null) {
   const stands = [];
   const history = [];         // the senders' side, and then one for each group
   const side = x => history[x + 1];
-  const turns = [];           // of each chain: the newest turn, with the calls that its combiner served
-  const turnOf = x => turns[x + 1];
+  const turns = [];           // of each chain: the newest turn that is over, with the requests that its combiner served
+  const lastTurn = x => turns[x + 1];
   const accepted = [];        // the calls whose items are accepted, by their places
   const got = [];             // how many items each group got
   let shut = false;
@@ -892,7 +1063,22 @@ function open(plan, variant = '', report = null) {
   for (let i = 1; i <= capacity; i++) write(item(i, 'passed'), BigInt(groups));
   for (let row = 0; row < rows; row++) {
     const own = row < senders ? row + 1 : (row - senders) % receivers + 1;
-    stands.push({ made: 0, sends: 0, node: own, call: null, place: { is: 'Idle' } });
+    // `turn` has the requests that a pass has served, while it combines
+    stands.push({ made: 0, sends: 0, node: own, call: null, place: { is: 'Idle' }, turn: null });
+  }
+  const rowsOf = x => x < 0 ? [...Array(senders).keys()] : [...Array(receivers).keys()].map(k => senders + x * receivers + k);
+
+  // The pass that has a node in a call which has swapped, or -1.
+  const holderOf = (x, i) => rowsOf(x).find(row => stands[row].node === i && !OUTSIDE.has(stands[row].place.is)) ?? -1;
+
+  // The request in a node: the call that the words of a send name by their sender and number; a close or a take has no such words,
+  // and is that of the pass which has the node.
+  function requestAt(x, i) {
+    const row = holderOf(x, i), mine = row < 0 ? null : stands[row].call, tag = x < 0 ? read(node(x, i, 'tag')) : 0n;
+    if (tag === 0n) return mine && !mine.send ? mine : null;
+    const sender = Number(Codes_tag_sender(tag)) - 1, number = Codes_tag_number(tag);
+    if (mine && mine.row === sender && mine.number === number) return mine;
+    return side(x).calls.find(call => call.send && call.row === sender && call.number === number) || null;
   }
 
   function nextCall(row, made) {
@@ -912,7 +1098,7 @@ function open(plan, variant = '', report = null) {
       const made = Object.assign({ row, number: BigInt(sends), known: 0n }, call, x < 0
         ? { pass: { is: 'Sender', 0: BigInt(row + 1) }, call: call.send ? { is: 'Send', 0: Body_body_of(call.send) } : { is: 'Close' } }
         : { pass: { is: 'Receiver', 0: BigInt(row - senders + 1) }, call: { is: 'Take' } });
-      stand = { made: stand.made + 1, sends, node: stand.node, call: made, place: { is: 'ResetNext', call: made } };
+      stand = { made: stand.made + 1, sends, node: stand.node, call: made, place: { is: 'ResetNext', call: made }, turn: null };
     }
     const stepAt = found => Lines_line(setting, chainAt(x), BigInt(stand.node), stand.place, found);
     const does = stepAt(0n).does;
@@ -925,15 +1111,24 @@ function open(plan, variant = '', report = null) {
     const ends = step.goes.is === 'Finished';
     // a call that enters the history keeps its place in it, and what it can know by then
     const enters = step.enters[0] && Object.assign({}, stand.call, { entered: side(x).calls.length, knows: { accepted: accepted.length, least: Math.min(...got), shut } });
-    const after = { made: stand.made, sends: stand.sends, node: Number(step.node), call: ends ? null : enters || stand.call, place: ends ? { is: 'Idle' } : step.goes };
-    const serves = at.job ? side(x).calls[side(x).marked] : null;
-    let turn;
-    if (kind === 'ReadState' && found === 0n) turn = { row, served: [], runs: true };
-    if (kind === 'MarkDone') turn = { row, served: (turnOf(x) || { served: [] }).served.concat(serves ? [serves] : []), runs: true };
-    if (kind === 'HandOver') turn = { row, served: (turnOf(x) || { served: [] }).served, runs: false };
-    return { row, x, serves, kind, w, does: DOES[does.is], found, value, before, after, call: stand.call, begins: stand !== before, place: at,
+    const served = at.job ? { node: Number(at.job.round.at), call: requestAt(x, Number(at.job.round.at)) } : null;
+    const turn = kind === 'ReadState' && found === 0n ? [] : kind === 'MarkDone' ? stand.turn.concat(served.call) : kind === 'HandOver' ? null : stand.turn;
+    const after = { made: stand.made, sends: stand.sends, node: Number(step.node), call: ends ? null : enters || stand.call, place: ends ? { is: 'Idle' } : step.goes, turn };
+    return { row, x, serves: served && served.call, served, kind, w, does: DOES[does.is], found, value, before, after, call: stand.call, begins: stand !== before, place: at,
       waits: kind === 'ReadState' && found === 1n, enters, decides: step.decides[0], marks: kind === 'MarkDone',
-      answer: ends ? step.goes.answer : null, turn, turn_before: turnOf(x) };
+      answer: ends ? step.goes.answer : null, over: kind === 'HandOver' ? { row, served: stand.turn } : null, over_before: lastTurn(x) };
+  }
+
+  // The state, as the definitions of the laws of progress read it.
+  const state = { mem: w => read(wordAt(w)), stand: p => ({ phase: stands[Number(p)].place, node: BigInt(stands[Number(p)].node) }), history: { get sends() { return history[0]; }, get takes() { return history.slice(1); } } };
+
+  // Of a pass that waits: the passes whose turn it is, and how many steps in turn are ahead of its answer, at most. Nothing of a
+  // pass that doesn't wait, and of a broken table, for which no law says so.
+  function waitOf(row) {
+    const { place, node: own, call } = stands[row], x = chainOf(row);
+    if (variant || place.is !== 'ReadState' || read(node(x, own, 'state')) !== 1n) return null;
+    const of = [setting, chainAt(x), BigInt(call.entered + 1), state];
+    return { ahead: Number(Ahead_ahead(...of)), turns: rowsOf(x).filter((_, n) => Turns_IsTurn(...of, BigInt(n))) };
   }
 
   // The node of the call that is the first one without an answer, or of the tail.
@@ -954,7 +1149,7 @@ function open(plan, variant = '', report = null) {
   function brokenBy(e) {
     const found = [];
     const s = side(e.x);
-    if (e.kind === 'ReadState' && e.found === 0n && turnOf(e.x) && turnOf(e.x).runs) found.push('one');
+    if (e.kind === 'ReadState' && e.found === 0n && rowsOf(e.x).some(row => COMBINES.has(stands[row].place.is))) found.push('one');
     if (e.kind === 'ReadNext' && ['Sending', 'Taking'].includes(e.after.place.is) && firstNode(e.x) !== e.w.i) found.push('first');
     if (e.kind === 'HandOver' && firstNode(e.x) !== e.w.i) found.push('hand');
     if (e.kind === 'ResetListNode' && e.w.field === 'passed' && isInList(e.w.i)) found.push('reset');
@@ -990,7 +1185,7 @@ function open(plan, variant = '', report = null) {
       s.answers.push(e.decides);
     }
     if (e.marks) s.marked++;
-    if (e.turn) turns[e.x + 1] = e.turn;
+    if (e.over) turns[e.x + 1] = e.over;
   }
 
   function undo(e) {
@@ -1006,7 +1201,7 @@ function open(plan, variant = '', report = null) {
       s.answers.pop();
     }
     if (e.marks) s.marked--;
-    turns[e.x + 1] = e.turn_before;
+    turns[e.x + 1] = e.over_before;
   }
 
   // The runs: that of the plan, and branches made by hand, which differ from another run after the event `from`.
@@ -1138,12 +1333,12 @@ function open(plan, variant = '', report = null) {
   // The whole run, once: by the schedule, or as the program wrote it and compared with that.
   const faults = [];
   let is_long = false;
-  for (const { row, steps } of plan.schedule) {
+  for (const [entry, { row, steps }] of plan.schedule.entries()) {
     for (let k = 0; k < steps && !is_long; k++) {
       const e = nextEvent(row);
       if (!e) break;
       is_long = events.length >= EVENT_LIMIT;
-      if (!is_long) make(e);
+      if (!is_long) make({ ...e, entry });
     }
   }
   if (is_long) faults.push('The run has more than ' + EVENT_LIMIT + ' events, and the first ' + EVENT_LIMIT + ' are here.');
@@ -1165,104 +1360,297 @@ function open(plan, variant = '', report = null) {
   }
 
   return {
-    capacity, bound, life, groups, senders, receivers, rows, takes, faults, branches, history, stands, variant, got, accepted,
+    capacity, bound, life, groups, senders, receivers, rows, calls, takes, schedule: plan.schedule, faults, branches, history, stands, variant, got, accepted,
     get version() { return version; }, get events() { return events; }, get now() { return now; }, get chosen() { return chosen; },
-    passName, chainOf, read, side, turnOf, nextCall, nextEvent, goTo, step, choose, add, planText, reportText, front, order,
+    words: () => [...mem].filter(([, v]) => v !== 0n).sort(),
+    passName, chainOf, rowsOf, read, side, lastTurn, holderOf, requestAt, waitOf, nextCall, nextEvent, brokenBy, redo, undo, goTo, step, choose, add, planText, reportText, front, order,
   };
 }
 
+// The same schedule by another table: `run` is its run, `upTo[n]` how many of its events belong to the first n of the one beside it,
+// and `parts` the number of events that both have in common, or -1 if they never part. `follow` does what is new since.
+function beside(one, variant) {
+  const { version, capacity, bound, life, groups, calls, takes, events } = one;
+  const run = open({ version, capacity, bound, life, groups, calls, takes, schedule: [] }, variant);
+  const pair = { run, events, upTo: [0], parts: -1, follow };
+  const same = (e, f) => e.kind === f.kind && keyOf(e.w) === keyOf(f.w) && e.found === f.found && e.value === f.value;
+  // tries a step of a pass, beside an event or none
+  function attempt(row, e) {
+    const { upTo } = pair, made = run.step(row) && run.events[run.now - 1];
+    if (pair.parts < 0 && (e || made) && !(e && made && same(e, made))) pair.parts = upTo.length - 1;
+    if (e) upTo.push(run.now); else upTo[upTo.length - 1] = run.now;
+    return e || made;
+  }
+  function follow() {
+    run.goTo(run.events.length);
+    while (pair.upTo.length <= events.length) attempt(events[pair.upTo.length - 1].row, events[pair.upTo.length - 1]);
+    run.goTo(pair.upTo[one.now]);
+    return pair;
+  }
+  // a schedule may have steps that only one of the two runs makes
+  const scheduled = one.chosen === 0 ? one.schedule : [];
+  for (const [entry, { row, steps }] of scheduled.entries()) {
+    const mine = events.filter(e => e.entry === entry);
+    for (let k = 0; k < steps && attempt(row, mine[k]); k++);
+  }
+  return follow();
+}
+
+// Whether a run reaches the goal of an exercise: the number of the event with which it does, or 0. A goal is laws, of which one
+// breaks, or an answer that a call returns although it would be another by then.
+function reached(run, goal) {
+  const got = run.got.map(() => 0);
+  let accepted = 0;
+  for (let i = 0; i < run.now; i++) {
+    const e = run.events[i], decided = e.decides && e.decides[0].is, returned = e.answer && e.answer[0].is;
+    if (decided === 'Accepted') accepted++;
+    if (decided === 'Got') got[e.x]++;
+    if (goal.breaks && e.breaks.some(law => goal.breaks.includes(law))) return i + 1;
+    if (goal.returns === 'Empty' && returned === 'Empty' && got[e.x] < accepted) return i + 1;
+    if (goal.returns === 'Full' && returned === 'Full' && accepted - Math.min(...got) < run.capacity) return i + 1;
+  }
+  return 0;
+}
+
 const further = tag => Number(Codes_further_words(tag));
-const tagText = tag => 's' + Codes_tag_sender(tag) + ' send ' + Codes_tag_number(tag);
 const codeOf = ret => Number(Codes_code_of(ret));
-return { open, planOfRun, planOfText, CHANGES, LAWS, KINDS, EVENT_LIMIT, number, tail, node, item, object, keyOf, callText, answerText, further, tagText, codeOf,
-  valueOf: Codes_value_of, listReads: Codes_list_reads };
+return { open, beside, reached, planOfRun, planOfText, CHANGES, LAWS, KINDS, EVENT_LIMIT, OUTSIDE, number, tail, node, item, object, keyOf, callText, answerText, further, codeOf,
+  senderOf: Codes_tag_sender, numberOf: Codes_tag_number, valueOf: Codes_value_of, listReads: Codes_list_reads };
 })();
 </script>
-<script type=\"text/plain\" id=\"run\">";
-
-/// The text between the run and the report.
-pub const MIDDLE: &[u8] = b"\
-</script>
-<script type=\"text/plain\" id=\"report\">";
-
-/// The text after the report.
-pub const BACK: &[u8] = b"\
-</script>
-<script>
-(() => {
+<script id=\"telling\">
+// The texts of a state, without their pictures: each is a claim about the words, the places of the passes and the history, and
+// tests/show/reads.py decides each by a second program. In a text *..* is bold, `..` a word of the table, [[..]] one of the glossary.
+const Telling = (() => {
 'use strict';
 
-const { CHANGES, LAWS, KINDS, EVENT_LIMIT, number, tail, node, item, object, keyOf, callText, answerText, further, tagText, codeOf, valueOf, listReads } = Machine;
-const GROUPS_OF_KINDS = { enter: 'enters its chain', wait: 'reads its state', serve: 'serves', hand: 'marks done, hands over', answer: 'reads its answer' };
-const $ = id => document.getElementById(id);
+const { LAWS, OUTSIDE, tail, node, item, object, callText, answerText, further, codeOf, senderOf, numberOf, valueOf, listReads } = Machine;
 const plural = (n, word) => n + ' ' + word + (n === 1 ? '' : /s$/.test(word) ? 'es' : 's');
-const LESSONS = JSON.parse($('lessons').textContent);
-const TOUR = LESSONS.filter(lesson => lesson.kind === 'tour');
+const inWords = list => list.length < 2 ? list.join('') : list.slice(0, -1).join(', ') + ' and ' + list[list.length - 1];
+const ordinal = n => n + (/1[123]$/.test(n) ? 'th' : { 1: 'st', 2: 'nd', 3: 'rd' }[String(n).slice(-1)] || 'th');
+const STATES = ['serve', 'wait', 'done'];
 
-// The run that is shown, and what of it doesn't change.
-let run, capacity, bound, life, groups, senders, receivers, rows, passName, chainOf, read, side, turnOf, stands, history;
-let source = {};              // the lesson, the plan or the program's text that the run is of
-function use(opened) {
-  run = opened;
-  ({ capacity, bound, life, groups, senders, receivers, rows, passName, chainOf, read, side, turnOf, stands, history } = run);
+// An answer, of its text in a report: accepted as item 0, got 7 as item 0, ended after 1 item.
+function saidOf(text) {
+  const [word, number, , , ...body] = text.split(' ');
+  if (word === 'accepted') return 'accepted as item ' + number;
+  if (word === 'got') return 'got ' + body.join(' ') + ' as item ' + number;
+  return number === undefined ? word : { shut: 'shut', already: 'already shut', ended: 'ended' }[word] + ' after ' + plural(Number(number), 'item');
+}
+const answerOf = answer => saidOf(answerText(answer));
+
+const chainName = (run, x) => x < 0 ? 'send chain' : run.groups > 1 ? 'take chain of group ' + (x + 1) : 'take chain';
+const tagText = tag => 'the ' + ordinal(numberOf(tag)) + ' send of s' + senderOf(tag);
+// What a pass asks for: s2 sends 7.
+const asks = (run, row, words) => run.passName(row) + (words === null ? ' takes' : words === '' ? ' closes' : ' sends ' + words);
+const requestText = (run, call) => call ? asks(run, call.row, call.take ? null : call.close ? '' : call.send.join(' ')) : 'a request of no call';
+
+// What a word has: a link names a node, and the others have their own texts.
+function valueText(run, w, v) {
+  const link = n => n === 0n ? 'null' : n - 1n === BigInt(run.capacity + 1) && w.at !== 'tail' && w.at !== 'node' ? 'the mark' : 'node ' + (n - 1n);
+  if (w.at === 'tail' || w.field === 'next' || w.field === 'head' || w.field === 'last') return link(v);
+  if (w.field === 'cursor') return 'node ' + v;
+  if (w.field === 'state') return v + ' (' + STATES[Number(v)] + ')';
+  if (w.field === 'shut') return v === 0n ? '0 (open)' : '1 (shut)';
+  if (w.field === 'passed') return v + ' of ' + plural(run.groups, 'group');
+  if (w.field === 'tag') return v === 0n ? '0 (a close, or none)' : tagText(v) + ', ' + plural(further(v) + 1, 'word');
+  if (w.field === 'ret') return v === 0n ? 'none' : w.x < 0 ? answerOf(listReads(v)) : ['none', 'got item ' + valueOf(v), 'empty', 'ended after ' + plural(Number(valueOf(v)), 'item')][codeOf(v)];
+  return String(v);
 }
 
-let drawn = {};               // what the parts of the page were drawn from, which are drawn again only if that changed
-function show(id, html) {
-  if (drawn[id] === html) return false;
-  drawn[id] = html;
-  $(id).innerHTML = html;
-  return true;
+const FIELDS = { next: 'next link', ret: 'answer', passed: 'passed count' };
+function wordText(run, w) {
+  const field = w.field === 'body' ? ordinal(w.n + 1) + ' word' : FIELDS[w.field] || w.field;
+  if (w.at === 'tail') return 'the tail of the ' + chainName(run, w.x);
+  if (w.at === 'node') return 'the ' + field + ' of node ' + w.i + ' in the ' + chainName(run, w.x);
+  if (w.at === 'item') return 'the ' + field + ' of ' + (w.i === run.capacity + 1 ? 'the closing mark' : 'list node ' + w.i);
+  return '`' + w.field + '`' + (w.g === undefined || run.groups === 1 ? '' : ' of group ' + (w.g + 1));
 }
-const chainName = x => x < 0 ? 'send chain' : groups > 1 ? 'take chain of group ' + (x + 1) : 'take chain';
 
-// ---- The glossary.
+// ---- The newest event.
 
-const WORDS = {
-  step: 'One read, write, swap or add of one word. Between two steps of a pass any steps of other passes may come.',
-  pass: 'One thread at the queue: s1, s2 and so on send, r1, r2 and so on take.',
-  chain: 'A linked list of requests. The senders have one chain, and each group of receivers has one.',
-  node: 'A record in a chain with a request, an answer, a state and a next link; or a record in the list with one item.',
-  tail: 'The word that names the last node of a chain. The swap of the tail gives a call its place.',
-  combiner: 'The pass that serves the requests of its chain at the moment. Each chain has at most one.',
-  turn: 'The time in which one pass combines, from the state 0 that it reads to its hand-over.',
-  bound: 'The greatest number of calls that a combiner serves in one turn.',
-  'hand-over': 'The store of 0 into the state of the node where the combiner stops: the call that has this node combines next.',
-  decision: 'The step that fixes the answer of a call.',
-  history: 'All calls of a side in the order of their swaps, each with its answer or pending.',
-  dummy: 'The first node of the list. Its item was taken before: the first item that waits is in the node after it.',
-  head: 'The word that names the dummy. Each group of receivers has its own.',
-  last: 'The word that names the last node of the list.',
-  cursor: 'The list node at which the next send begins to look for a free one.',
-  capacity: 'How many items may wait. The list has one ordinary node more, for the dummy.',
-  passed: 'The number of groups that have gone past a list node. The node is free if all groups have.',
-  group: 'Receivers that share the items. Each group gets every item once.',
-  life: 'The number of items that the queue ever accepts.',
-  'closing mark': 'The list node that a close links. It follows the last item.',
-};
-const LOWER = Object.fromEntries(Object.keys(WORDS).map(word => [word, word]));
-const termed = text => text.replace(/\\[\\[([^\\]]+)\\]\\](s?)/g, (_, word, s) => '<dfn class=\"term\" tabindex=\"0\" data-word=\"' + (LOWER[word.toLowerCase()] || word) + '\">' + word + s + '</dfn>');
-
-function explain(term) {
-  const tip = $('tip');
-  tip.textContent = WORDS[term.dataset.word];
-  tip.hidden = false;
-  const at = term.getBoundingClientRect();
-  tip.style.left = Math.max(4, Math.min(at.left, document.documentElement.clientWidth - tip.offsetWidth - 8)) + window.scrollX + 'px';
-  tip.style.top = (at.bottom + tip.offsetHeight + 8 > window.innerHeight ? at.top - tip.offsetHeight - 6 : at.bottom + 6) + window.scrollY + 'px';
-  term.setAttribute('aria-describedby', 'tip');
+// What it did to its word; what it is for; and what is decided by it.
+function event(run) {
+  if (run.now === 0) return ['*The opening.* Every pass is idle, each tail names node 0 of its chain, and the list is its dummy alone.'];
+  const e = run.events[run.now - 1], word = wordText(run, e.w), name = run.passName(e.row);
+  const value = v => '*' + valueText(run, e.w, v) + '*';
+  const texts = [(e.does === 'reads' ? '*' + name + '* reads ' + word + ': ' + value(e.found)
+    : e.does === 'swaps' ? '*' + name + '* swaps ' + value(e.value) + ' into ' + word + ' and gets ' + value(e.found)
+    : e.does === 'adds' ? '*' + name + '* adds 1 to ' + word + ': now ' + value(e.value)
+    : e.value === e.found ? '*' + name + '* writes ' + value(e.value) + ' into ' + word + ', which had this value'
+    : '*' + name + '* changes ' + word + ' from ' + value(e.found) + ' to ' + value(e.value)) + '.'];
+  if (e.begins) texts.push('This is the first step of its call: ' + callText(e.call) + '.');
+  if (e.served) texts.push('It serves ' + (e.serves && e.serves === e.call ? 'its own request' : 'the request') + ' in node ' + e.served.node + ': ' + requestText(run, e.serves) + '.');
+  if (e.waits) texts.push('It waits: nothing changes.');
+  if (e.enters) texts.push('*The call enters the history.*');
+  if (e.decides) texts.push('*Decided: ' + answerOf(e.decides) + '.*');
+  if (e.answer) texts.push('*The call returns: ' + answerOf(e.answer) + '.*');
+  return texts;
 }
-const hideTip = () => { $('tip').hidden = true; };
+
+// ---- A pass.
+
+function pass(run, row) {
+  const { call, place, turn, made, node: own } = run.stands[row], x = run.chainOf(row);
+  if (!call) {
+    const next = run.nextCall(row, made);
+    return { role: 'rest', text: next ? 'idle, next ' + callText(next) : 'idle, no call left' };
+  }
+  const what = callText(call);
+  if (turn) return { role: 'serve', text: 'combines, ' + turn.length + ' of ' + run.bound };
+  if (place.is.startsWith('ReadAnswer')) return { role: 'answer', text: 'reads its answer: ' + what };
+  if (place.is !== 'ReadState') return { role: 'enter', text: 'enters: ' + what };
+  const state = run.read(node(x, own, 'state'));
+  return state === 1n ? { role: 'wait', text: 'waits: ' + what } : state === 0n ? { role: 'serve', text: 'is to serve: ' + what } : { role: 'answer', text: 'answered: ' + what };
+}
+
+// Of each pass that waits: whose turn it is, and what is ahead of its answer.
+function waits(run) {
+  const found = [];
+  for (let row = 0; row < run.rows && found.length < 6; row++) {
+    const wait = run.waitOf(row);
+    if (wait) found.push({ row, ...wait, text: '*' + run.passName(row) + '* waits: it is the turn of ' + inWords(wait.turns.map(run.passName)) + ', and at most *' + plural(wait.ahead, 'step') + '* [[in turn]] ' + (wait.ahead === 1 ? 'is' : 'are') + ' ahead of its answer.' });
+  }
+  return found;
+}
+
+// ---- A chain.
+
+const touched = run => run.now > 0 ? run.events[run.now - 1].w : {};
+const isTouched = (run, at, x, i) => { const w = touched(run); return w.at === at && w.i === i && (at === 'item' || w.x === x); };
+
+// The words of a body: of a node of a chain, or of the list.
+const bodyAt = (run, tag, wordAt) => [...Array(further(tag) + 1).keys()].map(n => run.read(wordAt(n))).join(' ');
+
+// The answer in a node, by its words.
+function answerAt(run, x, i) {
+  const ret = run.read(node(x, i, 'ret'));
+  if (x < 0 || codeOf(ret) !== 1) return valueText(run, node(x, i, 'ret'), ret);
+  return 'got ' + bodyAt(run, run.read(node(x, i, 'tag')), n => node(x, i, 'body', n)) + ' as item ' + valueOf(ret);
+}
+
+// The request in a node of a pass, by its words.
+function askedAt(run, x, i, row) {
+  const { place } = run.stands[row];
+  if (place.is === 'WriteTag' || place.is === 'WriteBody') return run.passName(row) + ' writes its request';
+  const tag = x < 0 ? run.read(node(x, i, 'tag')) : 0n;
+  return asks(run, row, x >= 0 ? null : tag === 0n ? '' : bodyAt(run, tag, n => node(x, i, 'body', n)));
+}
+
+function turnText(run, row, served, is_over) {
+  const of = served.length ? ': ' + (served.length > 6 ? 'the last six are ' : '') + served.slice(-6).map(call => requestText(run, call)).join(', ') : '';
+  return is_over ? 'In the last turn *' + run.passName(row) + '* served ' + plural(served.length, 'request') + of + '.'
+    : '*' + run.passName(row) + '* combines, and has served ' + served.length + ' of at most ' + plural(run.bound, 'request') + of + '.';
+}
+
+// The arrow from a node to the one that is drawn next, by its next link.
+const linkText = (next, wanted, name) => next === 0n ? { kind: 'none', text: name } : next - 1n === BigInt(wanted) ? { kind: '', text: '' } : { kind: 'wrong', text: 'to node ' + (next - 1n) };
+
+// The node that a combiner is at.
+function combinerAt({ place: p }) {
+  const at = p.round ? p.round.at : p.job ? p.job.round.at : p.was ? p.was.round.at : p.at;
+  return at === undefined ? -1 : Number(at);
+}
+
+// The turn; the nodes of calls that wait, in the order of their swaps, and the node in the tail; the nodes that are marked done; and
+// the nodes of passes that are in no chain.
+function chain(run, x) {
+  const { stands, read, passName } = run, rows = run.rowsOf(x), name = chainName(run, x);
+  const state = i => Number(read(node(x, i, 'state')));
+  const inside = rows.filter(row => !OUTSIDE.has(stands[row].place.is)).sort((a, b) => stands[a].call.entered - stands[b].call.entered);
+  const combiners = rows.filter(row => stands[row].turn), last = run.lastTurn(x);
+  const head = combiners.map(row => turnText(run, row, stands[row].turn, false));
+  if (!combiners.length) head.push('No pass combines.', ...(last ? [turnText(run, last.row, last.served, true)] : []));
+  // where the combiners are, and whether they serve the request there
+  const at = new Map(combiners.map(row => [combinerAt(stands[row]), [{ kind: 'serves', text: stands[row].place.job ? 'being served' : 'combiner' }]]));
+  const end = Number(read(tail(x))) - 1, w = touched(run);
+  const box = (row, role) => {
+    const i = stands[row].node, is_done = state(i) === 2;
+    return { key: name + ' ' + i, role, ends: at.get(i) || [], touch: isTouched(run, 'node', x, i),
+      lines: ['node ' + i, askedAt(run, x, i, row), 'state ' + state(i) + ': ' + STATES[state(i)], ...(is_done ? [answerAt(run, x, i)] : []),
+        ...(is_done && run.variant ? ['next: ' + valueText(run, node(x, i, 'next'), read(node(x, i, 'next')))] : [])] };
+  };
+  const all = inside.filter(row => state(stands[row].node) !== 2), waiting = all.slice(0, 24);
+  const boxes = waiting.map((row, k) => ({ ...box(row, at.has(stands[row].node) ? 'serve' : 'wait'),
+    arrow: linkText(read(node(x, stands[row].node, 'next')), k + 1 < all.length ? stands[all[k + 1]].node : end, 'not linked') }));
+  const more = all.length - waiting.length;
+  const ends = [{ kind: 'tail', text: 'tail', touch: w.at === 'tail' && w.x === x }, ...(at.get(end) || [])];
+  boxes.push({ key: name + ' ' + end, role: 'free', ends, touch: isTouched(run, 'node', x, end), more, lines: ['node ' + end, 'of no call yet', 'state ' + state(end) + ': ' + STATES[state(end)]] });
+  const done = inside.filter(row => state(stands[row].node) === 2).slice(0, 24).map(row => box(row, 'done'));
+  const spare = rows.filter(row => OUTSIDE.has(stands[row].place.is));
+  return { x, name, head, boxes, done, is_used: rows.some(row => stands[row].made > 0 || run.nextCall(row, 0)),
+    spare: spare.slice(0, 24).map(row => ({ key: name + ' ' + stands[row].node, text: passName(row) + ': node ' + stands[row].node, touch: isTouched(run, 'node', x, stands[row].node) })), more_spare: Math.max(0, spare.length - 24) };
+}
+
+// ---- The list.
+
+// The heads of the groups; the nodes that each group can reach from its head; and these nodes as rows, each up to null or to a node that
+// is there already. The right queue has one row.
+function listOf(run) {
+  const { read, capacity } = run;
+  const ends = [...Array(run.groups).keys()].map(g => ({ g, taken: read(object('taken', g)), head: Number(read(object('head', g))) - 1 }));
+  const next = i => Number(read(item(i, 'next'))) - 1;
+  const walks = ends.map(({ head }) => {
+    const places = new Map();
+    for (let at = head; at >= 0 && !places.has(at); at = next(at)) places.set(at, places.size);
+    return places;
+  });
+  // a head that no link leads to comes first, since a group moves its head before its count
+  const linked = new Set(ends.map(({ head }) => next(head)));
+  const first = ends.slice().sort((a, b) => Number(a.taken - b.taken) || linked.has(a.head) - linked.has(b.head));
+  const rows = [], all = new Set();
+  for (const { head } of first) {
+    if (all.has(head)) continue;
+    const nodes = [];
+    let at = head;
+    for (; at >= 0 && !all.has(at); at = next(at)) { nodes.push(at); all.add(at); }
+    rows.push({ nodes, end: at });
+  }
+  const serving = run.rowsOf(-1).filter(row => run.stands[row].turn).map(row => run.stands[row].place.service).filter(service => service);
+  const at = kinds => serving.filter(service => kinds.includes(service.is)).map(service => Number(service.node));
+  return { ends, walks, rows, all, mark: capacity + 1, last: Number(read(object('last'))) - 1, cursor: Number(read(object('cursor'))),
+    prepared: at(['ResetItemNext', 'WriteItemTag', 'WriteItemBody', 'ReadLast', 'LinkItem']), scanned: at(['ReadPassed']) };
+}
+
+function itemBox(run, list, i) {
+  const { read, groups } = run, w = touched(run);
+  const tag = read(item(i, 'tag')), is_mark = i === list.mark, passed = read(item(i, 'passed'));
+  const role = list.prepared.includes(i) ? 'prepare' : !list.all.has(i) || !is_mark && passed === BigInt(groups) ? 'free' : list.walks.some(places => places.get(i) > 0) ? 'wait' : 'dummy';
+  const points = field => w.at === 'object' && w.field === field;
+  const ends = list.ends.filter(e => e.head === i).map(e => ({ kind: 'head', text: 'head' + (groups > 1 ? ' ' + (e.g + 1) : ''), touch: points('head') && w.g === e.g }));
+  if (i === list.last) ends.push({ kind: 'tail', text: 'last', touch: points('last') });
+  if (i === list.cursor) ends.push({ kind: 'cursor', text: 'cursor', touch: points('cursor') });
+  if (list.scanned.includes(i)) ends.push({ kind: 'looks', text: 'looks here' });
+  const held = tag === 0n ? ['no item'] : ['item ' + bodyAt(run, tag, n => item(i, 'body', n)), tagText(tag)];
+  const lines = is_mark ? ['closing mark'] : { prepare: ['is prepared', ...held], free: ['free'], dummy: ['dummy'], wait: held }[role];
+  return { key: 'list ' + i, role, ends, touch: isTouched(run, 'item', 0, i), lines: ['node ' + i, ...lines, ...(is_mark ? [] : ['passed by ' + passed + ' of ' + groups])] };
+}
+
+function list(run) {
+  const { capacity, groups, read } = run, list = listOf(run), w = touched(run);
+  const boxesOf = ({ nodes, end }) => {
+    const shown = nodes.length > 30 ? nodes.slice(0, 15).concat([-1], nodes.slice(-14)) : nodes;
+    return shown.map((i, k) => i < 0 ? { more: nodes.length - 29 }
+      : { ...itemBox(run, list, i), arrow: k + 1 < shown.length ? { kind: '', text: '' } : end < 0 ? { kind: '', text: 'null' } : { kind: 'wrong', text: 'to node ' + end } });
+  };
+  const free = [], ordinary = [...Array(capacity + 1).keys()].filter(i => !list.all.has(i)), outside = ordinary.length;
+  for (const i of ordinary.slice(0, 24)) free.push(itemBox(run, list, i));
+  const word = (name, ww) => ({ name, text: valueText(run, ww, read(ww)), touch: w.at === 'object' && w.field === ww.field && w.g === ww.g });
+  const of = g => groups > 1 ? ' of group ' + (g + 1) : '', rows = list.rows.map(boxesOf);
+  const words = [...['last', 'cursor', 'count', 'shut'].map(field => word(field, object(field))), ...list.ends.flatMap(({ g }) => ['head', 'taken'].map(field => word(field + of(g), object(field, g))))];
+  // a word that is drawn as an arrow to a node isn't said once more
+  const arrows = new Set([...rows.flat(), ...free].flatMap(box => box.ends || []).map(end => end.text.replace(/^head (\\d)/, 'head of group $1')));
+  return { rows, free, outside, more: Math.max(0, outside - 24), words: words.filter(({ name }) => !arrows.has(name)) };
+}
 
 // ---- The program: its lines with the places of the table that belong to each, and what holds there.
-
 const PROGRAM = {
   call: ['A call', [
-    ['own.next \\u2190 null; own.state \\u2190 1', ['ResetNext', 'ResetState'], 'No other pass reads or writes the own node: it is in no chain.'],
-    ['node \\u2190 swap(tail, own)', ['Exchange'], 'All nodes that passes own and the node in the tail are different, and a swap exchanges two of them. The order of the swaps is the order of the calls.'],
+    ['own.next \\u2190 null; own.state \\u2190 1', ['ResetNext', 'ResetState'], 'The own node is in no chain: no call has it, and the tail names another one.'],
+    ['node \\u2190 swap(tail, own)', ['Exchange'], 'All nodes that passes have and the node in the tail are different. The order of the swaps is the order of the calls.'],
     ['node.request \\u2190 request', ['WriteTag', 'WriteBody'], 'The next link of the node is still null, so no combiner reads the request before it is whole.'],
-    ['node.next \\u2190 own', ['Link'], 'A link that is not null says: the request before it is complete.'],
-    ['repeat state \\u2190 node.state', ['ReadState'], 'At most one pass of the chain reads 0, and only while no pass combines.'],
+    ['node.next \\u2190 own', ['Link'], 'A link that is not null says: the request before it is whole.'],
+    ['repeat state \\u2190 node.state', ['ReadState'], 'A pass reads 0 only while no pass of its chain combines.'],
     ['until state \\u2260 1', [], ''],
     ['if state = 0: combine', [], ''],
     ['return node.answer', ['ReadAnswer', 'ReadAnswerTag', 'ReadAnswerBody'], 'The answer in the node is the answer of this call in the history.'],
@@ -1270,36 +1658,36 @@ const PROGRAM = {
   combine: ['Combine', [
     ['at \\u2190 node; served \\u2190 0', [], ''],
     ['until served = bound:', [], ''],
-    ['  next \\u2190 at.next; if null: stop', ['ReadNext'], 'The combiner stands at the first call that has no answer. The next link is read before that node is marked done: afterwards its owner may clear it.'],
+    ['  next \\u2190 at.next; if null: stop', ['ReadNext'], 'The combiner is at the first call that has no answer, or at the node in the tail. This node is not marked done yet: afterwards its owner may clear the link.'],
     ['  serve at.request', [], ''],
     ['  at.answer \\u2190 answer', ['WriteAnswer', 'WriteAnswerTag', 'WriteAnswerBody'], 'The state of the node is not 2 yet, so its owner does not read the answer.'],
     ['  at.state \\u2190 2', ['MarkDone'], 'All calls before this one are marked done, and no call after it.'],
-    ['  at \\u2190 next; served \\u2190 served + 1', [], ''],
+    ['  at \\u2190 next; served \\u2190 served + 1', ['FollowNext'], 'The next link is read before the node is marked done.'],
     ['at.state \\u2190 0', ['HandOver'], 'The hand-over goes to the first call that has no answer, or to the node in the tail. From here on this pass does not combine.'],
   ]],
   send: ['Serve a send', [
     ['request \\u2190 at.request', ['Sending.ReadTag', 'Sending.ReadBody'], 'The request is whole: its link was written after it.'],
-    ['if shut: return Closed', ['Sending.ReadShut', 'Sending.ReadTotal'], 'Only the combiner of the send chain writes shut, so it cannot change during this service.'],
+    ['if shut: return Closed', ['Sending.ReadShut', 'Sending.ReadTotal'], 'No other pass combines in this chain, and only a combiner writes shut: it is 1 if a close was decided, and else 0.'],
     ['if count = life: return Spent', ['Sending.ReadCount'], 'The count is the number of accepted items.'],
-    ['i \\u2190 cursor', ['Sending.ReadCursor'], 'If the send will be Full, it takes effect here: all ordinary nodes are busy, and only this combiner makes nodes busy.'],
-    ['while passed[i] < groups: i \\u2190 i+1, or Full', ['Sending.ReadPassed'], 'A node is free if every group has gone past it. Each ordinary node is read once at most; if all were busy, the answer is Full.'],
-    ['passed[i] \\u2190 0; next[i] \\u2190 null', ['Sending.ResetPassed', 'Sending.ResetItemNext'], 'No link and no head names node i, so no take can read it.'],
-    ['item[i] \\u2190 request', ['Sending.WriteItemTag', 'Sending.WriteItemBody'], 'Node i is not in the list yet: the item is written before the link to it.'],
-    ['next[last] \\u2190 i', ['Sending.ReadLast', 'Sending.LinkItem'], 'This link appends the item: the send is accepted. The places in the list are the numbers of the accepted items.'],
-    ['last, count, cursor \\u2190 i, +1, i + 1', ['Sending.WriteLast', 'Sending.WriteCount', 'Sending.WriteCursor'], 'Only the combiner of the send chain reads and writes these three words.'],
+    ['i \\u2190 cursor', ['Sending.ReadCursor'], 'If this send will be Full, all ordinary nodes are busy now, and it takes effect here.'],
+    ['while passed[i] < groups: i \\u2190 i+1, or Full', ['Sending.ReadPassed'], 'A node is free if every group has gone past it. In this scan each ordinary node is read once at most.'],
+    ['passed[i] \\u2190 0; next[i] \\u2190 null', ['Sending.ResetPassed', 'Sending.ResetItemNext'], 'No head and no link of the list names this node, so no take can read it.'],
+    ['item[i] \\u2190 request', ['Sending.WriteItemTag', 'Sending.WriteItemBody'], 'This node is not in the list yet: the item is written before the link to it.'],
+    ['next[last] \\u2190 i', ['Sending.ReadLast', 'Sending.LinkItem'], 'The word last names the last node of the list. With the link to the new node the send is accepted.'],
+    ['last, count, cursor \\u2190 i, +1, i + 1', ['Sending.WriteLast', 'Sending.WriteCount', 'Sending.WriteCursor'], 'No other pass combines in this chain, and only a combiner writes these three words.'],
   ]],
   close: ['Serve a close', [
     ['if shut: return Already', ['Closing.ReadTag', 'Closing.ReadBody', 'Closing.ReadShut', 'Closing.ReadTotal'], 'A queue that is shut stays shut.'],
-    ['next[last] \\u2190 mark', ['Closing.ReadCount', 'Closing.ReadLastToClose', 'Closing.LinkMark'], 'The mark has a node of its own, so a close is never Full. This link shuts the queue.'],
-    ['last \\u2190 mark; shut \\u2190 1', ['Closing.WriteLastMark', 'Closing.WriteShut'], 'No item is linked after the mark.'],
+    ['next[last] \\u2190 mark', ['Closing.ReadCount', 'Closing.ReadLastToClose', 'Closing.LinkMark'], 'The mark is a node of its own, and no item uses it: so a close is never Full.'],
+    ['last \\u2190 mark; shut \\u2190 1', ['Closing.WriteLastMark', 'Closing.WriteShut'], 'No node follows the mark in the list.'],
   ]],
   take: ['Serve a take', [
-    ['dummy, k \\u2190 head, taken', ['Taking.ReadHead', 'Taking.ReadTaken'], 'Only the combiner of this group writes its head. The group has taken k items, and the dummy is the node of the last of them.'],
-    ['i \\u2190 next[dummy]; if null: return Empty', ['Taking.ReadDummyNext'], 'A null link after the dummy means that the group took every accepted item, and that the queue is not shut.'],
-    ['if tag[i] = 0: return Ended', ['Taking.ReadItemTag'], 'Only the mark has the tag 0. Node i holds item k.'],
-    ['item \\u2190 item[i]', ['Taking.ReadItemBody'], 'Node i is not free: this group has not gone past it.'],
-    ['head, taken \\u2190 i, k + 1', ['Taking.WriteHead', 'Taking.WriteTaken'], 'Node i is the dummy from now on, and stays in the list.'],
-    ['passed[dummy] \\u2190 passed[dummy] + 1', ['Taking.AddPassed'], 'The group has gone past the old dummy and never reads it again. The last group to add makes the node free.'],
+    ['dummy, k \\u2190 head, taken', ['Taking.ReadHead', 'Taking.ReadTaken'], 'The group has taken k items, and the dummy is the node of the newest of them, or the first node of all.'],
+    ['i \\u2190 next[dummy]; if null: return Empty', ['Taking.ReadDummyNext'], 'A null link after the dummy means: the group took every accepted item, and the queue is not shut.'],
+    ['if tag[i] = 0: return Ended', ['Taking.ReadItemTag'], 'Only the mark has the tag 0. The node after the dummy has item k.'],
+    ['item \\u2190 item[i]', ['Taking.ReadItemBody'], 'The node after the dummy is not free: this group has not gone past it.'],
+    ['head, taken \\u2190 i, k + 1', ['Taking.WriteHead', 'Taking.WriteTaken'], 'The new dummy is in the list, and is not free.'],
+    ['passed[dummy] \\u2190 passed[dummy] + 1', ['Taking.AddPassed'], 'The head of this group is past the old dummy. The node is free once every group has added 1.'],
   ]],
 };
 // The lines that a broken table changes.
@@ -1312,119 +1700,30 @@ const BROKEN_LINES = {
 };
 const LINE_OF = new Map();    // by the name of a place
 for (const [part, [, lines]] of Object.entries(PROGRAM)) lines.forEach(([, places], k) => places.forEach(place => LINE_OF.set(place, { part, k })));
-const CODES_OF = { ResetNext: 'Rn', ResetState: 'Rs', Exchange: 'Ex', WriteTag: 'Wq', Link: 'Lk', ReadState: 'St', ReadAnswer: 'An', ReadNext: 'Nx', WriteAnswer: 'Wa', MarkDone: 'Dn', HandOver: 'Ho',
-  'Sending.ReadTag': 'Rq', 'Sending.ReadShut': 'Or', 'Sending.ReadCount': 'Or', 'Sending.ReadCursor': 'Or', 'Sending.ReadPassed': 'Ps', 'Sending.ResetPassed': 'Rl', 'Sending.WriteItemTag': 'Wi', 'Sending.LinkItem': 'Or Ll', 'Sending.WriteLast': 'Ow',
-  'Closing.ReadTag': 'Rq Or', 'Closing.LinkMark': 'Or Ll', 'Closing.WriteShut': 'Ow', 'Taking.ReadHead': 'Or', 'Taking.ReadDummyNext': 'Dx', 'Taking.ReadItemTag': 'Ri', 'Taking.ReadItemBody': 'Ri', 'Taking.WriteHead': 'Ow', 'Taking.AddPassed': 'Ap' };
-// The place of a step in the program: that of a close, whose tag is 0, has its own lines.
+// At the end of a line: the words of its steps, as the lanes have them.
+const WORDS_OF = { ResetNext: 'clear', ResetState: 'set 1', Exchange: 'swap', WriteTag: 'ask', Link: 'link', ReadState: 'state?', ReadAnswer: 'answer', ReadNext: 'next?', WriteAnswer: 'reply', MarkDone: 'done', HandOver: 'hand',
+  'Sending.ReadTag': 'asked?', 'Sending.ReadShut': 'read', 'Sending.ReadCount': 'read', 'Sending.ReadCursor': 'read', 'Sending.ReadPassed': 'free?', 'Sending.ResetPassed': 'reset', 'Sending.WriteItemTag': 'item', 'Sending.LinkItem': 'read append', 'Sending.WriteLast': 'write',
+  'Closing.ReadTag': 'asked? read', 'Closing.LinkMark': 'read append', 'Closing.WriteShut': 'write', 'Taking.ReadHead': 'read', 'Taking.ReadDummyNext': 'first?', 'Taking.ReadItemTag': 'item?', 'Taking.ReadItemBody': 'item?', 'Taking.WriteHead': 'write', 'Taking.AddPassed': 'passed' };
+// The place of a step in the program: that of a close has its own lines.
 function placeOf(e) {
   if (!e.place.service) return e.place.is;
   return (e.x >= 0 ? 'Taking.' : e.serves && e.serves.close ? 'Closing.' : 'Sending.') + e.place.service.is;
 }
 
-function drawProgram() {
-  const e = run.now > 0 ? run.events[run.now - 1] : null;
-  // the next link that is read after a node is marked done is a line of its own
-  const at = e && (e.place.is === 'FollowNext' ? { part: 'combine', k: 6 } : LINE_OF.get(placeOf(e)));
-  const broken = BROKEN_LINES[run.variant] || {};
-  const service = e && e.x >= 0 ? ['take'] : e && e.serves && e.serves.close ? ['close'] : e ? ['send'] : ['send', 'take'];
-  const html = ['call', 'combine', ...service].map(part => {
-    const [title, lines] = PROGRAM[part];
-    return '<div class=\"part\"><h3>' + title + '</h3><ol class=\"program\">' + lines.map(([text, places], k) => {
-      const lit = at && at.part === part && at.k === k;
-      const changed = (broken[part] || {})[k];
-      return '<li class=\"' + (lit ? 'lit ' : '') + (changed ? 'changed' : '') + '\"' + (lit ? ' aria-current=\"step\"' : '') + (changed ? ' title=\"this line is changed\"' : '') + '><span>' + (changed || text) + '</span><span>' + places.map(place => CODES_OF[place]).filter(code => code).join(' ') + '</span></li>';
-    }).join('') + '</ol></div>';
-  }).join('');
-  if (show('program', html) && at) {
-    const line = $('program').querySelector('.lit'), card = $('code');
-    if (card.scrollHeight > card.clientHeight) {
-      const top = line.getBoundingClientRect().top - card.getBoundingClientRect().top + card.scrollTop;
-      const head = $('code-head').offsetHeight;
-      if (top < card.scrollTop + head || top + 40 > card.scrollTop + card.clientHeight) card.scrollTop = top - (card.clientHeight + head) / 2;
-    }
-  }
-  const law = run.variant ? '' : '<b>What holds here:</b> ';
-  show('holds', at ? '<p>' + (law || '<b>What holds of the right queue:</b> ') + (PROGRAM[at.part][1][at.k][2] || PROGRAM.combine[1][2][2]) + '</p><p class=\"dim\">' + passName(e.row) + ' ' + KINDS[number[e.kind]][3] + '.</p>'
-    : '<p class=\"dim\">Each line is lit when a step does it, with what holds at that moment. At the end of a line are the codes of its steps, as the lanes have them.</p>');
+// The line of the newest event, and what holds there: in a broken table, of the right queue.
+function program(run) {
+  if (run.now === 0) return null;
+  const e = run.events[run.now - 1], { part, k } = LINE_OF.get(placeOf(e)), changed = (BROKEN_LINES[run.variant] || {})[part] || {};
+  return { part, k, title: PROGRAM[part][0], line: changed[k] || PROGRAM[part][1][k][0], holds: (run.variant ? 'What holds of the right queue' : 'What holds here') + ': ' + PROGRAM[part][1][k][2] };
 }
 
-// ---- Words of the table.
+// ---- The columns of the lanes, and the turns: of a run as it stands, to its last event.
 
-function valueText(w, v) {
-  const link = n => n === 0n ? 'null' : n - 1n === BigInt(capacity + 1) && w.at !== 'tail' && w.at !== 'node' ? 'the mark' : 'node ' + (n - 1n);
-  if (w.at === 'tail' || w.field === 'next' || w.field === 'head' || w.field === 'last') return link(v);
-  if (w.field === 'cursor') return 'node ' + v;
-  if (w.field === 'state') return v + ' (' + ['serve', 'wait', 'done'][Number(v)] + ')';
-  if (w.field === 'shut') return v === 0n ? '0 (open)' : '1 (shut)';
-  if (w.field === 'passed') return v + ' of ' + plural(groups, 'group');
-  if (w.field === 'tag') return v === 0n ? '0 (close, or none)' : tagText(v) + ', ' + plural(further(v) + 1, 'word');
-  if (w.field === 'ret') return v === 0n ? 'none' : w.x < 0 ? answerText(listReads(v)) : ['none', 'got ' + valueOf(v), 'empty', 'ended ' + valueOf(v)][codeOf(v)];
-  return String(v);
-}
-
-const FIELDS = { next: 'next link', ret: 'answer', passed: 'passed count', shut: 'shut word' };
-function wordText(w) {
-  const field = w.field === 'body' ? 'word ' + (w.n + 1) + ' of the item' : FIELDS[w.field] || w.field;
-  if (w.at === 'tail') return 'tail of the ' + chainName(w.x);
-  if (w.at === 'node') return field + ' of node ' + w.i + ' in the ' + chainName(w.x);
-  if (w.at === 'item') return field + ' of ' + (w.i === capacity + 1 ? 'the closing mark' : 'list node ' + w.i);
-  return field + (w.g === undefined || groups === 1 ? '' : ' of group ' + (w.g + 1)) + ' of the list';
-}
-
-const HEAD_PLACES = new Set(['ResetNext', 'ResetState', 'Exchange', 'WriteTag', 'WriteBody', 'Link']);
-function statusOf(row) {
-  const st = stands[row];
-  const x = chainOf(row);
-  if (!st.call) {
-    const call = run.nextCall(row, st.made);
-    return { role: 'rest', text: call ? 'idle, next ' + callText(call) : 'idle, no call left' };
-  }
-  const what = callText(st.call);
-  if (HEAD_PLACES.has(st.place.is)) return { role: 'enter', text: 'enters: ' + what };
-  if (st.place.is === 'ReadState') {
-    const s = read(node(x, st.node, 'state'));
-    return s === 1n ? { role: 'wait', text: 'waits: ' + what } : s === 0n ? { role: 'serve', text: 'is to serve: ' + what } : { role: 'answer', text: 'is answered: ' + what };
-  }
-  if (st.place.is.startsWith('ReadAnswer')) return { role: 'answer', text: 'reads its answer: ' + what };
-  const turn = turnOf(x);
-  return { role: 'serve', text: 'combines, ' + (turn ? turn.served.length : 0) + ' of ' + bound + ' served' };
-}
-
-function eventText() {
-  if (run.now === 0) return '<b>The opening.</b> Every pass is idle, each tail names node 0 of its chain, and the list is its dummy alone. Press <b>next</b>, <b>play</b>, or a pass.';
-  const e = run.events[run.now - 1], word = wordText(e.w);
-  const change = e.does === 'reads' ? 'reads <b>' + valueText(e.w, e.found) + '</b> in the ' + word
-    : e.does === 'swaps' ? 'swaps <b>' + valueText(e.w, e.value) + '</b> into the ' + word + ' and gets <b>' + valueText(e.w, e.found) + '</b>'
-    : e.does === 'adds' ? 'adds 1 to the ' + word + ', which is <b>' + valueText(e.w, e.value) + '</b> now'
-    : e.value === e.found ? 'writes <b>' + valueText(e.w, e.value) + '</b> into the ' + word + ', which had this value'
-    : 'changes the ' + word + ' from <b>' + valueText(e.w, e.found) + '</b> to <b>' + valueText(e.w, e.value) + '</b>';
-  let more = '';
-  if (e.serves) more += ' It serves ' + (e.serves.row === e.row ? 'its own call' : 'the call of ' + passName(e.serves.row)) + ', ' + callText(e.serves) + '.';
-  if (e.begins) more += ' With this step begins ' + callText(e.call) + '.';
-  if (e.waits) more += ' It waits: nothing is changed.';
-  if (e.enters) more += ' <b>The call enters the history.</b>';
-  if (e.decides) more += ' <b>Decided: ' + answerText(e.decides) + '.</b>';
-  if (e.answer) more += ' <b>The call returns: ' + answerText(e.answer) + '.</b>';
-  return '<b>' + passName(e.row) + '</b> ' + change + '.' + more + ' <span class=\"dim\">(' + KINDS[number[e.kind]][1] + ' ' + e.kind + ')</span>';
-}
-
-// The laws that steps up to now have broken.
-function breaksText() {
-  if (!run.variant) return '';
-  const found = [];
-  for (let i = 0; i < run.now; i++) for (const law of run.events[i].breaks) if (!found.some(one => one.law === law)) found.push({ law, i });
-  return found.length ? 'Broken: ' + found.map(({ law, i }) => LAWS[law][0] + ' (event ' + (i + 1) + ')').join(' ') : '';
-}
-
-// ---- The columns of the lanes, and the turns: of the run as it stands, to its last event.
-
-// Each event has a column of its own, but the reads of a pass that waits have one together.
-let laid = { events: null, length: -1 };
-function layOut() {
-  const events = run.events;
-  if (laid.events === events && laid.length === events.length) return laid;
-  const grows = laid.events === events && laid.length >= 0 && laid.length < events.length;
-  if (!grows) laid = { events, length: 0, column: [], first: [], waits: new Map(), newest: new Map(), turns: [], open: new Map(), acting: new Set() };
+// Each event has a column of its own, but the reads of a pass that waits have one together. `laid` is what was laid out before, which
+// is continued if the events are the same and more.
+function layOut(events, laid) {
+  if (laid && laid.events === events && laid.length === events.length) return laid;
+  if (!laid || laid.events !== events || laid.length > events.length) laid = { events, length: 0, column: [], first: [], waits: new Map(), newest: new Map(), turns: [], open: new Map(), acting: new Set() };
   for (let i = laid.length; i < events.length; i++) {
     const e = events[i];
     laid.acting.add(e.row);
@@ -1439,18 +1738,18 @@ function layOut() {
       if (one) laid.waits.has(e.row) ? laid.waits.get(e.row).push(one) : laid.waits.set(e.row, [one]);
     }
     laid.column.push(laid.first.length - 1);
-    if (e.turn && e.kind === 'ReadState') {
+    if (!e.before.turn && e.after.turn) {
       const turn = { x: e.x, row: e.row, from: i, to: i, served: [], is_over: false };
-      laid.open.set(e.x, turn);
+      laid.open.set(e.row, turn);
       laid.turns.push(turn);
     }
-    const turn = laid.open.get(e.x);
-    if (turn && turn.row === e.row) {
+    const turn = laid.open.get(e.row);
+    if (turn) {
       turn.to = i;
-      if (e.marks) turn.served.push([i, e.turn.served[e.turn.served.length - 1]]);
-      if (e.kind === 'HandOver') {
+      if (e.marks) turn.served.push([i, e.serves]);
+      if (e.over) {
         turn.is_over = true;
-        laid.open.delete(e.x);
+        laid.open.delete(e.row);
       }
     }
   }
@@ -1459,6 +1758,292 @@ function layOut() {
   for (const turn of laid.open.values()) turn.to = events.length - 1;
   return laid;
 }
+
+const turnTitle = (run, turn) => run.passName(turn.row) + ' combines from event ' + (turn.from + 1) + (turn.is_over ? ' to ' + (turn.to + 1) : ' on') + ', and serves '
+  + (turn.served.map(([, call]) => requestText(run, call)).join(', ') || 'no request yet');
+const waitText = (run, wait) => run.passName(wait.row) + ' waits: it reads its state ' + plural(wait.reads, 'time') + ' from event ' + (wait.event + 1) + ' on';
+
+// ---- Laws, an order of all calls, and two runs side by side.
+
+// The laws that the first events have broken, each with the first event that broke it.
+function broken(run, upTo = run.now) {
+  const found = [];
+  for (let i = 0; i < upTo; i++) for (const law of run.events[i].breaks) if (!found.some(one => one.law === law)) found.push({ law, event: i + 1, text: LAWS[law][0], by: LAWS[law][1] });
+  return found;
+}
+
+// The order of all decided calls, each at the event at which it takes effect.
+function order(run) {
+  const { effects, fault } = run.order();
+  const said = !run.variant ? 'In this order each answer is that of a queue that does one call after another: every run is linearizable, and that is proved.'
+    : fault ? 'In this order *' + requestText(run, fault.call) + '* is answered *' + answerOf(fault.answer) + '*, and a queue that does one call after another answers ' + saidOf(fault.wanted) + '.'
+    : 'So far each answer is that of a queue that does one call after another.';
+  return { said, rows: effects.map(one => ({ effect: one.effect + 1, decided: one.decided + 1, call: requestText(run, one.call), answer: answerOf(one.answer) })) };
+}
+
+// Of two runs of one schedule: where they part.
+function parting(pair) {
+  return pair.parts < 0 ? 'In this run both queues do the same.' : 'The two queues do the same up to event ' + pair.parts + ', and part at event ' + (pair.parts + 1) + '.';
+}
+
+// ---- Lessons and exercises.
+
+// The title, the text and the moments of a lesson: of a broken queue by its own table, or by the right one.
+function lessonPart(lesson, variant) {
+  if (!lesson.table) return lesson;
+  return variant ? { ...lesson, title: 'Broken: ' + lesson.title } : { ...lesson.right, title: 'Right: ' + lesson.right.title };
+}
+
+// The screens of a lecture on a lesson: its opening, its moments, and of a broken queue where it parts from the right one, and the
+// moments of that. A screen has the first sentence of a text.
+function screens(lesson, pair) {
+  const sentence = text => text.split('. ')[0].replace(/\\.?$/, '.'), table = lesson.table || '';
+  const { title, text, moments } = lessonPart(lesson, table);
+  const of = (part, by) => part.moments.map(([event, , text]) => ({ kind: 'moment', table: by, title: part.title, text: sentence(text), event }));
+  return [{ kind: 'opening', table, title, text: sentence(text), event: 0 }, ...of({ title, moments }, table),
+    ...(pair ? [{ kind: 'pair', table, title: 'The broken queue and the right one', text: parting(pair), event: pair.parts + 1 }, ...of(lessonPart(lesson, ''), '')] : [])];
+}
+
+// The steps of a run after the first ones, each pass with a number of steps in a row; and such steps made.
+function stepsOf(run, from) {
+  const steps = [];
+  for (const e of run.events.slice(from)) {
+    const name = run.passName(e.row), newest = steps[steps.length - 1];
+    if (newest && newest[0] === name) newest[1]++; else steps.push([name, 1]);
+  }
+  return steps;
+}
+function makeSteps(run, steps) {
+  for (const [name, count] of steps) {
+    const row = [...Array(run.rows).keys()].find(one => run.passName(one) === name);
+    for (let k = 0; row !== undefined && k < count && run.step(row); k++);
+  }
+}
+
+// Whether the exercise is solved by the events up to now.
+function task(run, { goal }) {
+  const at = Machine.reached(run, goal);
+  if (!at) return { solved: 0, text: 'Not solved yet.' };
+  const e = run.events[at - 1], law = (e.breaks || []).find(one => (goal.breaks || []).includes(one));
+  return { solved: at, text: '*Solved at event ' + at + ':* ' + (law ? 'it breaks the law \"' + LAWS[law][0].replace(/\\.$/, '') + '\".'
+    : goal.returns === 'Empty' ? 'the take of ' + run.passName(e.row) + ' returns empty, and an accepted item is in the queue.' : 'the send of ' + run.passName(e.row) + ' returns full, and a list node is free.') };
+}
+
+return { answerOf, chainName, requestText, valueText, wordText, event, pass, waits, chain, list, PROGRAM, BROKEN_LINES, WORDS_OF, program, placeOf, layOut, turnTitle, waitText, broken, order, parting, lessonPart, screens, stepsOf, makeSteps, task, plural };
+})();
+</script>
+<script type=\"text/plain\" id=\"report\">";
+
+/// The text after the report.
+pub const BACK: &[u8] = b"\
+</script>
+<script>
+(() => {
+'use strict';
+
+const { CHANGES, KINDS, EVENT_LIMIT, number, callText } = Machine;
+const { plural, chainName } = Telling;
+const GROUPS_OF_KINDS = { enter: 'enters its chain', wait: 'reads its state', serve: 'serves', hand: 'marks done, hands over', answer: 'reads its answer' };
+const $ = id => document.getElementById(id);
+const LESSONS = JSON.parse($('lessons').textContent);
+const EXERCISES = JSON.parse($('exercises').textContent);
+const TOUR = LESSONS.filter(lesson => lesson.kind === 'tour');
+
+// The run that is shown, and what of it doesn't change.
+let run, groups, senders, receivers, rows, passName, stands;
+let source = {};              // the lesson, the exercise, the plan or the program's text that the run is of
+function use(opened) {
+  run = opened;
+  ({ groups, senders, receivers, rows, passName, stands } = run);
+}
+
+let drawn = {};               // what the parts of the page were drawn from, which are drawn again only if that changed
+function show(id, html) {
+  if (drawn[id] === html) return false;
+  drawn[id] = html;
+  $(id).innerHTML = html;
+  return true;
+}
+const escape = text => text.replace(/[&<>\"]/g, sign => '&#' + sign.charCodeAt(0) + ';');
+
+// ---- The glossary.
+
+const WORDS = {
+  step: 'One read, write, swap or add of one word. Between two steps of a pass any steps of other passes may come.',
+  pass: 'One thread at the queue: s1, s2 and so on send, r1, r2 and so on take.',
+  chain: 'A linked list of requests. The senders have one chain, and each group of receivers has one.',
+  node: 'A record in a chain with a request, an answer, a state and a next link; or a record in the list with one item.',
+  tail: 'The word that names the last node of a chain. The swap of the tail gives a call its place.',
+  combiner: 'The pass that serves the requests of its chain at the moment. Each chain has at most one.',
+  turn: 'The time in which one pass combines, from the state 0 that it reads to its hand-over.',
+  'in turn': 'A pass is in turn if it combines, is to combine, or still writes its request: each of its steps brings the answer of a call that waits nearer.',
+  bound: 'The greatest number of requests that a combiner serves in one turn.',
+  'hand-over': 'The store of 0 into the state of the node where the combiner stops: the call that has this node combines next.',
+  decision: 'The step that fixes the answer of a call.',
+  history: 'All calls of a side in the order of their swaps, each with its answer or pending.',
+  dummy: 'The first node of the list. Its item was taken before: the first item that waits is in the node after it.',
+  head: 'The word that names the dummy. Each group of receivers has its own.',
+  last: 'The word that names the last node of the list.',
+  cursor: 'The list node at which the next send begins to look for a free one.',
+  capacity: 'How many items may wait. The list has one ordinary node more, for the dummy.',
+  passed: 'The number of groups that have gone past a list node. The node is free if all groups have.',
+  group: 'Receivers that share the items. Each group gets every item once.',
+  life: 'The number of items that the queue ever accepts.',
+  'closing mark': 'The list node that a close links. It follows the last item.',
+};
+const wordId = word => 'word-' + word.replace(/ /g, '-');
+const termed = (word, text) => '<dfn class=\"term\" tabindex=\"0\" role=\"button\" data-word=\"' + word + '\" aria-describedby=\"' + wordId(word) + '\">' + text + '</dfn>';
+
+// A text as HTML: *..* is bold, `..` a word of the table, and [[..]] a word of the glossary.
+const marked = text => escape(text).replace(/\\*([^*]+)\\*/g, '<b>$1</b>').replace(/`([^`]+)`/g, '<code>$1</code>')
+  .replace(/\\[\\[([^\\]]+)\\]\\](s?)/g, (_, word, s) => termed(word.toLowerCase(), word + s));
+const bare = text => text.replace(/[*`]|\\[\\[|\\]\\]/g, '');
+
+function explain(term) {
+  const tip = $('tip');
+  tip.textContent = WORDS[term.dataset.word];
+  tip.hidden = false;
+  const at = term.getBoundingClientRect();
+  tip.style.left = Math.max(4, Math.min(at.left, document.documentElement.clientWidth - tip.offsetWidth - 8)) + window.scrollX + 'px';
+  tip.style.top = (at.bottom + tip.offsetHeight + 8 > window.innerHeight ? at.top - tip.offsetHeight - 6 : at.bottom + 6) + window.scrollY + 'px';
+}
+const hideTip = () => { $('tip').hidden = true; };
+
+// ---- Motion: what is in both of two pictures moves from its place in the first to that in the second.
+
+const STILL = window.matchMedia('(prefers-reduced-motion: reduce), print');
+let moved_from = null;        // the run and its event, or the lesson and its screen, from which the pictures move
+const placesOf = parts => new Map(parts.flatMap(part => [...part.querySelectorAll('[data-key]')]).map(element => [element.dataset.key, element.getBoundingClientRect()]));
+function moving(parts, of, at, draw) {
+  const moves = moved_from && moved_from.of === of && moved_from.at !== at;
+  moved_from = { of, at };
+  if (!moves || STILL.matches || playing && Number($('speed').value) < 300) { draw(); return; }
+  const before = placesOf(parts);
+  draw();
+  if (!before.size) return;
+  for (const part of parts) for (const element of part.querySelectorAll('[data-key]')) {
+    const was = before.get(element.dataset.key);
+    if (!was) { element.animate([{ opacity: 0 }, { opacity: 1 }], 240); continue; }
+    const is = element.getBoundingClientRect(), x = was.left - is.left, y = was.top - is.top;
+    if (Math.abs(x) + Math.abs(y) > 1) element.animate([{ transform: 'translate(' + x + 'px,' + y + 'px)' }, { transform: 'none' }], { duration: 260, easing: 'ease-out' });
+  }
+}
+
+// ---- Pictures of a chain and of the list, by the texts of Telling.
+
+const DOWN = '<svg viewBox=\"0 0 14 14\" aria-hidden=\"true\"><path d=\"M7 0V9\"/><path class=\"tip-of-link\" d=\"M2 7L7 14L12 7z\"/></svg>';
+const ACROSS = '<svg viewBox=\"0 0 38 14\" aria-hidden=\"true\"><path class=\"link\" d=\"M0 7H30\"/><path class=\"tip-of-link\" d=\"M28 2L38 7L28 12z\"/></svg>';
+const GAP = '<svg viewBox=\"0 0 38 14\" aria-hidden=\"true\"><path class=\"link\" d=\"M0 7H36\"/></svg>';
+
+const endText = (end, of) => '<span class=\"end ' + end.kind + (end.touch ? ' touch' : '') + '\" data-key=\"' + of + ' ' + end.text + '\">' + end.text + (end.kind === 'note' ? '' : DOWN) + '</span>';
+const arrowText = ({ kind, text }) => '<span class=\"arrow ' + kind + '\">' + (kind === 'none' ? GAP : text === 'null' ? '' : ACROSS) + text + '</span>';
+const boxText = (box, of, kind = '') => '<li' + kind + '>' + (box.more ? '<span class=\"arrow\">' + box.more + ' more' + ACROSS + '</span>' : '')
+  + '<span class=\"stack\"><span class=\"ends\">' + box.ends.map(end => endText(end, of)).join('') + '</span><span class=\"box ' + box.role + (box.touch ? ' touch' : '') + '\" data-key=\"' + box.key + '\">'
+  + box.lines.map((line, k) => k === 0 ? '<b>' + line + '</b>' : '<span class=\"line' + (k > 1 ? ' dim' : '') + '\">' + line + '</span>').join('') + '</span></span>' + (box.arrow ? arrowText(box.arrow) : '') + '</li>';
+const stripText = (boxes, name, loose = '') => '<div class=\"strip\" tabindex=\"0\" role=\"group\" aria-label=\"' + name + '\"><ol class=\"boxes' + loose + '\">' + boxes + '</ol></div>';
+
+// A chain: the nodes that are marked done, and apart from them those that wait, and the node in the tail.
+function chainText(told, with_spare) {
+  const boxes = told.done.map(box => boxText({ ...box, ends: [...box.ends, { kind: 'note', text: 'marked done' }] }, box.key, ' class=\"done-one\"')).join('')
+    + told.boxes.map((box, k) => boxText(box, told.name, k === 0 && told.done.length ? ' class=\"apart\"' : '')).join('');
+  return '<p class=\"head\">' + told.head.map(marked).join(' ') + '</p><div class=\"nodes\">' + stripText(boxes, 'nodes of the ' + told.name)
+    + (with_spare && told.spare.length ? '<div class=\"words\"><span class=\"dim\">in no chain:</span>' + told.spare.map(one => '<span class=\"word' + (one.touch ? ' touch' : '') + '\" data-key=\"' + one.key + '\">' + one.text + '</span>').join('')
+      + (told.more_spare ? '<span class=\"dim\">and ' + told.more_spare + ' more</span>' : '') + '</div>' : '') + '</div>';
+}
+
+function listText(told, with_words) {
+  const more = told.more ? '<li class=\"dim\">and ' + told.more + ' more</li>' : '';
+  return (with_words ? '<div class=\"words\">' + told.words.map(word => '<span class=\"word' + (word.touch ? ' touch' : '') + '\">' + word.name + ' <b>' + word.text + '</b></span>').join('') + '</div>' : '')
+    + '<div class=\"parts\">' + told.rows.map(boxes => stripText(boxes.map(box => box.lines ? boxText(box, 'list') : '<li><span class=\"arrow\">' + box.more + ' more' + ACROSS + '</span></li>').join(''), 'nodes of the list')).join('')
+    + (told.outside ? '<div class=\"outside\"><h3>' + plural(told.outside, 'node') + ' outside the list</h3>' + stripText(told.free.map(box => boxText(box, 'list')).join('') + more, 'nodes outside the list', ' loose') + '</div>' : '') + '</div>';
+}
+
+// Scrolls the row of boxes that has the touched one to it.
+function showTouched(part) {
+  const box = part.querySelector('.strip .box.touch');
+  const strip = box && box.closest('.strip');
+  if (!strip || strip.scrollWidth <= strip.clientWidth) return;
+  const at = box.getBoundingClientRect(), of = strip.getBoundingClientRect();
+  if (at.left < of.left || at.right > of.right) strip.scrollLeft += at.left - of.left - of.width / 3;
+}
+
+// The two runs of the side: the one that is driven, and the one beside it.
+let pair = null;
+
+// The chains whose cards come first: the senders', and that of the group that moved last. The cards of other groups follow below the
+// passes, and those of the other queue each below the first.
+function drawSide(shown, prefix) {
+  let newest = shown.now;
+  while (newest > 0 && shown.events[newest - 1].x < 0) newest--;
+  const first = newest ? shown.events[newest - 1].x : 0;
+  for (let x = -1; x < groups; x++) {
+    const told = Telling.chain(shown, x), id = prefix + 'chain' + x, card = $(id).parentElement;
+    const place = $(x < 0 || x === first || prefix ? prefix + 'chains' : 'more-chains');
+    if (card.parentElement !== place) place.append(card);
+    card.style.order = x < 0 ? 0 : x === first ? 1 : 2;
+    card.classList.toggle('idle', !told.is_used);
+    // a card is as wide as what is in it asks for
+    card.style.flexGrow = told.is_used ? [...told.boxes, ...told.done].reduce((sum, box) => sum + 6 + Math.max(...box.lines.map(line => line.length)), told.spare.length ? 20 : 0) : '';
+    if (show(id, chainText(told, true))) showTouched($(id));
+  }
+  if (show(prefix + 'list', listText(Telling.list(shown), true))) showTouched($(prefix + 'list'));
+}
+
+function drawSides() {
+  moving([$('sides')], run, run.now, () => {
+    drawSide(run, '');
+    $('other').hidden = !pair;
+    $('stage').classList.toggle('pair', !!pair);
+    $('parting').hidden = !pair;
+    $('side-title').textContent = pair ? tableName(run.variant) : '';
+    show('side-event', pair ? sentenceOf(run) : '');
+    if (!pair) return;
+    if (pair.events !== run.events) openPair();
+    pair.follow();
+    $('other-title').textContent = tableName(pair.run.variant);
+    drawSide(pair.run, 'other-');
+    show('other-event', sentenceOf(pair.run));
+    show('parting', marked(Telling.parting(pair)) + (pair.parts < 0 ? '' : ' <button data-event=\"' + (pair.parts + 1) + '\">to event ' + (pair.parts + 1) + '</button>'));
+  });
+}
+const sentenceOf = shown => Telling.event(shown).map(marked).join(' ');
+const tableName = variant => variant ? 'The broken queue' : 'The right queue';
+
+function openPair() {
+  pair = Machine.beside(run, run.variant ? '' : source.lesson ? source.lesson.table : '');
+  for (const key of Object.keys(drawn)) if (key.startsWith('other-')) delete drawn[key];
+}
+const canPair = () => !!run.variant || !!(source.lesson && source.lesson.table);
+
+// ---- The program.
+
+function drawProgram() {
+  const told = Telling.program(run), e = run.now > 0 ? run.events[run.now - 1] : null;
+  const broken = Telling.BROKEN_LINES[run.variant] || {};
+  const service = e && e.x >= 0 ? ['take'] : e && e.serves && e.serves.close ? ['close'] : e ? ['send'] : ['send', 'take'];
+  const html = ['call', 'combine', ...service].map(part => {
+    const [title, lines] = Telling.PROGRAM[part];
+    return '<div class=\"part\"><h3>' + title + '</h3><ol class=\"program\">' + lines.map(([text, places], k) => {
+      const lit = told && told.part === part && told.k === k;
+      const changed = (broken[part] || {})[k];
+      return '<li class=\"' + (lit ? 'lit ' : '') + (changed ? 'changed' : '') + '\"' + (lit ? ' aria-current=\"step\"' : '') + (changed ? ' title=\"this line is changed\"' : '') + '><span>' + (changed || text) + '</span><span>' + places.map(place => Telling.WORDS_OF[place]).filter(word => word).join(' ') + '</span></li>';
+    }).join('') + '</ol></div>';
+  }).join('');
+  if (show('program', html) && told) {
+    const line = $('program').querySelector('.lit'), card = $('code');
+    if (card.scrollHeight > card.clientHeight) {
+      const top = line.getBoundingClientRect().top - card.getBoundingClientRect().top + card.scrollTop;
+      const head = $('code-head').offsetHeight;
+      if (top < card.scrollTop + head || top + 40 > card.scrollTop + card.clientHeight) card.scrollTop = top - (card.clientHeight + head) / 2;
+    }
+  }
+  show('holds', told ? '<p>' + told.holds.replace(/^[^:]*:/, '<b>$&</b>') + '</p>' : '<p class=\"dim\">Each line is lit when a step does it, with what holds at that moment. At the end of a line are its steps, as the lanes have them.</p>');
+}
+
+// ---- The columns of the lanes, and the turns: of the run as it stands, to its last event.
+
+let laid = null;
+const layOut = () => (laid = Telling.layOut(run.events, laid));
 
 // The index of the last element that isn't above, or -1.
 function lastUpTo(list, is_above) {
@@ -1478,7 +2063,8 @@ const sizes = {};
 function measure() {
   const before = JSON.stringify(sizes);
   Object.assign(sizes, { narrow: window.innerWidth <= 640, turns: $('turns').clientWidth, names: $('names').offsetWidth, cells: $('cells').clientWidth, lanes: $('lanes').clientHeight });
-  document.documentElement.style.setProperty('--bar', $('player').offsetHeight + 'px');
+  const is_sticky = getComputedStyle($('player')).position === 'sticky';
+  document.documentElement.style.setProperty('--bar', (is_sticky ? $('player').offsetHeight : 0) + 'px');
   return JSON.stringify(sizes) !== before;
 }
 
@@ -1489,34 +2075,37 @@ function rowsShown() {
   return acting.length ? acting : all.slice(0, 24);
 }
 
-// The passes, each with the button that makes its next step and one that adds a call.
+// The passes, each with the button that makes its next step, one for its steps until it returns or waits, and one that adds a call.
 function drawNames() {
   const wanted = rowsShown();
   if (wanted.join() !== shown_rows.join() || !$('names').firstChild) {
     shown_rows = wanted;
     $('names').innerHTML = wanted.map(row => '<div class=\"pass\" data-row=\"' + row + '\"><button class=\"step\" data-row=\"' + row + '\"><i class=\"dot\"></i><b>' + passName(row)
-      + '</b> <span></span><code></code></button><button class=\"more\" data-row=\"' + row + '\" title=\"a further call of ' + passName(row) + '\" aria-label=\"a further call of ' + passName(row) + '\">+</button></div>').join('');
+      + '</b> <span></span><i class=\"next\"></i></button><button class=\"leap\" data-row=\"' + row + '\" title=\"its steps until its call returns or it waits\" aria-label=\"' + passName(row) + ' until its call returns or it waits\">&#187;</button>'
+      + '<button class=\"more\" data-row=\"' + row + '\" title=\"a further call of ' + passName(row) + '\" aria-label=\"a further call of ' + passName(row) + '\">+</button></div>').join('');
   }
   const moved = run.now > 0 ? run.events[run.now - 1].row : -1;
   [...$('names').children].forEach((line, k) => {
-    const row = shown_rows[k], status = statusOf(row), button = line.firstChild;
+    const row = shown_rows[k], status = Telling.pass(run, row), [button, leap, more] = line.children;
     const next = shown_rows.length <= 64 ? run.nextEvent(row) : null;
-    const code = next ? KINDS[number[next.kind]][1] : '';
-    const key = status.role + status.text + code + (row === moved);
+    const word = next ? KINDS[number[next.kind]][2] : '';
+    const key = status.role + status.text + word + (row === moved);
     if (line.dataset.key === key) return;
     line.dataset.key = key;
     line.className = row === moved ? 'pass moved' : 'pass';
-    button.title = next ? passName(row) + ' ' + status.text + '. Its next step: ' + next.kind + ', ' + KINDS[number[next.kind]][3] : passName(row) + ' ' + status.text;
+    button.title = next ? passName(row) + ' ' + status.text + '. Its next step: ' + next.kind + ', ' + KINDS[number[next.kind]][4] : passName(row) + ' ' + status.text;
     button.children[0].style.background = 'var(--' + status.role + ')';
     button.children[2].textContent = status.text;
-    button.children[3].textContent = code;
+    button.children[3].textContent = word;
+    leap.hidden = !next && shown_rows.length <= 64;
+    more.hidden = !leap.hidden || !!source.exercise;
   });
 }
 
 // What the lanes show: the columns from `lo` up to `hi`, the one of the newest event, and the lane of each row.
 function viewOfLanes() {
   const { column, first } = layOut();
-  const cell = sizes.narrow ? 29 : 34;
+  const cell = sizes.narrow ? 29 : 52;
   const width = Math.max(sizes.cells, 4 * cell);
   const fits = Math.floor(width / cell);
   const here = run.now > 0 ? column[run.now - 1] : 0;
@@ -1524,14 +2113,15 @@ function viewOfLanes() {
   return { cell, width, here, lo, hi: Math.min(first.length, lo + fits), height: shown_rows.length * LANE + 16, laneOf: new Map(shown_rows.map((row, k) => [row, k])) };
 }
 
-// The turns of each chain over the columns of the lanes: the combiner's name, and the passes whose calls it served. What is
+// The turns of each chain over the columns of the lanes: the combiner's name, and the passes whose requests it served. What is
 // still to come of a turn is outlined.
 function drawTurns(view) {
   const { turns, column } = layOut();
   const left = sizes.names, width = left + view.width;
   const at = c => left + (Math.max(view.lo, Math.min(c, view.lo + Math.floor(view.width / view.cell))) - view.lo) * view.cell;
+  const nameOf = call => call ? passName(call.row) : 'no call';
   let s = '<svg width=\"' + width + '\" height=\"' + (groups + 1) * TURN + '\" role=\"img\" aria-label=\"the turns of the combiners, over the events of the lanes\">';
-  for (let x = -1; x < groups; x++) s += '<text class=\"side\" x=\"2\" y=\"' + ((x + 1) * TURN + 16) + '\">' + (sizes.narrow ? (x < 0 ? 'sends' : groups > 1 ? 'takes ' + (x + 1) : 'takes') : 'turns in the ' + chainName(x)) + '</text>';
+  for (let x = -1; x < groups; x++) s += '<text class=\"side\" x=\"2\" y=\"' + ((x + 1) * TURN + 16) + '\">' + (sizes.narrow ? (x < 0 ? 'sends' : groups > 1 ? 'takes ' + (x + 1) : 'takes') : 'turns in the ' + chainName(run, x)) + '</text>';
   for (let k = lastUpTo(turns, turn => column[turn.from] >= view.hi); k >= 0; k--) {
     const turn = turns[k];
     if (column[turn.to] < view.lo) {
@@ -1541,13 +2131,12 @@ function drawTurns(view) {
     const from = at(column[turn.from]), to = at(column[turn.to] + 1), y = (turn.x + 1) * TURN + 2;
     // the bar is solid up to the newest event, and to the end of its column
     const done = turn.from >= run.now ? from : turn.to < run.now ? to : Math.max(from, Math.min(to, at(view.here + 1)));
-    const names = turn.served.filter(([i]) => i < run.now).map(([, call]) => call);
-    const whole = passName(turn.row) + (names.length ? ' for ' + names.map(call => passName(call.row)).join(', ') : '');
+    const names = turn.served.filter(([i]) => i < run.now).map(([, call]) => nameOf(call));
+    const whole = passName(turn.row) + (names.length ? ' for ' + names.join(', ') : '');
     const room = Math.floor((to - from - 8) / 6.6);
     const text = whole.length <= room ? whole : room >= 12 ? whole.slice(0, room - 1) + '\\u2026' : room >= passName(turn.row).length ? passName(turn.row) : '';
     const bar = (a, b, kind) => b - a < 1 ? '' : '<rect' + kind + ' x=\"' + (a + 0.5).toFixed(1) + '\" y=\"' + (y + 0.5) + '\" width=\"' + (b - a - 2).toFixed(1) + '\" height=\"19\" rx=\"3\"/>';
-    s += '<g class=\"turn\" data-event=\"' + (turn.from + 1) + '\"><title>' + passName(turn.row) + ' combines from event ' + (turn.from + 1) + (turn.is_over ? ' to ' + (turn.to + 1) : ' on') + ', and serves '
-      + (turn.served.map(([, call]) => passName(call.row) + ' ' + callText(call)).join(', ') || 'no call yet') + '</title>' + bar(from, done, '') + bar(done, to, ' class=\"later\"')
+    s += '<g class=\"turn\" data-event=\"' + (turn.from + 1) + '\"><title>' + Telling.turnTitle(run, turn) + '</title>' + bar(from, done, '') + bar(done, to, ' class=\"later\"')
       + '<text x=\"' + (from + 5).toFixed(1) + '\" y=\"' + (y + 14.5) + '\">' + text + '</text></g>';
   }
   if (run.now > 0) s += '<line class=\"now\" x1=\"' + (at(view.here + 1) - 1) + '\" x2=\"' + (at(view.here + 1) - 1) + '\" y1=\"0\" y2=\"' + (groups + 1) * TURN + '\"/>';
@@ -1565,18 +2154,18 @@ function cellText(view, i, c, wide, high, text, title, role, is_now) {
 
 function waitText(view, one) {
   const from = Math.max(one.from, view.lo), wide = Math.min(one.to, view.hi - 1) - from + 1;
-  const times = one.reads + '\\u00d7';
-  const text = one.reads === 1 ? 'St' : wide > 1 ? 'St ' + times : one.reads < 10 && !sizes.narrow ? times + 'St' : times;
-  const title = passName(one.row) + ' waits: it reads its state ' + plural(one.reads, 'time') + ' from event ' + (one.event + 1) + ' on';
+  const times = one.reads + '\\u00d7', word = sizes.narrow ? 'St' : 'waits';
+  const text = one.reads === 1 ? word : wide > 1 ? word + ' ' + times : times;
+  const title = Telling.waitText(run, one);
   const newest = run.now > 0 && run.events[run.now - 1];
   const is_now = newest && newest.waits && newest.row === one.row && one.event < run.now && view.here >= one.from && view.here <= one.to;
   return cellText(view, one.event, from, wide, 22, text, title, 'wait', is_now);
 }
 
-// The event of a column, if it isn't a wait; the bar of a pass whose call it serves; and the event's number.
+// The event of a column, if it isn't a wait; the bar of a pass whose request it serves; and the event's number.
 function columnText(view, c) {
   const i = layOut().first[c], e = run.events[i], x = (c - view.lo) * view.cell, kind = KINDS[number[e.kind]];
-  let s = view.laneOf.has(e.row) && !e.waits ? cellText(view, i, c, 1, 28, kind[1], (i + 1) + ': ' + passName(e.row) + ' ' + e.kind, kind[2], i === run.now - 1) : '';
+  let s = view.laneOf.has(e.row) && !e.waits ? cellText(view, i, c, 1, 28, kind[sizes.narrow ? 1 : 2], (i + 1) + ': ' + passName(e.row) + ' ' + e.kind, kind[3], i === run.now - 1) : '';
   if (e.serves && e.serves.row !== e.row && view.laneOf.has(e.serves.row)) {
     s += '<rect x=\"' + x + '\" y=\"' + (view.laneOf.get(e.serves.row) * LANE + 28) + '\" width=\"' + (view.cell - 2) + '\" height=\"4\" rx=\"2\" fill=\"var(--serve)\"' + (i >= run.now ? ' opacity=\".45\"' : '') + '/>';
   }
@@ -1609,166 +2198,23 @@ function followLane({ height, laneOf }) {
     if (y < top || y + LANE > top + sizes.lanes) $('lanes').scrollTop = Math.max(0, y - sizes.lanes / 2);
   }
 }
+
+// Scrolls the page a little if the lanes are on the screen and the player or the screen's end hides that of the newest event.
 function keepLaneInView() {
   const lane = $('names').querySelector('.pass.moved');
   if (!lane) return;
   const card = $('passes').getBoundingClientRect(), at = lane.getBoundingClientRect(), bar = $('player').getBoundingClientRect().bottom;
   if (card.bottom < bar || card.top > window.innerHeight) return;
   if (at.top < bar + 4) window.scrollBy(0, at.top - bar - 40);
-  else if (at.bottom > window.innerHeight - 4) window.scrollBy(0, at.bottom - window.innerHeight + 40);
+  else if (at.bottom > window.innerHeight - 4) window.scrollBy(0, at.bottom - window.innerHeight + 12);
 }
 
-// ---- The chains, the list and the history.
-
-const touched = () => run.now > 0 ? run.events[run.now - 1].w : null;
-function touches(at, x, i) {
-  const w = touched();
-  return w && w.at === at && w.i === i && (at === 'item' || w.x === x);
-}
-
-const DOWN = '<svg width=\"14\" height=\"14\" viewBox=\"0 0 14 14\" aria-hidden=\"true\"><path d=\"M7 0V9\"/><path class=\"tip-of-link\" d=\"M2 7L7 14L12 7z\"/></svg>';
-const ACROSS = '<svg width=\"38\" height=\"14\" viewBox=\"0 0 38 14\" aria-hidden=\"true\"><path class=\"link\" d=\"M0 7H30\"/><path class=\"tip-of-link\" d=\"M28 2L38 7L28 12z\"/></svg>';
-const GAP = '<svg width=\"38\" height=\"14\" viewBox=\"0 0 38 14\" aria-hidden=\"true\"><path class=\"link\" d=\"M0 7H36\"/></svg>';
-// A word that names a node, as an arrow down to it.
-const pointer = (kind, name, is_touched) => '<span class=\"end ' + kind + (is_touched ? ' touch' : '') + '\">' + name + DOWN + '</span>';
-const stack = (ends, box) => '<span class=\"stack\"><span class=\"ends\">' + ends + '</span>' + box + '</span>';
-
-function nodeBox(x, i, who, call, role, ends) {
-  const state = Number(read(node(x, i, 'state')));
-  const ret = read(node(x, i, 'ret'));
-  return stack(ends, '<span class=\"box ' + role + (touches('node', x, i) ? ' touch' : '') + '\"><b>node ' + i + '</b>'
-    + '<span class=\"tagline\">' + (who === null ? 'of no call yet' : passName(who) + (call ? ' ' + callText(call) : '')) + '</span>'
-    + '<span class=\"tagline dim\">state ' + state + ' ' + ['serve', 'wait', 'done'][state] + (state === 2 ? ': ' + valueText(node(x, i, 'ret'), ret) : '') + '</span></span>');
-}
-
-// The node that a combiner stands at.
-function combinerAt(row) {
-  const p = stands[row].place;
-  const at = p.round ? p.round.at : p.job ? p.job.round.at : p.was ? p.was.round.at : p.at;
-  return at === undefined ? -1 : Number(at);
-}
-
-function turnText(turn) {
-  if (!turn) return 'no pass combines';
-  const served = turn.served.length ? ': ' + (turn.served.length > 6 ? '.., ' : '') + turn.served.slice(-6).map(c => passName(c.row) + ' ' + callText(c)).join(', ') : '';
-  return turn.runs ? '<span class=\"dot\" style=\"background:var(--serve)\"></span>' + passName(turn.row) + ' combines; in this turn it served ' + turn.served.length + ' of at most ' + plural(bound, 'call') + served
-    : 'no pass combines; in the last turn ' + passName(turn.row) + ' served ' + plural(turn.served.length, 'call') + served;
-}
-
-// The arrow from a node to the one that is drawn next.
-function linkText(next, wanted, name) {
-  if (next === 0n) return '<span class=\"arrow none\">' + GAP + name + '</span>';
-  if (next - 1n === BigInt(wanted)) return '<span class=\"arrow\">' + ACROSS + '</span>';
-  return '<span class=\"arrow wrong\">' + ACROSS + 'to node ' + (next - 1n) + '</span>';
-}
-
-function chainText(x) {
-  const s = side(x);
-  // the passes whose call has exchanged, by their nodes
-  const holders = new Map();
-  const spare = [];
-  for (let row = 0; row < rows; row++) {
-    if (chainOf(row) !== x) continue;
-    const st = stands[row];
-    if (st.call && !['ResetNext', 'ResetState', 'Exchange'].includes(st.place.is)) holders.set(st.node, row);
-    else spare.push([row, st]);
-  }
-  const last = Number(read(tail(x))) - 1;
-  const turn = turnOf(x);
-  // the served whose answers aren't read yet, then those that wait, in the order of their exchanges, then the node of the tail
-  const done = [], waiting = [];
-  for (const [i, row] of holders) {
-    const k = s.calls.lastIndexOf(stands[row].call);
-    (k < s.marked ? done : waiting).push([k, i, row]);
-  }
-  done.sort((a, b) => a[0] - b[0]);
-  waiting.sort((a, b) => a[0] - b[0]);
-  const at = turn && turn.runs ? combinerAt(turn.row) : -1;
-  let out = '<h3>' + turnText(turn) + '</h3><div class=\"strip\" tabindex=\"0\" role=\"group\" aria-label=\"nodes of the ' + chainName(x) + '\"><ol class=\"boxes\">';
-  const shown = waiting.slice(0, 24);
-  shown.forEach(([, i, row], k) => {
-    const next = read(node(x, i, 'next')), wanted = k + 1 < shown.length ? shown[k + 1][1] : waiting.length > shown.length ? Number(next) - 1 : last;
-    out += '<li>' + nodeBox(x, i, row, stands[row].call, i === at ? 'serve' : 'wait', i === at ? pointer('serves', 'served') : '') + linkText(next, wanted, 'not linked') + '</li>';
-  });
-  if (waiting.length > shown.length) out += '<li><span class=\"arrow\">' + (waiting.length - shown.length) + ' more' + ACROSS + '</span></li>';
-  const w = touched();
-  out += '<li>' + nodeBox(x, last, null, null, 'free', pointer('tail', 'tail', w && w.at === 'tail' && w.x === x) + (last === at ? pointer('serves', 'next to serve') : '')) + '</li></ol></div>';
-  if (done.length) {
-    out += '<h3>served, and the answer not read yet</h3><div class=\"strip\"><ol class=\"boxes loose\">' + done.slice(0, 24).map(([, i, row]) => '<li>' + nodeBox(x, i, row, stands[row].call, 'done', '') + '</li>').join('') + '</ol></div>';
-  }
-  const own = spare.slice(0, 24).map(([row, st]) => '<span class=\"word' + (touches('node', x, st.node) ? ' touch' : '') + '\">' + passName(row) + ': node ' + st.node + '</span>').join('');
-  if (own) out += '<h3>nodes of passes that are in no chain</h3><div class=\"words\" style=\"margin:0\">' + own + (spare.length > 24 ? '<span class=\"dim\">and ' + (spare.length - 24) + ' more</span>' : '') + '</div>';
-  return out;
-}
-
-// The head of each group and the items that it took, and the nodes from the first one on, each with its place.
-function readList() {
-  const ends = [...Array(groups).keys()].map(g => ({ g, taken: read(object('taken', g)), head: Number(read(object('head', g))) - 1 }));
-  const least = ends.reduce((a, b) => b.taken < a.taken ? b : a);
-  // a group that has moved its head and not yet its count is further on: begin at a head that no link leads to
-  const linked = new Set(ends.map(e => Number(read(item(e.head, 'next'))) - 1));
-  const begin = (ends.find(e => e.taken === least.taken && !linked.has(e.head)) || least).head;
-  const places = new Map();
-  let end = begin;
-  for (; end >= 0 && !places.has(end); end = Number(read(item(end, 'next'))) - 1) places.set(end, places.size);
-  const serving = turnOf(-1) && turnOf(-1).runs ? stands[turnOf(-1).row].place.service : null;
-  const at = kinds => serving && kinds.includes(serving.is) ? Number(serving.node) : -1;
-  return { ends, places, end, mark: capacity + 1, last: Number(read(object('last'))) - 1, cursor: Number(read(object('cursor'))), furthest: ends.map(e => places.get(e.head) ?? -1),
-    prepared: at(['ResetItemNext', 'WriteItemTag', 'WriteItemBody', 'ReadLast', 'LinkItem']), scanned: at(['ReadPassed']) };
-}
-
-function itemBox(list, i) {
-  const place = list.places.get(i) ?? -1, tag = read(item(i, 'tag')), is_mark = i === list.mark;
-  const is_out = place < 0 || !is_mark && read(item(i, 'passed')) === BigInt(groups);
-  const is_dummy = place >= 0 && list.furthest.every(at => at >= place);
-  const w = touched();
-  const points = field => w && w.at === 'object' && w.field === field;
-  let ends = list.ends.filter(e => e.head === i).map(e => pointer('', 'head' + (groups > 1 ? ' ' + (e.g + 1) : ''), points('head') && w.g === e.g)).join('');
-  if (i === list.last) ends += pointer('tail', 'last', points('last'));
-  if (i === list.cursor) ends += pointer('cursor', 'cursor', points('cursor'));
-  if (i === list.scanned) ends += pointer('looks', 'looks here');
-  const words = [];
-  if (tag !== 0n) for (let n = 0; n <= further(tag); n++) words.push(read(item(i, 'body', n)));
-  const role = i === list.prepared ? 'prepare' : is_out ? 'free' : is_dummy ? 'dummy' : 'wait';
-  const what = is_mark ? 'the closing mark' : { prepare: 'is prepared: ' + (words.join(' ') || 'no item yet'), free: '', dummy: 'dummy: no item to take', wait: tagText(tag) + ': ' + words.join(' ') }[role];
-  const passed = is_mark ? '' : (role === 'free' ? 'free, ' : '') + 'passed by ' + read(item(i, 'passed')) + ' of ' + groups;
-  return stack(ends, '<span class=\"box ' + role + (touches('item', 0, i) ? ' touch' : '') + '\"><b>node ' + i + '</b>' + (what && '<span class=\"tagline\">' + what + '</span>')
-    + (passed && '<span class=\"tagline dim\">' + passed + '</span>') + '</span>');
-}
-
-function drawList() {
-  const list = readList();
-  const nodes = [...list.places.keys()];
-  const shown = nodes.length > 30 ? nodes.slice(0, 15).concat([-1], nodes.slice(-14)) : nodes;
-  let out = '<div class=\"parts\"><div class=\"strip\" tabindex=\"0\" role=\"group\" aria-label=\"nodes of the list\"><ol class=\"boxes\">' + shown.map((i, k) => i < 0 ? '<li><span class=\"arrow\">' + (nodes.length - 29) + ' more' + ACROSS + '</span></li>'
-    : '<li>' + itemBox(list, i) + (k + 1 < shown.length || list.end < 0 ? '<span class=\"arrow\">' + ACROSS + '</span>' : '<span class=\"arrow wrong\">' + ACROSS + 'to node ' + list.end + '</span>') + '</li>').join('')
-    + (list.end < 0 ? '<li><span class=\"arrow\" style=\"margin-bottom:18px\">null</span></li>' : '') + '</ol></div>';
-  const free = [];
-  for (let i = 0; i <= capacity && free.length < 24; i++) if (!list.places.has(i)) free.push(i);
-  const others = capacity + 1 - nodes.filter(i => i <= capacity).length;
-  if (free.length) out += '<div class=\"outside\"><h3>' + plural(others, 'node') + ' outside the list</h3><div class=\"strip\"><ol class=\"boxes loose\">' + free.map(i => '<li>' + itemBox(list, i) + '</li>').join('')
-    + (others > 24 ? '<li class=\"dim\">and ' + (others - 24) + ' more</li>' : '') + '</ol></div></div>';
-  out += '</div>';
-  const w = touched();
-  const word = (name, ww) => '<span class=\"word' + (w && keyOf(w) === keyOf(ww) ? ' touch' : '') + '\">' + name + ' <b>' + valueText(ww, read(ww)) + '</b></span>';
-  out += '<div class=\"words\">' + word('last', object('last')) + word('cursor', object('cursor')) + word('count', object('count')) + word('shut', object('shut'))
-    + list.ends.map(e => word('head' + (groups > 1 ? ' of group ' + (e.g + 1) : ''), object('head', e.g)) + word('taken' + (groups > 1 ? ' by group ' + (e.g + 1) : ''), object('taken', e.g))).join('') + '</div>';
-  if (show('list', out)) showTouched('list');
-}
-
-// Scrolls the row of boxes that has the touched one to it.
-function showTouched(id) {
-  const box = $(id).querySelector('.strip .box.touch');
-  const strip = box && box.closest('.strip');
-  if (!strip || strip.scrollWidth <= strip.clientWidth) return;
-  const at = box.getBoundingClientRect(), of = strip.getBoundingClientRect();
-  if (at.left < of.left || at.right > of.right) strip.scrollLeft += at.left - of.left - of.width / 3;
-}
+// ---- The history, the orders and the texts.
 
 // The newest calls of each side, in a column that scrolls.
 const HISTORY_LINES = 40;
 function drawHistory() {
-  const e = run.now > 0 ? run.events[run.now - 1] : null;
+  const { history } = run, e = run.now > 0 ? run.events[run.now - 1] : null;
   const fresh = x => !e || e.x !== x - 1 ? -1 : e.enters ? history[x].calls.length - 1 : e.decides ? history[x].answers.length - 1 : -1;
   const key = history.map((s, x) => s.calls.length + ' ' + s.answers.length + ' ' + fresh(x)).join() + ' ' + run.chosen + ' ' + run.version;
   if (key === drawn.history) return;
@@ -1779,7 +2225,7 @@ function drawHistory() {
     if (!s.calls.length) return '<div>' + head + '<p class=\"dim\">none</p></div>';
     return '<div>' + head + '<div class=\"list\"><table class=\"mono\">' + s.calls.slice(from, from + HISTORY_LINES).map((call, d) => {
       const k = from + d, a = s.answers[k];
-      return '<tr' + (fresh(x) === k ? ' class=\"touch\"' : '') + '><td>' + run.front(x) + k + '</td><td>' + passName(call.row) + ' ' + callText(call) + '</td><td' + (a ? '' : ' class=\"pending\"') + '>' + answerText(a) + '</td></tr>';
+      return '<tr' + (fresh(x) === k ? ' class=\"touch\"' : '') + '><td>' + run.front(x) + k + '</td><td>' + passName(call.row) + ' ' + callText(call) + '</td><td' + (a ? '' : ' class=\"pending\"') + '>' + Machine.answerText(a) + '</td></tr>';
     }).join('') + '</table></div></div>';
   }).join('');
   for (const list of $('history').querySelectorAll('.list')) {
@@ -1791,17 +2237,21 @@ function drawHistory() {
 // An order of all calls that are decided, by the events at which they take effect.
 function drawOrder() {
   if (!$('order').open) return;
-  const { effects, fault } = run.order(), from = Math.max(0, effects.length - HISTORY_LINES);
-  show('order-text', '<p>Each call takes effect at one event between its swap and its decision: where it is decided, and a Full at the load of the cursor, with which its scan begins. '
-    + (run.variant ? fault ? '<b class=\"pending\">In this order ' + passName(fault.call ? fault.call.row : 0) + ' ' + (fault.call ? callText(fault.call) : '') + ' returns ' + answerText(fault.answer) + ', and a queue that does one call after another returns ' + fault.wanted + '.</b>' : 'So far each answer is that of a queue that does one call after another.'
-      : 'In this order each answer is that of a queue that does one call after another: every run is linearizable, and that is proved.') + '</p>'
-    + (effects.length ? '<div class=\"list\"><table class=\"mono\"><tr><th>order</th><th>takes effect</th><th>decided</th><th>call</th><th>answer</th></tr>' + effects.slice(from).map((one, k) => '<tr' + (one.decided === run.now - 1 ? ' class=\"touch\"' : '') + '><td>' + (from + k + 1) + '</td><td>event ' + (one.effect + 1)
-      + '</td><td>event ' + (one.decided + 1) + '</td><td>' + (one.call ? passName(one.call.row) + ' ' + callText(one.call) : '') + '</td><td>' + answerText(one.answer) + '</td></tr>').join('') + '</table></div>' : '<p class=\"dim\">No call is decided yet.</p>'));
+  const { said, rows: lines } = Telling.order(run), from = Math.max(0, lines.length - HISTORY_LINES);
+  show('order-text', '<p>Each call takes effect at one event between its swap and its decision: where it is decided, and a Full at the load of the cursor, with which its scan begins. ' + marked(said) + '</p>'
+    + (lines.length ? '<div class=\"list\"><table class=\"mono\"><tr><th>order</th><th>takes effect</th><th>decided</th><th>call</th><th>answer</th></tr>' + lines.slice(from).map((one, k) => '<tr' + (one.decided === run.now ? ' class=\"touch\"' : '') + '><td>' + (from + k + 1) + '</td><td>event ' + one.effect
+      + '</td><td>event ' + one.decided + '</td><td>' + one.call + '</td><td>' + one.answer + '</td></tr>').join('') + '</table></div>' : '<p class=\"dim\">No call is decided yet.</p>'));
 }
 
-// The address of the run up to this event: of its lesson, of the program's text, or of a plan.
+// The steps of a schedule in an address, as s1.6-r2.3, and back.
+const stepsText = steps => steps.map(([name, count]) => name + '.' + count).join('-');
+const stepsOf = text => text === '' ? [] : text.split('-').map(part => part.split('.')).map(([name, count]) => [name, Number(count)]);
+
+// The address of the run up to this event: of its lesson, of the exercise, of the program's text, or of a plan.
 function placeText() {
   const table = run.variant ? '&table=' + run.variant : '';
+  if (lecture) return '#lecture=' + lecture.lesson.id + '&screen=' + lecture.at;
+  if (source.exercise) return '#exercise=' + source.exercise.id + '&steps=' + stepsText(stepsBy()) + '&event=' + run.now;
   if (source.lesson && run.chosen === 0) return '#lesson=' + source.lesson.id + (source.lesson.table && !run.variant ? '&table=right' : '') + '&event=' + run.now;
   if (source.is_own && run.chosen === 0) return '#event=' + run.now;
   return '#plan=' + encodeURIComponent(run.planText(run.events.length).replace(/\\s+/g, '')) + table + '&event=' + run.now;
@@ -1827,69 +2277,181 @@ function drawBranches() {
   $('slider').max = run.events.length;
 }
 
-// The lesson of the run, with the moment that was reached last.
+// ---- The lesson or the exercise.
+
+// The title, the text and the moments of a lesson by the table of the run.
+const part = () => Telling.lessonPart(source.lesson, run.variant);
+
+// The moment that was reached last.
 function drawLesson() {
-  const lesson = source.lesson, moments = lesson ? lesson.moments : [];
+  const moments = source.lesson ? part().moments : [];
   $('moment').hidden = !moments.length;
   if (!moments.length) { show('moments', ''); return; }
   const at = run.chosen === 0 ? lastUpTo(moments, ([event]) => event > run.now) : -1;
   show('moments', moments.map(([event], k) => '<button data-event=\"' + event + '\" title=\"event ' + event + '\"' + (k === at ? ' class=\"here\" aria-current=\"step\"' : '') + '>' + (k + 1) + '</button>').join(''));
   show('moment-text', run.chosen > 0 ? 'This is your own branch. The list of runs in the player leads back to the run of the plan.'
-    : at < 0 ? 'Moments of this run: press 1, or <b>m</b>.' : (moments[at][0] === run.now ? '' : '<span class=\"dim\">Event ' + moments[at][0] + ':</span> ') + termed(moments[at][2]));
+    : at < 0 ? 'Moments of this run: press one of these buttons, or the key <b>m</b>.' : (moments[at][0] === run.now ? '' : '<span class=\"dim\">At event ' + moments[at][0] + ':</span> ') + marked(moments[at][2]));
 }
 
-// The law that a broken table breaks, and how the table was changed.
+// The schedule that the reader made: the steps after those of the plan.
+const stepsBy = () => Telling.stepsOf(run, source.from);
+function drawTask() {
+  const { exercise } = source;
+  $('task').hidden = !exercise;
+  if (!exercise) return;
+  const told = Telling.task(run, exercise, source.from), own = run.now - source.from;
+  show('task-state', (told.solved ? '<span class=\"good\">' : '<span>') + marked(told.text) + '</span>');
+  $('task-length').textContent = 'Your schedule has ' + plural(own, 'step') + '. A shortest solution has ' + exercise.solution.reduce((sum, [, count]) => sum + count, 0) + '.';
+}
+
+// The laws that a broken table breaks, and how the table was changed.
 function drawLaw() {
-  const is_broken = !!run.variant || !!(source.lesson && source.lesson.table);
-  $('law-card').hidden = !is_broken;
-  if (!is_broken) { show('law', ''); return; }
-  const variant = run.variant || source.lesson.table;
-  let html = '';
-  if (run.variant) {
-    const found = [];
-    run.events.forEach((e, i) => e.breaks.forEach(law => { if (!found.some(one => one.law === law)) found.push({ law, i }); }));
-    html += found.length ? '<ul style=\"margin:4px 0;padding-left:0;list-style:none\">' + found.map(({ law, i }) => '<li class=\"row\"><button data-event=\"' + (i + 1) + '\">event ' + (i + 1) + '</button><span>breaks the law: <b>' + LAWS[law][0] + '</b> <span class=\"dim\">(' + LAWS[law][1] + ')</span></span></li>').join('') + '</ul>' : '<p>This run breaks no law yet.</p>';
-    if (source.lesson && source.lesson.lost) html += '<p><b>' + source.lesson.lost + '</b></p>';
-  } else html += '<p class=\"good\">The right table, with the same schedule: no law is broken.</p>';
+  const variant = run.variant || (source.lesson && source.lesson.table) || '';
+  $('law-card').hidden = !variant;
+  if (!variant) { show('law', ''); return; }
+  const found = Telling.broken(run, run.events.length);
+  let html = !run.variant ? '<p class=\"good\">This is the right table, and no law is broken.</p>'
+    : found.length ? '<ul style=\"margin:4px 0;padding-left:0;list-style:none\">' + found.map(one => '<li class=\"row\"><button data-event=\"' + one.event + '\">event ' + one.event + '</button><span>breaks the law: <b>' + one.text + '</b> <span class=\"dim\">(' + one.by + ')</span></span></li>').join('') + '</ul>'
+    : '<p>This run breaks no law yet.</p>';
+  if (run.variant && run.chosen === 0 && source.lesson && source.lesson.lost) html += '<p><b>' + marked(source.lesson.lost) + '</b></p>';
   html += '<details' + (law_open ? ' open' : '') + '><summary>The change of the table of steps</summary>' + CHANGES[variant].map(change => '<code>' + change.in + '</code>' + (change.was ? '<del class=\"change mono\">' + escape(change.was) + '</del>' : '') + '<ins class=\"change mono\">' + escape(change.is) + '</ins>').join('') + '</details>';
-  if (source.lesson) html += '<p><button id=\"compare\">' + (run.variant ? 'the right table, with the same schedule' : 'the broken table') + '</button></p>';
   show('law', html);
 }
 let law_open = false;
-const escape = text => text.replace(/[&<>\"]/g, sign => '&#' + sign.charCodeAt(0) + ';');
 
 function draw() {
+  if (lecture) { drawLecture(); return; }
   const where = 'event ' + run.now + ' of ' + run.events.length;
   drawBranches();
   $('where').textContent = where;
   $('slider').value = run.now;
   $('slider').setAttribute('aria-valuetext', where);
-  show('event', eventText());
-  show('breaks', breaksText());
+  const kind = run.now > 0 ? ' <span class=\"dim\">(' + run.events[run.now - 1].kind + ')</span>' : ' Press <b>next</b>, <b>play</b>, or a pass.';
+  show('event', sentenceOf(run) + kind);
+  const broken = Telling.broken(run);
+  if (show('breaks', broken.length ? 'Broken: ' + broken.map(one => one.text + ' (event ' + one.event + ')').join(' ') : '')) measure();
   drawNames();
+  drawSides();
   const view = viewOfLanes();
   drawTurns(view);
   drawCells(view);
-  for (let x = -1; x < groups; x++) if (show('chain' + x, chainText(x))) showTouched('chain' + x);
-  drawList();
+  show('waits', Telling.waits(run).map(one => '<p>' + marked(one.text) + '</p>').join(''));
   drawProgram();
   drawHistory();
   drawOrder();
   drawTexts();
   drawLesson();
+  drawTask();
   drawLaw();
+}
+
+// ---- The lecture: the screens of a lesson, each with a title, a sentence, the picture and the line of the program.
+
+let lecture = null;
+const LECTURES = LESSONS.filter(lesson => lesson.moments.length);
+
+function openLecture(id, at) {
+  const lesson = LECTURES.find(one => one.id === id);
+  if (!lesson) return false;
+  play(false);
+  if (!lecture || lecture.lesson !== lesson) {
+    const opened = table => Machine.open(Machine.planOfText(JSON.stringify(lesson.plan)), table);
+    const first = opened(lesson.table || '');
+    lecture = { lesson, html: '', runs: { [lesson.table || '']: first, '': lesson.table ? opened('') : first }, pair: lesson.table ? Machine.beside(first, '') : null };
+    lecture.screens = Telling.screens(lesson, lecture.pair);
+    $('lecture-sides').innerHTML = '';
+  }
+  lecture.at = Math.max(0, Math.min(at, lecture.screens.length - 1));
+  document.body.classList.add('lecture');
+  $('lecture').hidden = false;
+  drawLecture();
+  keepPlace();
+  return true;
+}
+
+function drawLecture() {
+  const { lesson, screens, at, runs } = lecture, screen = screens[at], two = screen.kind === 'pair';
+  const shown = runs[screen.table];
+  shown.goTo(screen.event);
+  if (two) lecture.pair.follow();
+  const sides = two ? [shown, lecture.pair.run] : [shown];
+  $('lecture-title').textContent = screen.title;
+  $('lecture-count').textContent = 'screen ' + (at + 1) + ' of ' + screens.length;
+  if ($('lecture-text').dataset.of !== lesson.id + at) { $('lecture-text').dataset.of = lesson.id + at; $('lecture-text').innerHTML = marked(screen.text); }
+  $('lecture').classList.toggle('pair', two);
+  const html = sides.map(one => {
+    const e = one.now > 0 ? one.events[one.now - 1] : one.events[0], told = Telling.chain(one, e.x);
+    return '<div class=\"side\">' + (two ? '<h2>' + tableName(one.variant) + '</h2>' : '') + '<div class=\"part part-chain\"><h3><b>The ' + told.name + '.</b> ' + told.head.map(marked).join(' ') + '</h3>' + stripOfLecture(told) + '</div><div class=\"part part-list\"><h3><b>The list.</b></h3>' + listText(Telling.list(one), false) + '</div></div>';
+  }).join('');
+  $('lecture-line').innerHTML = sides.map(one => Telling.program(one)).map(told => told ? '<p><span>' + told.title + '</span><code>' + escape(told.line.trim()) + '</code></p>' : '<span>No step yet.</span>').join('');
+  if (lecture.html !== html || lecture.width !== window.innerWidth || lecture.height !== window.innerHeight) moving([$('lecture-sides')], lesson, at, () => { $('lecture-sides').innerHTML = html; fitLecture(); });
+  Object.assign(lecture, { html, width: window.innerWidth, height: window.innerHeight });
+  for (const side of $('lecture-sides').children) showTouched(side);
+  $('lecture-lesson').value = lesson.id;
+  $('lecture-back').disabled = at === 0 && LECTURES[0] === lesson;
+  $('lecture-next').disabled = at === screens.length - 1 && LECTURES[LECTURES.length - 1] === lesson;
+}
+const stripOfLecture = told => chainText(told, false).replace(/^<p class=\"head\">.*?<\\/p>/, '');
+
+// Draws the chain and the list as large as they fit on the screen: first in width, and then in height, the list before the chain.
+const LETTERS = [26, 23, 21, 19, 18, 17, 16, 15, 14, 13, 12.5];
+function fitLecture() {
+  const sides = $('lecture-sides'), root = document.documentElement, at = { chain: 0, list: 0 };
+  const put = part => sides.style.setProperty('--of-' + part, LETTERS[at[part]] + 'px');
+  const isWide = part => [...sides.querySelectorAll('.part-' + part + ' .strip')].some(strip => strip.scrollWidth > strip.clientWidth);
+  const isHigh = () => root.scrollHeight > root.clientHeight;
+  const shrink = (part, is_large) => { for (put(part); is_large(part) && at[part] < LETTERS.length - 1; put(part)) at[part]++; };
+  put('chain');
+  put('list');
+  shrink('chain', isWide);
+  shrink('list', isWide);
+  while (isHigh() && at.list < LETTERS.length - 1 && at.list < at.chain + 4) { at.list++; put('list'); }
+  shrink('chain', isHigh);
+  shrink('list', isHigh);
+}
+
+// The next screen, or the one before: at the end of a lesson the next lesson follows.
+function toScreen(step) {
+  const { lesson, at, screens } = lecture, next = LECTURES[LECTURES.indexOf(lesson) + step];
+  if (at + step >= 0 && at + step < screens.length) openLecture(lesson.id, at + step);
+  else if (next) openLecture(next.id, step > 0 ? 0 : Infinity);
+}
+
+// Leaves the lecture, to the event of its screen.
+function leaveLecture() {
+  const { lesson, screens, at } = lecture, screen = screens[at];
+  lecture = null;
+  document.body.classList.remove('lecture', 'blank');
+  $('lecture').hidden = true;
+  if (document.fullscreenElement) document.exitFullscreen();
+  openLesson(lesson.id, screen.event, lesson.table && !screen.table ? 'right' : undefined);
+  keepPlace();
+  toStage();
+}
+
+// The lecture on what is shown: at the moment that was reached last.
+function toLecture() {
+  const { lesson } = source;
+  if (!lesson || !lesson.moments.length) { openLecture('lone', 0); return; }
+  const screens = Telling.screens(lesson, canPair() ? Machine.beside(Machine.open(Machine.planOfText(JSON.stringify(lesson.plan)), lesson.table), '') : null);
+  let at = 0;
+  screens.forEach((screen, k) => { if (screen.kind === 'moment' && screen.table === run.variant && screen.event <= run.now) at = k; });
+  openLecture(lesson.id, at);
+}
+
+function fullScreen() {
+  if (document.fullscreenElement) document.exitFullscreen();
+  else if (document.documentElement.requestFullscreen) document.documentElement.requestFullscreen().catch(() => {});
 }
 
 // ---- Moves.
 
-function goTo(n, quiet) {
+function goTo(n) {
   run.goTo(n);
   say('');
   draw();
-  if (!quiet) {
-    keepPlace();
-    keepLaneInView();
-  }
+  keepPlace();
+  keepLaneInView();
 }
 
 function say(text) {
@@ -1898,11 +2460,11 @@ function say(text) {
 }
 
 // the place in the address, a moment after the last step, if it isn't too long
-let place_timer = 0, place = '';
+let place_timer = 0;
 function keepPlace() {
   clearTimeout(place_timer);
   place_timer = setTimeout(() => {
-    place = placeText();
+    let place = placeText();
     if (place.length > 8000) place = '#event=' + run.now;
     try { window.history.replaceState(null, '', place); } catch (e) { /* an address that can't be changed */ }
   }, 200);
@@ -1913,9 +2475,11 @@ function nextDecision(from, step) {
   return step > 0 ? run.events.length : 0;
 }
 
+// Plays event by event; at the end it begins again.
 let playing = 0;
 function play(on) {
   clearInterval(playing);
+  if (on && run.now === run.events.length) goTo(0);
   playing = on ? setInterval(() => { if (run.now === run.events.length) play(false); else goTo(run.now + 1); }, Number($('speed').value)) : 0;
   $('play').textContent = on ? 'stop' : 'play';
   $('play').setAttribute('aria-pressed', on ? 'true' : 'false');
@@ -1929,10 +2493,15 @@ function seek(n) {
   goTo(n);
 }
 
-function stepOf(row) {
+// One step of a pass, or its steps until its call returns or it waits.
+function stepOf(row, leaps) {
   play(false);
-  const done = run.step(row);
-  say(done ? '' : run.now >= EVENT_LIMIT ? 'A run on a page has at most ' + EVENT_LIMIT + ' events.' : passName(row) + ' has no call left: add one.');
+  let done = run.step(row);
+  for (let k = 1; leaps && done && k < 1000; k++) {
+    const e = run.events[run.now - 1];
+    if (e.answer || e.waits || !run.step(row)) break;
+  }
+  say(done ? '' : run.now >= EVENT_LIMIT ? 'A run on a page has at most ' + EVENT_LIMIT + ' events.' : passName(row) + ' has no call left' + (source.exercise ? '.' : ': add one.'));
   draw();
   if (!done) choosePass(row);
   else {
@@ -1949,13 +2518,24 @@ function choosePass(row) {
 
 function addCall(row, words) {
   const wrong = run.add(row, words);
+  if (pair) openPair();
   draw();
   say(wrong);
 }
 
 // ---- Opening a run.
 
-// Shows a run from an event on. `from` says what it is of: a lesson, the program's text, or a plan.
+function cardsOf(prefix) {
+  $(prefix + 'chains').innerHTML = $('more-chains').innerHTML = '';
+  for (let x = -1; x < groups; x++) {
+    const card = document.createElement('section');
+    card.className = 'card chain';
+    card.innerHTML = '<h2>The ' + chainName(run, x) + '</h2><div id=\"' + prefix + 'chain' + x + '\"></div>';
+    $(prefix + 'chains').appendChild(card);
+  }
+}
+
+// Shows a run from an event on. `from` says what it is of: a lesson, an exercise, the program's text, or a plan.
 function openRun(opened, from, event) {
   play(false);
   use(opened);
@@ -1963,26 +2543,28 @@ function openRun(opened, from, event) {
   drawn = {};
   shown_rows = [];
   drawn_at = -1;
-  laid = { events: null, length: -1 };
-  $('chains').innerHTML = '';
-  for (let x = -1; x < groups; x++) {
-    const card = document.createElement('section');
-    card.className = 'card';
-    card.innerHTML = '<h2>The ' + chainName(x) + '</h2><div id=\"chain' + x + '\"></div>';
-    $('chains').appendChild(card);
-  }
+  laid = null;
+  pair = null;
+  cardsOf('');
+  cardsOf('other-');
   $('caller').innerHTML = [...Array(rows).keys()].map(row => '<option value=\"' + row + '\">' + passName(row) + '</option>').join('');
   $('all-label').hidden = rows <= 24;
+  $('add').hidden = true;
   choosePass(0);
-  const lesson = from.lesson;
-  $('lesson-title').textContent = lesson ? (lesson.kind === 'tour' ? 'Stop ' + (TOUR.indexOf(lesson) + 1) + ' of ' + TOUR.length + ': ' : lesson.kind === 'broken' ? 'Broken: ' : '') + lesson.title : from.title;
-  $('lesson-text').innerHTML = lesson ? termed(lesson.text) : '';
+  const { lesson, exercise } = from, { title, text } = lesson ? part() : exercise || { title: from.title, text: '' };
+  $('lesson-title').textContent = lesson ? (lesson.kind === 'tour' ? 'Stop ' + (TOUR.indexOf(lesson) + 1) + ' of ' + TOUR.length + ': ' : '') + title : (exercise ? 'Exercise: ' : '') + title + (from.is_own && !run.faults.length ? ', played by this page too, with the same events and report' : '');
+  $('lesson-text').innerHTML = marked(text);
   $('stop-before').hidden = $('stop-next').hidden = !(lesson && lesson.kind === 'tour');
-  $('config').textContent = 'Capacity ' + capacity + ', bound ' + bound + ', life ' + life + '; ' + plural(senders, 'sender') + ', '
+  $('to-lecture').hidden = !(lesson && lesson.moments.length);
+  $('compare').hidden = !(lesson && lesson.table);
+  $('compare').textContent = run.variant ? 'the right queue' : 'the broken queue';
+  $('pair').hidden = !canPair();
+  $('task-hint').hidden = true;
+  $('config').textContent = 'Capacity ' + run.capacity + ', bound ' + run.bound + ', life ' + run.life + '; ' + plural(senders, 'sender') + ', '
     + (groups > 1 ? groups + ' groups of ' : '') + plural(receivers, 'receiver') + '; ' + plural(run.events.length, 'event') + '.';
   for (const link of document.querySelectorAll('#choose a[data-id]')) {
-    const here = lesson && link.dataset.id === lesson.id;
-    link.classList.toggle('here', !!here);
+    const here = (lesson || exercise || {}).id === link.dataset.id && !lesson === (link.dataset.of === 'exercise');
+    link.classList.toggle('here', here);
     if (here) link.setAttribute('aria-current', 'true'); else link.removeAttribute('aria-current');
   }
   // the order of all calls is up here in a lesson about it
@@ -1993,9 +2575,9 @@ function openRun(opened, from, event) {
   if (run.faults.length) {
     $('alarm').innerHTML = '<p class=\"bad\">' + (from.is_own ? 'This page and the program disagree. ' : '') + run.faults.map(() => '<span></span>').join(' ') + '</p>';
     $('alarm').querySelectorAll('span').forEach((span, i) => { span.textContent = run.faults[i]; });
-  } else if (from.is_own) {
-    $('config').innerHTML += ' <span class=\"good\">The kind of each event, and each line of the report, is that of the program.</span>';
   }
+  if (lesson && lesson.table) openPair();
+  $('pair').setAttribute('aria-pressed', pair ? 'true' : 'false');
   drawNames();
   measure();
   run.goTo(event);
@@ -2009,6 +2591,15 @@ function openLesson(id, event, table) {
   const lesson = LESSONS.find(one => one.id === id);
   if (!lesson) return false;
   openRun(Machine.open(Machine.planOfText(JSON.stringify(lesson.plan)), table === 'right' ? '' : lesson.table || ''), { lesson }, event);
+  return true;
+}
+// Opens an exercise with the steps that were made, as far as the passes have these steps.
+function openExercise(id, steps, event) {
+  const exercise = EXERCISES.find(one => one.id === id);
+  if (!exercise) return false;
+  const opened = Machine.open(Machine.planOfText(JSON.stringify(exercise.plan)), exercise.table || ''), from = opened.now;
+  Telling.makeSteps(opened, steps);
+  openRun(opened, { exercise, from }, event === null ? opened.events.length : Math.max(from, event));
   return true;
 }
 // Opens a plan in JSON, and says what is wrong with it, or nothing.
@@ -2026,9 +2617,12 @@ function openPlan(text, event, table, title) {
 // Opens what the address names. Says whether it names a run.
 function fromAddress() {
   const words = new Map(location.hash.slice(1).split('&').map(part => [part.split('=')[0], part.split('=').slice(1).join('=')]));
-  const event = /^\\d+$/.test(words.get('event') || '') ? Number(words.get('event')) : null;
-  const table = words.get('table');
+  const numberOf = name => /^\\d+$/.test(words.get(name) || '') ? Number(words.get(name)) : null;
+  const event = numberOf('event'), table = words.get('table');
   document.body.classList.toggle('bare', words.get('view') === 'run');
+  if (words.has('lecture') && openLecture(words.get('lecture'), numberOf('screen') || 0)) return false;
+  if (lecture) { lecture = null; document.body.classList.remove('lecture', 'blank'); $('lecture').hidden = true; }
+  if (words.has('exercise') && openExercise(words.get('exercise'), stepsOf(words.get('steps') || ''), event)) return true;
   if (words.has('lesson') && openLesson(words.get('lesson'), event === null ? 0 : event, table)) return true;
   if (words.has('plan')) {
     let text = '';
@@ -2041,7 +2635,7 @@ function fromAddress() {
     return false;
   }
   if (event === null) return false;
-  if (source.is_own) goTo(event, true); else openOwn(event);
+  if (source.is_own) goTo(event); else openOwn(event);
   return true;
 }
 
@@ -2059,21 +2653,23 @@ function toStop(step) {
 }
 
 function toMoment(step) {
-  const moments = source.lesson ? source.lesson.moments : [];
+  const moments = source.lesson ? part().moments : [];
   const next = step > 0 ? moments.find(([event]) => event > run.now) : moments.filter(([event]) => event < run.now).pop();
   if (next) { if (run.chosen > 0) run.choose(0); seek(next[0]); }
 }
 
 // ---- Once, at the beginning.
 
-for (const [id, kind] of [['tour', 'tour'], ['examples', 'example'], ['broken', 'broken']]) {
-  $(id).innerHTML = LESSONS.filter(lesson => lesson.kind === kind).map(lesson => '<li><a class=\"pick\" data-id=\"' + lesson.id + '\" href=\"#lesson=' + lesson.id + '\">' + lesson.title + '</a></li>').join('');
+for (const [id, kind] of [['tour', 'tour'], ['examples', 'example'], ['broken', 'broken'], ['exercise-list', 'exercise']]) {
+  const all = kind === 'exercise' ? EXERCISES : LESSONS.filter(lesson => lesson.kind === kind), of = kind === 'exercise' ? 'exercise' : 'lesson';
+  $(id).innerHTML = all.map(one => '<li><a class=\"pick\" data-of=\"' + of + '\" data-id=\"' + one.id + '\" href=\"#' + of + '=' + one.id + '\">' + one.title + '</a></li>').join('');
 }
-$('words').innerHTML = Object.entries(WORDS).map(([word, text]) => '<dt>' + word + '</dt><dd>' + text + '</dd>').join('');
+$('words').innerHTML = Object.entries(WORDS).map(([word, text]) => '<dt>' + word + '</dt><dd id=\"' + wordId(word) + '\">' + text + '</dd>').join('');
 $('legend').innerHTML = Object.keys(GROUPS_OF_KINDS).map(group => '<span><i class=\"dot\" style=\"background:var(--' + group + ')\"></i>' + GROUPS_OF_KINDS[group] + '</span>').join('')
-  + '<span><i class=\"dot\" style=\"background:var(--serve);height:4px;vertical-align:middle\"></i>its call is being served</span><span><code>3&#215;St</code> three reads of a state in a row</span><span>outlined: still to come</span>';
-$('kinds').innerHTML = KINDS.slice(1).map(kind => '<dt><code>' + kind[1] + '</code> ' + kind[0] + '</dt><dd>' + kind[3] + '</dd>').join('');
+  + '<span><i class=\"dot\" style=\"background:var(--serve);height:4px;vertical-align:middle\"></i>its request is being served</span><span><b>3&#215;</b> three reads of a state in a row</span><span>outlined: still to come</span>';
+$('kinds').innerHTML = KINDS.slice(1).map(kind => '<dt>' + kind[2] + ', <code>' + kind[1] + '</code> ' + kind[0] + '</dt><dd>' + kind[4] + '</dd>').join('');
 document.querySelector('.tables').innerHTML = '<option value=\"\">the right one</option>' + LESSONS.filter(lesson => lesson.table).map(lesson => '<option value=\"' + lesson.table + '\">' + lesson.title + '</option>').join('');
+$('lecture-lesson').innerHTML = LECTURES.map((lesson, k) => '<option value=\"' + lesson.id + '\">' + (k + 1) + '. ' + lesson.title + '</option>').join('');
 
 $('slider').addEventListener('input', () => seek(Number($('slider').value)));
 const MOVES = { first: () => 0, before: () => nextDecision(run.now, -1), back: () => run.now - 1, next: () => run.now + 1, after: () => nextDecision(run.now, 1), last: () => run.events.length };
@@ -2085,29 +2681,41 @@ $('more-toggle').addEventListener('click', () => {
 });
 $('speed').addEventListener('change', () => { if (playing) play(true); });
 $('branches').addEventListener('change', () => { play(false); run.choose(Number($('branches').value)); draw(); keepPlace(); });
-for (const id of ['cells', 'turns', 'moments', 'law']) $(id).addEventListener('click', click => {
+for (const id of ['cells', 'turns', 'moments', 'law', 'parting']) $(id).addEventListener('click', click => {
   const cell = click.target.closest('[data-event]');
   if (cell && id === 'moments' && run.chosen > 0) run.choose(0);
   if (cell) seek(Number(cell.dataset.event));
 });
-$('law').addEventListener('click', click => {
-  if (click.target.id !== 'compare') return;
-  const { lesson } = source, event = run.now;
-  openLesson(lesson.id, run.variant ? 0 : event, run.variant ? 'right' : undefined);
+$('compare').addEventListener('click', () => {
+  openLesson(source.lesson.id, pair ? pair.upTo[run.now] : run.now, run.variant ? 'right' : undefined);
   keepPlace();
   $('compare').focus();
+});
+$('pair').addEventListener('click', () => {
+  if (pair) pair = null; else openPair();
+  $('pair').setAttribute('aria-pressed', pair ? 'true' : 'false');
+  draw();
 });
 $('law').addEventListener('toggle', toggle => { if (toggle.target.tagName === 'DETAILS') { law_open = toggle.target.open; delete drawn.law; } }, true);
 $('names').addEventListener('click', click => {
   const button = click.target.closest('button');
   if (!button) return;
   const row = Number(button.dataset.row);
-  if (button.className === 'step') stepOf(row);
+  if (button.className !== 'more') stepOf(row, button.className === 'leap');
   else if (row >= senders) addCall(row);
-  else { choosePass(row); say('The words of the item of a further send of ' + passName(row) + ', or a close.'); $('body').focus(); $('body').select(); }
+  else { $('add').hidden = false; choosePass(row); say('The words of the item of a further send of ' + passName(row) + ', or a close.'); $('body').focus(); $('body').select(); }
 });
 $('stop-before').addEventListener('click', () => toStop(-1));
 $('stop-next').addEventListener('click', () => toStop(1));
+$('to-lecture').addEventListener('click', toLecture);
+$('hint-button').addEventListener('click', () => { $('task-hint').hidden = false; $('task-hint').innerHTML = marked('Hint: ' + source.exercise.hint); });
+$('solve').addEventListener('click', () => { openExercise(source.exercise.id, source.exercise.solution, source.from); keepPlace(); });
+$('again').addEventListener('click', () => { openExercise(source.exercise.id, [], null); keepPlace(); });
+$('lecture-back').addEventListener('click', () => toScreen(-1));
+$('lecture-next').addEventListener('click', () => toScreen(1));
+$('lecture-leave').addEventListener('click', leaveLecture);
+$('lecture-full').addEventListener('click', fullScreen);
+$('lecture-lesson').addEventListener('change', () => openLecture($('lecture-lesson').value, 0));
 $('caller').addEventListener('change', () => choosePass(Number($('caller').value)));
 $('add').addEventListener('submit', submit => {
   submit.preventDefault();
@@ -2141,6 +2749,7 @@ function importPlan(text) {
   $('import-hint').textContent = wrong;
   if (!wrong) { keepPlace(); toStage(); }
 }
+// An empty field opens the example that it shows.
 $('open-plan').addEventListener('click', () => importPlan($('import').value || $('import').placeholder));
 $('file').addEventListener('change', async () => {
   const [file] = $('file').files;
@@ -2148,8 +2757,9 @@ $('file').addEventListener('change', async () => {
   $('import').value = await file.text();
   importPlan($('import').value);
 });
-document.querySelector('nav').addEventListener('click', click => {
+document.querySelector('header nav').addEventListener('click', click => {
   const id = click.target.hash && click.target.hash.slice(1);
+  if (id && id.startsWith('lecture')) { click.preventDefault(); toLecture(); return; }
   if (!$(id)) return;
   click.preventDefault();
   if (id === 'own') $('own').open = true;
@@ -2162,11 +2772,11 @@ $('choose').addEventListener('click', click => {
   const link = click.target.closest('a[data-id]');
   if (!link || click.ctrlKey || click.metaKey || click.shiftKey) return;
   click.preventDefault();
-  openLesson(link.dataset.id, 0);
+  if (link.dataset.of === 'exercise') openExercise(link.dataset.id, [], null); else openLesson(link.dataset.id, 0);
   keepPlace();
   toStage();
 });
-for (const [event, does] of [['mouseover', explain], ['focusin', explain], ['mouseout', hideTip], ['focusout', hideTip]]) {
+for (const [event, does] of [['mouseover', explain], ['focusin', explain], ['click', explain], ['mouseout', hideTip], ['focusout', hideTip]]) {
   document.addEventListener(event, from => { const term = from.target.closest && from.target.closest('.term'); if (term) does(term); });
 }
 
@@ -2176,23 +2786,40 @@ function isTyped(target, name) {
   if (target.closest('select')) return name !== ' ';
   return name === ' ' && target.closest('input[type=checkbox], input[type=file]');
 }
+// The keys of a lecture. A button that has the focus is pressed by Enter and space.
+const SCREEN_KEYS = { ArrowRight: 1, ArrowDown: 1, PageDown: 1, ' ': 1, Enter: 1, n: 1, ArrowLeft: -1, ArrowUp: -1, PageUp: -1, Backspace: -1, p: -1 };
+function lectureKey(key) {
+  if (key.target.closest('button, select') && ['Enter', ' ', 'ArrowUp', 'ArrowDown'].includes(key.key)) return;
+  const others = { Home: () => openLecture(lecture.lesson.id, 0), End: () => openLecture(lecture.lesson.id, Infinity), Escape: leaveLecture, l: leaveLecture, f: fullScreen, b: blank, '.': blank };
+  const blanked = document.body.classList.contains('blank');
+  if (!SCREEN_KEYS[key.key] && !others[key.key]) return;
+  key.preventDefault();
+  if (blanked) blank();
+  else if (SCREEN_KEYS[key.key]) toScreen(SCREEN_KEYS[key.key]);
+  else others[key.key]();
+}
+const blank = () => document.body.classList.toggle('blank');
 document.addEventListener('keydown', key => {
   if (key.key === 'Escape') hideTip();
   if (key.ctrlKey || key.metaKey || key.altKey || !key.target.closest || isTyped(key.target, key.key)) return;
+  if (lecture) { lectureKey(key); return; }
   const moves = { ArrowRight: 'next', ArrowLeft: 'back', d: 'after', D: 'before' };
   if (key.target.closest('#player')) Object.assign(moves, { PageDown: 'after', PageUp: 'before', Home: 'first', End: 'last' });
-  const others = { ' ': () => play(!playing), n: () => toStop(1), p: () => toStop(-1), m: () => toMoment(1), M: () => toMoment(-1) };
-  if (/^[1-9]$/.test(key.key) && Number(key.key) <= rows) others[key.key] = () => stepOf(Number(key.key) - 1);
+  const others = { ' ': () => play(!playing), n: () => toStop(1), p: () => toStop(-1), m: () => toMoment(1), M: () => toMoment(-1), l: toLecture };
+  // a digit, also with Shift, which writes another sign
+  const digit = /^[1-9]$/.test(key.key) ? key.key : key.shiftKey && /^Digit[1-9]$/.test(key.code) ? key.code[5] : '';
+  if (digit && Number(digit) <= rows) others[key.key] = () => stepOf(Number(digit) - 1, key.shiftKey);
   // a row of boxes that is wider than its card scrolls by the arrows
   const strip = key.target.closest('.strip');
   if (strip && key.key.startsWith('Arrow') && strip.scrollWidth > strip.clientWidth) return;
+  if (key.key === ' ' && key.target.closest('.term')) return;
   if (!moves[key.key] && !others[key.key]) return;
   key.preventDefault();
   if (others[key.key]) others[key.key](); else seek(MOVES[moves[key.key]]());
 });
 // space plays: it doesn't press the button that has the focus too
-document.addEventListener('keyup', key => { if (key.key === ' ' && key.target.closest && !isTyped(key.target, ' ')) key.preventDefault(); });
-window.addEventListener('hashchange', () => { if (location.hash !== place && fromAddress()) $('stage').scrollIntoView(); });
+document.addEventListener('keyup', key => { if (key.key === ' ' && !lecture && key.target.closest && !isTyped(key.target, ' ')) key.preventDefault(); });
+window.addEventListener('hashchange', () => { if (fromAddress()) $('stage').scrollIntoView(); });
 openOwn(0);
 document.body.dataset.check = run.faults.length ? 'disagrees' : 'agrees';
 if (fromAddress() && !document.body.classList.contains('bare')) $('stage').scrollIntoView();
