@@ -22,6 +22,9 @@ install:
 	install -m 644 bin/completions/ccq.bash $(SHARE)/bash-completion/completions/ccq
 	install -m 644 bin/completions/ccq.zsh $(SHARE)/zsh/site-functions/_ccq
 	install -m 644 bin/completions/ccq.fish $(SHARE)/fish/vendor_completions.d/ccq.fish
+ifeq ($(filter /usr /usr/local,$(PREFIX)),)
+	@echo 'zsh looks there with this line in ~/.zshrc, before compinit: fpath=($(PREFIX)/share/zsh/site-functions $$fpath)'
+endif
 
 uninstall:
 	rm -f $(INSTALLED)

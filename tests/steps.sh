@@ -1,22 +1,28 @@
 # What the scripts share that test step by step; each reads it by `.` behind its `cd`, and says in `tests` what its lines begin
-# with. It makes a folder `room` for the time of the script, and counts in `failed` the steps that failed.
+# with. It makes a folder `room` for the time of the script, and counts in `done` and `failed` the steps that were done, and those of
+# them that failed.
 room=$(mktemp -d) || exit 1
 trap 'rm -rf "$room"' EXIT
 export room
-failed=0
+failed=0 done=0
 
 # Does a step: its name, and a command, which has five minutes or as many seconds as `limit` says. What that prints is
-# shown if it fails.
+# shown if it fails. With the exit status 77 it has said by a line with SKIPPED why it did nothing.
 step() {
-    local name=$1 start=$SECONDS
+    local name=$1 start=$SECONDS status
     shift
-    if timeout "${limit:-300}" "$@" >"$room/log" 2>&1 </dev/null; then
-        echo "$tests: $name: passed ($((SECONDS - start)) s)"
-    else
-        echo "$tests: $name: FAILED (status $?); its last lines:"
+    timeout "${limit:-300}" "$@" >"$room/log" 2>&1 </dev/null
+    status=$?
+    case $status in
+    0) echo "$tests: $name: passed ($((SECONDS - start)) s)" ;;
+    77) grep ': SKIPPED: ' "$room/log" && return ;;
+    *)
+        echo "$tests: $name: FAILED (status $status); its last lines:"
         tail -n 60 "$room/log"
         failed=$((failed + 1))
-    fi
+        ;;
+    esac
+    done=$((done + 1))
 }
 
 skip() { echo "$tests: $1: SKIPPED: $2"; }
@@ -31,8 +37,9 @@ prints() {
 }
 export -f prints
 
-# Ends the script: with status 1 if a step failed.
+# Ends the script: with status 1 if a step failed, and 77 if none was done.
 end_steps() {
+    [ "$done" = 0 ] && exit 77
     [ "$failed" = 0 ] && exit
     echo "$tests: $failed steps failed"
     exit 1
