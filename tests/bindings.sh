@@ -9,7 +9,7 @@
 # Usage: tests/bindings.sh [--quick]
 #
 # With --quick it leaves out valgrind, the sanitizers, the copy and the package. Prints a line for each step. A step for which something
-# isn't on the machine is skipped, and its line says so. Exit status 0 if no step failed.
+# isn't on the machine is skipped, and its line says so. Exit status 0 if no step failed, 77 if none could be done.
 set -u
 cd "$(dirname "$0")/.." || exit 1
 top=$PWD tests=bindings
@@ -24,6 +24,7 @@ unset VAHEPITO_LIB VAHEPITO_HEAP
 if ! has make || ! has cc; then
     skip 'the programs in C' 'make or cc is not on this machine'
 else
+    done=1
     make -k -s -C bindings/c "$([ -n "$quick" ] && echo check || echo check-all)" OUT="$room/c" </dev/null || failed=$((failed + 1))
     strict=(check)
     [ -n "$quick" ] || strict+=(check-valgrind check-address check-thread check-boxes-gcc check-boxes-clang)

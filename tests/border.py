@@ -162,9 +162,12 @@ def differences():
                 if in_library is None or not is_same(kind, own, in_library):
                     yield f"{kind} {name}: the library has {in_library}, {user} {own}"
     crate = number_of(r'^version = "(\d+)\.(\d+)\.(\d+)"', "bindings/rust/Cargo.toml")
-    program = number_of(r'^const VERSION: &str = "(\d+)\.(\d+)\.(\d+)";', "crates/cc_cli/src/command_line.rt")
-    if not library[1] == header[1] == crate == program:
-        yield f"the version is {library[1]} of the library, {header[1]} of the header, {crate} of the crate, {program} of ccq"
+    versions = {"cc_capi/src/version.rt": library[1], "vahepito.h": header[1], "bindings/rust/Cargo.toml": crate}
+    versions["cc_cli/src/command_line.rt"] = number_of(r'^const VERSION: &str = "(\d+)\.(\d+)\.(\d+)";', "crates/cc_cli/src/command_line.rt")
+    versions["bindings/rust/record/Cargo.toml"] = number_of(r'^version = "(\d+)\.(\d+)\.(\d+)"', "bindings/rust/record/Cargo.toml")
+    versions["the first heading of CHANGELOG.md"] = number_of(r"^## (\d+)\.(\d+)\.(\d+) ", "CHANGELOG.md")
+    if len(set(versions.values())) > 1:
+        yield "these versions disagree: " + ", ".join(f"{number} of {place}" for place, number in versions.items())
 
 
 def main():

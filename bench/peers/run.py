@@ -275,7 +275,7 @@ def text_of(machine, length, versions, all_tables, numbers):
         f"*words* are the exports of the proved library, with bodies of one word, and *typed* the channel of any type of `bindings/rust`, with a bound of {BOUND}. "
         "Both are over the relaxed archive, and *typed, strict* is the channel over the strict one. "
         f"The peers are {queues}std's `sync_channel`, whose one receiver is shared under a lock, and std's `Mutex` with two "
-        "`Condvar`s round a `VecDeque`. ArrayQueue and concurrent-queue have no calls that wait: they are tried again, first with "
+        "`Condvar`s round a `VecDeque`, which notifies only if a thread waits. ArrayQueue and concurrent-queue have no calls that wait: they are tried again, first with "
         "spinning between two tries and then with yields. Cells have the medians of the rounds, the pictures the quartiles too."), "",
     ]
     for name, title, _, unit, about, rows in all_tables:

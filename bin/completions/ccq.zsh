@@ -1,7 +1,7 @@
 #compdef ccq
 # Completions of `ccq` for zsh.
 _ccq() {
-  local -a commands
+  local -a commands help helped
   commands=(
     'play:play a plan and write the report of its whole history'
     'audit:audit receipts and write the verdict on them'
@@ -10,10 +10,12 @@ _ccq() {
     'show:show the run of a plan as a page or a trace'
     'drive:drive a queue by threads and audit their receipts'
   )
-  local help='(- *)'{-h,--help}'[print help]'
+  # An array, since braces are expanded in no text that `local` takes
+  help=('(- *)'{-h,--help}'[print help]')
+  helped=('help:print the help of a command')
   _arguments -C $help '(- *)'{-V,--version}'[print the version]' '1: :->command' '*:: :->words'
   case $state in
-    command) _describe command commands -- '(help:print the help of a command)' ;;
+    command) _describe command commands -- helped ;;
     words)
       case $words[1] in
         help) _describe command commands ;;

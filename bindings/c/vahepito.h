@@ -31,8 +31,8 @@
  * No call blocks: if its answer is not there yet, it returns WAITING. The vahepito_call then has a call that waits, a ticket,
  * and the caller decides how to pass the time (sched_yield, a back-off) before the next turn. vahepito_wait.h has calls that
  * do this, and that wait for room or an item. The turn that finds its place first in line serves other calls too, at most `bound`
- * of them. So turn every ticket to its end: if it is abandoned, no call of its kind may get an answer any more, its place
- * is lost, and the queue can't be freed.
+ * of them. So turn every ticket to its end: if it is abandoned, the calls of its kind that came before it are answered, those
+ * after it may never be, its place is lost, and the queue can't be freed.
  *
  * No call but vahepito_new takes memory.
  *
@@ -43,7 +43,8 @@
  *   begins after takes have returned finds the room that they made. "After" is by any order that the program has: on one
  *   thread, by a join, a lock or a flag.
  * - Memory written before a send is seen after the take of its item. So a word may be a pointer.
- * Nothing promises that a waiting call is ever served, or the order in which waiting calls are.
+ * A call waits for at most one service of each call of its kind before it, and then may serve `bound` calls itself. This is proved, in steps
+ * of the threads whose calls came before: no other thread can hold a call up. That the system runs these threads isn't.
  *
  * The caller must do the following, and nothing checks it:
  * - A vahepito_call is made by VAHEPITO_CALL, of a queue that vahepito_new opened. Any number of them may be made, at any time, with
@@ -78,9 +79,9 @@
 extern "C" {
 #endif
 
-/* The version of this header, 0.3.0: a million times the first of its three numbers, a thousand times the second, and the
+/* The version of this header, 0.4.0: a million times the first of its three numbers, a thousand times the second, and the
  * third. */
-#define VAHEPITO_VERSION 3000
+#define VAHEPITO_VERSION 4000
 
 /* The configuration of a queue. The bytes after per_sender are not read. */
 typedef struct {

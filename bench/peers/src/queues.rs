@@ -1,7 +1,7 @@
 //! The competitors: bounded queues of words, each by its own blocking calls, and by those that don't wait.
 use crate::exports;
 use std::collections::VecDeque;
-use std::sync::{Arc, Condvar, Mutex, mpsc};
+use std::sync::{Arc, Condvar, Mutex, MutexGuard, mpsc};
 
 /// The senders and the receivers of a queue.
 pub type Ends<Q> = (Vec<<Q as Queue>::Sender>, Vec<<Q as Queue>::Receiver>);
@@ -124,12 +124,43 @@ impl Queue for Std {
     }
 }
 
-/// A `VecDeque` with the number of senders that are left, under std's lock, and its two reasons to wait.
+/// A `VecDeque` under std's lock, with its two reasons to wait. A wake-up costs a call of the system, so the threads that wait are
+/// counted, and only these are woken.
 pub struct Locked {
-    inner: Mutex<(VecDeque<u64>, usize)>,
+    inner: Mutex<Inner>,
     capacity: usize,
     not_full: Condvar,
     not_empty: Condvar,
+}
+
+struct Inner {
+    items: VecDeque<u64>,
+    senders: usize,
+    waiting_to_send: usize,
+    waiting_to_take: usize,
+}
+
+impl Locked {
+    /// Puts an item in, and releases the lock.
+    fn push(&self, mut inner: MutexGuard<Inner>, body: u64) {
+        inner.items.push_back(body);
+        let is_awaited = inner.waiting_to_take > 0;
+        drop(inner);
+        if is_awaited {
+            self.not_empty.notify_one();
+        }
+    }
+
+    /// Takes an item out, if there is one, and releases the lock.
+    fn pop(&self, mut inner: MutexGuard<Inner>) -> Option<u64> {
+        let body = inner.items.pop_front();
+        let is_awaited = body.is_some() && inner.waiting_to_send > 0;
+        drop(inner);
+        if is_awaited {
+            self.not_full.notify_one();
+        }
+        body
+    }
 }
 
 /// A sender of it, whose drop is counted.
@@ -137,7 +168,7 @@ pub struct LockedSender(Arc<Locked>);
 
 impl Drop for LockedSender {
     fn drop(&mut self) {
-        self.0.inner.lock().unwrap().1 -= 1;
+        self.0.inner.lock().unwrap().senders -= 1;
         self.0.not_empty.notify_all();
     }
 }
@@ -146,7 +177,12 @@ impl Queue for Locked {
     type Sender = LockedSender;
     type Receiver = Arc<Locked>;
     fn open(senders: usize, receivers: usize, capacity: usize, _: u32) -> Ends<Self> {
-        let inner = Mutex::new((VecDeque::with_capacity(capacity), senders));
+        let inner = Mutex::new(Inner {
+            items: VecDeque::with_capacity(capacity),
+            senders,
+            waiting_to_send: 0,
+            waiting_to_take: 0,
+        });
         let queue = Arc::new(Locked {
             inner,
             capacity,
@@ -159,43 +195,32 @@ impl Queue for Locked {
         )
     }
     fn send(LockedSender(queue): &mut LockedSender, body: u64) {
-        let inner = queue.inner.lock().unwrap();
-        let full = |inner: &mut (VecDeque<u64>, usize)| inner.0.len() == queue.capacity;
-        queue
-            .not_full
-            .wait_while(inner, full)
-            .unwrap()
-            .0
-            .push_back(body);
-        queue.not_empty.notify_one();
+        let mut inner = queue.inner.lock().unwrap();
+        while inner.items.len() == queue.capacity {
+            inner.waiting_to_send += 1;
+            inner = queue.not_full.wait(inner).unwrap();
+            inner.waiting_to_send -= 1;
+        }
+        queue.push(inner, body);
     }
     fn recv(queue: &mut Arc<Locked>) -> Option<u64> {
-        let inner = queue.inner.lock().unwrap();
-        let empty = |inner: &mut (VecDeque<u64>, usize)| inner.0.is_empty() && inner.1 > 0;
-        let body = queue
-            .not_empty
-            .wait_while(inner, empty)
-            .unwrap()
-            .0
-            .pop_front();
-        queue.not_full.notify_one();
-        body
+        let mut inner = queue.inner.lock().unwrap();
+        while inner.items.is_empty() && inner.senders > 0 {
+            inner.waiting_to_take += 1;
+            inner = queue.not_empty.wait(inner).unwrap();
+            inner.waiting_to_take -= 1;
+        }
+        queue.pop(inner)
     }
     fn try_send(LockedSender(queue): &mut LockedSender, body: u64) -> bool {
-        let mut inner = queue.inner.lock().unwrap();
-        let room = inner.0.len() < queue.capacity;
-        if room {
-            inner.0.push_back(body);
-            drop(inner);
-            queue.not_empty.notify_one();
+        let inner = queue.inner.lock().unwrap();
+        let has_room = inner.items.len() < queue.capacity;
+        if has_room {
+            queue.push(inner, body);
         }
-        room
+        has_room
     }
     fn try_recv(queue: &mut Arc<Locked>) -> Option<u64> {
-        let body = queue.inner.lock().unwrap().0.pop_front();
-        if body.is_some() {
-            queue.not_full.notify_one();
-        }
-        body
+        queue.pop(queue.inner.lock().unwrap())
     }
 }

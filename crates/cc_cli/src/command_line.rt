@@ -159,7 +159,7 @@ fn drive<'a>(alloc: Global) -> Command<'a>
 }
 
 /// The version of the program, which is that of the library (`tests/border.py`).
-const VERSION: &str = "0.3.0";
+const VERSION: &str = "0.4.0";
 
 const EXAMPLES_AND_STATUS: &str = "\
 `ccq help COMMAND` or `ccq COMMAND --help` says more.
