@@ -8,6 +8,11 @@
   parameter, a type, a field, a variant, a clause, a definition or a file; elsewhere it has to be a word of some source. A
   clause in brackets after a function has to be one of that function. Files that links name have to be there too. What is
   fenced isn't read, and a word in capitals, as in crates/NAME, stands for others.
+- Pointers: a section that a text names as `docs/NAME.md, "Heading"`, and each heading behind the # of a link, is one of that document.
+  In the texts of STRANGERS, which a reader of a clone has, no program is one that a build leaves, and a line of a block of code
+  that begins with a path begins with that of a file of the tree.
+- Numbers: a size behind the name of a file, as `NAME` (12 KB), is its size, and no size stands where no file is named. The line of
+  the proof that docs/TRUST.md quotes is that of the library, and it explains each word of the lines of both PROOFs.
 - Merges: no document has a line that a merge leaves, as `<<<<<<< ` and a branch.
 - The map: docs/MAP.md names each source and spec file of the crates, each file of FOLDERS and each one at the top. A name in
   backticks is a path from the folder or the crate that the heading names, or from the folder of the name before it in its
@@ -15,7 +20,7 @@
   that a crate's section names is one of that crate.
 - Heads: each source file begins with a comment that says what is in it, as HEADS has it.
 
-Before the map is compared, the script shows that it finds a wrong name in it. It prints a line for each fault; exit status 0 if
+Before it compares, the script shows that it finds a wrong name in the map, and each wrong line of WRONG. It prints a line for each fault; exit status 0 if
 there is none.
 """
 import fnmatch
@@ -26,9 +31,20 @@ import sys
 
 sys.dont_write_bytecode = True
 sys.path.insert(0, str(pathlib.Path(__file__).resolve().parent.parent / "tools"))
-from sources import NOTE, TOKEN, TOP, crates, read_definitions, read_files, read_items
+from sources import TOP, crates, read_definitions, read_files, read_items
+
+# Comments of definitions, and of code; a text in quotes is none.
+NOTE = re.compile(r'("(?:\\.|[^"\\])*")|(^|(?<=\s))--[^\n]*', re.M)
+REMARK = re.compile(r"""(?P<comment>//[^\n]*|/\*.*?\*/)|b?r(?P<fence>\#*)".*?"(?P=fence)|"(?:\\.|[^"\\])*"|'(?:\\.|[^'\\\n])'""", re.S)
 
 DOCUMENTS = ["README.md", "CONTRIBUTING.md", "docs/*.md", "bindings/*/*.md"]
+# Texts that name sections, and those of readers who have a clone and no toolchain.
+TEXTS = [*DOCUMENTS, "CHANGELOG.md", "examples/*.md", "crates/*/src/**/*.rt", "bindings/*/**/*.rs", "bindings/c/*.[ch]", "tools/*.sh", "tests/*.sh", "tools/*.py", "tests/*.py", "play", "show", "test", "Makefile"]
+STRANGERS = ["README.md", "examples/*.md", "bindings/*/*.md", "docs/FORMATS.md", "docs/JUDGE.md", "docs/USING.md", "docs/BENCH.md", "docs/TEACHING.md", "play", "show", "Makefile"]
+PROOFS = ["bin/x86_64-unknown-linux-gnu/PROOF", "bindings/rust/lib/x86_64-unknown-linux-gnu/PROOF"]
+# Lines that strangers' texts may not have: a section that isn't there, a program that a build leaves or that nothing leaves, a
+# size that no file has, and one of no file.
+WRONG = ['(README.md, "Nowhere")', "[here](docs/MODEL.md#nowhere)", "    crates/ccq/out/ccq play", "    ./nowhere PLAN", "`libvahepito.a` (1 KB)", "an archive of 45 KB"]
 # Names that the tree doesn't have, and whose they are.
 OUTSIDE = {
     **dict.fromkeys(["std", "core", "None", "write"], "Rust's"),
@@ -124,7 +140,7 @@ class Tree:
         if path.endswith(".antt"):
             text = NOTE.sub(lambda found: found[1] or "", text)
         elif path.endswith((".rt", ".rs", ".c", ".h")):
-            text = TOKEN.sub(lambda found: " " if found["comment"] else found[0], text)
+            text = REMARK.sub(lambda found: " " if found["comment"] else found[0], text)
         self.words.update(re.findall(r"\w+", text))
         if path.endswith(".rs"):
             self.add_rust(path, text)
@@ -206,6 +222,77 @@ def wrong_links(path, text):
             yield text.count("\n", 0, found.start()) + 1, found[1]
 
 
+def headings(text):
+    """The headings of a document, without marks."""
+    text = re.sub(r"^```.*?^```", "", text, flags=re.M | re.S)
+    return [re.sub(r"[`*]", "", line).strip() for line in re.findall(r"^#+ (.*)", text, re.M)]
+
+
+def anchor(heading):
+    """The name of a heading in a link, as GitHub makes it."""
+    return re.sub(r"[^\w -]", "", heading.lower()).replace(" ", "-")
+
+
+def named_document(path, name):
+    """The document that a text names: from its own folder, or from the top."""
+    return next((place / name for place in (path.parent, TOP) if (place / name).is_file()), None)
+
+
+def wrong_pointers(path, text):
+    """Sections that texts and links name and documents lack, with their lines."""
+    for found in re.finditer(r'([\w./-]+\.md), "([^"\n]+)"', text):
+        document = named_document(path, found[1])
+        if "NAME" not in found[1] and (document is None or found[2] not in headings(document.read_text())):
+            yield text.count("\n", 0, found.start()) + 1, f"{found[1]}, \"{found[2]}\": there is no such section"
+    for found in re.finditer(r"\]\(([^)#:\s]*)#([^)\s]+)\)", text):
+        document = named_document(path, found[1] or path.name)
+        if document is not None and document.suffix == ".md" and found[2] not in map(anchor, headings(document.read_text())):
+            yield text.count("\n", 0, found.start()) + 1, f"{found[1]}#{found[2]}: there is no such section"
+
+
+def wrong_programs(tree, path, text):
+    """Programs that a clone doesn't have, with the lines that name them."""
+    folder = path.parent.relative_to(TOP).as_posix() + "/"
+    for at, line in enumerate(text.splitlines(), 1):
+        left = re.findall(r"[\w./-]*\bout/\w+", line)
+        if left:
+            yield at, f"{left[0]}: a clone doesn't have it"
+            continue
+        begun = re.match(r"    \(?(?:cd [\w/]+ && )?((?:\.{0,2}/)?[\w-]+(?:/[\w.-]+)*)(?: |$)", line)
+        if begun and "/" in begun[1] and not begun[1].startswith("/"):
+            name = begun[1].removeprefix("./")
+            if name not in tree.files and (folder + name).removeprefix("./") not in tree.files:
+                yield at, f"{name}: a clone doesn't have it"
+
+
+def wrong_sizes(tree, text):
+    """Sizes of files that are others, or that have no file, with their lines."""
+    for at, line in enumerate(text.splitlines(), 1):
+        for name, number, unit in re.findall(r"`([\w./-]+)` \(([\d,]+) (bytes|KB|MB)\)", line):
+            of = {"bytes": 1, "KB": 1000, "MB": 1000000}[unit]
+            sizes = {round((TOP / file).stat().st_size / of) for file in tree.files if file == name or file.endswith("/" + name)}
+            if sizes != {int(number.replace(",", ""))}:
+                yield at, f"{name} ({number} {unit}): it has {sorted(sizes)}"
+        for found in re.findall(r"\b(?:archives?|librar(?:y|ies)|programs?|pages?) of [\d,.]+ (?:bytes|KB|MB)", line):
+            yield at, f"{found}: which file? Write `NAME` (N KB)"
+
+
+def wrong_proofs():
+    """What docs/TRUST.md lacks of the lines of the proofs."""
+    text = (TOP / "docs/TRUST.md").read_text()
+    lines = [re.findall(r"^proof[\w ]*: (.*)", (TOP / path).read_text(), re.M)[-1] for path in PROOFS]
+    if lines[1] not in " ".join(text.split()):
+        yield f"docs/TRUST.md doesn't quote the line of the proof in {PROOFS[1]}"
+    for path, line in zip(PROOFS, lines):
+        for word in re.findall(r"([\w-]+)=", line):
+            if f"`{word}=" not in text:
+                yield f"docs/TRUST.md doesn't explain `{word}=` of {path}"
+
+
+def wrong_for_strangers(tree, path, text):
+    return [*wrong_pointers(path, text), *wrong_programs(tree, path, text), *wrong_sizes(tree, text)]
+
+
 def blocks(text):
     """The headings, paragraphs, list items and rows of a document, each as one text."""
     begun = []
@@ -265,6 +352,13 @@ def main():
         found += [f"{path.relative_to(TOP)}:{line}: `{name}` is nowhere in the tree" for line, name in sorted(wrong)]
         marks = [line for line, words in enumerate(text.splitlines(), 1) if words.startswith(("<<<<<<< ", ">>>>>>> "))]
         found += [f"{path.relative_to(TOP)}:{line}: a merge left this line" for line in marks]
+    for path in sorted({path for pattern in TEXTS for path in TOP.glob(pattern) if path.is_file() and path.name != "documents.py"}):
+        found += [f"{path.relative_to(TOP)}:{line}: {said}" for line, said in wrong_pointers(path, path.read_text())]
+    for path in [path for pattern in STRANGERS for path in sorted(TOP.glob(pattern))]:
+        text = path.read_text()
+        found += [f"{path.relative_to(TOP)}:{line}: {said}" for line, said in [*wrong_programs(tree, path, text), *wrong_sizes(tree, text)]]
+    found += [f"this script lets a wrong line through: {line}" for line in WRONG if len(wrong_for_strangers(tree, TOP / "README.md", line)) != 1]
+    found += wrong_proofs()
     mapped = sorted(path for path in tree.files if MAPPED.fullmatch(path) and "/." not in path)
     text = (TOP / MAP).read_text()
     if not finds_what_is_wrong(text, mapped):
@@ -273,7 +367,7 @@ def main():
     found += [f"{MAP} doesn't name {path}" for path in mapped if path not in named]
     found += [f"{MAP} names `{name}`, which isn't in that crate" for name in strange]
     found += [f"{path} has no head" for path in mapped if not has_head(path)]
-    print("\n".join(found) or "documents: each name in backticks is in the tree, and the map names each file")
+    print("\n".join(found) or "documents: each name in backticks is in the tree, each pointer leads there, and the map names each file")
     return 1 if found else 0
 
 

@@ -6,16 +6,22 @@
 - `make install` into an empty folder leaves the program, its manual page and three files of completions, and no other
   file; the program plays a plan; `make uninstall` removes them all.
 - The commands, and the options of each command, that the help of `ccq` names are those in each of the completions.
-- bash, and fish if it is installed, complete lines of ROWS with what is due; zsh, if it is installed, parses its file.
+- bash, and zsh and fish if they are installed, complete the lines of ROWS: each shell runs at a terminal, where the script
+  types a line, presses the tab key, and reads the line that the shell then has. A shell lists all commands for a line that
+  has none.
 
 The program is the one in bin/, or the one that the variable CCQ names. The exit status is 0 if all holds.
 """
 import os
+import pty
 import re
+import select
 import shutil
+import signal
 import subprocess
 import sys
 import tempfile
+import time
 
 TOP = os.path.dirname(os.path.dirname(os.path.abspath(__file__)))
 CCQ = os.environ.get("CCQ", TOP + "/bin/x86_64-unknown-linux-gnu/ccq")
@@ -26,20 +32,39 @@ INSTALLED = {
     "usr/share/zsh/site-functions/_ccq": 0o644,
     "usr/share/fish/vendor_completions.d/ccq.fish": 0o644,
 }
-# A line as far as it is typed, and the words that complete its last word.
+# A line as far as it is typed, and what the tab key adds to it.
 ROWS = [
-    ("ccq pl", ["play"]),
-    ("ccq d", ["drive"]),
-    ("ccq help a", ["audit"]),
-    ("ccq judge --p", ["--page"]),
-    ("ccq judge --page examples/one", ["examples/one_item.json"]),
-    ("ccq judge --skew ", []),
-    ("ccq show --t", ["--trace"]),
-    ("ccq drive --se", ["--senders"]),
-    ("ccq drive --senders 4 --b", ["--bound"]),
-    ("ccq drive --senders ", []),
-    ("ccq play examples/one", ["examples/one_item.json"]),
+    ("ccq pl", "ay "),
+    ("ccq d", "rive "),
+    ("ccq help a", "udit "),
+    ("ccq judge --p", "age "),
+    ("ccq judge --page examples/one", "_item.json "),
+    ("ccq judge --skew ", ""),
+    ("ccq show --t", "race "),
+    ("ccq drive --se", "nders "),
+    ("ccq drive --senders 4 --b", "ound "),
+    ("ccq drive --senders ", ""),
+    ("ccq play examples/one", "_item.json "),
 ]
+# How each shell is started, without files of its user, and the line that loads the completions from the folder {of} and
+# lets control-X control-R write the line that is typed into the file {said}, empty that line, and print SAID.
+SHELLS = {
+    "bash": (
+        ["bash", "--norc", "--noprofile", "-i"],
+        "bind 'set enable-bracketed-paste off'; bind 'set show-all-if-ambiguous on'; source {of}/bash-completion/completions/ccq; "
+        "said() {{ printf %s \"$READLINE_LINE\" >{said}; READLINE_LINE=; printf SAID; }}; bind -x '\"\\C-x\\C-r\": said'",
+    ),
+    "zsh": (
+        ["zsh", "-f", "-i"],
+        "fpath=({of}/zsh/site-functions $fpath); autoload -U compinit; compinit -D -u; "
+        "said() {{ printf %s \"$BUFFER\" >{said}; zle kill-buffer; printf SAID; }}; zle -N said; bindkey '^X^R' said",
+    ),
+    "fish": (
+        ["fish", "--no-config", "-i"],
+        "source {of}/fish/vendor_completions.d/ccq.fish; "
+        "function said; printf %s (commandline | string collect) >{said}; commandline ''; printf SAID; end; bind \\cx\\cr said",
+    ),
+}
 failed = []
 
 
@@ -108,17 +133,57 @@ def in_fish(text):
     return found
 
 
-def completed_by_bash(line):
-    """What bash completes a line with."""
-    words = line.split(" ")
-    script = 'source bin/completions/ccq.bash; COMP_WORDS=("$@"); COMP_CWORD=$(($# - 1)); _ccq; printf "%s\\n" "${COMPREPLY[@]}"'
-    return output("bash", "-c", script, "bash", *words).split()
+class Terminal:
+    """A shell at a terminal of its own, with the completions that are installed in a folder."""
+
+    def __init__(self, shell, folder):
+        words, setup = SHELLS[shell]
+        self.said = folder + "/said"
+        self.child, self.terminal = pty.fork()
+        if self.child == 0:
+            os.chdir(TOP)
+            os.execvpe(words[0], words, {**os.environ, "TERM": "xterm", "HOME": folder, "XDG_DATA_HOME": folder})
+        setup = setup.format(of=folder + "/usr/share", said=self.said)
+        self.type(setup + "; printf 'REA''DY\\n'\n")
+        self.read_up_to("READY\r\n")
+
+    def close(self):
+        os.kill(self.child, signal.SIGKILL)
+        os.waitpid(self.child, 0)
+        os.close(self.terminal)
+
+    def type(self, keys):
+        os.write(self.terminal, keys.encode())
+
+    def read_up_to(self, word):
+        """What the terminal shows, up to a word; within ten seconds."""
+        shown, end = "", time.monotonic() + 10
+        while word not in shown and time.monotonic() < end:
+            if select.select([self.terminal], [], [], 0.2)[0]:
+                shown += os.read(self.terminal, 65536).decode(errors="replace")
+        return shown
+
+    def complete(self, line):
+        """The line after the tab key, and what the terminal shows."""
+        self.type(line + "\t")
+        time.sleep(0.1)
+        self.type("\x18\x12")
+        shown = self.read_up_to("SAID")
+        with open(self.said) as file:
+            return file.read().rstrip("\n"), shown
 
 
-def completed_by_fish(line):
-    """What fish completes a line with, without the descriptions."""
-    said = output("fish", "--no-config", "-c", "source bin/completions/ccq.fish; complete -C $argv[1]", line)
-    return [row.split("\t")[0] for row in said.splitlines()]
+def completes(shell, commands):
+    """Installs the completions, and presses the tab key in the shell."""
+    with tempfile.TemporaryDirectory() as folder:
+        output("make", "-s", "install", "PREFIX=/usr", "DESTDIR=" + folder)
+        terminal = Terminal(shell, folder)
+        for line, added in ROWS:
+            now, shown = terminal.complete(line)
+            check(now == line + added, f"{shell} completes `{line}` as `{now}`, and shows {shown!r}")
+        _, shown = terminal.complete("ccq ")
+        check(all(name in shown for name in commands), f"{shell} lists for `ccq `: {shown!r}")
+        terminal.close()
 
 
 installs()
@@ -127,11 +192,9 @@ for shell, reader in (("bash", in_bash), ("zsh", in_zsh), ("fish", in_fish)):
     with open(f"{TOP}/bin/completions/ccq.{shell}") as file:
         found = reader(file.read())
     check(found == due, f"the completions for {shell} have {found}, and the help has {due}")
-for line, words in ROWS:
-    check(completed_by_bash(line) == words, f"bash completes `{line}` by {completed_by_bash(line)}")
-    if shutil.which("fish"):
-        check(completed_by_fish(line) == words, f"fish completes `{line}` by {completed_by_fish(line)}")
-if shutil.which("zsh"):
-    check(subprocess.run(["zsh", "-n", TOP + "/bin/completions/ccq.zsh"]).returncode == 0, "zsh can't parse its completions")
+    if shutil.which(shell):
+        completes(shell, due)
+    else:
+        print(f"install: completions pressed in {shell}: SKIPPED: {shell} is not on this machine")
 print(f"install: {len(failed)} of the checks failed" if failed else "install: the program, its manual and its completions fit")
 sys.exit(bool(failed))

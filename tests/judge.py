@@ -320,7 +320,7 @@ def judge_ring(language, ring, log):
 def judge_recorded():
     """Whether the program finds each queue clean, and the fault of the one with a fault, in what is recorded of them."""
     if shutil.which("cargo") is None:
-        print("judge: nothing is recorded: cargo is not on this machine")
+        print("judge: recorded queues: SKIPPED: cargo is not on this machine")
         return True
     right = True
     with tempfile.TemporaryDirectory() as name:
@@ -338,7 +338,7 @@ def judge_recorded():
 def judge_ring_in_c():
     """The same of the ring in C."""
     if shutil.which("cc") is None:
-        print("judge: no ring in C is recorded: cc is not on this machine")
+        print("judge: the ring in C: SKIPPED: cc is not on this machine")
         return True
     with tempfile.TemporaryDirectory() as name:
         ring = Path(name, "ring")

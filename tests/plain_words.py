@@ -5,7 +5,7 @@
 
 Five checks, in about two seconds:
 
-- Words: README.md has at most 900, and README.md with docs/*.md at most 32,000, as `wc -w` counts them, without
+- Words: README.md has at most 900, and README.md with docs/*.md at most 36,000, as `wc -w` counts them, without
   docs/STATEMENTS*, which a script writes. --words prints the number of words of each document, and checks nothing.
 - Patterns: none of PATTERNS is found in a document, or in a comment of the code, of definitions and of the bindings, in
   letters of either case. Each names the words to use, and has a sentence in which it is found.
@@ -28,7 +28,7 @@ import sys
 import textwrap
 
 TOP = os.path.dirname(os.path.dirname(os.path.abspath(__file__)))
-LIMIT_OF_README, LIMIT_OF_ALL = 900, 32_000
+LIMIT_OF_README, LIMIT_OF_ALL = 900, 36_000
 COUNTED = ["README.md", "docs/*.md"]
 READ = [*COUNTED, "CONTRIBUTING.md", "CHANGELOG.md", "bindings/*/*.md", "examples/README.md"]
 C_CODE = ["bindings/c/*.[ch]", "bindings/c/*.hpp"]
