@@ -1,3 +1,4 @@
 pub mod Names
 pub mod Topics
 pub mod Opened
+pub mod Refused

@@ -6,9 +6,11 @@
 #![tactic(auto)]
 
 mod broker;
+mod clauses;
 mod names;
 mod open;
 mod passes;
 
 pub use broker::{Broker, BrokerFault, OpenedBroker};
+pub use clauses::clauses_refuse;
 pub use passes::OpenedTopic;

@@ -12,3 +12,4 @@ pub mod Crewed
 pub mod Totals
 pub mod Settled
 pub mod Dealt
+pub mod RefusedClaims

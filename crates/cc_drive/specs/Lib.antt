@@ -7,3 +7,4 @@ pub mod Crew
 pub mod Ran
 pub mod Jobs
 pub mod Start
+pub mod Refused

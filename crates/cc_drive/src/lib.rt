@@ -6,6 +6,7 @@
 #![tactic(auto)]
 
 mod calls;
+mod clauses;
 mod closing;
 mod config;
 mod crew;
@@ -22,6 +23,7 @@ mod starting;
 mod threads;
 mod turns;
 
+pub use clauses::clauses_refuse;
 pub use config::{DriveConfig, DriveEnd, DriveFault};
 pub use driver::drive;
 pub use gate::{Gate, Go, Point};

@@ -8,6 +8,7 @@
 mod begins;
 mod board;
 mod chain_steps;
+mod clauses;
 mod count;
 mod counter;
 mod event;
@@ -22,6 +23,7 @@ mod send_service;
 mod take_service;
 
 pub use cc_runs::{Event, Kind, OpenFault};
+pub use clauses::clauses_refuse;
 pub use counter::CounterMachine;
 pub use fault::BeginFault;
 pub use machine::Machine;

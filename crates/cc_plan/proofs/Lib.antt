@@ -19,3 +19,4 @@ pub mod Lines
 pub mod Valid
 pub mod Copied
 pub mod Positions
+pub mod RefusedClaims

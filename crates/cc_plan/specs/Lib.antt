@@ -24,3 +24,4 @@ pub mod ReceiptsValues
 pub mod ReceiptsOf
 pub mod Report
 pub mod Rows
+pub mod Refused

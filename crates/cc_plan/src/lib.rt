@@ -1,6 +1,7 @@
 //! The texts of the program: plans and receipts as they are read, reports as they are written.
 #![tactic(auto)]
 
+mod clauses;
 mod fault;
 mod place;
 mod plan;
@@ -10,6 +11,7 @@ mod report;
 mod tokens;
 mod version;
 
+pub use clauses::clauses_refuse;
 pub use fault::PlanFault;
 pub use place::{
     Check, Explained, Found, Kind, Misfit, Place, Stranger, Table, Trail, ValueKind, Wanted,

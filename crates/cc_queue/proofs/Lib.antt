@@ -15,3 +15,4 @@ pub mod WordByWord
 pub mod Service
 pub mod Waiting
 pub mod Lasts
+pub mod RefusedClaims

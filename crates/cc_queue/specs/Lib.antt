@@ -12,3 +12,4 @@ pub mod Noted
 pub mod Opened
 pub mod Receipts
 pub mod Group
+pub mod Refused

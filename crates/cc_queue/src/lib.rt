@@ -12,6 +12,7 @@
 mod begins;
 mod blocking;
 mod bodies;
+mod clauses;
 mod combine;
 mod counts;
 mod given_up;
@@ -32,6 +33,7 @@ pub use blocking::{close, send, send_until, take, take_until};
 pub use cc_model::{CloseAnswer, Config, ConfigFault, Item, Pass, SendAnswer, TakeAnswer};
 pub use cc_runs::OpenFault;
 pub use cc_steps::notes::Note;
+pub use clauses::clauses_refuse;
 pub use given_up::GivenUp;
 pub use meets::{Live, Meets, meet_all};
 pub use notes::{again, heeded_is_fresh, heeded_stays, send_after, take_after, turns_complete};

@@ -1,2 +1,3 @@
 pub mod HandedOn
 pub mod Opening
+pub mod Refused

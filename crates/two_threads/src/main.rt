@@ -7,6 +7,7 @@ ghost use Rattle.std.specs.Thread.{IsSync};
 ghost use Rattle.two_threads.specs.Opening.{IsNew};
 ghost use Rattle.cc_steps.specs.Walk.{IsOf};
 
+mod clauses;
 mod handed_on;
 mod in_turns;
 mod opening;
