@@ -14,7 +14,7 @@ folder=docs/pictures
 record=$folder/show.sums
 
 # The pictures: the name, the page, the part of it, and how high the window is.
-pictures='show-lecture index.html #lecture=three&screen=4 768
+pictures='show-lecture index.html #lecture=three&screen=5 768
 show-combining index.html #lesson=bodies_of_words&event=75&view=run 740
 show-freed index.html #lesson=full&event=85&view=run 740
 show-close index.html #lesson=close_and_drain&event=44&view=run 740

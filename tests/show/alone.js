@@ -49,7 +49,7 @@ function nameOf(w) {
 function textsOf(telling, run) {
   const chains = [...Array(run.groups + 1).keys()].map(k => telling.chain(run, k - 1));
   const passes = [...Array(run.rows).keys()].map(row => ({ name: run.passName(row), text: telling.pass(run, row).text }));
-  return { now: run.now, event: telling.event(run), chains, list: telling.list(run), passes, waits: telling.waits(run).map(one => one.text), program: telling.program(run), broken: telling.broken(run), order: telling.order(run), report: run.reportText() };
+  return { now: run.now, event: telling.event(run), chains, list: telling.list(run), passes, waits: telling.waits(run).map(one => one.text), program: telling.program(run), broken: telling.broken(run), banner: telling.banner(telling.broken(run)), order: telling.order(run), report: run.reportText() };
 }
 
 // Random numbers by Park and Miller, and a random plan: small, so that its passes meet.

@@ -541,12 +541,22 @@ def read_program(at, told):
         claim(of_right or HOLDS[text](at), text)
 
 
-def read_broken(at, told, seen):
+def read_broken(at, told, banner, seen):
     """The laws that are broken, each at its first event; `seen` has those of the events before."""
     if at.e:
         for law in sorted(second.broken_by(at.story, at.e)):
             seen.setdefault(law, at.n)
     claim({one["text"]: one["event"] for one in told} == seen, told)
+    read_banner(seen, banner)
+
+
+def read_banner(seen, text):
+    """What the player says of the laws that are broken: the first, its event, and how many others there are."""
+    found = re.fullmatch(r"Broken: (.*) \(event (\d+)\)(?:, and (\d+) other laws?)?\.", text)
+    claim(bool(found) == bool(seen) and (found or text == ""), text)
+    if found:
+        law, event, others = found[1] + ".", int(found[2]), int(found[3] or 0)
+        claim(seen.get(law) == event == min(seen.values()) and others == len(seen) - 1 and ("laws" in text) == (others > 1), text)
 
 
 def read_order(at, told):
@@ -619,7 +629,7 @@ def read_state(at, told, seen=None):
     read_order(at, told["order"])
     read_report(at, told["report"])
     if seen is not None:
-        read_broken(at, told["broken"], seen)
+        read_broken(at, told["broken"], told["banner"], seen)
 
 
 # ---- The moments: a sentence is one clause, or several, between ": " and ", so ". A clause is a claim about the event and its state.

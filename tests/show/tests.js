@@ -53,8 +53,7 @@ function isShown($, parts, run, when) {
     same(textOf($('holds')), bare(line.holds), 'what holds' + when);
     same(textOf($('program').querySelector('.lit').firstChild), line.line.trim(), 'the line' + when);
   }
-  const broken = Telling.broken(run);
-  same(textOf($('breaks')), broken.length ? 'Broken: ' + broken.map(one => one.text + ' (event ' + one.event + ')').join(' ') : '', 'what is broken' + when);
+  same(textOf($('breaks')), Telling.banner(Telling.broken(run)), 'what is broken' + when);
 }
 
 // The luminance of a colour and the contrast of two, by WCAG 2.
@@ -296,6 +295,23 @@ const tests = {
     const [left, right] = [$('sides').children[0], $('other')].map(side => side.getBoundingClientRect());
     assert(left.right <= right.left && Math.abs(left.top - right.top) < 2, 'the two queues are not side by side');
     same(['side-title', 'other-title'].map(id => textOf($(id))), ['The broken queue', 'The right queue'], 'the titles of the two');
+    // both chains are whole and in view, and so is the first node of each list, at each moment
+    for (const lesson of JSON.parse($('lessons').textContent).filter(one => one.table)) {
+      page.querySelector('#choose a[data-of=lesson][data-id=' + lesson.id + ']').click();
+      $('stage').scrollIntoView();
+      while (key(page.body, 'm') && Number(textOf($('moments').querySelector('.here'))) < $('moments').children.length) {
+        const bar = $('player').getBoundingClientRect().bottom, height = page.documentElement.clientHeight, when = ' at ' + $('where').textContent + ' of ' + lesson.id;
+        for (const prefix of ['', 'other-']) {
+          const boxes = [...$(prefix + 'chains').querySelectorAll('.box')].filter(visible);
+          assert(boxes.length, 'no chain is drawn' + when);
+          for (const box of [...boxes, $(prefix + 'list').querySelector('.box')]) {
+            const { left, right, top, bottom } = box.getBoundingClientRect(), of = box.closest('.card').getBoundingClientRect();
+            assert(left >= of.left && right <= of.right && top >= bar && bottom <= height, textOf(box) + ' is at ' + top + ' to ' + bottom + ', ' + left + ' to ' + right + when);
+          }
+        }
+      }
+    }
+    page.querySelector('#choose a[data-id=handed_past]').click();
     $('pair').click();
     assert($('pair').getAttribute('aria-pressed') === 'false' && !visible($('other')), 'the other queue stays');
     $('pair').click();
@@ -356,14 +372,24 @@ const tests = {
     assert(page.body.classList.contains('blank') && key(page.body, 'PageDown') && !page.body.classList.contains('blank'), 'b does not blank the screen');
     key(page.body, 'Home');
     await wait(300);
-    assert(view.location.hash === '#lecture=full_early&screen=0', 'the address is ' + view.location.hash);
-    view.location.hash = '#lecture=three&screen=4';
+    assert(view.location.hash === '#lecture=full_early&screen=1', 'the address is ' + view.location.hash);
+    view.location.hash = '#lecture=three&screen=5';
     await wait(50);
     assert(/marks node 1 done/.test($('lecture-text').textContent), 'the address leads to ' + $('lecture-text').textContent);
+    view.location.hash = '#lecture=lone&screen=1';
+    await wait(50);
+    $('lecture-text').querySelector('.term').dispatchEvent(new view.MouseEvent('mouseover', { bubbles: true }));
+    assert(!$('tip').hidden && key(page.body, 'PageDown') && $('tip').hidden, 'the explanation of a word stays on the next screen');
     $('lecture-lesson').value = 'take';
     $('lecture-lesson').dispatchEvent(new view.Event('change'));
     assert($('lecture-title').textContent === 'A take', 'the list of lessons leads to ' + $('lecture-title').textContent);
-    key(page.body, 'PageDown');
+    // the list of lessons keeps the keys that it uses, and not those of a clicker
+    assert(!key($('lecture-lesson'), 'ArrowDown') && !key($('lecture-lesson'), 'b') && key($('lecture-lesson'), 'PageDown') && key($('lecture-lesson'), 'PageUp'), 'the list of lessons has the wrong keys');
+    assert($('lecture-title').textContent === 'A take' && $('lecture-count').textContent === 'screen 1 of 6', 'Page down in the list of lessons leads to ' + $('lecture-title').textContent);
+    // a button that was clicked doesn't take the space of a clicker
+    $('lecture-next').focus();
+    $('lecture-next').dispatchEvent(new view.MouseEvent('click', { bubbles: true, detail: 1 }));
+    assert(page.activeElement !== $('lecture-next') && $('lecture-count').textContent === 'screen 2 of 6', 'a button that was clicked keeps the focus');
     assert(key(page.body, 'Escape') && !visible($('lecture')) && visible($('stage')) && whereOf($) === 35, 'Escape leads to ' + $('where').textContent);
     $('to-lecture').click();
     assert($('lecture-count').textContent === 'screen 2 of 6', 'the lecture begins at ' + $('lecture-count').textContent);
@@ -415,9 +441,30 @@ const tests = {
     return true;
   },
 
-  // At this size nothing scrolls sideways, and what has the focus is not covered.
+  // At this size nothing scrolls sideways, what has the focus is not covered, and the explanation of a word is on the screen and
+  // beside that word.
   covered({ $, page, view, job }) {
-    const root = page.documentElement;
+    const root = page.documentElement, is_narrow = job.width <= 900;
+    // all that a rule of the page lets scroll
+    const scrolls = [...page.styleSheets].flatMap(sheet => [...sheet.cssRules]).filter(rule => rule.style && /auto|scroll/.test(rule.style.overflowX)).map(rule => rule.selectorText).join();
+    assert(/\.strip/.test(scrolls) && /#lanes/.test(scrolls), 'what scrolls is ' + scrolls);
+    const isWhole = when => {
+      assert(page.scrollingElement.scrollWidth <= root.clientWidth, 'the page is ' + page.scrollingElement.scrollWidth + ' wide on a screen of ' + root.clientWidth + when());
+      if (!is_narrow) return;
+      for (const element of page.querySelectorAll(scrolls)) {
+        assert(element.scrollWidth <= element.clientWidth + 1, (element.getAttribute('aria-label') || element.id || element.className) + ' scrolls sideways, ' + element.scrollWidth + ' in ' + element.clientWidth + when());
+      }
+    };
+    const isBeside = term => {
+      if (!visible(term)) return;
+      term.scrollIntoView({ block: 'nearest' });
+      term.focus();
+      const tip = $('tip').getBoundingClientRect();
+      assert(tip.left >= 0 && tip.right <= root.clientWidth && tip.top >= 0 && tip.bottom <= root.clientHeight, 'the explanation of ' + term.textContent + ' is cut');
+      assert([...term.getClientRects()].every(word => word.right <= tip.left || word.left >= tip.right || word.bottom <= tip.top + 1 || word.top >= tip.bottom - 1), 'the explanation covers ' + term.textContent);
+      assert(page.elementFromPoint((tip.left + tip.right) / 2, (tip.top + tip.bottom) / 2) === $('tip'), 'the explanation of ' + term.textContent + ' is covered');
+      term.blur();
+    };
     for (const open of [() => {}, () => page.querySelector('#choose a[data-id=three]').click(), () => page.querySelector('#choose a[data-id=marked_early]').click(), () => page.querySelector('#choose a[data-of=exercise]').click(),
       () => page.querySelector('#choose a[data-id=bodies_of_words]').click()]) {
       open();
@@ -426,8 +473,9 @@ const tests = {
       for (let part = 0; part <= 4; part++) {
         $('slider').value = Math.round(at * part / 4);
         $('slider').dispatchEvent(new view.Event('input'));
-        assert(page.scrollingElement.scrollWidth <= root.clientWidth, 'the page is ' + page.scrollingElement.scrollWidth + ' wide on a screen of ' + root.clientWidth + ', at ' + textOf($('lesson-title')));
+        isWhole(() => ', at ' + textOf($('lesson-title')) + ', event ' + $('slider').value);
       }
+      page.querySelectorAll('.term').forEach(isBeside);
       for (const element of page.querySelectorAll('button, select, input, textarea, a[href], summary, [tabindex="0"]')) {
         if (!visible(element) || !element.checkVisibility() || element.closest('.skip')) continue;
         element.scrollIntoView({ block: 'nearest' });
@@ -441,7 +489,8 @@ const tests = {
     page.querySelector('#choose a[data-id=full_early]').click();
     key(page.body, 'l');
     for (let k = 0; k < 12; k++) {
-      assert(page.scrollingElement.scrollWidth <= root.clientWidth, 'screen ' + (k + 1) + ' of the lecture is ' + page.scrollingElement.scrollWidth + ' wide');
+      isWhole(() => ', at screen ' + (k + 1) + ' of the lecture');
+      $('lecture').querySelectorAll('.term').forEach(isBeside);
       key(page.body, 'PageDown');
     }
     return true;

@@ -63,10 +63,10 @@ kbd { border: 1px solid var(--edge); border-radius: 4px; padding: 0 4px; font: 1
 .good { color: var(--serve); font-weight: 600; }
 .intro { display: grid; grid-template-columns: minmax(0, 5fr) minmax(300px, 6fr); gap: 6px 24px; align-items: center; }
 .intro ol { margin: 0 0 8px; padding-left: 20px; } .intro li { margin-bottom: 5px; }
-.picture { overflow-x: auto; } .intro svg { width: 100%; min-width: 600px; max-height: 290px; height: auto; }
-.intro svg text, #turns text, #lanes text { fill: var(--ink); font: 13px system-ui, sans-serif; }
-.intro svg .node { fill: var(--back); stroke: var(--edge); stroke-width: 1.5; } .intro svg .busy { fill: var(--turn); stroke: var(--serve); }
-.intro svg .small { font-size: 13px; fill: var(--dim); }
+.picture { display: grid; grid-template-columns: 1fr 1fr; max-width: 720px; } .intro svg { display: block; width: 100%; height: auto; }
+#whole-picture text, #turns text, #lanes text { fill: var(--ink); font: 13px system-ui, sans-serif; }
+#whole-picture .node { fill: var(--back); stroke: var(--edge); stroke-width: 1.5; } #whole-picture .busy { fill: var(--turn); stroke: var(--serve); }
+#whole-picture .small { fill: var(--dim); }
 .link { stroke: var(--ink); stroke-width: 1.6; fill: none; } .tip-of-link { fill: var(--ink); stroke: none; }
 .choose { display: grid; grid-template-columns: 9fr 8fr 7fr 6fr; gap: 4px 20px; }
 #tour, #examples { columns: 2; column-gap: 24px; } .choose li { break-inside: avoid; }
@@ -120,6 +120,7 @@ kbd { border: 1px solid var(--edge); border-radius: 4px; padding: 0 4px; font: 1
 .strip { overflow-x: auto; padding-bottom: 3px; }
 .boxes { display: flex; flex-wrap: nowrap; align-items: stretch; list-style: none; margin: 0; padding: 0; width: max-content; font-size: 12.5px; }
 .boxes > li { display: flex; align-items: flex-end; }
+#stage.pair .boxes { font-size: 12px; } #stage.pair .boxes:not(.many) { flex-wrap: wrap; width: auto; }
 .parts { display: flex; flex-wrap: wrap; gap: 4px 2.2em; align-items: flex-end; } .parts > * { max-width: 100%; min-width: 0; } .outside h3 { margin: 0; }
 .boxes.loose > li { margin-right: .7em; }
 .boxes .done-one { margin-right: .6em; } .boxes .apart { border-left: 2px dotted var(--edge); padding-left: .9em; }
@@ -145,6 +146,7 @@ td, th { padding: 0 10px 0 0; border: 0; vertical-align: top; white-space: nowra
 .two { display: grid; grid-template-columns: repeat(auto-fit, minmax(min(100%, 400px), 1fr)); gap: 0 8px; align-items: start; }
 .columns { display: grid; grid-template-columns: repeat(auto-fit, minmax(min(100%, 230px), 1fr)); gap: 0 12px; }
 #sides { display: grid; grid-template-columns: minmax(0, 1fr); gap: 0 8px; align-items: start; }
+.pair .chain { min-width: 100%; } .pair .chain.idle { display: none; }
 @media (min-width: 900px) { .pair #sides, #lecture.pair #lecture-sides { grid-template-columns: minmax(0, 1fr) minmax(0, 1fr); } }
 .side { min-width: 0; } .side > h2, .side > p { padding: 0 2px; margin: 0 0 4px; } #side-event, #other-event { min-height: 2.9em; } #side-event:empty { display: none; }
 .chains { display: flex; flex-wrap: wrap; gap: 0 8px; }
@@ -187,9 +189,10 @@ body.lecture > header, body.lecture > main, body.lecture > footer, body.lecture 
 #lecture nav { gap: 8px; align-items: center; } #lecture nav button, #lecture nav select { min-height: 40px; font-size: 16px; } #lecture nav .gap { flex: 1; }
 body.blank #lecture > * { visibility: hidden; } body.blank { background: #000; }
 @media (max-width: 1180px) { .intro { grid-template-columns: minmax(0, 1fr); } .choose { grid-template-columns: 1fr 1fr; } }
-@media (max-width: 900px) { .choose { grid-template-columns: minmax(0, 1fr); } #tour, #examples { columns: auto 220px; } .choose li { margin: 2px 0; } }
+@media (max-width: 900px) { .boxes:not(.many) { flex-wrap: wrap; width: auto; } .choose { grid-template-columns: minmax(0, 1fr); } #tour, #examples { columns: auto 220px; } .choose li { margin: 2px 0; } }
 @media (max-width: 640px) {
   :root { --names: 104px; }
+  .picture { grid-template-columns: minmax(0, 1fr); max-width: 400px; }
   header, main, footer { padding-left: 8px; padding-right: 8px; }
   .card { padding: 7px 8px; }
   .pass .step span, .pass .step i.next { display: none; }
@@ -201,7 +204,7 @@ body.blank #lecture > * { visibility: hidden; } body.blank { background: #000; }
   #lecture { padding: 8px; }
   #lecture nav .gap { display: none; }
 }
-@media (max-width: 400px) { .program li span:last-child { display: none; } .pass { padding-right: 2px; gap: 2px; } }
+@media (max-width: 400px) { td, th { white-space: normal; } .program li span:last-child { display: none; } .pass { padding-right: 2px; gap: 2px; } }
 @media (prefers-reduced-motion: no-preference) {
   .box.touch, .word.touch, .end.touch { animation: flash .6s ease-out; }
   @keyframes flash { from { box-shadow: 0 0 0 6px var(--touch-line); } to { box-shadow: 0 0 0 0 transparent; } }
@@ -209,13 +212,14 @@ body.blank #lecture > * { visibility: hidden; } body.blank { background: #000; }
 @media print {
   :root { color-scheme: light; --back: #fff; --card: #fff; --ink: #000; --dim: #444; --line: #999; --edge: #555; --mark: #8c1d18; --enter: #1d4f9e; --wait: #7a4900; --serve: #125c38; --hand: #6b2d92; --answer: #075b66; --rest: #555; --touch: #fff0b8; --touch-line: #8a6700; --turn: #dcefe4; --was: #fbe4e2; --is: #dff2e6; }
   * { print-color-adjust: exact; -webkit-print-color-adjust: exact; animation: none !important; }
-  body { font-size: 10pt; } #program { columns: 2; } .part { break-inside: avoid; } .intro svg { min-width: 0; }
-  nav, #choose, footer, .skip, #player .row, #moments, #lesson .row, .more, .leap, #add, #texts, #tip, #parting button, #task .row { display: none !important; }
+  body { font-size: 10pt; } #program { columns: 2; } .part { break-inside: avoid; }
+  body:not(.begins) #intro, nav, #choose, footer, .skip, #player .row, #moments, #lesson .row, .more, .leap, #add, #texts, #tip, #parting button, #task .row { display: none !important; }
   #player, #stage > #code, #code-head { position: static; box-shadow: none; max-height: none; overflow: visible; }
   #lanes, .list, .strip { max-height: none; overflow: visible; } #cells, #turns { overflow: hidden; }
-  #law button { border: 0; padding: 0; min-height: 0; background: none; font-weight: 600; } #law .row span { padding-top: 0; } #law details:not([open]) { display: none; }
-  .card { break-inside: avoid; } .boxes { width: auto; flex-wrap: wrap; }
-  #stage { display: block; } #lecture { min-height: 0; padding: 0; }
+  #law button { border: 0; padding: 0; min-height: 0; background: none; font-weight: 600; } #law .row span { padding-top: 0; } details:not([open]), .chain.idle { display: none; }
+  .card { break-inside: avoid; } .boxes { width: auto; flex-wrap: wrap; } .program li { white-space: pre-wrap; }
+  #stage { display: block; } #lecture { min-height: 0; padding: 0; } #lecture .part .boxes { font-size: 15px; } #lecture.pair .part .boxes { font-size: 12px; }
+  .pair #sides, #lecture.pair #lecture-sides { grid-template-columns: minmax(0, 1fr) minmax(0, 1fr); }
 }
 </style>
 </head>
@@ -238,9 +242,9 @@ body.blank #lecture > * { visibility: hidden; } body.blank { background: #000; }
 <li>Each <dfn class=\"term\" tabindex=\"0\" role=\"button\" data-word=\"step\" aria-describedby=\"word-step\">step</dfn> of a pass reads or changes one word, the steps of all passes interleave in any order, and for every order it is proved that items leave in the order in which they came.</li>
 <li>On this page you choose the order: follow the tour, make the steps of each pass yourself, see what broken queues lose, and solve exercises.</li>
 </ol>
-<div class=\"picture\" tabindex=\"0\" role=\"group\" aria-label=\"picture of the chains and the list\"><svg viewBox=\"0 0 620 250\" role=\"img\" aria-label=\"Two receivers on their chain, of which the first combines and takes from the head of the list; three senders on theirs, of which the first combines and appends after the last node.\">
+<div class=\"picture\"><svg viewBox=\"0 0 310 250\" role=\"img\" aria-label=\"Two receivers on their chain, of which the first combines and takes from the head of the list; three senders on theirs, of which the first combines and appends after the last node.\">
 <defs><marker id=\"tip-of-arrow\" viewBox=\"0 0 10 10\" refX=\"9\" refY=\"5\" markerWidth=\"7\" markerHeight=\"7\" orient=\"auto\"><path class=\"tip-of-link\" d=\"M0 0L10 5L0 10z\"/></marker></defs>
-<text x=\"8\" y=\"18\">The chain of the receivers</text><text x=\"320\" y=\"18\">The chain of the senders</text>
+<g id=\"whole-picture\"><text x=\"8\" y=\"18\">The chain of the receivers</text><text x=\"320\" y=\"18\">The chain of the senders</text>
 <rect class=\"node busy\" x=\"8\" y=\"28\" width=\"74\" height=\"42\" rx=\"6\"/><text x=\"18\" y=\"46\">r1: take</text><text class=\"small\" x=\"18\" y=\"63\">serves</text>
 <rect class=\"node\" x=\"112\" y=\"28\" width=\"74\" height=\"42\" rx=\"6\"/><text x=\"122\" y=\"46\">r2: take</text><text class=\"small\" x=\"122\" y=\"63\">waits</text>
 <path class=\"link\" d=\"M82 49H110\" marker-end=\"url(#tip-of-arrow)\"/>
@@ -256,8 +260,8 @@ body.blank #lecture > * { visibility: hidden; } body.blank { background: #000; }
 <path class=\"link\" d=\"M162 190H198\" marker-end=\"url(#tip-of-arrow)\"/><path class=\"link\" d=\"M292 190H328\" marker-end=\"url(#tip-of-arrow)\"/><path class=\"link\" d=\"M422 190H458\" marker-end=\"url(#tip-of-arrow)\"/>
 <path class=\"link\" d=\"M45 70C45 125 116 110 116 168\" marker-end=\"url(#tip-of-arrow)\"/><text x=\"126\" y=\"128\">r1 takes 4, the oldest item</text>
 <path class=\"link\" d=\"M357 70C357 125 506 105 506 168\" marker-end=\"url(#tip-of-arrow)\"/><text x=\"446\" y=\"100\">s1 appends 7, 8 and 9</text>
-<text class=\"small\" x=\"98\" y=\"226\">head</text><text class=\"small\" x=\"494\" y=\"226\">last</text>
-</svg></div>
+<text class=\"small\" x=\"98\" y=\"226\">head</text><text class=\"small\" x=\"494\" y=\"226\">last</text></g>
+</svg><svg viewBox=\"310 0 310 250\" aria-hidden=\"true\"><use href=\"#whole-picture\"/></svg></div>
 </div>
 </section>
 <section class=\"card\" id=\"choose\" aria-labelledby=\"choose-title\">
@@ -1579,6 +1583,7 @@ function chain(run, x) {
   const done = inside.filter(row => state(stands[row].node) === 2).slice(0, 24).map(row => box(row, 'done'));
   const spare = rows.filter(row => OUTSIDE.has(stands[row].place.is));
   return { x, name, head, boxes, done, is_used: rows.some(row => stands[row].made > 0 || run.nextCall(row, 0)),
+    is_busy: boxes.length > 1 || done.length > 0,
     spare: spare.slice(0, 24).map(row => ({ key: name + ' ' + stands[row].node, text: passName(row) + ': node ' + stands[row].node, touch: isTouched(run, 'node', x, stands[row].node) })), more_spare: Math.max(0, spare.length - 24) };
 }
 
@@ -1772,6 +1777,9 @@ function broken(run, upTo = run.now) {
   return found;
 }
 
+// What the player says of them: the first one, and how many others.
+const banner = ([first, ...others]) => first ? 'Broken: ' + first.text.replace(/\\.$/, '') + ' (event ' + first.event + ')' + (others.length ? ', and ' + plural(others.length, 'other law') : '') + '.' : '';
+
 // The order of all decided calls, each at the event at which it takes effect.
 function order(run) {
   const { effects, fault } = run.order();
@@ -1829,7 +1837,7 @@ function task(run, { goal }) {
     : goal.returns === 'Empty' ? 'the take of ' + run.passName(e.row) + ' returns empty, and an accepted item is in the queue.' : 'the send of ' + run.passName(e.row) + ' returns full, and a list node is free.') };
 }
 
-return { answerOf, chainName, requestText, valueText, wordText, event, pass, waits, chain, list, PROGRAM, BROKEN_LINES, WORDS_OF, program, placeOf, layOut, turnTitle, waitText, broken, order, parting, lessonPart, screens, stepsOf, makeSteps, task, plural };
+return { answerOf, chainName, requestText, valueText, wordText, event, pass, waits, chain, list, PROGRAM, BROKEN_LINES, WORDS_OF, program, placeOf, layOut, turnTitle, waitText, broken, banner, order, parting, lessonPart, screens, stepsOf, makeSteps, task, plural };
 })();
 </script>
 <script type=\"text/plain\" id=\"report\">";
@@ -1940,22 +1948,22 @@ const arrowText = ({ kind, text }) => '<span class=\"arrow ' + kind + '\">' + (k
 const boxText = (box, of, kind = '') => '<li' + kind + '>' + (box.more ? '<span class=\"arrow\">' + box.more + ' more' + ACROSS + '</span>' : '')
   + '<span class=\"stack\"><span class=\"ends\">' + box.ends.map(end => endText(end, of)).join('') + '</span><span class=\"box ' + box.role + (box.touch ? ' touch' : '') + '\" data-key=\"' + box.key + '\">'
   + box.lines.map((line, k) => k === 0 ? '<b>' + line + '</b>' : '<span class=\"line' + (k > 1 ? ' dim' : '') + '\">' + line + '</span>').join('') + '</span></span>' + (box.arrow ? arrowText(box.arrow) : '') + '</li>';
-const stripText = (boxes, name, loose = '') => '<div class=\"strip\" tabindex=\"0\" role=\"group\" aria-label=\"' + name + '\"><ol class=\"boxes' + loose + '\">' + boxes + '</ol></div>';
+const stripText = (boxes, name, loose = '') => '<div class=\"strip\" tabindex=\"0\" role=\"group\" aria-label=\"' + name + '\"><ol class=\"boxes' + loose + (boxes.length > 8 ? ' many' : '') + '\">' + boxes.join('') + '</ol></div>';
 
 // A chain: the nodes that are marked done, and apart from them those that wait, and the node in the tail.
 function chainText(told, with_spare) {
-  const boxes = told.done.map(box => boxText({ ...box, ends: [...box.ends, { kind: 'note', text: 'marked done' }] }, box.key, ' class=\"done-one\"')).join('')
-    + told.boxes.map((box, k) => boxText(box, told.name, k === 0 && told.done.length ? ' class=\"apart\"' : '')).join('');
+  const boxes = told.done.map(box => boxText({ ...box, ends: [...box.ends, { kind: 'note', text: 'marked done' }] }, box.key, ' class=\"done-one\"')).concat(
+    told.boxes.map((box, k) => boxText(box, told.name, k === 0 && told.done.length ? ' class=\"apart\"' : '')));
   return '<p class=\"head\">' + told.head.map(marked).join(' ') + '</p><div class=\"nodes\">' + stripText(boxes, 'nodes of the ' + told.name)
     + (with_spare && told.spare.length ? '<div class=\"words\"><span class=\"dim\">in no chain:</span>' + told.spare.map(one => '<span class=\"word' + (one.touch ? ' touch' : '') + '\" data-key=\"' + one.key + '\">' + one.text + '</span>').join('')
       + (told.more_spare ? '<span class=\"dim\">and ' + told.more_spare + ' more</span>' : '') + '</div>' : '') + '</div>';
 }
 
 function listText(told, with_words) {
-  const more = told.more ? '<li class=\"dim\">and ' + told.more + ' more</li>' : '';
+  const more = told.more ? ['<li class=\"dim\">and ' + told.more + ' more</li>'] : [];
   return (with_words ? '<div class=\"words\">' + told.words.map(word => '<span class=\"word' + (word.touch ? ' touch' : '') + '\">' + word.name + ' <b>' + word.text + '</b></span>').join('') + '</div>' : '')
-    + '<div class=\"parts\">' + told.rows.map(boxes => stripText(boxes.map(box => box.lines ? boxText(box, 'list') : '<li><span class=\"arrow\">' + box.more + ' more' + ACROSS + '</span></li>').join(''), 'nodes of the list')).join('')
-    + (told.outside ? '<div class=\"outside\"><h3>' + plural(told.outside, 'node') + ' outside the list</h3>' + stripText(told.free.map(box => boxText(box, 'list')).join('') + more, 'nodes outside the list', ' loose') + '</div>' : '') + '</div>';
+    + '<div class=\"parts\">' + told.rows.map(boxes => stripText(boxes.map(box => box.lines ? boxText(box, 'list') : '<li><span class=\"arrow\">' + box.more + ' more' + ACROSS + '</span></li>'), 'nodes of the list')).join('')
+    + (told.outside ? '<div class=\"outside\"><h3>' + plural(told.outside, 'node') + ' outside the list</h3>' + stripText([...told.free.map(box => boxText(box, 'list')), ...more], 'nodes outside the list', ' loose') + '</div>' : '') + '</div>';
 }
 
 // Scrolls the row of boxes that has the touched one to it.
@@ -1981,7 +1989,7 @@ function drawSide(shown, prefix) {
     const place = $(x < 0 || x === first || prefix ? prefix + 'chains' : 'more-chains');
     if (card.parentElement !== place) place.append(card);
     card.style.order = x < 0 ? 0 : x === first ? 1 : 2;
-    card.classList.toggle('idle', !told.is_used);
+    card.classList.toggle('idle', !(pair ? told.is_busy || x === (shown.now ? shown.events[shown.now - 1].x : -1) : told.is_used));
     // a card is as wide as what is in it asks for
     card.style.flexGrow = told.is_used ? [...told.boxes, ...told.done].reduce((sum, box) => sum + 6 + Math.max(...box.lines.map(line => line.length)), told.spare.length ? 20 : 0) : '';
     if (show(id, chainText(told, true))) showTouched($(id));
@@ -2105,7 +2113,7 @@ function drawNames() {
 // What the lanes show: the columns from `lo` up to `hi`, the one of the newest event, and the lane of each row.
 function viewOfLanes() {
   const { column, first } = layOut();
-  const cell = sizes.narrow ? 29 : 52;
+  const cell = sizes.narrow ? 29 : 56;
   const width = Math.max(sizes.cells, 4 * cell);
   const fits = Math.floor(width / cell);
   const here = run.now > 0 ? column[run.now - 1] : 0;
@@ -2250,7 +2258,7 @@ const stepsOf = text => text === '' ? [] : text.split('-').map(part => part.spli
 // The address of the run up to this event: of its lesson, of the exercise, of the program's text, or of a plan.
 function placeText() {
   const table = run.variant ? '&table=' + run.variant : '';
-  if (lecture) return '#lecture=' + lecture.lesson.id + '&screen=' + lecture.at;
+  if (lecture) return '#lecture=' + lecture.lesson.id + '&screen=' + (lecture.at + 1);
   if (source.exercise) return '#exercise=' + source.exercise.id + '&steps=' + stepsText(stepsBy()) + '&event=' + run.now;
   if (source.lesson && run.chosen === 0) return '#lesson=' + source.lesson.id + (source.lesson.table && !run.variant ? '&table=right' : '') + '&event=' + run.now;
   if (source.is_own && run.chosen === 0) return '#event=' + run.now;
@@ -2329,7 +2337,7 @@ function draw() {
   const kind = run.now > 0 ? ' <span class=\"dim\">(' + run.events[run.now - 1].kind + ')</span>' : ' Press <b>next</b>, <b>play</b>, or a pass.';
   show('event', sentenceOf(run) + kind);
   const broken = Telling.broken(run);
-  if (show('breaks', broken.length ? 'Broken: ' + broken.map(one => one.text + ' (event ' + one.event + ')').join(' ') : '')) measure();
+  if (show('breaks', Telling.banner(broken))) measure();
   drawNames();
   drawSides();
   const view = viewOfLanes();
@@ -2375,6 +2383,7 @@ function drawLecture() {
   shown.goTo(screen.event);
   if (two) lecture.pair.follow();
   const sides = two ? [shown, lecture.pair.run] : [shown];
+  hideTip();
   $('lecture-title').textContent = screen.title;
   $('lecture-count').textContent = 'screen ' + (at + 1) + ' of ' + screens.length;
   if ($('lecture-text').dataset.of !== lesson.id + at) { $('lecture-text').dataset.of = lesson.id + at; $('lecture-text').innerHTML = marked(screen.text); }
@@ -2538,6 +2547,7 @@ function cardsOf(prefix) {
 // Shows a run from an event on. `from` says what it is of: a lesson, an exercise, the program's text, or a plan.
 function openRun(opened, from, event) {
   play(false);
+  hideTip();
   use(opened);
   source = from;
   drawn = {};
@@ -2552,6 +2562,7 @@ function openRun(opened, from, event) {
   $('add').hidden = true;
   choosePass(0);
   const { lesson, exercise } = from, { title, text } = lesson ? part() : exercise || { title: from.title, text: '' };
+  document.body.classList.toggle('begins', !!from.is_own);
   $('lesson-title').textContent = lesson ? (lesson.kind === 'tour' ? 'Stop ' + (TOUR.indexOf(lesson) + 1) + ' of ' + TOUR.length + ': ' : '') + title : (exercise ? 'Exercise: ' : '') + title + (from.is_own && !run.faults.length ? ', played by this page too, with the same events and report' : '');
   $('lesson-text').innerHTML = marked(text);
   $('stop-before').hidden = $('stop-next').hidden = !(lesson && lesson.kind === 'tour');
@@ -2620,7 +2631,7 @@ function fromAddress() {
   const numberOf = name => /^\\d+$/.test(words.get(name) || '') ? Number(words.get(name)) : null;
   const event = numberOf('event'), table = words.get('table');
   document.body.classList.toggle('bare', words.get('view') === 'run');
-  if (words.has('lecture') && openLecture(words.get('lecture'), numberOf('screen') || 0)) return false;
+  if (words.has('lecture') && openLecture(words.get('lecture'), (numberOf('screen') || 1) - 1)) return false;
   if (lecture) { lecture = null; document.body.classList.remove('lecture', 'blank'); $('lecture').hidden = true; }
   if (words.has('exercise') && openExercise(words.get('exercise'), stepsOf(words.get('steps') || ''), event)) return true;
   if (words.has('lesson') && openLesson(words.get('lesson'), event === null ? 0 : event, table)) return true;
@@ -2715,6 +2726,8 @@ $('lecture-back').addEventListener('click', () => toScreen(-1));
 $('lecture-next').addEventListener('click', () => toScreen(1));
 $('lecture-leave').addEventListener('click', leaveLecture);
 $('lecture-full').addEventListener('click', fullScreen);
+// after a click the keys lead on, and don't press that button once more
+$('lecture').addEventListener('click', click => { const button = click.detail > 0 && click.target.closest('button'); if (button) button.blur(); });
 $('lecture-lesson').addEventListener('change', () => openLecture($('lecture-lesson').value, 0));
 $('caller').addEventListener('change', () => choosePass(Number($('caller').value)));
 $('add').addEventListener('submit', submit => {
@@ -2786,10 +2799,11 @@ function isTyped(target, name) {
   if (target.closest('select')) return name !== ' ';
   return name === ' ' && target.closest('input[type=checkbox], input[type=file]');
 }
-// The keys of a lecture. A button that has the focus is pressed by Enter and space.
+// The keys of a lecture. A button that has the focus is pressed by Enter and space, and the list of lessons uses all but the keys below.
 const SCREEN_KEYS = { ArrowRight: 1, ArrowDown: 1, PageDown: 1, ' ': 1, Enter: 1, n: 1, ArrowLeft: -1, ArrowUp: -1, PageUp: -1, Backspace: -1, p: -1 };
 function lectureKey(key) {
-  if (key.target.closest('button, select') && ['Enter', ' ', 'ArrowUp', 'ArrowDown'].includes(key.key)) return;
+  if (key.target.closest('button') && ['Enter', ' '].includes(key.key)) return;
+  if (key.target.closest('select') && !['PageDown', 'PageUp', 'ArrowRight', 'ArrowLeft', 'Escape'].includes(key.key)) return;
   const others = { Home: () => openLecture(lecture.lesson.id, 0), End: () => openLecture(lecture.lesson.id, Infinity), Escape: leaveLecture, l: leaveLecture, f: fullScreen, b: blank, '.': blank };
   const blanked = document.body.classList.contains('blank');
   if (!SCREEN_KEYS[key.key] && !others[key.key]) return;
@@ -2801,8 +2815,9 @@ function lectureKey(key) {
 const blank = () => document.body.classList.toggle('blank');
 document.addEventListener('keydown', key => {
   if (key.key === 'Escape') hideTip();
-  if (key.ctrlKey || key.metaKey || key.altKey || !key.target.closest || isTyped(key.target, key.key)) return;
+  if (key.ctrlKey || key.metaKey || key.altKey || !key.target.closest) return;
   if (lecture) { lectureKey(key); return; }
+  if (isTyped(key.target, key.key)) return;
   const moves = { ArrowRight: 'next', ArrowLeft: 'back', d: 'after', D: 'before' };
   if (key.target.closest('#player')) Object.assign(moves, { PageDown: 'after', PageUp: 'before', Home: 'first', End: 'last' });
   const others = { ' ': () => play(!playing), n: () => toStop(1), p: () => toStop(-1), m: () => toMoment(1), M: () => toMoment(-1), l: toLecture };
