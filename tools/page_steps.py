@@ -348,7 +348,8 @@ def javascript(parameters, cases):
         returns = [(f"if ({' && '.join(test)}) " if test else "") + f"return {value};" for test, (_, _, value) in zip(tests, cases)]
         return head + " {\n  " + "\n  ".join(returns) + "\n}"
     *broken, (_, _, value) = cases
-    value = "".join(f"variant === '{variant}' ? {other} : " for variant, _, other in broken) + value
+    if broken:
+        return head + "\n  " + "".join(f"variant === '{variant}' ? {other}\n  : " for variant, _, other in broken) + value
     return head + (f" ({value})" if value.startswith("{") else f" {value}")
 
 
@@ -392,6 +393,25 @@ def shown(text):
     return re.sub(r"\b(?:Phase|Kind|Word|NodeField|ItemField|Object|Answer|SendAnswer|TakeAnswer)\.", "", text)
 
 
+def wrapped(line):
+    """A line of JavaScript of more than 160 columns as several: each goes on before an operator or after a comma, outside of all texts
+    and inside as few brackets as possible."""
+    lines, indent = [], re.match(" *", line)[0]
+    while len(line) > 160:
+        quoted, depth, places = False, 0, []
+        for k, sign in enumerate(line):
+            quoted ^= sign == "'"
+            depth += 0 if quoted else (sign in "([{") - (sign in ")]}")
+            if k > len(indent) + 40 and not quoted and (line[k - 1: k + 1] == ", " or re.match(r" (\?|:|&&) ", line[k:])):
+                places.append((k > 160, depth, -k))
+        if not places or min(places)[0]:
+            break
+        at = -min(places)[2]
+        lines.append(line[:at])
+        line = indent + "  " + line[at + 1:]
+    return "\n".join([*lines, line])
+
+
 def machine():
     names, found, left = Names(), {}, list(WANTED)
     while left:
@@ -408,6 +428,7 @@ def machine():
         broken.setdefault(place, []).append((variant, cases))
     texts = {place: javascript(given, merged(place, cases, broken.get(place, []))) for place, (given, cases, _) in found.items()}
     table = "".join(f"const {place[1]}_{place[2]} = {text};\n" for place, text in sorted(texts.items()))
+    table = "".join(wrapped(line) + "\n" for line in table.splitlines())
     wanted = ", ".join(f"{module}_{name}" for _, module, name in WANTED)
     return (HEAD + "const CHANGES = " + json.dumps(shows, indent=1) + ";\nconst tableOf = variant => {\n" + table
             + f"return {{ {wanted} }};\n}};\n")

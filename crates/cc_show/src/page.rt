@@ -58,7 +58,8 @@ input[type=checkbox] { width: 20px; height: 20px; margin: 6px; vertical-align: m
 summary { font-weight: 600; min-height: 32px; padding: 5px 0; }
 kbd { border: 1px solid var(--edge); border-radius: 4px; padding: 0 4px; font: 12.5px ui-monospace, monospace; }
 .term { border-bottom: 1px dotted currentColor; font-style: normal; cursor: help; }
-#tip { position: absolute; z-index: 20; max-width: min(320px, 94vw); background: var(--ink); color: var(--card); border-radius: 6px; padding: 6px 10px; font-size: 13px; }
+#tip { position: absolute; z-index: 20; max-width: min(320px, 94vw); background: var(--ink); color: var(--card); border-radius: 6px; padding: 6px 10px;
+  font-size: 13px; }
 .bad { background: var(--mark); color: var(--card); padding: 8px 12px; border-radius: 8px; margin: 0 0 8px; font-weight: 600; }
 .good { color: var(--serve); font-weight: 600; }
 .intro { display: grid; grid-template-columns: minmax(0, 5fr) minmax(300px, 6fr); gap: 6px 24px; align-items: center; }
@@ -85,12 +86,15 @@ kbd { border: 1px solid var(--edge); border-radius: 4px; padding: 0 4px; font: 1
   #event { min-height: 1.45em; }
   #stage { grid-template-columns: minmax(0, 1fr) 436px; grid-template-rows: auto auto auto auto auto auto 1fr; }
   #stage > * { grid-column: 1; } #stage > #player { grid-column: 1 / -1; }
-  #stage > #code { grid-column: 2; grid-row: 2 / span 6; align-self: start; position: sticky; top: calc(var(--bar) + 8px); max-height: calc(100vh - var(--bar) - 34px); overflow: auto; }
-  #stage:not(.pair) .side .parts { flex-wrap: nowrap; } #stage:not(.pair) .side .outside { flex: 1 100 0; min-width: 180px; } .side .parts > .strip { flex: 0 1 auto; }
+  #stage > #code { grid-column: 2; grid-row: 2 / span 6; align-self: start; position: sticky; top: calc(var(--bar) + 8px);
+    max-height: calc(100vh - var(--bar) - 34px); overflow: auto; }
+  #stage:not(.pair) .side .parts { flex-wrap: nowrap; } #stage:not(.pair) .side .outside { flex: 1 100 0; min-width: 180px; }
+  .side .parts > .strip { flex: 0 1 auto; }
   #stage.pair > #lesson, #stage.pair > #sides { grid-column: 1 / -1; } #stage.pair > #code { grid-row: 4 / span 4; }
 }
 /* On a low screen, as at 200 %, the player scrolls with the page. */
-@media (max-height: 520px), (max-width: 640px) and (max-height: 700px) { #player { position: static; } #stage > #code { position: static; max-height: none; } html { scroll-padding-top: 8px; } }
+@media (max-height: 520px), (max-width: 640px) and (max-height: 700px) { #player { position: static; } #stage > #code { position: static; max-height: none; }
+  html { scroll-padding-top: 8px; } }
 .top { display: flex; flex-wrap: wrap; gap: 2px 16px; align-items: center; justify-content: space-between; }
 #body { width: 10.5em; }
 #hint { color: var(--wait); font-weight: 600; }
@@ -127,17 +131,23 @@ kbd { border: 1px solid var(--edge); border-radius: 4px; padding: 0 4px; font: 1
 .stack { display: flex; flex-direction: column; justify-content: flex-end; }
 .ends { display: flex; gap: .7em; justify-content: center; min-height: 2.7em; align-items: flex-end; }
 .end { display: flex; flex-direction: column; align-items: center; line-height: 1.2; font-weight: 600; color: var(--enter); white-space: nowrap; }
-.end.tail { color: var(--answer); } .end.cursor { color: var(--hand); } .end.looks { color: var(--wait); } .end.serves { color: var(--serve); } .end.note { color: var(--dim); font-weight: 400; }
+.end.tail { color: var(--answer); } .end.cursor { color: var(--hand); } .end.looks { color: var(--wait); } .end.serves { color: var(--serve); }
+.end.note { color: var(--dim); font-weight: 400; }
 .end.touch { background: var(--touch); color: var(--ink); border-radius: 4px 4px 0 0; padding: 0 4px; }
-.end svg { width: 1.1em; height: 1.1em; } .end svg path { stroke: currentColor; stroke-width: 2; fill: none; } .end svg .tip-of-link { fill: currentColor; stroke: none; }
-.box { display: block; border: 1.5px solid var(--edge); border-radius: 6px; padding: .15em .6em; line-height: 1.35; background: var(--back); min-width: 6.6em; white-space: nowrap; }
+.end svg { width: 1.1em; height: 1.1em; } .end svg path { stroke: currentColor; stroke-width: 2; fill: none; }
+.end svg .tip-of-link { fill: currentColor; stroke: none; }
+.box { display: block; border: 1.5px solid var(--edge); border-radius: 6px; padding: .15em .6em; line-height: 1.35; background: var(--back); min-width: 6.6em;
+  white-space: nowrap; }
 .box.touch, tr.touch td, .word.touch { background: var(--touch); border-color: var(--touch-line); }
 .box.touch .dim, tr.touch .pending { color: var(--ink); }
 .box.serve { border-color: var(--serve); border-width: 2.5px; } .box.wait { border-color: var(--wait); }
-.box.done, .box.dummy { border-style: dashed; } .box.free { border-style: dotted; color: var(--dim); } .box.prepare { border-color: var(--hand); border-style: dashed; border-width: 2px; }
+.box.done, .box.dummy { border-style: dashed; } .box.free { border-style: dotted; color: var(--dim); }
+.box.prepare { border-color: var(--hand); border-style: dashed; border-width: 2px; }
 .line { display: block; }
-.arrow { flex: none; align-self: flex-end; padding: 0 .25em; margin-bottom: 1.5em; color: var(--dim); white-space: nowrap; display: flex; flex-direction: column; align-items: center; }
-.arrow svg { display: block; width: 2.8em; height: 1.1em; } .arrow.none { color: var(--wait); } .arrow.none .link { stroke: var(--wait); stroke-dasharray: 3 3; }
+.arrow { flex: none; align-self: flex-end; padding: 0 .25em; margin-bottom: 1.5em; color: var(--dim); white-space: nowrap; display: flex;
+  flex-direction: column; align-items: center; }
+.arrow svg { display: block; width: 2.8em; height: 1.1em; } .arrow.none { color: var(--wait); }
+.arrow.none .link { stroke: var(--wait); stroke-dasharray: 3 3; }
 .arrow.wrong { color: var(--mark); font-weight: 600; }
 .words { display: flex; flex-wrap: wrap; gap: 3px 5px; margin-top: 6px; }
 .word { border: 1px solid var(--line); border-radius: 5px; padding: 1px 6px; font-size: 12.5px; }
@@ -148,12 +158,15 @@ td, th { padding: 0 10px 0 0; border: 0; vertical-align: top; white-space: nowra
 #sides { display: grid; grid-template-columns: minmax(0, 1fr); gap: 0 8px; align-items: start; }
 .pair .chain { min-width: 100%; } .pair .chain.idle { display: none; }
 @media (min-width: 900px) { .pair #sides, #lecture.pair #lecture-sides { grid-template-columns: minmax(0, 1fr) minmax(0, 1fr); } }
-.side { min-width: 0; } .side > h2, .side > p { padding: 0 2px; margin: 0 0 4px; } #side-event, #other-event { min-height: 2.9em; } #side-event:empty { display: none; }
+.side { min-width: 0; } .side > h2, .side > p { padding: 0 2px; margin: 0 0 4px; } #side-event, #other-event { min-height: 2.9em; }
+#side-event:empty { display: none; }
 .chains { display: flex; flex-wrap: wrap; gap: 0 8px; }
-.chain { flex: 1 1 0; min-width: min(100%, 260px); } .chain h2, .chain > div, .chain .head { display: inline; } .chain h2 { margin-right: 8px; } .chain .head { color: var(--dim); font-size: 13px; }
+.chain { flex: 1 1 0; min-width: min(100%, 260px); } .chain h2, .chain > div, .chain .head { display: inline; } .chain h2 { margin-right: 8px; }
+.chain .head { color: var(--dim); font-size: 13px; }
 .chain.idle { flex: 0 1 auto; min-width: 0; align-self: flex-start; } .chain.idle .nodes { display: none; }
 .nodes { display: flex; flex-wrap: wrap; gap: 0 16px; align-items: flex-end; } .nodes > * { min-width: 0; max-width: 100%; } .nodes .words { margin: 0 0 6px; }
-.of-list h2, .of-list > div, .of-list > div > .words { display: inline; } .of-list .word { display: inline-block; margin: 0 4px 3px 0; } .of-list h2 { margin-right: 8px; }
+.of-list h2, .of-list > div, .of-list > div > .words { display: inline; } .of-list .word { display: inline-block; margin: 0 4px 3px 0; }
+.of-list h2 { margin-right: 8px; }
 .list { position: relative; max-height: 190px; overflow: auto; }
 .pending { color: var(--wait); }
 .program { list-style: none; margin: 0; padding: 0; font: 12.5px/1.5 ui-monospace, \"DejaVu Sans Mono\", Menlo, monospace; }
@@ -164,7 +177,8 @@ td, th { padding: 0 10px 0 0; border: 0; vertical-align: top; white-space: nowra
 #code-head { position: sticky; top: -8px; margin-top: -8px; padding-top: 8px; background: var(--card); }
 #holds { border-bottom: 1px solid var(--line); padding-bottom: 3px; min-height: 5em; } .part:first-child h3 { margin-top: 5px; }
 #law .row { flex-wrap: nowrap; align-items: flex-start; } #law .row button { flex: none; } #law .row span { padding-top: 5px; }
-.change { font-size: 12.5px; white-space: pre-wrap; overflow-wrap: anywhere; margin: 2px 0; padding: 2px 6px; border-radius: 4px; display: block; text-decoration: none; }
+.change { font-size: 12.5px; white-space: pre-wrap; overflow-wrap: anywhere; margin: 2px 0; padding: 2px 6px; border-radius: 4px; display: block;
+  text-decoration: none; }
 del.change { background: var(--was); } ins.change { background: var(--is); }
 pre, textarea { margin: 0; max-height: 320px; overflow: auto; white-space: pre-wrap; overflow-wrap: anywhere; }
 textarea { display: block; width: 100%; height: 7em; padding: 4px 8px; }
@@ -174,22 +188,26 @@ footer { padding-bottom: 24px; font-size: 13px; }
 body.bare header, body.bare #intro, body.bare #choose, body.bare footer { display: none; } body.bare main { padding-top: 8px; }
 /* The lecture: one moment a screen. */
 body.lecture > header, body.lecture > main, body.lecture > footer, body.lecture > .skip { display: none; }
-#lecture { min-height: 100vh; display: grid; grid-template-columns: minmax(0, 1fr); grid-template-rows: auto auto 1fr auto auto; gap: 8px; padding: 14px 26px; max-width: 1680px; margin: 0 auto; }
+#lecture { min-height: 100vh; display: grid; grid-template-columns: minmax(0, 1fr); grid-template-rows: auto auto 1fr auto auto; gap: 8px; padding: 14px 26px;
+  max-width: 1680px; margin: 0 auto; }
 #lecture h2 { font-size: clamp(20px, 2.3vw, 34px); line-height: 1.2; margin: 0; } #lecture .top { align-items: baseline; }
 #lecture-count { font-size: clamp(14px, 1.3vw, 20px); color: var(--dim); white-space: nowrap; }
 #lecture-text { font-size: clamp(18px, 2vw, 30px); line-height: 1.35; margin: 0; min-height: 1.35em; }
 #lecture-sides { display: grid; grid-template-columns: minmax(0, 1fr); gap: 10px 26px; align-items: center; }
 #lecture h3 { font-size: clamp(15px, 1.35vw, 20px); margin: 0 0 2px; font-weight: 400; } #lecture .side > h2 { font-size: clamp(17px, 1.6vw, 24px); }
-#lecture .part-chain .boxes { font-size: var(--of-chain, 20px); } #lecture .part-list .boxes { font-size: var(--of-list, 20px); } #lecture.pair h3 { font-size: clamp(14px, 1.1vw, 18px); } #lecture.pair #lecture-sides { align-items: start; } #lecture.pair .part { margin-bottom: 4px; }
+#lecture .part-chain .boxes { font-size: var(--of-chain, 20px); } #lecture .part-list .boxes { font-size: var(--of-list, 20px); }
+#lecture.pair h3 { font-size: clamp(14px, 1.1vw, 18px); } #lecture.pair #lecture-sides { align-items: start; } #lecture.pair .part { margin-bottom: 4px; }
 #lecture .part { margin-bottom: 10px; }
-#lecture-line { margin: 0; min-height: 3.4em; font-size: clamp(16px, 1.75vw, 26px); display: grid; grid-template-columns: repeat(auto-fit, minmax(min(100%, 420px), 1fr)); gap: 4px 26px; align-items: center; }
+#lecture-line { margin: 0; min-height: 3.4em; font-size: clamp(16px, 1.75vw, 26px); display: grid;
+  grid-template-columns: repeat(auto-fit, minmax(min(100%, 420px), 1fr)); gap: 4px 26px; align-items: center; }
 #lecture-line p { margin: 0; background: var(--touch); border-left: 6px solid var(--touch-line); border-radius: 4px; padding: 4px 14px; }
 #lecture-line span { color: var(--dim); font-size: .75em; margin-right: 1em; } #lecture-line p span { color: var(--ink); }
 #lecture-line code { font-size: .95em; white-space: pre-wrap; font-weight: 600; }
 #lecture nav { gap: 8px; align-items: center; } #lecture nav button, #lecture nav select { min-height: 40px; font-size: 16px; } #lecture nav .gap { flex: 1; }
 body.blank #lecture > * { visibility: hidden; } body.blank { background: #000; }
 @media (max-width: 1180px) { .intro { grid-template-columns: minmax(0, 1fr); } .choose { grid-template-columns: 1fr 1fr; } }
-@media (max-width: 900px) { .boxes:not(.many) { flex-wrap: wrap; width: auto; } .choose { grid-template-columns: minmax(0, 1fr); } #tour, #examples { columns: auto 220px; } .choose li { margin: 2px 0; } }
+@media (max-width: 900px) { .boxes:not(.many) { flex-wrap: wrap; width: auto; } .choose { grid-template-columns: minmax(0, 1fr); }
+  #tour, #examples { columns: auto 220px; } .choose li { margin: 2px 0; } }
 @media (max-width: 640px) {
   :root { --names: 104px; }
   .picture { grid-template-columns: minmax(0, 1fr); max-width: 400px; }
@@ -210,13 +228,16 @@ body.blank #lecture > * { visibility: hidden; } body.blank { background: #000; }
   @keyframes flash { from { box-shadow: 0 0 0 6px var(--touch-line); } to { box-shadow: 0 0 0 0 transparent; } }
 }
 @media print {
-  :root { color-scheme: light; --back: #fff; --card: #fff; --ink: #000; --dim: #444; --line: #999; --edge: #555; --mark: #8c1d18; --enter: #1d4f9e; --wait: #7a4900; --serve: #125c38; --hand: #6b2d92; --answer: #075b66; --rest: #555; --touch: #fff0b8; --touch-line: #8a6700; --turn: #dcefe4; --was: #fbe4e2; --is: #dff2e6; }
+  :root { color-scheme: light; --back: #fff; --card: #fff; --ink: #000; --dim: #444; --line: #999; --edge: #555; --mark: #8c1d18; --enter: #1d4f9e;
+    --wait: #7a4900; --serve: #125c38; --hand: #6b2d92; --answer: #075b66; --rest: #555; --touch: #fff0b8; --touch-line: #8a6700; --turn: #dcefe4;
+    --was: #fbe4e2; --is: #dff2e6; }
   * { print-color-adjust: exact; -webkit-print-color-adjust: exact; animation: none !important; }
   body { font-size: 10pt; } #program { columns: 2; } .part { break-inside: avoid; }
   body:not(.begins) #intro, nav, #choose, footer, .skip, #player .row, #moments, #lesson .row, .more, .leap, #add, #texts, #tip, #parting button, #task .row { display: none !important; }
   #player, #stage > #code, #code-head { position: static; box-shadow: none; max-height: none; overflow: visible; }
   #lanes, .list, .strip { max-height: none; overflow: visible; } #cells, #turns { overflow: hidden; }
-  #law button { border: 0; padding: 0; min-height: 0; background: none; font-weight: 600; } #law .row span { padding-top: 0; } details:not([open]), .chain.idle { display: none; }
+  #law button { border: 0; padding: 0; min-height: 0; background: none; font-weight: 600; } #law .row span { padding-top: 0; }
+  details:not([open]), .chain.idle { display: none; }
   .card { break-inside: avoid; } .boxes { width: auto; flex-wrap: wrap; } .program li { white-space: pre-wrap; }
   #stage { display: block; } #lecture { min-height: 0; padding: 0; } #lecture .part .boxes { font-size: 15px; } #lecture.pair .part .boxes { font-size: 12px; }
   .pair #sides, #lecture.pair #lecture-sides { grid-template-columns: minmax(0, 1fr) minmax(0, 1fr); }
@@ -227,7 +248,8 @@ body.blank #lecture > * { visibility: hidden; } body.blank { background: #000; }
 <a class=\"skip\" href=\"#stage\">To the run</a>
 <header>
 <h1>CC-Queue, step by step</h1>
-<nav aria-label=\"Parts of this page\"><a href=\"#choose\">Tour and exercises</a><a href=\"#stage\">The run</a><a href=\"#lecture=lone\">Lecture</a><a href=\"#own\">Your own queue</a><a href=\"#glossary\">Words</a><a href=\"#keys\">Keys</a></nav>
+<nav aria-label=\"Parts of this page\"><a href=\"#choose\">Tour and exercises</a><a href=\"#stage\">The run</a><a href=\"#lecture=lone\">Lecture</a>
+<a href=\"#own\">Your own queue</a><a href=\"#glossary\">Words</a><a href=\"#keys\">Keys</a></nav>
 </header>
 <main>
 <noscript><p class=\"bad\">The pictures are drawn by the script of this page, which is turned off. The events and the report are in its source.</p></noscript>
@@ -236,13 +258,23 @@ body.blank #lecture > * { visibility: hidden; } body.blank { background: #000; }
 <h2 id=\"intro-title\">The algorithm in five sentences</h2>
 <div class=\"intro\">
 <ol>
-<li>CC-Queue is a first-in, first-out queue that many threads use at once: each <dfn class=\"term\" tabindex=\"0\" role=\"button\" data-word=\"pass\" aria-describedby=\"word-pass\">pass</dfn> is one of them, a sender that appends items or a receiver that takes them.</li>
-<li>Senders don't contend for a lock: each swaps a <dfn class=\"term\" tabindex=\"0\" role=\"button\" data-word=\"node\" aria-describedby=\"word-node\">node</dfn> into a <dfn class=\"term\" tabindex=\"0\" role=\"button\" data-word=\"chain\" aria-describedby=\"word-chain\">chain</dfn> and writes its request there, and one of them, the <dfn class=\"term\" tabindex=\"0\" role=\"button\" data-word=\"combiner\" aria-describedby=\"word-combiner\">combiner</dfn>, serves the requests of all, up to a <dfn class=\"term\" tabindex=\"0\" role=\"button\" data-word=\"bound\" aria-describedby=\"word-bound\">bound</dfn>, and then hands over.</li>
-<li>The items are in a linked list whose first node is a <dfn class=\"term\" tabindex=\"0\" role=\"button\" data-word=\"dummy\" aria-describedby=\"word-dummy\">dummy</dfn>, so that senders append at one end while receivers, who have chains of their own, take at the other.</li>
-<li>Each <dfn class=\"term\" tabindex=\"0\" role=\"button\" data-word=\"step\" aria-describedby=\"word-step\">step</dfn> of a pass reads or changes one word, the steps of all passes interleave in any order, and for every order it is proved that items leave in the order in which they came.</li>
+<li>CC-Queue is a first-in, first-out queue that many threads use at once: each
+<dfn class=\"term\" tabindex=\"0\" role=\"button\" data-word=\"pass\" aria-describedby=\"word-pass\">pass</dfn> is one of them, a sender that appends items or a receiver
+that takes them.</li>
+<li>Senders don't contend for a lock: each swaps a <dfn class=\"term\" tabindex=\"0\" role=\"button\" data-word=\"node\" aria-describedby=\"word-node\">node</dfn> into a
+<dfn class=\"term\" tabindex=\"0\" role=\"button\" data-word=\"chain\" aria-describedby=\"word-chain\">chain</dfn> and writes its request there, and one of them, the
+<dfn class=\"term\" tabindex=\"0\" role=\"button\" data-word=\"combiner\" aria-describedby=\"word-combiner\">combiner</dfn>, serves the requests of all, up to a
+<dfn class=\"term\" tabindex=\"0\" role=\"button\" data-word=\"bound\" aria-describedby=\"word-bound\">bound</dfn>, and then hands over.</li>
+<li>The items are in a linked list whose first node is a
+<dfn class=\"term\" tabindex=\"0\" role=\"button\" data-word=\"dummy\" aria-describedby=\"word-dummy\">dummy</dfn>, so that senders append at one end while receivers, who
+have chains of their own, take at the other.</li>
+<li>Each <dfn class=\"term\" tabindex=\"0\" role=\"button\" data-word=\"step\" aria-describedby=\"word-step\">step</dfn> of a pass reads or changes one word, the steps of
+all passes interleave in any order, and for every order it is proved that items leave in the order in which they came.</li>
 <li>On this page you choose the order: follow the tour, make the steps of each pass yourself, see what broken queues lose, and solve exercises.</li>
 </ol>
-<div class=\"picture\"><svg viewBox=\"0 0 310 250\" role=\"img\" aria-label=\"Two receivers on their chain, of which the first combines and takes from the head of the list; three senders on theirs, of which the first combines and appends after the last node.\">
+<div class=\"picture\"><svg viewBox=\"0 0 310 250\" role=\"img\"
+aria-label=\"Two receivers on their chain, of which the first combines and takes from the head of the list; three senders on theirs, of which the first combines
+and appends after the last node.\">
 <defs><marker id=\"tip-of-arrow\" viewBox=\"0 0 10 10\" refX=\"9\" refY=\"5\" markerWidth=\"7\" markerHeight=\"7\" orient=\"auto\"><path class=\"tip-of-link\" d=\"M0 0L10 5L0 10z\"/></marker></defs>
 <g id=\"whole-picture\"><text x=\"8\" y=\"18\">The chain of the receivers</text><text x=\"320\" y=\"18\">The chain of the senders</text>
 <rect class=\"node busy\" x=\"8\" y=\"28\" width=\"74\" height=\"42\" rx=\"6\"/><text x=\"18\" y=\"46\">r1: take</text><text class=\"small\" x=\"18\" y=\"63\">serves</text>
@@ -306,7 +338,8 @@ body.blank #lecture > * { visibility: hidden; } body.blank { background: #000; }
 <button id=\"before\" title=\"to the decision before this event (D)\">&#171; decision</button>
 <button id=\"after\" title=\"to the next decision (d)\">decision &#187;</button>
 <button id=\"last\" title=\"to the last event (End)\">last</button>
-<select id=\"speed\" aria-label=\"speed of play\"><option value=\"1000\">1 a second</option><option value=\"333\" selected>3 a second</option><option value=\"100\">10 a second</option><option value=\"33\">30 a second</option></select>
+<select id=\"speed\" aria-label=\"speed of play\"><option value=\"1000\">1 a second</option><option value=\"333\" selected>3 a second</option>
+<option value=\"100\">10 a second</option><option value=\"33\">30 a second</option></select>
 <select id=\"branches\" aria-label=\"which run\"></select>
 <button id=\"export\" title=\"the plan whose run is this one, up to this event, and a link to it\">export plan</button>
 </div>
@@ -315,15 +348,21 @@ body.blank #lecture > * { visibility: hidden; } body.blank { background: #000; }
 <div id=\"breaks\" role=\"alert\"></div>
 </div>
 <section class=\"card\" id=\"lesson\" aria-labelledby=\"lesson-title\">
-<div class=\"top\"><h2 id=\"lesson-title\"></h2><div class=\"row\"><button id=\"stop-before\" title=\"the stop before (p)\">&#171; stop</button><button id=\"stop-next\" title=\"the next stop (n)\">next stop &#187;</button><button id=\"to-lecture\" title=\"one moment a screen, in large letters (l)\">lecture</button><button id=\"pair\" aria-pressed=\"false\" title=\"the same steps by the other table\">side by side</button><button id=\"compare\"></button></div></div>
+<div class=\"top\"><h2 id=\"lesson-title\"></h2><div class=\"row\"><button id=\"stop-before\" title=\"the stop before (p)\">&#171; stop</button>
+<button id=\"stop-next\" title=\"the next stop (n)\">next stop &#187;</button>
+<button id=\"to-lecture\" title=\"one moment a screen, in large letters (l)\">lecture</button>
+<button id=\"pair\" aria-pressed=\"false\" title=\"the same steps by the other table\">side by side</button><button id=\"compare\"></button></div></div>
 <p id=\"lesson-text\"></p>
 <div class=\"moment\" id=\"moment\"><div id=\"moments\" role=\"group\" aria-label=\"moments of this run\"></div><div id=\"moment-text\"></div></div>
 <p id=\"parting\" hidden></p>
-<div id=\"task\" hidden><p id=\"task-state\" role=\"status\"></p><p id=\"task-hint\" hidden></p><div class=\"row\"><button id=\"hint-button\">hint</button><button id=\"solve\">a shortest solution</button><button id=\"again\">start again</button><span class=\"dim\" id=\"task-length\"></span></div></div>
+<div id=\"task\" hidden><p id=\"task-state\" role=\"status\"></p><p id=\"task-hint\" hidden></p><div class=\"row\"><button id=\"hint-button\">hint</button>
+<button id=\"solve\">a shortest solution</button><button id=\"again\">start again</button><span class=\"dim\" id=\"task-length\"></span></div></div>
 </section>
 <section id=\"sides\" aria-label=\"The chains and the list\">
-<div class=\"side\"><h2 id=\"side-title\"></h2><p id=\"side-event\"></p><div class=\"chains\" id=\"chains\"></div><section class=\"card of-list\" aria-labelledby=\"list-title\"><h2 id=\"list-title\">The list</h2><div id=\"list\"></div></section></div>
-<div class=\"side\" id=\"other\" hidden><h2 id=\"other-title\"></h2><p id=\"other-event\"></p><div class=\"chains\" id=\"other-chains\"></div><section class=\"card of-list\" aria-label=\"The list of the other queue\"><h2>The list</h2><div id=\"other-list\"></div></section></div>
+<div class=\"side\"><h2 id=\"side-title\"></h2><p id=\"side-event\"></p><div class=\"chains\" id=\"chains\"></div>
+<section class=\"card of-list\" aria-labelledby=\"list-title\"><h2 id=\"list-title\">The list</h2><div id=\"list\"></div></section></div>
+<div class=\"side\" id=\"other\" hidden><h2 id=\"other-title\"></h2><p id=\"other-event\"></p><div class=\"chains\" id=\"other-chains\"></div>
+<section class=\"card of-list\" aria-label=\"The list of the other queue\"><h2>The list</h2><div id=\"other-list\"></div></section></div>
 </section>
 <section class=\"card\" id=\"passes\" aria-labelledby=\"lanes-title\">
 <div class=\"top\">
@@ -373,7 +412,10 @@ body.blank #lecture > * { visibility: hidden; } body.blank { background: #000; }
 <p id=\"lecture-text\" role=\"status\" aria-live=\"polite\"></p>
 <div id=\"lecture-sides\"></div>
 <div id=\"lecture-line\"></div>
-<nav aria-label=\"Lecture\"><button id=\"lecture-back\" title=\"the screen before (left arrow, Page up)\">&#8592; back</button><select id=\"lecture-lesson\" aria-label=\"the lesson\"></select><span class=\"gap\"></span><button id=\"lecture-full\" title=\"the whole screen (f)\">full screen</button><button id=\"lecture-leave\" title=\"back to the run (Escape)\">leave</button><button id=\"lecture-next\" title=\"the next screen (right arrow, space, Page down)\">next &#8594;</button></nav>
+<nav aria-label=\"Lecture\"><button id=\"lecture-back\" title=\"the screen before (left arrow, Page up)\">&#8592; back</button>
+<select id=\"lecture-lesson\" aria-label=\"the lesson\"></select><span class=\"gap\"></span>
+<button id=\"lecture-full\" title=\"the whole screen (f)\">full screen</button><button id=\"lecture-leave\" title=\"back to the run (Escape)\">leave</button>
+<button id=\"lecture-next\" title=\"the next screen (right arrow, space, Page down)\">next &#8594;</button></nav>
 </section>
 <footer>
 <section id=\"keys\"><h2>Keys</h2>
@@ -389,39 +431,270 @@ and the one before; <kbd>m</kbd> <kbd>M</kbd> the next moment of a stop, and the
 <div id=\"tip\" role=\"tooltip\" hidden></div>
 <script type=\"application/json\" id=\"exercises\">
 [
-{\"id\":\"empty\",\"title\":\"Empty beside an item\",\"text\":\"Make a take return Empty while an accepted item is in the queue. The queue is the right one, so this is no fault: find out why.\",\"hint\":\"An answer is fixed at its [[decision]], and returned later. Stop r1 in between, and let s1 send.\",\"plan\":{\"capacity\":2,\"bound\":2,\"life\":10,\"senders\":[[7]],\"receivers\":[1],\"schedule\":[]},\"goal\":{\"returns\":\"Empty\"},\"solution\":[[\"r1\",9],[\"s1\",20],[\"r1\",5]]},
-{\"id\":\"full\",\"title\":\"Full beside a free node\",\"text\":\"The capacity is 1, and s1 has sent 5. Make the send of 6 return Full while no item waits. The queue is the right one.\",\"hint\":\"Full takes effect when the scan begins. Stop s2 before it reads its answer, and let r1 take the item.\",\"plan\":{\"capacity\":1,\"bound\":2,\"life\":10,\"senders\":[[5],[6]],\"receivers\":[1],\"schedule\":[[\"s1\",28]]},\"goal\":{\"returns\":\"Full\"},\"solution\":[[\"s2\",19],[\"r1\",14],[\"s2\",1]]},
-{\"id\":\"passed_over\",\"title\":\"A call is passed over\",\"text\":\"At the bound, which is 1 here, this combiner hands over to the node after the one where it has to stop. Make it hand over past a call that waits.\",\"hint\":\"The combiner needs a link to follow: let both senders link their requests before s1 stops.\",\"plan\":{\"capacity\":2,\"bound\":1,\"life\":10,\"senders\":[[1],[2]],\"receivers\":[0],\"schedule\":[]},\"table\":\"handed_past\",\"goal\":{\"breaks\":[\"hand\"]},\"solution\":[[\"s1\",25],[\"s2\",6],[\"s1\",2]]},
-{\"id\":\"left_behind\",\"title\":\"Lose an item by an early mark\",\"text\":\"This combiner follows the next link of a node only after it has marked the node done. Make its hand-over miss, so that the item of a send is lost.\",\"hint\":\"Let s1 serve s2 and mark its node done. Then s2 returns and begins its next send before s1 reads the link.\",\"plan\":{\"capacity\":2,\"bound\":2,\"life\":10,\"senders\":[[1],[2,3]],\"receivers\":[0],\"schedule\":[]},\"table\":\"marked_early\",\"goal\":{\"breaks\":[\"hand\"]},\"solution\":[[\"s1\",26],[\"s2\",6],[\"s1\",18],[\"s2\",3],[\"s1\",2]]},
-{\"id\":\"lost\",\"title\":\"Lose an item of a group\",\"text\":\"s1 has sent 5, for two groups. This queue uses a list node as soon as one group has gone past it. Make the take of r2 return Empty, although 5 waits for group 2.\",\"hint\":\"Let group 1 go past node 0, and then let s1 use node 0 for its send of 6.\",\"plan\":{\"version\":2,\"groups\":2,\"capacity\":1,\"bound\":2,\"life\":10,\"senders\":[[[5],[6]]],\"receivers\":[1,1],\"schedule\":[[\"s1\",28]]},\"table\":\"one_group\",\"goal\":{\"breaks\":[\"empty\",\"fifo\"]},\"solution\":[[\"r1\",14],[\"s1\",16],[\"r2\",9]]},
-{\"id\":\"twice\",\"title\":\"Get an item twice\",\"text\":\"s1 has sent 5. A take of this queue frees the node that is the dummy from then on. Make r1 get one item twice.\",\"hint\":\"After the take of 5 node 1 is the dummy and counts as free. A send that uses node 1 links it to itself.\",\"plan\":{\"capacity\":1,\"bound\":2,\"life\":10,\"senders\":[[5,6]],\"receivers\":[3],\"schedule\":[[\"s1\",28]]},\"table\":\"freed_dummy\",\"goal\":{\"breaks\":[\"fifo\"]},\"solution\":[[\"r1\",14],[\"s1\",21],[\"r1\",46]]}
+{\"id\":\"empty\",\"title\":\"Empty beside an item\",
+ \"text\":\"Make a take return Empty while an accepted item is in the queue. The queue is the right one, so this is no fault: find out why.\",
+ \"hint\":\"An answer is fixed at its [[decision]], and returned later. Stop r1 in between, and let s1 send.\",
+ \"plan\":{\"capacity\":2,\"bound\":2,\"life\":10,\"senders\":[[7]],\"receivers\":[1],\"schedule\":[]},
+ \"goal\":{\"returns\":\"Empty\"},
+ \"solution\":[[\"r1\",9],[\"s1\",20],[\"r1\",5]]},
+{\"id\":\"full\",\"title\":\"Full beside a free node\",
+ \"text\":\"The capacity is 1, and s1 has sent 5. Make the send of 6 return Full while no item waits. The queue is the right one.\",
+ \"hint\":\"Full takes effect when the scan begins. Stop s2 before it reads its answer, and let r1 take the item.\",
+ \"plan\":{\"capacity\":1,\"bound\":2,\"life\":10,\"senders\":[[5],[6]],\"receivers\":[1],\"schedule\":[[\"s1\",28]]},
+ \"goal\":{\"returns\":\"Full\"},
+ \"solution\":[[\"s2\",19],[\"r1\",14],[\"s2\",1]]},
+{\"id\":\"passed_over\",\"title\":\"A call is passed over\",
+ \"text\":\"At the bound, which is 1 here, this combiner hands over to the node after the one where it has to stop. Make it hand over past a call that waits.\",
+ \"hint\":\"The combiner needs a link to follow: let both senders link their requests before s1 stops.\",
+ \"plan\":{\"capacity\":2,\"bound\":1,\"life\":10,\"senders\":[[1],[2]],\"receivers\":[0],\"schedule\":[]},
+ \"table\":\"handed_past\",
+ \"goal\":{\"breaks\":[\"hand\"]},
+ \"solution\":[[\"s1\",25],[\"s2\",6],[\"s1\",2]]},
+{\"id\":\"left_behind\",\"title\":\"Lose an item by an early mark\",
+ \"text\":\"This combiner follows the next link of a node only after it has marked the node done. Make its hand-over miss, so that the item of a send is lost.\",
+ \"hint\":\"Let s1 serve s2 and mark its node done. Then s2 returns and begins its next send before s1 reads the link.\",
+ \"plan\":{\"capacity\":2,\"bound\":2,\"life\":10,\"senders\":[[1],[2,3]],\"receivers\":[0],\"schedule\":[]},
+ \"table\":\"marked_early\",
+ \"goal\":{\"breaks\":[\"hand\"]},
+ \"solution\":[[\"s1\",26],[\"s2\",6],[\"s1\",18],[\"s2\",3],[\"s1\",2]]},
+{\"id\":\"lost\",\"title\":\"Lose an item of a group\",
+ \"text\":\"s1 has sent 5, for two groups. This queue uses a list node as soon as one group has gone past it. Make the take of r2 return Empty, although 5 waits for group 2.\",
+ \"hint\":\"Let group 1 go past node 0, and then let s1 use node 0 for its send of 6.\",
+ \"plan\":{\"version\":2,\"groups\":2,\"capacity\":1,\"bound\":2,\"life\":10,\"senders\":[[[5],[6]]],\"receivers\":[1,1],\"schedule\":[[\"s1\",28]]},
+ \"table\":\"one_group\",
+ \"goal\":{\"breaks\":[\"empty\",\"fifo\"]},
+ \"solution\":[[\"r1\",14],[\"s1\",16],[\"r2\",9]]},
+{\"id\":\"twice\",\"title\":\"Get an item twice\",
+ \"text\":\"s1 has sent 5. A take of this queue frees the node that is the dummy from then on. Make r1 get one item twice.\",
+ \"hint\":\"After the take of 5 node 1 is the dummy and counts as free. A send that uses node 1 links it to itself.\",
+ \"plan\":{\"capacity\":1,\"bound\":2,\"life\":10,\"senders\":[[5,6]],\"receivers\":[3],\"schedule\":[[\"s1\",28]]},
+ \"table\":\"freed_dummy\",
+ \"goal\":{\"breaks\":[\"fifo\"]},
+ \"solution\":[[\"r1\",14],[\"s1\",21],[\"r1\",46]]}
 ]
 </script>
 <script type=\"application/json\" id=\"lessons\">
 [
-{\"kind\":\"tour\",\"id\":\"lone\",\"title\":\"A lone send\",\"text\":\"s1 sends 7, and no other [[pass]] moves. s1 swaps its [[node]] into the [[tail]] of the send [[chain]], finds that no pass combines, and serves its own request.\",\"plan\":{\"capacity\":2,\"bound\":2,\"life\":10,\"senders\":[[7]],\"receivers\":[1],\"schedule\":[[\"s1\",28]]},\"moments\":[[3,\"Exchange\",\"s1 swaps node 1 into the tail and gets node 0: its call enters the [[history]] as the 1st send.\"],[6,\"Link\",\"s1 links node 0 to node 1, the node in the tail: only now can a [[combiner]] serve the request.\"],[7,\"ReadState\",\"s1 reads state 0: no pass combines, so s1 is the combiner.\"],[20,\"LinkLast\",\"s1 links list node 1, which has the item 7, to node 0: this step is the [[decision]], accepted as item 0.\"],[27,\"HandOver\",\"No further request is linked, so s1 hands over to node 1, the node in the tail.\"],[28,\"ReadAnswer\",\"s1 reads its answer: its call returns accepted as item 0.\"]]},
-{\"kind\":\"tour\",\"id\":\"three\",\"title\":\"Three sends that one serves\",\"text\":\"Three senders link their requests before any is served. s1 is the [[combiner]]: it serves all three in one [[turn]], in the order of their swaps, while s2 and s3 only read their own states.\",\"plan\":{\"capacity\":4,\"bound\":4,\"life\":10,\"senders\":[[1],[2],[3]],\"receivers\":[0],\"schedule\":[[\"s1\",6],[\"s2\",6],[\"s3\",6],[\"s2\",2],[\"s3\",2],[\"s1\",58],[\"s2\",2],[\"s3\",2]]},\"moments\":[[18,\"Link\",\"Three requests are linked now: node 0 of s1, node 1 of s2 and node 2 of s3. The tail names node 3, which no call has.\"],[19,\"ReadState\",\"s2 reads state 1 and begins to wait: it reads its own node alone, and changes no word.\"],[42,\"ReadNext\",\"s1 reads the next link of node 1 before it serves s2: it names node 2, so the request of s2 is whole.\"],[59,\"MarkDone\",\"s1 has written the answer of s2 and marks node 1 done: from now on s2 may return.\"],[79,\"HandOver\",\"s1 has served three requests, and hands over to node 3, the node in the tail.\"],[84,\"ReadAnswer\",\"s3 reads its answer: its call returns accepted as item 2. s3 has not touched the list.\"]]},
-{\"kind\":\"tour\",\"id\":\"bound\",\"title\":\"The hand-over at the bound\",\"text\":\"The [[bound]] is 2: a [[combiner]] serves at most two requests in one [[turn]]. s1 serves s1 and s2, and hands over to s3.\",\"plan\":{\"capacity\":4,\"bound\":2,\"life\":10,\"senders\":[[1],[2],[3]],\"receivers\":[0],\"schedule\":[[\"s1\",6],[\"s2\",6],[\"s3\",8],[\"s1\",39],[\"s3\",22],[\"s2\",2]]},\"moments\":[[57,\"MarkDone\",\"s1 marks node 1 done: it has served two requests, as many as the bound.\"],[58,\"HandOver\",\"s1 hands over to node 2 of s3, the first call without an answer.\"],[60,\"ReadState\",\"s3 reads state 0: no pass combines, so s3 is the combiner. At no moment did two passes combine.\"],[73,\"LinkLast\",\"s3 serves its own request: this step is the decision, accepted as item 2.\"]]},
-{\"kind\":\"tour\",\"id\":\"take\",\"title\":\"A take\",\"text\":\"s1 has sent 7, and r1 takes it. The receivers have a [[chain]] of their own. The list begins with its [[dummy]], a node with no item to take.\",\"plan\":{\"capacity\":2,\"bound\":2,\"life\":10,\"senders\":[[7]],\"receivers\":[1],\"schedule\":[[\"s1\",28],[\"r1\",23]]},\"moments\":[[35,\"ReadObject\",\"r1 combines in the take chain and reads the [[head]]: node 0 is the dummy.\"],[37,\"ReadDummyNext\",\"r1 reads the next link of the dummy: it names node 1, so the list has an item.\"],[39,\"ReadItem\",\"r1 reads the word of the item, 7, in node 1, which is still in the list.\"],[40,\"WriteObject\",\"r1 moves the head to node 1: this is the dummy from now on.\"],[42,\"AddPassed\",\"r1 adds 1 to the [[passed]] count of node 0: this step is the [[decision]], got 7 as item 0. Node 0 is free from now on.\"]]},
-{\"kind\":\"tour\",\"id\":\"empty\",\"title\":\"Empty, and a send in between\",\"text\":\"s1 has prepared a list node and stops one step before the link. A take that runs now returns Empty, and rightly: the send has not taken effect yet.\",\"plan\":{\"capacity\":2,\"bound\":2,\"life\":10,\"senders\":[[7]],\"receivers\":[2],\"schedule\":[[\"s1\",19],[\"r1\",14],[\"s1\",9],[\"r1\",23]]},\"moments\":[[19,\"ReadObject\",\"s1 stops before the link: node 1 has the item 7, and no link of the list names it.\"],[28,\"ReadDummyNext\",\"r1 reads null in the next link of the dummy: this step is the decision, empty.\"],[34,\"LinkLast\",\"s1 links list node 1, which has the item 7, to node 0: the send takes effect now, after the take.\"],[56,\"AddPassed\",\"r1 takes the item 7: it is the second take of r1.\"]]},
-{\"kind\":\"tour\",\"id\":\"scan\",\"title\":\"Full, and when it takes effect\",\"text\":\"The [[capacity]] is 1, and the item 5 waits. The send of 6 scans all list nodes for a free one. During the scan r1 takes the item, and the send still returns Full: it takes effect when its scan begins.\",\"plan\":{\"capacity\":1,\"bound\":2,\"life\":10,\"senders\":[[5],[6]],\"receivers\":[1],\"schedule\":[[\"s1\",28],[\"s2\",14],[\"r1\",23],[\"s2\",6]]},\"moments\":[[41,\"ReadObject\",\"s2 reads the [[cursor]], and its scan begins at node 0: both list nodes are busy at this moment, and the Full of this send takes effect here.\"],[42,\"ReadPassed\",\"s2 reads that no group has gone past node 0, which is the dummy: it is busy.\"],[56,\"AddPassed\",\"r1 takes the item 5: node 0 is free from now on, but s2 has read it already.\"],[66,\"ReadPassed\",\"s2 reads that no group has gone past node 1, which is the dummy now: this step is the decision, full.\"]],\"opens\":\"order\"},
-{\"kind\":\"tour\",\"id\":\"again\",\"title\":\"A node that is used again\",\"text\":\"The [[capacity]] is 1, so the list has two ordinary nodes. r1 takes the item 5, which frees node 0. The send of 7 uses node 0 again, and no item is lost.\",\"plan\":{\"capacity\":1,\"bound\":2,\"life\":10,\"senders\":[[5],[7]],\"receivers\":[2],\"schedule\":[[\"s1\",28],[\"r1\",23],[\"s2\",28],[\"r1\",23]]},\"moments\":[[42,\"AddPassed\",\"r1 takes the item 5: every group has gone past node 0, and it is free from now on.\"],[65,\"ReadPassed\",\"s2 begins its scan at the cursor, and finds node 0 free.\"],[67,\"ResetListNode\",\"s2 clears the next link of node 0, as it did the passed count: node 0 is not in the list, so no take can read it.\"],[71,\"LinkLast\",\"s2 links list node 0, which has the item 7, to node 1: this step is the decision, accepted as item 1.\"],[93,\"AddPassed\",\"r1 takes the item 7: node 1 is free from now on.\"]]},
-{\"kind\":\"tour\",\"id\":\"close\",\"title\":\"A close\",\"text\":\"s1 sends 5, closes the queue, and tries to send 6. The [[closing mark]] is a list node of its own, so a close is never Full. r1 takes what is left, and then gets Ended.\",\"plan\":{\"capacity\":2,\"bound\":2,\"life\":10,\"senders\":[[5,\"close\",6]],\"receivers\":[2],\"schedule\":[[\"s1\",65],[\"r1\",38]]},\"moments\":[[42,\"LinkLast\",\"s1 links the closing mark to node 1: this step is the [[decision]], shut after 1 item.\"],[44,\"WriteObject\",\"s1 sets the shut word: the later send reads it, and returns Closed.\"],[60,\"ReadObject\",\"s1 serves the send of 6 and reads that the queue is shut: this step is the decision, closed.\"],[79,\"AddPassed\",\"r1 takes the item 5, which was accepted before the close.\"],[98,\"ReadItem\",\"r1 reads the tag of the node after the dummy: it is 0, so this node is the mark, and this step is the decision, ended after 1 item.\"]]},
-{\"kind\":\"tour\",\"id\":\"groups\",\"title\":\"Two groups\",\"text\":\"Two [[group]]s of receivers read one list: r1 is group 1, and r2 is group 2. Each group has its own [[head]] and gets every item. A node is free when both groups have gone past it.\",\"plan\":{\"version\":2,\"groups\":2,\"capacity\":1,\"bound\":2,\"life\":10,\"senders\":[[[5],[6],[6]]],\"receivers\":[2,2],\"schedule\":[[\"s1\",28],[\"r1\",23],[\"s1\",20],[\"r2\",23],[\"s1\",28],[\"r1\",23],[\"r2\",23]]},\"moments\":[[42,\"AddPassed\",\"Group 1 takes the item 5: one of two groups has gone past node 0, and it is not free.\"],[66,\"ReadPassed\",\"The send of 6 finds no free node: this step is the decision, full. Group 2 has not taken the item 5, and holds the sender back.\"],[85,\"AddPassed\",\"Group 2 takes the item 5 too: every group has gone past node 0, and it is free from now on.\"],[114,\"LinkLast\",\"The next send of 6 uses node 0: this step is the decision, accepted as item 1.\"],[159,\"AddPassed\",\"Group 2 takes the item 6: each group got 5 and then 6.\"]]},
-{\"kind\":\"tour\",\"id\":\"order\",\"title\":\"An order of all calls\",\"text\":\"Calls overlap, and yet there is one order of all calls in which each answer is that of a queue that does one call after another. Each call takes effect between its swap and its [[decision]]. Every run of the algorithm is linearizable in this sense, and that is proved: the law is RunsAreLinearizable in crates/cc_runs. The card \\\"An order of all calls\\\" shows this order for the run on the page.\",\"plan\":{\"capacity\":1,\"bound\":2,\"life\":10,\"senders\":[[5],[6]],\"receivers\":[2],\"schedule\":[[\"s1\",19],[\"r1\",14],[\"s1\",9],[\"s2\",14],[\"r1\",23],[\"s2\",6]]},\"moments\":[[28,\"ReadDummyNext\",\"r1 reads null in the next link of the dummy: the take is Empty while the send of 5 is under way, and is 1st in the order.\"],[34,\"LinkLast\",\"s1 links list node 1, which has the item 5, to node 0: the send takes effect now, and is 2nd in the order.\"],[55,\"ReadObject\",\"s2 reads the cursor, and its scan begins at node 0: the Full of this send takes effect here, and is 3rd in the order.\"],[70,\"AddPassed\",\"r1 takes the item 5: the take is 4th in the order.\"],[80,\"ReadPassed\",\"s2 reads that no group has gone past node 1, which is the dummy now: this step is the decision, full. In the order it comes before the take of 5.\"]],\"opens\":\"order\"},
-{\"kind\":\"example\",\"id\":\"bodies_of_words\",\"title\":\"Items of one to four words\",\"text\":\"Three senders send items of one to four words. s3 serves the first send of each.\",\"plan\":{\"version\":2,\"groups\":1,\"capacity\":4,\"bound\":4,\"life\":10,\"senders\":[[[1],[2,20]],[[3,30,300]],[[4,40,400,4000]]],\"receivers\":[4],\"schedule\":[[\"s3\",9],[\"s2\",8],[\"s1\",6],[\"s3\",200],[\"s1\",200],[\"r1\",200]]},\"moments\":[]},
-{\"kind\":\"example\",\"id\":\"full\",\"title\":\"A full queue\",\"text\":\"A send finds no free node, and a node that a take freed is used again.\",\"plan\":{\"capacity\":1,\"bound\":2,\"life\":10,\"senders\":[[5,6],[7]],\"receivers\":[1],\"schedule\":[[\"s1\",500],[\"r1\",500],[\"s2\",500]]},\"moments\":[]},
-{\"kind\":\"example\",\"id\":\"close_and_drain\",\"title\":\"Close and drain\",\"text\":\"s1 closes the queue. A later send returns Closed, and a later close Already. r1 takes what is left, and then gets Ended.\",\"plan\":{\"capacity\":2,\"bound\":2,\"life\":10,\"senders\":[[5,\"close\",6,\"close\"]],\"receivers\":[3],\"schedule\":[[\"s1\",500],[\"r1\",500]]},\"moments\":[]},
-{\"kind\":\"example\",\"id\":\"two_groups\",\"title\":\"Two groups, one slow\",\"text\":\"Two groups take every item, and the slower group holds the sender back.\",\"plan\":{\"version\":2,\"groups\":2,\"capacity\":1,\"bound\":2,\"life\":10,\"senders\":[[[5],[6],[6],[6],\"close\"]],\"receivers\":[3,3],\"schedule\":[[\"s1\",48],[\"r1\",23],[\"s1\",20],[\"r2\",23],[\"s1\",28],[\"r1\",23],[\"s1\",100],[\"r2\",100],[\"r1\",100]]},\"moments\":[]},
-{\"kind\":\"example\",\"id\":\"two_sends_combined\",\"title\":\"Two sends, one combiner\",\"text\":\"Two sends swap, and the pass of the first send serves both.\",\"plan\":{\"capacity\":2,\"bound\":2,\"life\":10,\"senders\":[[7],[9]],\"receivers\":[0],\"schedule\":[[\"s1\",3],[\"s2\",100],[\"s1\",100]]},\"moments\":[]},
-{\"kind\":\"example\",\"id\":\"bound_one\",\"title\":\"Bound 1\",\"text\":\"The combiner hands over after one request, and the second send is pending at the end.\",\"plan\":{\"capacity\":2,\"bound\":1,\"life\":10,\"senders\":[[7],[9]],\"receivers\":[0],\"schedule\":[[\"s1\",3],[\"s2\",100],[\"s1\",100]]},\"moments\":[]},
-{\"kind\":\"example\",\"id\":\"cut_before_the_link\",\"title\":\"Cut before the link\",\"text\":\"A send that stops one step before its decision is pending at the end.\",\"plan\":{\"capacity\":2,\"bound\":2,\"life\":10,\"senders\":[[7]],\"receivers\":[1],\"schedule\":[[\"s1\",19]]},\"moments\":[]},
-{\"kind\":\"example\",\"id\":\"one_item\",\"title\":\"One item\",\"text\":\"One item is sent and taken.\",\"plan\":{\"capacity\":2,\"bound\":2,\"life\":10,\"senders\":[[7]],\"receivers\":[1],\"schedule\":[[\"s1\",100],[\"r1\",100]]},\"moments\":[]},
-{\"kind\":\"broken\",\"id\":\"marked_early\",\"title\":\"Marked done before the link is followed\",\"text\":\"This [[combiner]] follows the next link of a node only after it has marked the node done. In between, the owner of the node returns, begins another send, and clears the link.\",\"plan\":{\"capacity\":4,\"bound\":4,\"life\":10,\"senders\":[[1,5],[2,4],[3]],\"receivers\":[3],\"schedule\":[[\"s1\",6],[\"s2\",6],[\"s3\",6],[\"s1\",38],[\"s2\",5],[\"s1\",3],[\"s2\",5],[\"s3\",4],[\"s1\",29],[\"r1\",72],[\"s3\",2]]},\"moments\":[[56,\"MarkDone\",\"s1 marks node 1 of s2 done: only its next step reads the link by which it goes on.\"],[59,\"ResetNext\",\"s2 has returned and begins its next send: it clears the next link of node 1, which led to node 2 of s3.\"],[63,\"HandOver\",\"s1 found null in that link, and hands over to node 1, the node in the tail: the call of s3 is the first without an answer, and is skipped.\"],[70,\"ReadState\",\"s3 reads state 1 and begins to wait: no link leads to its node any more.\"],[81,\"ReadNext\",\"s1 sends again and got node 1 with state 0: it serves its own request, past those of s3 and s2.\"],[164,\"AddPassed\",\"r1 gets 5 as item 2: by the history item 2 is that of s3, whose send still waits.\"]],\"table\":\"marked_early\",\"breaks\":\"hand\",\"lost\":\"Lost: the items 3 and 4. At the end of this run their sends wait for ever: no pass has a next step that changes a word.\",\"right\":{\"title\":\"The link is read before the request is served\",\"text\":\"The right [[combiner]] reads the next link of a node before it serves the request. s2 returns and clears its link as before, and s1 already knows that node 2 is next.\",\"moments\":[[38,\"ReadNext\",\"s1 reads the next link of node 1 before it serves s2: it names node 2, so the request of s2 is whole.\"],[55,\"MarkDone\",\"s1 has written the answer of s2 and marks node 1 done: from now on s2 may return.\"],[56,\"ReadNext\",\"s1 goes on to node 2 of s3, the first call without an answer.\"],[59,\"ResetNext\",\"s2 has returned and begins its next send: it clears the next link of node 1, and s1 is at node 2 already.\"],[82,\"LinkLast\",\"s1 serves the request of s3: this step is the decision, accepted as item 2.\"],[162,\"AddPassed\",\"r1 gets 3 as item 2: no accepted item is lost.\"],[173,\"ReadAnswer\",\"s3 reads its answer: its call returns accepted as item 2.\"]]}},
-{\"kind\":\"broken\",\"id\":\"handed_past\",\"title\":\"Handed over past a request\",\"text\":\"At the [[bound]] this [[combiner]] reads one link too many, and hands over to the node after the one where it has to stop.\",\"plan\":{\"capacity\":4,\"bound\":1,\"life\":10,\"senders\":[[1],[2],[3]],\"receivers\":[3],\"schedule\":[[\"s1\",6],[\"s2\",6],[\"s3\",6],[\"s1\",22],[\"s3\",22],[\"s2\",21],[\"s3\",21],[\"r1\",69],[\"s2\",2]]},\"moments\":[[37,\"MarkDone\",\"s1 marks node 0 done: it has served one request, as many as the bound. The next request is that of s2, in node 1.\"],[39,\"HandOver\",\"s1 hands over to node 2 of s3, past the request of s2.\"],[42,\"ReadNext\",\"s3 serves its own request, and the first call without an answer is that of s2.\"],[62,\"ReadAnswer\",\"s3 reads its answer: its call returns accepted as item 1. By the history this is the answer of s2.\"],[120,\"AddPassed\",\"r1 gets 3 as item 1: by the history item 1 is that of s2, whose send still waits.\"]],\"table\":\"handed_past\",\"breaks\":\"hand\",\"lost\":\"Lost: the item 2. At the end of this run its send waits for ever: no pass has a next step that changes a word.\",\"right\":{\"title\":\"Handed over to the next request\",\"text\":\"The right [[combiner]] hands over to the node where it stops. At the [[bound]] that is the node of the next request.\",\"moments\":[[37,\"MarkDone\",\"s1 marks node 0 done: it has served one request, as many as the bound. The next request is that of s2, in node 1.\"],[38,\"HandOver\",\"s1 hands over to node 1 of s2, the first call without an answer.\"],[40,\"ReadState\",\"s3 reads state 1 and begins to wait: it reads its own node alone, and changes no word.\"],[62,\"ReadState\",\"s2 reads state 0: no pass combines, so s2 is the combiner.\"],[75,\"LinkLast\",\"s2 serves its own request: this step is the decision, accepted as item 1.\"],[139,\"AddPassed\",\"r1 gets 2 as item 1: no accepted item is lost.\"]]}},
-{\"kind\":\"broken\",\"id\":\"freed_dummy\",\"title\":\"Freed while the node is the dummy\",\"text\":\"This take adds to the [[passed]] count of the node that it took the item from. But this node is the [[dummy]] from now on, and a send may use it.\",\"plan\":{\"capacity\":1,\"bound\":2,\"life\":10,\"senders\":[[5,6]],\"receivers\":[3],\"schedule\":[[\"s1\",28],[\"r1\",23],[\"s1\",29],[\"r1\",46]]},\"moments\":[[42,\"AddPassed\",\"r1 takes the item 5 out of node 1, and adds 1 to the passed count of node 1, which is the dummy now.\"],[67,\"ResetListNode\",\"The next send finds node 1 free and clears its passed count, while the head names it.\"],[72,\"LinkLast\",\"s1 links node 1 to itself.\"],[94,\"AddPassed\",\"r1 gets 6 as item 1: the head names node 1, and so does its next link.\"],[117,\"AddPassed\",\"r1 gets 6 as item 2: the same item again.\"]],\"table\":\"freed_dummy\",\"breaks\":\"reset\",\"lost\":\"Got twice: the item 6.\",\"right\":{\"title\":\"The old dummy is freed\",\"text\":\"The right take adds to the [[passed]] count of the old [[dummy]]. The new dummy stays busy, so no send uses it.\",\"moments\":[[42,\"AddPassed\",\"r1 takes the item 5 out of node 1, and adds 1 to the passed count of node 0, the old dummy.\"],[66,\"ResetListNode\",\"The next send finds node 0 free and clears its passed count: node 0 is not in the list, so no take can read it.\"],[71,\"LinkLast\",\"s1 links list node 0, which has the item 6, to node 1: this step is the decision, accepted as item 1.\"],[93,\"AddPassed\",\"r1 gets 6 as item 1: no accepted item is lost.\"],[111,\"ReadDummyNext\",\"r1 reads null in the next link of the dummy: this step is the decision, empty.\"]]}},
-{\"kind\":\"broken\",\"id\":\"one_group\",\"title\":\"Freed after one group\",\"text\":\"This send uses a node as soon as one [[group]] has gone past it. Another group may still need the node.\",\"plan\":{\"version\":2,\"groups\":2,\"capacity\":2,\"bound\":2,\"life\":10,\"senders\":[[[5],[6],[7]]],\"receivers\":[1,3],\"schedule\":[[\"s1\",56],[\"r1\",23],[\"s1\",28],[\"r2\",60]]},\"moments\":[[70,\"AddPassed\",\"Group 1 takes the item 5: one of two groups has gone past node 0, which is still the dummy of group 2.\"],[94,\"ResetListNode\",\"The next send finds node 0 free and clears its passed count, while the head of group 2 names it.\"],[95,\"ResetListNode\",\"s1 clears the next link of node 0: group 2 has lost its way to the items 5 and 6.\"],[116,\"ReadDummyNext\",\"r2 reads null in the next link of the dummy: this step is the decision, empty, while 3 items wait for group 2.\"]],\"table\":\"one_group\",\"breaks\":\"reset\",\"lost\":\"Lost for group 2: the items 5, 6 and 7.\",\"right\":{\"title\":\"Freed after every group\",\"text\":\"The right send uses a node only after every [[group]] has gone past it. So the send of 7 returns Full, and group 2 gets its items.\",\"moments\":[[70,\"AddPassed\",\"Group 1 takes the item 5: one of two groups has gone past node 0, which is still the dummy of group 2.\"],[95,\"ReadPassed\",\"The send of 7 finds no free node: this step is the decision, full. Group 2 has not taken the item 5, and holds the sender back.\"],[114,\"AddPassed\",\"Group 2 takes the item 5 too: every group has gone past node 0, and it is free from now on.\"],[137,\"AddPassed\",\"Group 2 takes the item 6: no accepted item is lost.\"]]}},
-{\"kind\":\"broken\",\"id\":\"full_early\",\"title\":\"Full two nodes early\",\"text\":\"This scan ends two nodes early. One node early would change no answer: the last node of a scan is the one that was linked last, and it is busy.\",\"plan\":{\"capacity\":3,\"bound\":2,\"life\":10,\"senders\":[[5,6,7,8,9]],\"receivers\":[5],\"schedule\":[[\"s1\",98],[\"r1\",46],[\"s1\",51],[\"r1\",78]]},\"moments\":[[98,\"ReadPassed\",\"The scan of the send of 8 reads node 0, which is busy: 3 items wait, so the queue is full.\"],[135,\"AddPassed\",\"r1 takes the item 6: the nodes 0 and 1 are free now.\"],[145,\"ReadPassed\",\"The scan of the send of 8 goes on and finds node 1 free: node 0 is free too.\"],[174,\"ReadPassed\",\"The scan of the send of 9 has read two busy nodes: this step is the decision, full, while only 2 of 3 items wait and node 0 is free.\"]],\"table\":\"full_early\",\"breaks\":\"full\",\"lost\":\"Refused: the item 9, while only 2 of 3 items wait.\",\"right\":{\"title\":\"Full after a whole scan\",\"text\":\"The right scan reads every node once before it returns Full. So the send of 9 finds node 0.\",\"moments\":[[98,\"ReadPassed\",\"The scan of the send of 8 reads node 0, which is busy: 3 items wait, so the queue is full.\"],[135,\"AddPassed\",\"r1 takes the item 6: the nodes 0 and 1 are free now.\"],[145,\"ReadPassed\",\"The scan of the send of 8 goes on and finds node 1 free: node 0 is free too.\"],[175,\"ReadPassed\",\"The scan of the send of 9 has read two busy nodes, and finds node 0 free.\"],[181,\"LinkLast\",\"s1 links list node 0, which has the item 9, to node 1: this step is the decision, accepted as item 4.\"],[249,\"AddPassed\",\"r1 gets 9 as item 4: no accepted item is lost.\"]]}}
+{\"kind\":\"tour\",\"id\":\"lone\",\"title\":\"A lone send\",
+ \"text\":\"s1 sends 7, and no other [[pass]] moves. s1 swaps its [[node]] into the [[tail]] of the send [[chain]], finds that no pass combines, and serves its own request.\",
+ \"plan\":{\"capacity\":2,\"bound\":2,\"life\":10,\"senders\":[[7]],\"receivers\":[1],\"schedule\":[[\"s1\",28]]},
+ \"moments\":[
+  [3,\"Exchange\",\"s1 swaps node 1 into the tail and gets node 0: its call enters the [[history]] as the 1st send.\"],
+  [6,\"Link\",\"s1 links node 0 to node 1, the node in the tail: only now can a [[combiner]] serve the request.\"],
+  [7,\"ReadState\",\"s1 reads state 0: no pass combines, so s1 is the combiner.\"],
+  [20,\"LinkLast\",\"s1 links list node 1, which has the item 7, to node 0: this step is the [[decision]], accepted as item 0.\"],
+  [27,\"HandOver\",\"No further request is linked, so s1 hands over to node 1, the node in the tail.\"],
+  [28,\"ReadAnswer\",\"s1 reads its answer: its call returns accepted as item 0.\"]]},
+{\"kind\":\"tour\",\"id\":\"three\",\"title\":\"Three sends that one serves\",
+ \"text\":\"Three senders link their requests before any is served. s1 is the [[combiner]]: it serves all three in one [[turn]], in the order of their swaps, while s2 and s3 only read their own states.\",
+ \"plan\":{\"capacity\":4,\"bound\":4,\"life\":10,\"senders\":[[1],[2],[3]],\"receivers\":[0],\"schedule\":[[\"s1\",6],[\"s2\",6],[\"s3\",6],[\"s2\",2],[\"s3\",2],[\"s1\",58],[\"s2\",2],[\"s3\",2]]},
+ \"moments\":[
+  [18,\"Link\",\"Three requests are linked now: node 0 of s1, node 1 of s2 and node 2 of s3. The tail names node 3, which no call has.\"],
+  [19,\"ReadState\",\"s2 reads state 1 and begins to wait: it reads its own node alone, and changes no word.\"],
+  [42,\"ReadNext\",\"s1 reads the next link of node 1 before it serves s2: it names node 2, so the request of s2 is whole.\"],
+  [59,\"MarkDone\",\"s1 has written the answer of s2 and marks node 1 done: from now on s2 may return.\"],
+  [79,\"HandOver\",\"s1 has served three requests, and hands over to node 3, the node in the tail.\"],
+  [84,\"ReadAnswer\",\"s3 reads its answer: its call returns accepted as item 2. s3 has not touched the list.\"]]},
+{\"kind\":\"tour\",\"id\":\"bound\",\"title\":\"The hand-over at the bound\",
+ \"text\":\"The [[bound]] is 2: a [[combiner]] serves at most two requests in one [[turn]]. s1 serves s1 and s2, and hands over to s3.\",
+ \"plan\":{\"capacity\":4,\"bound\":2,\"life\":10,\"senders\":[[1],[2],[3]],\"receivers\":[0],\"schedule\":[[\"s1\",6],[\"s2\",6],[\"s3\",8],[\"s1\",39],[\"s3\",22],[\"s2\",2]]},
+ \"moments\":[
+  [57,\"MarkDone\",\"s1 marks node 1 done: it has served two requests, as many as the bound.\"],
+  [58,\"HandOver\",\"s1 hands over to node 2 of s3, the first call without an answer.\"],
+  [60,\"ReadState\",\"s3 reads state 0: no pass combines, so s3 is the combiner. At no moment did two passes combine.\"],
+  [73,\"LinkLast\",\"s3 serves its own request: this step is the decision, accepted as item 2.\"]]},
+{\"kind\":\"tour\",\"id\":\"take\",\"title\":\"A take\",
+ \"text\":\"s1 has sent 7, and r1 takes it. The receivers have a [[chain]] of their own. The list begins with its [[dummy]], a node with no item to take.\",
+ \"plan\":{\"capacity\":2,\"bound\":2,\"life\":10,\"senders\":[[7]],\"receivers\":[1],\"schedule\":[[\"s1\",28],[\"r1\",23]]},
+ \"moments\":[
+  [35,\"ReadObject\",\"r1 combines in the take chain and reads the [[head]]: node 0 is the dummy.\"],
+  [37,\"ReadDummyNext\",\"r1 reads the next link of the dummy: it names node 1, so the list has an item.\"],
+  [39,\"ReadItem\",\"r1 reads the word of the item, 7, in node 1, which is still in the list.\"],
+  [40,\"WriteObject\",\"r1 moves the head to node 1: this is the dummy from now on.\"],
+  [42,\"AddPassed\",\"r1 adds 1 to the [[passed]] count of node 0: this step is the [[decision]], got 7 as item 0. Node 0 is free from now on.\"]]},
+{\"kind\":\"tour\",\"id\":\"empty\",\"title\":\"Empty, and a send in between\",
+ \"text\":\"s1 has prepared a list node and stops one step before the link. A take that runs now returns Empty, and rightly: the send has not taken effect yet.\",
+ \"plan\":{\"capacity\":2,\"bound\":2,\"life\":10,\"senders\":[[7]],\"receivers\":[2],\"schedule\":[[\"s1\",19],[\"r1\",14],[\"s1\",9],[\"r1\",23]]},
+ \"moments\":[
+  [19,\"ReadObject\",\"s1 stops before the link: node 1 has the item 7, and no link of the list names it.\"],
+  [28,\"ReadDummyNext\",\"r1 reads null in the next link of the dummy: this step is the decision, empty.\"],
+  [34,\"LinkLast\",\"s1 links list node 1, which has the item 7, to node 0: the send takes effect now, after the take.\"],
+  [56,\"AddPassed\",\"r1 takes the item 7: it is the second take of r1.\"]]},
+{\"kind\":\"tour\",\"id\":\"scan\",\"title\":\"Full, and when it takes effect\",
+ \"text\":\"The [[capacity]] is 1, and the item 5 waits. The send of 6 scans all list nodes for a free one. During the scan r1 takes the item, and the send still returns Full: it takes effect when its scan begins.\",
+ \"plan\":{\"capacity\":1,\"bound\":2,\"life\":10,\"senders\":[[5],[6]],\"receivers\":[1],\"schedule\":[[\"s1\",28],[\"s2\",14],[\"r1\",23],[\"s2\",6]]},
+ \"moments\":[
+  [41,\"ReadObject\",\"s2 reads the [[cursor]], and its scan begins at node 0: both list nodes are busy at this moment, and the Full of this send takes effect here.\"],
+  [42,\"ReadPassed\",\"s2 reads that no group has gone past node 0, which is the dummy: it is busy.\"],
+  [56,\"AddPassed\",\"r1 takes the item 5: node 0 is free from now on, but s2 has read it already.\"],
+  [66,\"ReadPassed\",\"s2 reads that no group has gone past node 1, which is the dummy now: this step is the decision, full.\"]],
+ \"opens\":\"order\"},
+{\"kind\":\"tour\",\"id\":\"again\",\"title\":\"A node that is used again\",
+ \"text\":\"The [[capacity]] is 1, so the list has two ordinary nodes. r1 takes the item 5, which frees node 0. The send of 7 uses node 0 again, and no item is lost.\",
+ \"plan\":{\"capacity\":1,\"bound\":2,\"life\":10,\"senders\":[[5],[7]],\"receivers\":[2],\"schedule\":[[\"s1\",28],[\"r1\",23],[\"s2\",28],[\"r1\",23]]},
+ \"moments\":[
+  [42,\"AddPassed\",\"r1 takes the item 5: every group has gone past node 0, and it is free from now on.\"],
+  [65,\"ReadPassed\",\"s2 begins its scan at the cursor, and finds node 0 free.\"],
+  [67,\"ResetListNode\",\"s2 clears the next link of node 0, as it did the passed count: node 0 is not in the list, so no take can read it.\"],
+  [71,\"LinkLast\",\"s2 links list node 0, which has the item 7, to node 1: this step is the decision, accepted as item 1.\"],
+  [93,\"AddPassed\",\"r1 takes the item 7: node 1 is free from now on.\"]]},
+{\"kind\":\"tour\",\"id\":\"close\",\"title\":\"A close\",
+ \"text\":\"s1 sends 5, closes the queue, and tries to send 6. The [[closing mark]] is a list node of its own, so a close is never Full. r1 takes what is left, and then gets Ended.\",
+ \"plan\":{\"capacity\":2,\"bound\":2,\"life\":10,\"senders\":[[5,\"close\",6]],\"receivers\":[2],\"schedule\":[[\"s1\",65],[\"r1\",38]]},
+ \"moments\":[
+  [42,\"LinkLast\",\"s1 links the closing mark to node 1: this step is the [[decision]], shut after 1 item.\"],
+  [44,\"WriteObject\",\"s1 sets the shut word: the later send reads it, and returns Closed.\"],
+  [60,\"ReadObject\",\"s1 serves the send of 6 and reads that the queue is shut: this step is the decision, closed.\"],
+  [79,\"AddPassed\",\"r1 takes the item 5, which was accepted before the close.\"],
+  [98,\"ReadItem\",\"r1 reads the tag of the node after the dummy: it is 0, so this node is the mark, and this step is the decision, ended after 1 item.\"]]},
+{\"kind\":\"tour\",\"id\":\"groups\",\"title\":\"Two groups\",
+ \"text\":\"Two [[group]]s of receivers read one list: r1 is group 1, and r2 is group 2. Each group has its own [[head]] and gets every item. A node is free when both groups have gone past it.\",
+ \"plan\":{\"version\":2,\"groups\":2,\"capacity\":1,\"bound\":2,\"life\":10,\"senders\":[[[5],[6],[6]]],\"receivers\":[2,2],\"schedule\":[[\"s1\",28],[\"r1\",23],[\"s1\",20],[\"r2\",23],[\"s1\",28],[\"r1\",23],[\"r2\",23]]},
+ \"moments\":[
+  [42,\"AddPassed\",\"Group 1 takes the item 5: one of two groups has gone past node 0, and it is not free.\"],
+  [66,\"ReadPassed\",\"The send of 6 finds no free node: this step is the decision, full. Group 2 has not taken the item 5, and holds the sender back.\"],
+  [85,\"AddPassed\",\"Group 2 takes the item 5 too: every group has gone past node 0, and it is free from now on.\"],
+  [114,\"LinkLast\",\"The next send of 6 uses node 0: this step is the decision, accepted as item 1.\"],
+  [159,\"AddPassed\",\"Group 2 takes the item 6: each group got 5 and then 6.\"]]},
+{\"kind\":\"tour\",\"id\":\"order\",\"title\":\"An order of all calls\",
+ \"text\":\"Calls overlap, and yet there is one order of all calls in which each answer is that of a queue that does one call after another. Each call takes effect between its swap and its [[decision]]. Every run of the algorithm is linearizable in this sense, and that is proved: the law is RunsAreLinearizable in crates/cc_runs. The card \\\"An order of all calls\\\" shows this order for the run on the page.\",
+ \"plan\":{\"capacity\":1,\"bound\":2,\"life\":10,\"senders\":[[5],[6]],\"receivers\":[2],\"schedule\":[[\"s1\",19],[\"r1\",14],[\"s1\",9],[\"s2\",14],[\"r1\",23],[\"s2\",6]]},
+ \"moments\":[
+  [28,\"ReadDummyNext\",\"r1 reads null in the next link of the dummy: the take is Empty while the send of 5 is under way, and is 1st in the order.\"],
+  [34,\"LinkLast\",\"s1 links list node 1, which has the item 5, to node 0: the send takes effect now, and is 2nd in the order.\"],
+  [55,\"ReadObject\",\"s2 reads the cursor, and its scan begins at node 0: the Full of this send takes effect here, and is 3rd in the order.\"],
+  [70,\"AddPassed\",\"r1 takes the item 5: the take is 4th in the order.\"],
+  [80,\"ReadPassed\",\"s2 reads that no group has gone past node 1, which is the dummy now: this step is the decision, full. In the order it comes before the take of 5.\"]],
+ \"opens\":\"order\"},
+{\"kind\":\"example\",\"id\":\"bodies_of_words\",\"title\":\"Items of one to four words\",
+ \"text\":\"Three senders send items of one to four words. s3 serves the first send of each.\",
+ \"plan\":{\"version\":2,\"groups\":1,\"capacity\":4,\"bound\":4,\"life\":10,\"senders\":[[[1],[2,20]],[[3,30,300]],[[4,40,400,4000]]],\"receivers\":[4],\"schedule\":[[\"s3\",9],[\"s2\",8],[\"s1\",6],[\"s3\",200],[\"s1\",200],[\"r1\",200]]},
+ \"moments\":[]},
+{\"kind\":\"example\",\"id\":\"full\",\"title\":\"A full queue\",
+ \"text\":\"A send finds no free node, and a node that a take freed is used again.\",
+ \"plan\":{\"capacity\":1,\"bound\":2,\"life\":10,\"senders\":[[5,6],[7]],\"receivers\":[1],\"schedule\":[[\"s1\",500],[\"r1\",500],[\"s2\",500]]},
+ \"moments\":[]},
+{\"kind\":\"example\",\"id\":\"close_and_drain\",\"title\":\"Close and drain\",
+ \"text\":\"s1 closes the queue. A later send returns Closed, and a later close Already. r1 takes what is left, and then gets Ended.\",
+ \"plan\":{\"capacity\":2,\"bound\":2,\"life\":10,\"senders\":[[5,\"close\",6,\"close\"]],\"receivers\":[3],\"schedule\":[[\"s1\",500],[\"r1\",500]]},
+ \"moments\":[]},
+{\"kind\":\"example\",\"id\":\"two_groups\",\"title\":\"Two groups, one slow\",
+ \"text\":\"Two groups take every item, and the slower group holds the sender back.\",
+ \"plan\":{\"version\":2,\"groups\":2,\"capacity\":1,\"bound\":2,\"life\":10,\"senders\":[[[5],[6],[6],[6],\"close\"]],\"receivers\":[3,3],\"schedule\":[[\"s1\",48],[\"r1\",23],[\"s1\",20],[\"r2\",23],[\"s1\",28],[\"r1\",23],[\"s1\",100],[\"r2\",100],[\"r1\",100]]},
+ \"moments\":[]},
+{\"kind\":\"example\",\"id\":\"two_sends_combined\",\"title\":\"Two sends, one combiner\",
+ \"text\":\"Two sends swap, and the pass of the first send serves both.\",
+ \"plan\":{\"capacity\":2,\"bound\":2,\"life\":10,\"senders\":[[7],[9]],\"receivers\":[0],\"schedule\":[[\"s1\",3],[\"s2\",100],[\"s1\",100]]},
+ \"moments\":[]},
+{\"kind\":\"example\",\"id\":\"bound_one\",\"title\":\"Bound 1\",
+ \"text\":\"The combiner hands over after one request, and the second send is pending at the end.\",
+ \"plan\":{\"capacity\":2,\"bound\":1,\"life\":10,\"senders\":[[7],[9]],\"receivers\":[0],\"schedule\":[[\"s1\",3],[\"s2\",100],[\"s1\",100]]},
+ \"moments\":[]},
+{\"kind\":\"example\",\"id\":\"cut_before_the_link\",\"title\":\"Cut before the link\",
+ \"text\":\"A send that stops one step before its decision is pending at the end.\",
+ \"plan\":{\"capacity\":2,\"bound\":2,\"life\":10,\"senders\":[[7]],\"receivers\":[1],\"schedule\":[[\"s1\",19]]},
+ \"moments\":[]},
+{\"kind\":\"example\",\"id\":\"one_item\",\"title\":\"One item\",
+ \"text\":\"One item is sent and taken.\",
+ \"plan\":{\"capacity\":2,\"bound\":2,\"life\":10,\"senders\":[[7]],\"receivers\":[1],\"schedule\":[[\"s1\",100],[\"r1\",100]]},
+ \"moments\":[]},
+{\"kind\":\"broken\",\"id\":\"marked_early\",\"title\":\"Marked done before the link is followed\",
+ \"text\":\"This [[combiner]] follows the next link of a node only after it has marked the node done. In between, the owner of the node returns, begins another send, and clears the link.\",
+ \"plan\":{\"capacity\":4,\"bound\":4,\"life\":10,\"senders\":[[1,5],[2,4],[3]],\"receivers\":[3],\"schedule\":[[\"s1\",6],[\"s2\",6],[\"s3\",6],[\"s1\",38],[\"s2\",5],[\"s1\",3],[\"s2\",5],[\"s3\",4],[\"s1\",29],[\"r1\",72],[\"s3\",2]]},
+ \"moments\":[
+  [56,\"MarkDone\",\"s1 marks node 1 of s2 done: only its next step reads the link by which it goes on.\"],
+  [59,\"ResetNext\",\"s2 has returned and begins its next send: it clears the next link of node 1, which led to node 2 of s3.\"],
+  [63,\"HandOver\",\"s1 found null in that link, and hands over to node 1, the node in the tail: the call of s3 is the first without an answer, and is skipped.\"],
+  [70,\"ReadState\",\"s3 reads state 1 and begins to wait: no link leads to its node any more.\"],
+  [81,\"ReadNext\",\"s1 sends again and got node 1 with state 0: it serves its own request, past those of s3 and s2.\"],
+  [164,\"AddPassed\",\"r1 gets 5 as item 2: by the history item 2 is that of s3, whose send still waits.\"]],
+ \"table\":\"marked_early\",\"breaks\":\"hand\",
+ \"lost\":\"Lost: the items 3 and 4. At the end of this run their sends wait for ever: no pass has a next step that changes a word.\",
+ \"right\":{\"title\":\"The link is read before the request is served\",
+  \"text\":\"The right [[combiner]] reads the next link of a node before it serves the request. s2 returns and clears its link as before, and s1 already knows that node 2 is next.\",
+  \"moments\":[
+  [38,\"ReadNext\",\"s1 reads the next link of node 1 before it serves s2: it names node 2, so the request of s2 is whole.\"],
+  [55,\"MarkDone\",\"s1 has written the answer of s2 and marks node 1 done: from now on s2 may return.\"],
+  [56,\"ReadNext\",\"s1 goes on to node 2 of s3, the first call without an answer.\"],
+  [59,\"ResetNext\",\"s2 has returned and begins its next send: it clears the next link of node 1, and s1 is at node 2 already.\"],
+  [82,\"LinkLast\",\"s1 serves the request of s3: this step is the decision, accepted as item 2.\"],
+  [162,\"AddPassed\",\"r1 gets 3 as item 2: no accepted item is lost.\"],
+  [173,\"ReadAnswer\",\"s3 reads its answer: its call returns accepted as item 2.\"]]}},
+{\"kind\":\"broken\",\"id\":\"handed_past\",\"title\":\"Handed over past a request\",
+ \"text\":\"At the [[bound]] this [[combiner]] reads one link too many, and hands over to the node after the one where it has to stop.\",
+ \"plan\":{\"capacity\":4,\"bound\":1,\"life\":10,\"senders\":[[1],[2],[3]],\"receivers\":[3],\"schedule\":[[\"s1\",6],[\"s2\",6],[\"s3\",6],[\"s1\",22],[\"s3\",22],[\"s2\",21],[\"s3\",21],[\"r1\",69],[\"s2\",2]]},
+ \"moments\":[
+  [37,\"MarkDone\",\"s1 marks node 0 done: it has served one request, as many as the bound. The next request is that of s2, in node 1.\"],
+  [39,\"HandOver\",\"s1 hands over to node 2 of s3, past the request of s2.\"],
+  [42,\"ReadNext\",\"s3 serves its own request, and the first call without an answer is that of s2.\"],
+  [62,\"ReadAnswer\",\"s3 reads its answer: its call returns accepted as item 1. By the history this is the answer of s2.\"],
+  [120,\"AddPassed\",\"r1 gets 3 as item 1: by the history item 1 is that of s2, whose send still waits.\"]],
+ \"table\":\"handed_past\",\"breaks\":\"hand\",
+ \"lost\":\"Lost: the item 2. At the end of this run its send waits for ever: no pass has a next step that changes a word.\",
+ \"right\":{\"title\":\"Handed over to the next request\",
+  \"text\":\"The right [[combiner]] hands over to the node where it stops. At the [[bound]] that is the node of the next request.\",
+  \"moments\":[
+  [37,\"MarkDone\",\"s1 marks node 0 done: it has served one request, as many as the bound. The next request is that of s2, in node 1.\"],
+  [38,\"HandOver\",\"s1 hands over to node 1 of s2, the first call without an answer.\"],
+  [40,\"ReadState\",\"s3 reads state 1 and begins to wait: it reads its own node alone, and changes no word.\"],
+  [62,\"ReadState\",\"s2 reads state 0: no pass combines, so s2 is the combiner.\"],
+  [75,\"LinkLast\",\"s2 serves its own request: this step is the decision, accepted as item 1.\"],
+  [139,\"AddPassed\",\"r1 gets 2 as item 1: no accepted item is lost.\"]]}},
+{\"kind\":\"broken\",\"id\":\"freed_dummy\",\"title\":\"Freed while the node is the dummy\",
+ \"text\":\"This take adds to the [[passed]] count of the node that it took the item from. But this node is the [[dummy]] from now on, and a send may use it.\",
+ \"plan\":{\"capacity\":1,\"bound\":2,\"life\":10,\"senders\":[[5,6]],\"receivers\":[3],\"schedule\":[[\"s1\",28],[\"r1\",23],[\"s1\",29],[\"r1\",46]]},
+ \"moments\":[
+  [42,\"AddPassed\",\"r1 takes the item 5 out of node 1, and adds 1 to the passed count of node 1, which is the dummy now.\"],
+  [67,\"ResetListNode\",\"The next send finds node 1 free and clears its passed count, while the head names it.\"],
+  [72,\"LinkLast\",\"s1 links node 1 to itself.\"],
+  [94,\"AddPassed\",\"r1 gets 6 as item 1: the head names node 1, and so does its next link.\"],
+  [117,\"AddPassed\",\"r1 gets 6 as item 2: the same item again.\"]],
+ \"table\":\"freed_dummy\",\"breaks\":\"reset\",
+ \"lost\":\"Got twice: the item 6.\",
+ \"right\":{\"title\":\"The old dummy is freed\",
+  \"text\":\"The right take adds to the [[passed]] count of the old [[dummy]]. The new dummy stays busy, so no send uses it.\",
+  \"moments\":[
+  [42,\"AddPassed\",\"r1 takes the item 5 out of node 1, and adds 1 to the passed count of node 0, the old dummy.\"],
+  [66,\"ResetListNode\",\"The next send finds node 0 free and clears its passed count: node 0 is not in the list, so no take can read it.\"],
+  [71,\"LinkLast\",\"s1 links list node 0, which has the item 6, to node 1: this step is the decision, accepted as item 1.\"],
+  [93,\"AddPassed\",\"r1 gets 6 as item 1: no accepted item is lost.\"],
+  [111,\"ReadDummyNext\",\"r1 reads null in the next link of the dummy: this step is the decision, empty.\"]]}},
+{\"kind\":\"broken\",\"id\":\"one_group\",\"title\":\"Freed after one group\",
+ \"text\":\"This send uses a node as soon as one [[group]] has gone past it. Another group may still need the node.\",
+ \"plan\":{\"version\":2,\"groups\":2,\"capacity\":2,\"bound\":2,\"life\":10,\"senders\":[[[5],[6],[7]]],\"receivers\":[1,3],\"schedule\":[[\"s1\",56],[\"r1\",23],[\"s1\",28],[\"r2\",60]]},
+ \"moments\":[
+  [70,\"AddPassed\",\"Group 1 takes the item 5: one of two groups has gone past node 0, which is still the dummy of group 2.\"],
+  [94,\"ResetListNode\",\"The next send finds node 0 free and clears its passed count, while the head of group 2 names it.\"],
+  [95,\"ResetListNode\",\"s1 clears the next link of node 0: group 2 has lost its way to the items 5 and 6.\"],
+  [116,\"ReadDummyNext\",\"r2 reads null in the next link of the dummy: this step is the decision, empty, while 3 items wait for group 2.\"]],
+ \"table\":\"one_group\",\"breaks\":\"reset\",
+ \"lost\":\"Lost for group 2: the items 5, 6 and 7.\",
+ \"right\":{\"title\":\"Freed after every group\",
+  \"text\":\"The right send uses a node only after every [[group]] has gone past it. So the send of 7 returns Full, and group 2 gets its items.\",
+  \"moments\":[
+  [70,\"AddPassed\",\"Group 1 takes the item 5: one of two groups has gone past node 0, which is still the dummy of group 2.\"],
+  [95,\"ReadPassed\",\"The send of 7 finds no free node: this step is the decision, full. Group 2 has not taken the item 5, and holds the sender back.\"],
+  [114,\"AddPassed\",\"Group 2 takes the item 5 too: every group has gone past node 0, and it is free from now on.\"],
+  [137,\"AddPassed\",\"Group 2 takes the item 6: no accepted item is lost.\"]]}},
+{\"kind\":\"broken\",\"id\":\"full_early\",\"title\":\"Full two nodes early\",
+ \"text\":\"This scan ends two nodes early. One node early would change no answer: the last node of a scan is the one that was linked last, and it is busy.\",
+ \"plan\":{\"capacity\":3,\"bound\":2,\"life\":10,\"senders\":[[5,6,7,8,9]],\"receivers\":[5],\"schedule\":[[\"s1\",98],[\"r1\",46],[\"s1\",51],[\"r1\",78]]},
+ \"moments\":[
+  [98,\"ReadPassed\",\"The scan of the send of 8 reads node 0, which is busy: 3 items wait, so the queue is full.\"],
+  [135,\"AddPassed\",\"r1 takes the item 6: the nodes 0 and 1 are free now.\"],
+  [145,\"ReadPassed\",\"The scan of the send of 8 goes on and finds node 1 free: node 0 is free too.\"],
+  [174,\"ReadPassed\",\"The scan of the send of 9 has read two busy nodes: this step is the decision, full, while only 2 of 3 items wait and node 0 is free.\"]],
+ \"table\":\"full_early\",\"breaks\":\"full\",
+ \"lost\":\"Refused: the item 9, while only 2 of 3 items wait.\",
+ \"right\":{\"title\":\"Full after a whole scan\",
+  \"text\":\"The right scan reads every node once before it returns Full. So the send of 9 finds node 0.\",
+  \"moments\":[
+  [98,\"ReadPassed\",\"The scan of the send of 8 reads node 0, which is busy: 3 items wait, so the queue is full.\"],
+  [135,\"AddPassed\",\"r1 takes the item 6: the nodes 0 and 1 are free now.\"],
+  [145,\"ReadPassed\",\"The scan of the send of 8 goes on and finds node 1 free: node 0 is free too.\"],
+  [175,\"ReadPassed\",\"The scan of the send of 9 has read two busy nodes, and finds node 0 free.\"],
+  [181,\"LinkLast\",\"s1 links list node 0, which has the item 9, to node 1: this step is the decision, accepted as item 4.\"],
+  [249,\"AddPassed\",\"r1 gets 9 as item 4: no accepted item is lost.\"]]}}
 ]
 </script>
 <script type=\"text/plain\" id=\"run\">";
@@ -531,7 +804,8 @@ const tableOf = variant => {
 const Body_body_of = (words) => {
   if (words.length > 0 && words.slice(1).length === 0) return { words: { is: 'One', 0: [words[0]] } };
   if (words.length > 0 && words.slice(1).length > 0 && words.slice(1).slice(1).length === 0) return { words: { is: 'Two', 0: [words[0], words.slice(1)[0]] } };
-  if (words.length > 0 && words.slice(1).length > 0 && words.slice(1).slice(1).length > 0 && words.slice(1).slice(1).slice(1).length === 0) return { words: { is: 'Three', 0: [words[0], words.slice(1)[0], words.slice(1).slice(1)[0]] } };
+  if (words.length > 0 && words.slice(1).length > 0 && words.slice(1).slice(1).length > 0
+    && words.slice(1).slice(1).slice(1).length === 0) return { words: { is: 'Three', 0: [words[0], words.slice(1)[0], words.slice(1).slice(1)[0]] } };
   return { words: { is: 'Four', 0: words } };
 };
 const Body_further_of = (b) => minus(BigInt(Body_words_of(b).length), 1n);
@@ -549,11 +823,13 @@ const Items_is_pass = (v0, v1) => {
 };
 const Record_of_group = (h, g) => h.takes[g] ?? Record_silent();
 const Record_silent = () => ({ calls: [], answers: [] });
-const Ahead_ahead = (c, x, k, s) => (Ahead_serving_part(c.config, x, k, BigInt(OnChain_answers_on(x, s.history).length), Ahead_combiner(c, x, s)) + Ahead_shares(Ahead_entering_left, c, x, k, s, OnChain_passes_on(c, x)));
+const Ahead_ahead = (c, x, k, s) => (Ahead_serving_part(c.config, x, k, BigInt(OnChain_answers_on(x, s.history).length),
+  Ahead_combiner(c, x, s)) + Ahead_shares(Ahead_entering_left, c, x, k, s, OnChain_passes_on(c, x)));
 const Ahead_combiner = (c, x, s) => Ahead_combiner_among(c, x, s, OnChain_passes_on(c, x));
 const Ahead_combiner_among = (c, x, s, v3) => {
   if (v3 === 0n) return { is: 'Idle' };
-  if (v3 >= 1n) return ChainLaws_is_combining(s.stand(OnChain_pass_on(c, x, (v3 - 1n))).phase) ? s.stand(OnChain_pass_on(c, x, (v3 - 1n))).phase : Ahead_combiner_among(c, x, s, (v3 - 1n));
+  if (v3 >= 1n) return ChainLaws_is_combining(s.stand(OnChain_pass_on(c, x, (v3 - 1n))).phase) ? s.stand(OnChain_pass_on(c, x, (v3 - 1n))).phase
+    : Ahead_combiner_among(c, x, s, (v3 - 1n));
 };
 const Ahead_counting_left = (v0) => {
   if (v0.is === 'ReadTag') return 7n;
@@ -605,7 +881,8 @@ const Ahead_serving_left = (c, x, v2) => {
   if (v2.is === 'HandOver') return 1n;
   return 0n;
 };
-const Ahead_serving_part = (c, x, k, answers, at) => (minus(k, (answers + Ahead_taken_on(at))) * (Ahead_service(c, x) + 3n)) + ((answers < (k + Turns_decided(at))) ? Ahead_serving_left(c, x, at) : 0n);
+const Ahead_serving_part = (c, x, k, answers,
+  at) => (minus(k, (answers + Ahead_taken_on(at))) * (Ahead_service(c, x) + 3n)) + ((answers < (k + Turns_decided(at))) ? Ahead_serving_left(c, x, at) : 0n);
 const Ahead_share = (left, c, x, k, s, n) => Turns_is_among(c, x, k, s, n) ? left(s.stand(OnChain_pass_on(c, x, n)).phase) : 0n;
 const Ahead_shares = (left, c, x, k, s, v5) => {
   if (v5 === 0n) return 0n;
@@ -660,8 +937,14 @@ const Codes_count_word = (v0) => {
 };
 const Codes_further_words = (tag) => ((tag / (2n ** 48n)) % 4n);
 const Codes_item_in = (p) => Codes_item_of(p.place, p.tag, p.body);
-const Codes_item_of = (place, tag, words) => ({ place, sender: Codes_tag_sender(tag), number: Codes_tag_number(tag), body: Codes_body_in(Codes_further_words(tag), words) });
-const Codes_list_reads = (ret) => (Codes_code_of(ret) === 1n) ? { is: 'Send', 0: { is: 'Accepted', place: Codes_value_of(ret) } } : ((Codes_code_of(ret) === 2n) ? { is: 'Send', 0: { is: 'Full' } } : ((Codes_code_of(ret) === 3n) ? { is: 'Send', 0: { is: 'Closed' } } : ((Codes_code_of(ret) === 4n) ? { is: 'Send', 0: { is: 'Spent' } } : ((Codes_code_of(ret) === 5n) ? { is: 'Close', 0: { is: 'Shut', total: Codes_value_of(ret) } } : { is: 'Close', 0: { is: 'Already', total: Codes_value_of(ret) } }))));
+const Codes_item_of = (place, tag, words) => ({ place, sender: Codes_tag_sender(tag), number: Codes_tag_number(tag),
+  body: Codes_body_in(Codes_further_words(tag), words) });
+const Codes_list_reads = (ret) => (Codes_code_of(ret) === 1n) ? { is: 'Send', 0: { is: 'Accepted', place: Codes_value_of(ret) } }
+  : ((Codes_code_of(ret) === 2n) ? { is: 'Send', 0: { is: 'Full' } }
+  : ((Codes_code_of(ret) === 3n) ? { is: 'Send', 0: { is: 'Closed' } }
+  : ((Codes_code_of(ret) === 4n) ? { is: 'Send', 0: { is: 'Spent' } }
+  : ((Codes_code_of(ret) === 5n) ? { is: 'Close', 0: { is: 'Shut', total: Codes_value_of(ret) } }
+  : { is: 'Close', 0: { is: 'Already', total: Codes_value_of(ret) } }))));
 const Codes_list_word = (v0) => {
   if (v0.is === 'Send' && v0[0].is === 'Accepted') return Codes_coded(1n, v0[0].place);
   if (v0.is === 'Send' && v0[0].is === 'Full') return Codes_coded(2n, 0n);
@@ -717,17 +1000,23 @@ const CountLines_goes = (job, service, found) => ServiceLine_phase_of(CountLines
 const CountLines_in_service = (job, service) => ({ is: 'Counting', job, service });
 const CountLines_kind_of = (service) => CountLines_line(0n, service, 0n).kind;
 const CountLines_line = (served, v1, v2) => {
-  if (v1.is === 'ReadTag') return ServiceLine_load({ is: 'ReadRequest' }, { is: 'Node', 0: { is: 'Send' }, 1: served, 2: { is: 'Tag' } }, { is: 'On', 0: { is: 'ReadBody', tag: v2, index: 0n } });
-  if (v1.is === 'ReadBody') return ServiceLine_load({ is: 'ReadRequest' }, { is: 'Node', 0: { is: 'Send' }, 1: served, 2: { is: 'Body', 0: v1.index } }, { is: 'On', 0: Codes_behind(Codes_further_words(v1.tag), v1.index, { is: 'ReadBody', tag: v1.tag, index: (v1.index + 1n) }, { is: 'ReadCount' }) });
-  if (v1.is === 'ReadCount') return ServiceLine_load({ is: 'ReadObject' }, { is: 'Object', 0: { is: 'Count' } }, { is: 'On', 0: { is: 'WriteCount', count: v2 } });
-  if (v1.is === 'WriteCount') return ServiceLine_store({ is: 'WriteObject' }, { is: 'Object', 0: { is: 'Count' } }, (v1.count + 1n), { is: 'Decides', 0: { is: 'Send', 0: { is: 'Accepted', place: v1.count } } });
+  if (v1.is === 'ReadTag') return ServiceLine_load({ is: 'ReadRequest' }, { is: 'Node', 0: { is: 'Send' }, 1: served, 2: { is: 'Tag' } },
+    { is: 'On', 0: { is: 'ReadBody', tag: v2, index: 0n } });
+  if (v1.is === 'ReadBody') return ServiceLine_load({ is: 'ReadRequest' }, { is: 'Node', 0: { is: 'Send' }, 1: served, 2: { is: 'Body', 0: v1.index } },
+    { is: 'On', 0: Codes_behind(Codes_further_words(v1.tag), v1.index, { is: 'ReadBody', tag: v1.tag, index: (v1.index + 1n) }, { is: 'ReadCount' }) });
+  if (v1.is === 'ReadCount') return ServiceLine_load({ is: 'ReadObject' }, { is: 'Object', 0: { is: 'Count' } },
+    { is: 'On', 0: { is: 'WriteCount', count: v2 } });
+  if (v1.is === 'WriteCount') return ServiceLine_store({ is: 'WriteObject' }, { is: 'Object', 0: { is: 'Count' } }, (v1.count + 1n),
+    { is: 'Decides', 0: { is: 'Send', 0: { is: 'Accepted', place: v1.count } } });
 };
 const CountLines_operation = (served, service) => CountLines_line(served, service, 0n).does;
 const Lines_after_answer = (job, v1) => {
   if (v1.is === 'Take' && v1[0].is === 'Got') return { is: 'WriteAnswerTag', job, item: v1[0][0] };
   return { is: 'MarkDone', job };
 };
-const Lines_after_done = (bound, job) => variant === 'handed_past' ? { is: 'ReadNext', round: { at: job.next, served: (job.round.served + 1n) } } : ((job.round.served + 1n) === bound) ? { is: 'HandOver', at: job.next } : { is: 'ReadNext', round: { at: job.next, served: (job.round.served + 1n) } };
+const Lines_after_done = (bound, job) =>
+  variant === 'handed_past' ? { is: 'ReadNext', round: { at: job.next, served: (job.round.served + 1n) } }
+  : ((job.round.served + 1n) === bound) ? { is: 'HandOver', at: job.next } : { is: 'ReadNext', round: { at: job.next, served: (job.round.served + 1n) } };
 const Lines_after_exchange = (v0, own, call) => {
   if (v0.is === 'Send') return { is: 'WriteTag', put: own, request: Codes_request_in(call) };
   if (v0.is === 'Take') return { is: 'Link', put: own };
@@ -738,7 +1027,9 @@ const Lines_after_next = (served, x, round, v3) => {
 };
 const Lines_after_ret = (served, v1, ret) => {
   if (v1.is === 'Send') return { is: 'Finished', answer: Codes_sender_reads(served, ret) };
-  if (v1.is === 'Take') return (Codes_code_of(ret) === 1n) ? { is: 'ReadAnswerTag', place: Codes_value_of(ret) } : ((Codes_code_of(ret) === 2n) ? { is: 'Finished', answer: { is: 'Take', 0: { is: 'Empty' } } } : { is: 'Finished', answer: { is: 'Take', 0: { is: 'Ended', total: Codes_value_of(ret) } } });
+  if (v1.is === 'Take') return (Codes_code_of(ret) === 1n) ? { is: 'ReadAnswerTag', place: Codes_value_of(ret) }
+    : ((Codes_code_of(ret) === 2n) ? { is: 'Finished', answer: { is: 'Take', 0: { is: 'Empty' } } }
+    : { is: 'Finished', answer: { is: 'Take', 0: { is: 'Ended', total: Codes_value_of(ret) } } });
 };
 const Lines_after_state = (own, v1) => {
   if (v1 === 0n) return { is: 'ReadNext', round: { at: own, served: 0n } };
@@ -751,40 +1042,70 @@ const Lines_group_of = (v0) => {
 };
 const Lines_line = (c, x, own, v0, v1) => {
   if (v0.is === 'Idle') return Lines_none(c, x, own, { is: 'Idle' });
-  if (v0.is === 'ResetNext') return Lines_store(c, x, own, { is: 'ResetNext' }, { is: 'Node', 0: x, 1: own, 2: { is: 'Next' } }, 0n, { is: 'ResetState', call: v0.call });
-  if (v0.is === 'ResetState') return Lines_store(c, x, own, { is: 'ResetState' }, { is: 'Node', 0: x, 1: own, 2: { is: 'State' } }, 1n, { is: 'Exchange', call: v0.call });
-  if (v0.is === 'Exchange') return Lines_swap(c, x, own, { is: 'Exchange' }, { is: 'Tail', 0: x }, (own + 1n), v0.call, minus(v1, 1n), Lines_after_exchange(x, own, v0.call));
-  if (v0.is === 'WriteTag') return Lines_store(c, x, own, { is: 'WriteRequest' }, { is: 'Node', 0: x, 1: own, 2: { is: 'Tag' } }, v0.request.tag, { is: 'WriteBody', put: v0.put, request: v0.request, index: 0n });
-  if (v0.is === 'WriteBody') return Lines_store(c, x, own, { is: 'WriteRequest' }, { is: 'Node', 0: x, 1: own, 2: { is: 'Body', 0: v0.index } }, Codes_word(v0.request.body, v0.index), Codes_behind(Codes_further_words(v0.request.tag), v0.index, { is: 'WriteBody', put: v0.put, request: v0.request, index: (v0.index + 1n) }, { is: 'Link', put: v0.put }));
+  if (v0.is === 'ResetNext') return Lines_store(c, x, own, { is: 'ResetNext' }, { is: 'Node', 0: x, 1: own, 2: { is: 'Next' } }, 0n,
+    { is: 'ResetState', call: v0.call });
+  if (v0.is === 'ResetState') return Lines_store(c, x, own, { is: 'ResetState' }, { is: 'Node', 0: x, 1: own, 2: { is: 'State' } }, 1n,
+    { is: 'Exchange', call: v0.call });
+  if (v0.is === 'Exchange') return Lines_swap(c, x, own, { is: 'Exchange' }, { is: 'Tail', 0: x }, (own + 1n), v0.call, minus(v1, 1n),
+    Lines_after_exchange(x, own, v0.call));
+  if (v0.is === 'WriteTag') return Lines_store(c, x, own, { is: 'WriteRequest' }, { is: 'Node', 0: x, 1: own, 2: { is: 'Tag' } }, v0.request.tag,
+    { is: 'WriteBody', put: v0.put, request: v0.request, index: 0n });
+  if (v0.is === 'WriteBody') return Lines_store(c, x, own, { is: 'WriteRequest' }, { is: 'Node', 0: x, 1: own, 2: { is: 'Body', 0: v0.index } },
+    Codes_word(v0.request.body, v0.index), Codes_behind(Codes_further_words(v0.request.tag), v0.index,
+    { is: 'WriteBody', put: v0.put, request: v0.request, index: (v0.index + 1n) }, { is: 'Link', put: v0.put }));
   if (v0.is === 'Link') return Lines_store(c, x, own, { is: 'Link' }, { is: 'Node', 0: x, 1: own, 2: { is: 'Next' } }, (v0.put + 1n), { is: 'ReadState' });
   if (v0.is === 'ReadState') return Lines_load(c, x, own, { is: 'ReadState' }, { is: 'Node', 0: x, 1: own, 2: { is: 'State' } }, Lines_after_state(own, v1));
-  if (variant === 'handed_past' && v0.is === 'ReadNext') return Lines_load(c, x, own, { is: 'ReadNext' }, { is: 'Node', 0: x, 1: v0.round.at, 2: { is: 'Next' } }, ((v0.round.served === c.config.bound) ? ((v1 === 0n) ? { is: 'HandOver', at: v0.round.at } : { is: 'HandOver', at: minus(v1, 1n) }) : Lines_after_next(c.served, x, v0.round, v1)));
-  if (v0.is === 'ReadNext') return Lines_load(c, x, own, { is: 'ReadNext' }, { is: 'Node', 0: x, 1: v0.round.at, 2: { is: 'Next' } }, Lines_after_next(c.served, x, v0.round, v1));
-  if (v0.is === 'Counting') return { ...Lines_step(c, x, own, CountLines_kind_of(v0.service), CountLines_operation(v0.job.round.at, v0.service), CountLines_goes(v0.job, v0.service, v1)), decides: CountLines_decides(v0.service, v1) };
-  if (v0.is === 'Sending') return { ...Lines_step(c, x, own, SendLines_kind_of(v0.service), SendLines_operation(c.config, v0.job.round.at, v0.service), SendLines_goes(c.config, v0.job, v0.service, v1)), decides: SendLines_decides(c.config, v0.service, v1) };
-  if (v0.is === 'Taking') return { ...Lines_step(c, x, own, TakeLines_kind_of(v0.service), TakeLines_operation(Lines_group_of(x), v0.service), TakeLines_goes(v0.job, v0.service, v1)), decides: TakeLines_decides(v0.service, v1) };
-  if (v0.is === 'WriteAnswer') return Lines_store(c, x, own, { is: 'WriteAnswer' }, { is: 'Node', 0: x, 1: v0.job.round.at, 2: { is: 'Ret' } }, Codes_ret_of(c.served, v0.answer), Lines_after_answer(v0.job, v0.answer));
-  if (v0.is === 'WriteAnswerTag') return Lines_store(c, x, own, { is: 'WriteAnswer' }, { is: 'Node', 0: x, 1: v0.job.round.at, 2: { is: 'Tag' } }, Codes_tag_of(v0.item), { is: 'WriteAnswerBody', job: v0.job, item: v0.item, index: 0n });
-  if (v0.is === 'WriteAnswerBody') return Lines_store(c, x, own, { is: 'WriteAnswer' }, { is: 'Node', 0: x, 1: v0.job.round.at, 2: { is: 'Body', 0: v0.index } }, Codes_word(Codes_body_words(v0.item), v0.index), Codes_behind(Codes_further_words(Codes_tag_of(v0.item)), v0.index, { is: 'WriteAnswerBody', job: v0.job, item: v0.item, index: (v0.index + 1n) }, { is: 'MarkDone', job: v0.job }));
-  if (variant === 'marked_early' && v0.is === 'MarkDone') return Lines_store(c, x, own, { is: 'MarkDone' }, { is: 'Node', 0: x, 1: v0.job.round.at, 2: { is: 'State' } }, 2n, { is: 'FollowNext', was: v0.job });
-  if (variant === 'marked_early' && v0.is === 'FollowNext') return Lines_load(c, x, own, { is: 'ReadNext' }, { is: 'Node', 0: x, 1: v0.was.round.at, 2: { is: 'Next' } }, ((v1 === 0n) ? { is: 'HandOver', at: v0.was.round.at } : Lines_after_done(c.config.bound, { ...v0.was, next: minus(v1, 1n) })));
-  if (v0.is === 'MarkDone') return Lines_store(c, x, own, { is: 'MarkDone' }, { is: 'Node', 0: x, 1: v0.job.round.at, 2: { is: 'State' } }, 2n, Lines_after_done(c.config.bound, v0.job));
+  if (variant === 'handed_past' && v0.is === 'ReadNext') return Lines_load(c, x, own, { is: 'ReadNext' },
+    { is: 'Node', 0: x, 1: v0.round.at, 2: { is: 'Next' } },
+    ((v0.round.served === c.config.bound) ? ((v1 === 0n) ? { is: 'HandOver', at: v0.round.at } : { is: 'HandOver', at: minus(v1, 1n) })
+    : Lines_after_next(c.served, x, v0.round, v1)));
+  if (v0.is === 'ReadNext') return Lines_load(c, x, own, { is: 'ReadNext' }, { is: 'Node', 0: x, 1: v0.round.at, 2: { is: 'Next' } },
+    Lines_after_next(c.served, x, v0.round, v1));
+  if (v0.is === 'Counting') return { ...Lines_step(c, x, own, CountLines_kind_of(v0.service), CountLines_operation(v0.job.round.at, v0.service),
+    CountLines_goes(v0.job, v0.service, v1)), decides: CountLines_decides(v0.service, v1) };
+  if (v0.is === 'Sending') return { ...Lines_step(c, x, own, SendLines_kind_of(v0.service), SendLines_operation(c.config, v0.job.round.at, v0.service),
+    SendLines_goes(c.config, v0.job, v0.service, v1)), decides: SendLines_decides(c.config, v0.service, v1) };
+  if (v0.is === 'Taking') return { ...Lines_step(c, x, own, TakeLines_kind_of(v0.service), TakeLines_operation(Lines_group_of(x), v0.service),
+    TakeLines_goes(v0.job, v0.service, v1)), decides: TakeLines_decides(v0.service, v1) };
+  if (v0.is === 'WriteAnswer') return Lines_store(c, x, own, { is: 'WriteAnswer' }, { is: 'Node', 0: x, 1: v0.job.round.at, 2: { is: 'Ret' } },
+    Codes_ret_of(c.served, v0.answer), Lines_after_answer(v0.job, v0.answer));
+  if (v0.is === 'WriteAnswerTag') return Lines_store(c, x, own, { is: 'WriteAnswer' }, { is: 'Node', 0: x, 1: v0.job.round.at, 2: { is: 'Tag' } },
+    Codes_tag_of(v0.item), { is: 'WriteAnswerBody', job: v0.job, item: v0.item, index: 0n });
+  if (v0.is === 'WriteAnswerBody') return Lines_store(c, x, own, { is: 'WriteAnswer' },
+    { is: 'Node', 0: x, 1: v0.job.round.at, 2: { is: 'Body', 0: v0.index } }, Codes_word(Codes_body_words(v0.item), v0.index),
+    Codes_behind(Codes_further_words(Codes_tag_of(v0.item)), v0.index, { is: 'WriteAnswerBody', job: v0.job, item: v0.item, index: (v0.index + 1n) },
+    { is: 'MarkDone', job: v0.job }));
+  if (variant === 'marked_early' && v0.is === 'MarkDone') return Lines_store(c, x, own, { is: 'MarkDone' },
+    { is: 'Node', 0: x, 1: v0.job.round.at, 2: { is: 'State' } }, 2n, { is: 'FollowNext', was: v0.job });
+  if (variant === 'marked_early' && v0.is === 'FollowNext') return Lines_load(c, x, own, { is: 'ReadNext' },
+    { is: 'Node', 0: x, 1: v0.was.round.at, 2: { is: 'Next' } },
+    ((v1 === 0n) ? { is: 'HandOver', at: v0.was.round.at } : Lines_after_done(c.config.bound, { ...v0.was, next: minus(v1, 1n) })));
+  if (v0.is === 'MarkDone') return Lines_store(c, x, own, { is: 'MarkDone' }, { is: 'Node', 0: x, 1: v0.job.round.at, 2: { is: 'State' } }, 2n,
+    Lines_after_done(c.config.bound, v0.job));
   if (v0.is === 'HandOver') return Lines_store(c, x, own, { is: 'HandOver' }, { is: 'Node', 0: x, 1: v0.at, 2: { is: 'State' } }, 0n, { is: 'ReadAnswer' });
-  if (v0.is === 'ReadAnswer') return Lines_load(c, x, own, { is: 'ReadAnswer' }, { is: 'Node', 0: x, 1: own, 2: { is: 'Ret' } }, Lines_after_ret(c.served, x, v1));
-  if (v0.is === 'ReadAnswerTag') return Lines_load(c, x, own, { is: 'ReadAnswer' }, { is: 'Node', 0: x, 1: own, 2: { is: 'Tag' } }, { is: 'ReadAnswerBody', parcel: Codes_parcel(v0.place, v1, Codes_no_words()), index: 0n });
-  if (v0.is === 'ReadAnswerBody') return Lines_load(c, x, own, { is: 'ReadAnswer' }, { is: 'Node', 0: x, 1: own, 2: { is: 'Body', 0: v0.index } }, Codes_behind(Codes_further_words(v0.parcel.tag), v0.index, { is: 'ReadAnswerBody', parcel: Codes_with_read(v0.parcel, v0.index, v1), index: (v0.index + 1n) }, { is: 'Finished', answer: { is: 'Take', 0: { is: 'Got', 0: Codes_item_in(Codes_with_read(v0.parcel, v0.index, v1)) } } }));
+  if (v0.is === 'ReadAnswer') return Lines_load(c, x, own, { is: 'ReadAnswer' }, { is: 'Node', 0: x, 1: own, 2: { is: 'Ret' } },
+    Lines_after_ret(c.served, x, v1));
+  if (v0.is === 'ReadAnswerTag') return Lines_load(c, x, own, { is: 'ReadAnswer' }, { is: 'Node', 0: x, 1: own, 2: { is: 'Tag' } },
+    { is: 'ReadAnswerBody', parcel: Codes_parcel(v0.place, v1, Codes_no_words()), index: 0n });
+  if (v0.is === 'ReadAnswerBody') return Lines_load(c, x, own, { is: 'ReadAnswer' }, { is: 'Node', 0: x, 1: own, 2: { is: 'Body', 0: v0.index } },
+    Codes_behind(Codes_further_words(v0.parcel.tag), v0.index,
+    { is: 'ReadAnswerBody', parcel: Codes_with_read(v0.parcel, v0.index, v1), index: (v0.index + 1n) },
+    { is: 'Finished', answer: { is: 'Take', 0: { is: 'Got', 0: Codes_item_in(Codes_with_read(v0.parcel, v0.index, v1)) } } }));
   if (v0.is === 'Finished') return Lines_none(c, x, own, { is: 'Finished', answer: v0.answer });
 };
 const Lines_load = (c, x, own, what, word, to) => Lines_step(c, x, own, what, { is: 'Load', 0: word }, to);
-const Lines_none = (c, x, own, at) => ({ event: { is: 'Idle' }, does: { is: 'Load', 0: { is: 'Tail', 0: x } }, goes: at, node: own, enters: { is: 'None' }, decides: { is: 'None' } });
+const Lines_none = (c, x, own, at) => ({ event: { is: 'Idle' }, does: { is: 'Load', 0: { is: 'Tail', 0: x } }, goes: at, node: own, enters: { is: 'None' },
+  decides: { is: 'None' } });
 const Lines_serves = (v0, x, job) => {
   if (v0.is === 'Counter') return { is: 'Counting', job, service: { is: 'ReadTag' } };
   if (v0.is === 'List' && x.is === 'Send') return { is: 'Sending', job, service: { is: 'ReadTag' } };
   if (v0.is === 'List' && x.is === 'Take') return { is: 'Taking', job, service: { is: 'ReadHead' } };
 };
-const Lines_step = (c, x, own, what, does, to) => ({ event: { is: 'Did', 0: what }, does, goes: to, node: own, enters: { is: 'None' }, decides: { is: 'None' } });
+const Lines_step = (c, x, own, what, does,
+  to) => ({ event: { is: 'Did', 0: what }, does, goes: to, node: own, enters: { is: 'None' }, decides: { is: 'None' } });
 const Lines_store = (c, x, own, what, word, value, to) => Lines_step(c, x, own, what, { is: 'Store', 0: word, 1: value }, to);
-const Lines_swap = (c, x, own, what, word, value, call, node, to) => ({ ...Lines_step(c, x, own, what, { is: 'Swap', 0: word, 1: value }, to), node, enters: { is: 'Some', 0: call } });
+const Lines_swap = (c, x, own, what, word, value, call, node,
+  to) => ({ ...Lines_step(c, x, own, what, { is: 'Swap', 0: word, 1: value }, to), node, enters: { is: 'Some', 0: call } });
 const OnChain_answers_on = (x, h) => State_side(x, h).answers;
 const OnChain_calls_on = (x, h) => State_side(x, h).calls;
 const OnChain_pass_on = (c, v1, p) => {
@@ -797,8 +1118,19 @@ const OnChain_passes_on = (c, v1) => {
 };
 const SendLines_after = (c, at) => ((at + 1n) % (c.capacity + 1n));
 const SendLines_any_config = () => ({ senders: 0n, receivers: 0n, capacity: 0n, bound: 0n, life: 0n, per_sender: 0n, groups: 0n });
-const SendLines_by_count = (c, request, count) => (request.tag === 0n) ? { is: 'On', 0: { is: 'ReadLastToClose', total: count } } : ((count === c.life) ? { is: 'Decides', 0: { is: 'Send', 0: { is: 'Spent' } } } : { is: 'On', 0: { is: 'ReadCursor', parcel: { place: count, tag: request.tag, body: request.body } } });
-const SendLines_by_passed = (c, parcel, at, reads, passed) => variant === 'one_group' ? (0n < passed) ? { is: 'On', 0: { is: 'ResetPassed', parcel, node: at } } : ((reads === (c.capacity + 1n)) ? { is: 'Decides', 0: { is: 'Send', 0: { is: 'Full' } } } : { is: 'On', 0: { is: 'ReadPassed', parcel, node: SendLines_after(c, at), reads: (reads + 1n) } }) : variant === 'full_early' ? (passed === Words_groups(c)) ? { is: 'On', 0: { is: 'ResetPassed', parcel, node: at } } : (((reads + 1n) === c.capacity) ? { is: 'Decides', 0: { is: 'Send', 0: { is: 'Full' } } } : { is: 'On', 0: { is: 'ReadPassed', parcel, node: SendLines_after(c, at), reads: (reads + 1n) } }) : (passed === Words_groups(c)) ? { is: 'On', 0: { is: 'ResetPassed', parcel, node: at } } : ((reads === (c.capacity + 1n)) ? { is: 'Decides', 0: { is: 'Send', 0: { is: 'Full' } } } : { is: 'On', 0: { is: 'ReadPassed', parcel, node: SendLines_after(c, at), reads: (reads + 1n) } });
+const SendLines_by_count = (c, request, count) => (request.tag === 0n) ? { is: 'On', 0: { is: 'ReadLastToClose', total: count } }
+  : ((count === c.life) ? { is: 'Decides', 0: { is: 'Send', 0: { is: 'Spent' } } }
+  : { is: 'On', 0: { is: 'ReadCursor', parcel: { place: count, tag: request.tag, body: request.body } } });
+const SendLines_by_passed = (c, parcel, at, reads, passed) =>
+  variant === 'one_group' ? (0n < passed) ? { is: 'On', 0: { is: 'ResetPassed', parcel, node: at } }
+    : ((reads === (c.capacity + 1n)) ? { is: 'Decides', 0: { is: 'Send', 0: { is: 'Full' } } }
+    : { is: 'On', 0: { is: 'ReadPassed', parcel, node: SendLines_after(c, at), reads: (reads + 1n) } })
+  : variant === 'full_early' ? (passed === Words_groups(c)) ? { is: 'On', 0: { is: 'ResetPassed', parcel, node: at } }
+    : (((reads + 1n) === c.capacity) ? { is: 'Decides', 0: { is: 'Send', 0: { is: 'Full' } } }
+    : { is: 'On', 0: { is: 'ReadPassed', parcel, node: SendLines_after(c, at), reads: (reads + 1n) } })
+  : (passed === Words_groups(c)) ? { is: 'On', 0: { is: 'ResetPassed', parcel, node: at } }
+    : ((reads === (c.capacity + 1n)) ? { is: 'Decides', 0: { is: 'Send', 0: { is: 'Full' } } }
+    : { is: 'On', 0: { is: 'ReadPassed', parcel, node: SendLines_after(c, at), reads: (reads + 1n) } });
 const SendLines_by_shut = (request, v1) => {
   if (v1 === 0n) return { is: 'On', 0: { is: 'ReadCount', request } };
   if (v1 >= 1n) return (request.tag === 0n) ? { is: 'On', 0: { is: 'ReadTotal' } } : { is: 'Decides', 0: { is: 'Send', 0: { is: 'Closed' } } };
@@ -808,26 +1140,48 @@ const SendLines_goes = (c, job, service, found) => ServiceLine_phase_of(SendLine
 const SendLines_in_service = (job, service) => ({ is: 'Sending', job, service });
 const SendLines_kind_of = (service) => SendLines_line(SendLines_any_config(), 0n, service, 0n).kind;
 const SendLines_line = (c, served, v2, v3) => {
-  if (v2.is === 'ReadTag') return ServiceLine_load({ is: 'ReadRequest' }, { is: 'Node', 0: { is: 'Send' }, 1: served, 2: { is: 'Tag' } }, { is: 'On', 0: { is: 'ReadBody', request: { tag: v3, body: Codes_no_words() }, index: 0n } });
-  if (v2.is === 'ReadBody') return ServiceLine_load({ is: 'ReadRequest' }, { is: 'Node', 0: { is: 'Send' }, 1: served, 2: { is: 'Body', 0: v2.index } }, { is: 'On', 0: Codes_behind(Codes_further_words(v2.request.tag), v2.index, { is: 'ReadBody', request: Codes_with_asked(v2.request, v2.index, v3), index: (v2.index + 1n) }, { is: 'ReadShut', request: Codes_with_asked(v2.request, v2.index, v3) }) });
+  if (v2.is === 'ReadTag') return ServiceLine_load({ is: 'ReadRequest' }, { is: 'Node', 0: { is: 'Send' }, 1: served, 2: { is: 'Tag' } },
+    { is: 'On', 0: { is: 'ReadBody', request: { tag: v3, body: Codes_no_words() }, index: 0n } });
+  if (v2.is === 'ReadBody') return ServiceLine_load({ is: 'ReadRequest' }, { is: 'Node', 0: { is: 'Send' }, 1: served, 2: { is: 'Body', 0: v2.index } },
+    { is: 'On', 0: Codes_behind(Codes_further_words(v2.request.tag), v2.index,
+    { is: 'ReadBody', request: Codes_with_asked(v2.request, v2.index, v3), index: (v2.index + 1n) },
+    { is: 'ReadShut', request: Codes_with_asked(v2.request, v2.index, v3) }) });
   if (v2.is === 'ReadShut') return ServiceLine_load({ is: 'ReadObject' }, { is: 'Object', 0: { is: 'Shut' } }, SendLines_by_shut(v2.request, v3));
-  if (v2.is === 'ReadTotal') return ServiceLine_load({ is: 'ReadObject' }, { is: 'Object', 0: { is: 'Count' } }, { is: 'Decides', 0: { is: 'Close', 0: { is: 'Already', total: v3 } } });
+  if (v2.is === 'ReadTotal') return ServiceLine_load({ is: 'ReadObject' }, { is: 'Object', 0: { is: 'Count' } },
+    { is: 'Decides', 0: { is: 'Close', 0: { is: 'Already', total: v3 } } });
   if (v2.is === 'ReadCount') return ServiceLine_load({ is: 'ReadObject' }, { is: 'Object', 0: { is: 'Count' } }, SendLines_by_count(c, v2.request, v3));
-  if (v2.is === 'ReadLastToClose') return ServiceLine_load({ is: 'ReadObject' }, { is: 'Object', 0: { is: 'Last' } }, { is: 'On', 0: { is: 'LinkMark', total: v2.total, last: minus(v3, 1n) } });
-  if (v2.is === 'LinkMark') return ServiceLine_store({ is: 'LinkLast' }, { is: 'Item', 0: v2.last, 1: { is: 'Next' } }, (SendLines_mark(c) + 1n), { is: 'DecidesAndOn', 0: { is: 'Close', 0: { is: 'Shut', total: v2.total } }, 1: { is: 'WriteLastMark', total: v2.total } });
-  if (v2.is === 'WriteLastMark') return ServiceLine_store({ is: 'WriteObject' }, { is: 'Object', 0: { is: 'Last' } }, (SendLines_mark(c) + 1n), { is: 'On', 0: { is: 'WriteShut', total: v2.total } });
-  if (v2.is === 'WriteShut') return ServiceLine_store({ is: 'WriteObject' }, { is: 'Object', 0: { is: 'Shut' } }, 1n, { is: 'Tells', 0: { is: 'Close', 0: { is: 'Shut', total: v2.total } } });
-  if (v2.is === 'ReadCursor') return ServiceLine_load({ is: 'ReadObject' }, { is: 'Object', 0: { is: 'Cursor' } }, { is: 'On', 0: { is: 'ReadPassed', parcel: v2.parcel, node: v3, reads: 1n } });
-  if (v2.is === 'ReadPassed') return ServiceLine_load({ is: 'ReadPassed' }, { is: 'Item', 0: v2.node, 1: { is: 'Passed' } }, SendLines_by_passed(c, v2.parcel, v2.node, v2.reads, v3));
-  if (v2.is === 'ResetPassed') return ServiceLine_store({ is: 'ResetListNode' }, { is: 'Item', 0: v2.node, 1: { is: 'Passed' } }, 0n, { is: 'On', 0: { is: 'ResetItemNext', parcel: v2.parcel, node: v2.node } });
-  if (v2.is === 'ResetItemNext') return ServiceLine_store({ is: 'ResetListNode' }, { is: 'Item', 0: v2.node, 1: { is: 'Next' } }, 0n, { is: 'On', 0: { is: 'WriteItemTag', parcel: v2.parcel, node: v2.node } });
-  if (v2.is === 'WriteItemTag') return ServiceLine_store({ is: 'WriteItem' }, { is: 'Item', 0: v2.node, 1: { is: 'Tag' } }, v2.parcel.tag, { is: 'On', 0: { is: 'WriteItemBody', parcel: v2.parcel, node: v2.node, index: 0n } });
-  if (v2.is === 'WriteItemBody') return ServiceLine_store({ is: 'WriteItem' }, { is: 'Item', 0: v2.node, 1: { is: 'Body', 0: v2.index } }, Codes_word(v2.parcel.body, v2.index), { is: 'On', 0: Codes_behind(Codes_further_words(v2.parcel.tag), v2.index, { is: 'WriteItemBody', parcel: v2.parcel, node: v2.node, index: (v2.index + 1n) }, { is: 'ReadLast', place: v2.parcel.place, node: v2.node }) });
-  if (v2.is === 'ReadLast') return ServiceLine_load({ is: 'ReadObject' }, { is: 'Object', 0: { is: 'Last' } }, { is: 'On', 0: { is: 'LinkItem', place: v2.place, node: v2.node, last: minus(v3, 1n) } });
-  if (v2.is === 'LinkItem') return ServiceLine_store({ is: 'LinkLast' }, { is: 'Item', 0: v2.last, 1: { is: 'Next' } }, (v2.node + 1n), { is: 'DecidesAndOn', 0: { is: 'Send', 0: { is: 'Accepted', place: v2.place } }, 1: { is: 'WriteLast', place: v2.place, node: v2.node } });
-  if (v2.is === 'WriteLast') return ServiceLine_store({ is: 'WriteObject' }, { is: 'Object', 0: { is: 'Last' } }, (v2.node + 1n), { is: 'On', 0: { is: 'WriteCount', place: v2.place, node: v2.node } });
-  if (v2.is === 'WriteCount') return ServiceLine_store({ is: 'WriteObject' }, { is: 'Object', 0: { is: 'Count' } }, (v2.place + 1n), { is: 'On', 0: { is: 'WriteCursor', place: v2.place, node: v2.node } });
-  if (v2.is === 'WriteCursor') return ServiceLine_store({ is: 'WriteObject' }, { is: 'Object', 0: { is: 'Cursor' } }, SendLines_after(c, v2.node), { is: 'Tells', 0: { is: 'Send', 0: { is: 'Accepted', place: v2.place } } });
+  if (v2.is === 'ReadLastToClose') return ServiceLine_load({ is: 'ReadObject' }, { is: 'Object', 0: { is: 'Last' } },
+    { is: 'On', 0: { is: 'LinkMark', total: v2.total, last: minus(v3, 1n) } });
+  if (v2.is === 'LinkMark') return ServiceLine_store({ is: 'LinkLast' }, { is: 'Item', 0: v2.last, 1: { is: 'Next' } }, (SendLines_mark(c) + 1n),
+    { is: 'DecidesAndOn', 0: { is: 'Close', 0: { is: 'Shut', total: v2.total } }, 1: { is: 'WriteLastMark', total: v2.total } });
+  if (v2.is === 'WriteLastMark') return ServiceLine_store({ is: 'WriteObject' }, { is: 'Object', 0: { is: 'Last' } }, (SendLines_mark(c) + 1n),
+    { is: 'On', 0: { is: 'WriteShut', total: v2.total } });
+  if (v2.is === 'WriteShut') return ServiceLine_store({ is: 'WriteObject' }, { is: 'Object', 0: { is: 'Shut' } }, 1n,
+    { is: 'Tells', 0: { is: 'Close', 0: { is: 'Shut', total: v2.total } } });
+  if (v2.is === 'ReadCursor') return ServiceLine_load({ is: 'ReadObject' }, { is: 'Object', 0: { is: 'Cursor' } },
+    { is: 'On', 0: { is: 'ReadPassed', parcel: v2.parcel, node: v3, reads: 1n } });
+  if (v2.is === 'ReadPassed') return ServiceLine_load({ is: 'ReadPassed' }, { is: 'Item', 0: v2.node, 1: { is: 'Passed' } },
+    SendLines_by_passed(c, v2.parcel, v2.node, v2.reads, v3));
+  if (v2.is === 'ResetPassed') return ServiceLine_store({ is: 'ResetListNode' }, { is: 'Item', 0: v2.node, 1: { is: 'Passed' } }, 0n,
+    { is: 'On', 0: { is: 'ResetItemNext', parcel: v2.parcel, node: v2.node } });
+  if (v2.is === 'ResetItemNext') return ServiceLine_store({ is: 'ResetListNode' }, { is: 'Item', 0: v2.node, 1: { is: 'Next' } }, 0n,
+    { is: 'On', 0: { is: 'WriteItemTag', parcel: v2.parcel, node: v2.node } });
+  if (v2.is === 'WriteItemTag') return ServiceLine_store({ is: 'WriteItem' }, { is: 'Item', 0: v2.node, 1: { is: 'Tag' } }, v2.parcel.tag,
+    { is: 'On', 0: { is: 'WriteItemBody', parcel: v2.parcel, node: v2.node, index: 0n } });
+  if (v2.is === 'WriteItemBody') return ServiceLine_store({ is: 'WriteItem' }, { is: 'Item', 0: v2.node, 1: { is: 'Body', 0: v2.index } },
+    Codes_word(v2.parcel.body, v2.index), { is: 'On',
+    0: Codes_behind(Codes_further_words(v2.parcel.tag), v2.index, { is: 'WriteItemBody', parcel: v2.parcel, node: v2.node, index: (v2.index + 1n) },
+    { is: 'ReadLast', place: v2.parcel.place, node: v2.node }) });
+  if (v2.is === 'ReadLast') return ServiceLine_load({ is: 'ReadObject' }, { is: 'Object', 0: { is: 'Last' } },
+    { is: 'On', 0: { is: 'LinkItem', place: v2.place, node: v2.node, last: minus(v3, 1n) } });
+  if (v2.is === 'LinkItem') return ServiceLine_store({ is: 'LinkLast' }, { is: 'Item', 0: v2.last, 1: { is: 'Next' } }, (v2.node + 1n),
+    { is: 'DecidesAndOn', 0: { is: 'Send', 0: { is: 'Accepted', place: v2.place } }, 1: { is: 'WriteLast', place: v2.place, node: v2.node } });
+  if (v2.is === 'WriteLast') return ServiceLine_store({ is: 'WriteObject' }, { is: 'Object', 0: { is: 'Last' } }, (v2.node + 1n),
+    { is: 'On', 0: { is: 'WriteCount', place: v2.place, node: v2.node } });
+  if (v2.is === 'WriteCount') return ServiceLine_store({ is: 'WriteObject' }, { is: 'Object', 0: { is: 'Count' } }, (v2.place + 1n),
+    { is: 'On', 0: { is: 'WriteCursor', place: v2.place, node: v2.node } });
+  if (v2.is === 'WriteCursor') return ServiceLine_store({ is: 'WriteObject' }, { is: 'Object', 0: { is: 'Cursor' } }, SendLines_after(c, v2.node),
+    { is: 'Tells', 0: { is: 'Send', 0: { is: 'Accepted', place: v2.place } } });
 };
 const SendLines_mark = (c) => (c.capacity + 1n);
 const SendLines_operation = (c, served, service) => SendLines_line(c, served, service, 0n).does;
@@ -864,15 +1218,26 @@ const TakeLines_goes = (job, service, found) => ServiceLine_phase_of(TakeLines_i
 const TakeLines_in_service = (job, service) => ({ is: 'Taking', job, service });
 const TakeLines_kind_of = (service) => TakeLines_line(0n, service, 0n).kind;
 const TakeLines_line = (g, v1, v2) => {
-  if (v1.is === 'ReadHead') return ServiceLine_load({ is: 'ReadObject' }, { is: 'Object', 0: { is: 'Head', 0: g } }, { is: 'On', 0: { is: 'ReadTaken', dummy: minus(v2, 1n) } });
-  if (v1.is === 'ReadTaken') return ServiceLine_load({ is: 'ReadObject' }, { is: 'Object', 0: { is: 'Taken', 0: g } }, { is: 'On', 0: { is: 'ReadDummyNext', dummy: v1.dummy, taken: v2 } });
-  if (v1.is === 'ReadDummyNext') return ServiceLine_load({ is: 'ReadDummyNext' }, { is: 'Item', 0: v1.dummy, 1: { is: 'Next' } }, TakeLines_by_next(v1.dummy, v1.taken, v2));
-  if (v1.is === 'ReadItemTag') return ServiceLine_load({ is: 'ReadItem' }, { is: 'Item', 0: v1.node, 1: { is: 'Tag' } }, TakeLines_by_tag(v1.dummy, v1.taken, v1.node, v2));
-  if (v1.is === 'ReadItemBody') return ServiceLine_load({ is: 'ReadItem' }, { is: 'Item', 0: v1.node, 1: { is: 'Body', 0: v1.index } }, { is: 'On', 0: Codes_behind(Codes_further_words(v1.parcel.tag), v1.index, { is: 'ReadItemBody', dummy: v1.dummy, node: v1.node, parcel: Codes_with_read(v1.parcel, v1.index, v2), index: (v1.index + 1n) }, { is: 'WriteHead', dummy: v1.dummy, node: v1.node, parcel: Codes_with_read(v1.parcel, v1.index, v2) }) });
-  if (variant === 'freed_dummy' && v1.is === 'WriteHead') return ServiceLine_store({ is: 'WriteObject' }, { is: 'Object', 0: { is: 'Head', 0: g } }, (v1.node + 1n), { is: 'On', 0: { is: 'WriteTaken', dummy: v1.node, parcel: v1.parcel } });
-  if (v1.is === 'WriteHead') return ServiceLine_store({ is: 'WriteObject' }, { is: 'Object', 0: { is: 'Head', 0: g } }, (v1.node + 1n), { is: 'On', 0: { is: 'WriteTaken', dummy: v1.dummy, parcel: v1.parcel } });
-  if (v1.is === 'WriteTaken') return ServiceLine_store({ is: 'WriteObject' }, { is: 'Object', 0: { is: 'Taken', 0: g } }, (v1.parcel.place + 1n), { is: 'On', 0: { is: 'AddPassed', dummy: v1.dummy, parcel: v1.parcel } });
-  if (v1.is === 'AddPassed') return ServiceLine_add({ is: 'AddPassed' }, { is: 'Item', 0: v1.dummy, 1: { is: 'Passed' } }, 1n, { is: 'Decides', 0: { is: 'Take', 0: { is: 'Got', 0: Codes_item_in(v1.parcel) } } });
+  if (v1.is === 'ReadHead') return ServiceLine_load({ is: 'ReadObject' }, { is: 'Object', 0: { is: 'Head', 0: g } },
+    { is: 'On', 0: { is: 'ReadTaken', dummy: minus(v2, 1n) } });
+  if (v1.is === 'ReadTaken') return ServiceLine_load({ is: 'ReadObject' }, { is: 'Object', 0: { is: 'Taken', 0: g } },
+    { is: 'On', 0: { is: 'ReadDummyNext', dummy: v1.dummy, taken: v2 } });
+  if (v1.is === 'ReadDummyNext') return ServiceLine_load({ is: 'ReadDummyNext' }, { is: 'Item', 0: v1.dummy, 1: { is: 'Next' } },
+    TakeLines_by_next(v1.dummy, v1.taken, v2));
+  if (v1.is === 'ReadItemTag') return ServiceLine_load({ is: 'ReadItem' }, { is: 'Item', 0: v1.node, 1: { is: 'Tag' } },
+    TakeLines_by_tag(v1.dummy, v1.taken, v1.node, v2));
+  if (v1.is === 'ReadItemBody') return ServiceLine_load({ is: 'ReadItem' }, { is: 'Item', 0: v1.node, 1: { is: 'Body', 0: v1.index } },
+    { is: 'On', 0: Codes_behind(Codes_further_words(v1.parcel.tag), v1.index,
+    { is: 'ReadItemBody', dummy: v1.dummy, node: v1.node, parcel: Codes_with_read(v1.parcel, v1.index, v2), index: (v1.index + 1n) },
+    { is: 'WriteHead', dummy: v1.dummy, node: v1.node, parcel: Codes_with_read(v1.parcel, v1.index, v2) }) });
+  if (variant === 'freed_dummy' && v1.is === 'WriteHead') return ServiceLine_store({ is: 'WriteObject' }, { is: 'Object', 0: { is: 'Head', 0: g } },
+    (v1.node + 1n), { is: 'On', 0: { is: 'WriteTaken', dummy: v1.node, parcel: v1.parcel } });
+  if (v1.is === 'WriteHead') return ServiceLine_store({ is: 'WriteObject' }, { is: 'Object', 0: { is: 'Head', 0: g } }, (v1.node + 1n),
+    { is: 'On', 0: { is: 'WriteTaken', dummy: v1.dummy, parcel: v1.parcel } });
+  if (v1.is === 'WriteTaken') return ServiceLine_store({ is: 'WriteObject' }, { is: 'Object', 0: { is: 'Taken', 0: g } }, (v1.parcel.place + 1n),
+    { is: 'On', 0: { is: 'AddPassed', dummy: v1.dummy, parcel: v1.parcel } });
+  if (v1.is === 'AddPassed') return ServiceLine_add({ is: 'AddPassed' }, { is: 'Item', 0: v1.dummy, 1: { is: 'Passed' } }, 1n,
+    { is: 'Decides', 0: { is: 'Take', 0: { is: 'Got', 0: Codes_item_in(v1.parcel) } } });
 };
 const TakeLines_operation = (g, service) => TakeLines_line(g, service, 0n).does;
 const Turns_IsAmong = (c, x, k, s, n) => Turns_is_among(c, x, k, s, n);
@@ -881,7 +1246,8 @@ const Turns_IsTurnAt = (c, x, k, s, n, at) => {
   if (at.is === 'WriteTag') return Turns_IsAmong(c, x, k, s, n);
   if (at.is === 'WriteBody') return Turns_IsAmong(c, x, k, s, n);
   if (at.is === 'Link') return Turns_IsAmong(c, x, k, s, n);
-  if (at.is === 'ReadState') return ((s.mem({ is: 'Node', 0: x, 1: s.stand(OnChain_pass_on(c, x, n)).node, 2: { is: 'State' } }) === 0n) && (BigInt(OnChain_answers_on(x, s.history).length) < k));
+  if (at.is === 'ReadState') return ((s.mem({ is: 'Node', 0: x, 1: s.stand(OnChain_pass_on(c, x, n)).node, 2: { is: 'State' } }) === 0n)
+    && (BigInt(OnChain_answers_on(x, s.history).length) < k));
   return (ChainLaws_is_combining(at) && (BigInt(OnChain_answers_on(x, s.history).length) < (k + Turns_decided(at))));
 };
 const Turns_decided = (v0) => {
@@ -897,7 +1263,8 @@ const Turns_decided = (v0) => {
   return 0n;
 };
 const Turns_has_later = (who, k, calls) => calls.slice(Number(k)).some((e) => Items_is_pass(who, e.pass));
-const Turns_is_among = (c, x, k, s, n) => (Turns_is_in(s.stand(OnChain_pass_on(c, x, n)).phase) && (!Turns_has_later(State_pass_at(c.config, OnChain_pass_on(c, x, n)), k, OnChain_calls_on(x, s.history))));
+const Turns_is_among = (c, x, k, s, n) => (Turns_is_in(s.stand(OnChain_pass_on(c, x, n)).phase)
+  && (!Turns_has_later(State_pass_at(c.config, OnChain_pass_on(c, x, n)), k, OnChain_calls_on(x, s.history))));
 const Turns_is_in = (v0) => {
   if (v0.is === 'Idle') return false;
   if (v0.is === 'ResetNext') return false;
@@ -1039,7 +1406,9 @@ function open(plan, variant = '', report = null) {
   const senders = calls.length, receivers = takes.length / groups;
   let version = plan.version;
   const rows = senders + groups * receivers;
-  const setting = { served: { is: 'List' }, config: { senders: BigInt(senders), receivers: BigInt(receivers), capacity: BigInt(capacity), bound: BigInt(bound), life: BigInt(life), groups: BigInt(groups) } };
+  const setting = { served: { is: 'List' },
+    config: { senders: BigInt(senders), receivers: BigInt(receivers), capacity: BigInt(capacity), bound: BigInt(bound), life: BigInt(life),
+    groups: BigInt(groups) } };
 
   const passName = row => row < senders ? 's' + (row + 1) : 'r' + (row - senders + 1);
   const chainOf = row => row < senders ? -1 : Math.floor((row - senders) / receivers);
@@ -1124,7 +1493,8 @@ function open(plan, variant = '', report = null) {
   }
 
   // The state, as the definitions of the laws of progress read it.
-  const state = { mem: w => read(wordAt(w)), stand: p => ({ phase: stands[Number(p)].place, node: BigInt(stands[Number(p)].node) }), history: { get sends() { return history[0]; }, get takes() { return history.slice(1); } } };
+  const state = { mem: w => read(wordAt(w)), stand: p => ({ phase: stands[Number(p)].place, node: BigInt(stands[Number(p)].node) }),
+    history: { get sends() { return history[0]; }, get takes() { return history.slice(1); } } };
 
   // Of a pass that waits: the passes whose turn it is, and how many steps in turn are ahead of its answer, at most. Nothing of a
   // pass that doesn't wait, and of a broken table, for which no law says so.
@@ -1513,7 +1883,8 @@ function waits(run) {
   const found = [];
   for (let row = 0; row < run.rows && found.length < 6; row++) {
     const wait = run.waitOf(row);
-    if (wait) found.push({ row, ...wait, text: '*' + run.passName(row) + '* waits: it is the turn of ' + inWords(wait.turns.map(run.passName)) + ', and at most *' + plural(wait.ahead, 'step') + '* [[in turn]] ' + (wait.ahead === 1 ? 'is' : 'are') + ' ahead of its answer.' });
+    if (wait) found.push({ row, ...wait, text: '*' + run.passName(row) + '* waits: it is the turn of ' + inWords(wait.turns.map(run.passName))
+      + ', and at most *' + plural(wait.ahead, 'step') + '* [[in turn]] ' + (wait.ahead === 1 ? 'is' : 'are') + ' ahead of its answer.' });
   }
   return found;
 }
@@ -1584,7 +1955,8 @@ function chain(run, x) {
   const spare = rows.filter(row => OUTSIDE.has(stands[row].place.is));
   return { x, name, head, boxes, done, is_used: rows.some(row => stands[row].made > 0 || run.nextCall(row, 0)),
     is_busy: boxes.length > 1 || done.length > 0,
-    spare: spare.slice(0, 24).map(row => ({ key: name + ' ' + stands[row].node, text: passName(row) + ': node ' + stands[row].node, touch: isTouched(run, 'node', x, stands[row].node) })), more_spare: Math.max(0, spare.length - 24) };
+    spare: spare.slice(0, 24).map(row => ({ key: name + ' ' + stands[row].node, text: passName(row) + ': node ' + stands[row].node,
+      touch: isTouched(run, 'node', x, stands[row].node) })), more_spare: Math.max(0, spare.length - 24) };
 }
 
 // ---- The list.
@@ -1642,7 +2014,8 @@ function list(run) {
   for (const i of ordinary.slice(0, 24)) free.push(itemBox(run, list, i));
   const word = (name, ww) => ({ name, text: valueText(run, ww, read(ww)), touch: w.at === 'object' && w.field === ww.field && w.g === ww.g });
   const of = g => groups > 1 ? ' of group ' + (g + 1) : '', rows = list.rows.map(boxesOf);
-  const words = [...['last', 'cursor', 'count', 'shut'].map(field => word(field, object(field))), ...list.ends.flatMap(({ g }) => ['head', 'taken'].map(field => word(field + of(g), object(field, g))))];
+  const words = [...['last', 'cursor', 'count', 'shut'].map(field => word(field, object(field))),
+    ...list.ends.flatMap(({ g }) => ['head', 'taken'].map(field => word(field + of(g), object(field, g))))];
   // a word that is drawn as an arrow to a node isn't said once more
   const arrows = new Set([...rows.flat(), ...free].flatMap(box => box.ends || []).map(end => end.text.replace(/^head (\\d)/, 'head of group $1')));
   return { rows, free, outside, more: Math.max(0, outside - 24), words: words.filter(({ name }) => !arrows.has(name)) };
@@ -1663,7 +2036,8 @@ const PROGRAM = {
   combine: ['Combine', [
     ['at \\u2190 node; served \\u2190 0', [], ''],
     ['until served = bound:', [], ''],
-    ['  next \\u2190 at.next; if null: stop', ['ReadNext'], 'The combiner is at the first call that has no answer, or at the node in the tail. This node is not marked done yet: afterwards its owner may clear the link.'],
+    ['  next \\u2190 at.next; if null: stop', ['ReadNext'],
+      'The combiner is at the first call that has no answer, or at the node in the tail. This node is not marked done yet: afterwards its owner may clear the link.'],
     ['  serve at.request', [], ''],
     ['  at.answer \\u2190 answer', ['WriteAnswer', 'WriteAnswerTag', 'WriteAnswerBody'], 'The state of the node is not 2 yet, so its owner does not read the answer.'],
     ['  at.state \\u2190 2', ['MarkDone'], 'All calls before this one are marked done, and no call after it.'],
@@ -1679,7 +2053,8 @@ const PROGRAM = {
     ['passed[i] \\u2190 0; next[i] \\u2190 null', ['Sending.ResetPassed', 'Sending.ResetItemNext'], 'No head and no link of the list names this node, so no take can read it.'],
     ['item[i] \\u2190 request', ['Sending.WriteItemTag', 'Sending.WriteItemBody'], 'This node is not in the list yet: the item is written before the link to it.'],
     ['next[last] \\u2190 i', ['Sending.ReadLast', 'Sending.LinkItem'], 'The word last names the last node of the list. With the link to the new node the send is accepted.'],
-    ['last, count, cursor \\u2190 i, +1, i + 1', ['Sending.WriteLast', 'Sending.WriteCount', 'Sending.WriteCursor'], 'No other pass combines in this chain, and only a combiner writes these three words.'],
+    ['last, count, cursor \\u2190 i, +1, i + 1', ['Sending.WriteLast', 'Sending.WriteCount', 'Sending.WriteCursor'],
+      'No other pass combines in this chain, and only a combiner writes these three words.'],
   ]],
   close: ['Serve a close', [
     ['if shut: return Already', ['Closing.ReadTag', 'Closing.ReadBody', 'Closing.ReadShut', 'Closing.ReadTotal'], 'A queue that is shut stays shut.'],
@@ -1706,9 +2081,13 @@ const BROKEN_LINES = {
 const LINE_OF = new Map();    // by the name of a place
 for (const [part, [, lines]] of Object.entries(PROGRAM)) lines.forEach(([, places], k) => places.forEach(place => LINE_OF.set(place, { part, k })));
 // At the end of a line: the words of its steps, as the lanes have them.
-const WORDS_OF = { ResetNext: 'clear', ResetState: 'set 1', Exchange: 'swap', WriteTag: 'ask', Link: 'link', ReadState: 'state?', ReadAnswer: 'answer', ReadNext: 'next?', WriteAnswer: 'reply', MarkDone: 'done', HandOver: 'hand',
-  'Sending.ReadTag': 'asked?', 'Sending.ReadShut': 'read', 'Sending.ReadCount': 'read', 'Sending.ReadCursor': 'read', 'Sending.ReadPassed': 'free?', 'Sending.ResetPassed': 'reset', 'Sending.WriteItemTag': 'item', 'Sending.LinkItem': 'read append', 'Sending.WriteLast': 'write',
-  'Closing.ReadTag': 'asked? read', 'Closing.LinkMark': 'read append', 'Closing.WriteShut': 'write', 'Taking.ReadHead': 'read', 'Taking.ReadDummyNext': 'first?', 'Taking.ReadItemTag': 'item?', 'Taking.ReadItemBody': 'item?', 'Taking.WriteHead': 'write', 'Taking.AddPassed': 'passed' };
+const WORDS_OF = { ResetNext: 'clear', ResetState: 'set 1', Exchange: 'swap', WriteTag: 'ask', Link: 'link', ReadState: 'state?', ReadAnswer: 'answer',
+  ReadNext: 'next?', WriteAnswer: 'reply', MarkDone: 'done', HandOver: 'hand',
+  'Sending.ReadTag': 'asked?', 'Sending.ReadShut': 'read', 'Sending.ReadCount': 'read', 'Sending.ReadCursor': 'read', 'Sending.ReadPassed': 'free?',
+    'Sending.ResetPassed': 'reset', 'Sending.WriteItemTag': 'item', 'Sending.LinkItem': 'read append', 'Sending.WriteLast': 'write',
+  'Closing.ReadTag': 'asked? read', 'Closing.LinkMark': 'read append', 'Closing.WriteShut': 'write', 'Taking.ReadHead': 'read',
+    'Taking.ReadDummyNext': 'first?', 'Taking.ReadItemTag': 'item?', 'Taking.ReadItemBody': 'item?', 'Taking.WriteHead': 'write',
+    'Taking.AddPassed': 'passed' };
 // The place of a step in the program: that of a close has its own lines.
 function placeOf(e) {
   if (!e.place.service) return e.place.is;
@@ -1728,7 +2107,8 @@ function program(run) {
 // is continued if the events are the same and more.
 function layOut(events, laid) {
   if (laid && laid.events === events && laid.length === events.length) return laid;
-  if (!laid || laid.events !== events || laid.length > events.length) laid = { events, length: 0, column: [], first: [], waits: new Map(), newest: new Map(), turns: [], open: new Map(), acting: new Set() };
+  if (!laid || laid.events !== events || laid.length > events.length) laid = { events, length: 0, column: [], first: [], waits: new Map(), newest: new Map(),
+    turns: [], open: new Map(), acting: new Set() };
   for (let i = laid.length; i < events.length; i++) {
     const e = events[i];
     laid.acting.add(e.row);
@@ -1778,7 +2158,8 @@ function broken(run, upTo = run.now) {
 }
 
 // What the player says of them: the first one, and how many others.
-const banner = ([first, ...others]) => first ? 'Broken: ' + first.text.replace(/\\.$/, '') + ' (event ' + first.event + ')' + (others.length ? ', and ' + plural(others.length, 'other law') : '') + '.' : '';
+const banner = ([first, ...others]) => first ? 'Broken: ' + first.text.replace(/\\.$/, '') + ' (event ' + first.event + ')'
+  + (others.length ? ', and ' + plural(others.length, 'other law') : '') + '.' : '';
 
 // The order of all decided calls, each at the event at which it takes effect.
 function order(run) {
@@ -1834,10 +2215,12 @@ function task(run, { goal }) {
   if (!at) return { solved: 0, text: 'Not solved yet.' };
   const e = run.events[at - 1], law = (e.breaks || []).find(one => (goal.breaks || []).includes(one));
   return { solved: at, text: '*Solved at event ' + at + ':* ' + (law ? 'it breaks the law \"' + LAWS[law][0].replace(/\\.$/, '') + '\".'
-    : goal.returns === 'Empty' ? 'the take of ' + run.passName(e.row) + ' returns empty, and an accepted item is in the queue.' : 'the send of ' + run.passName(e.row) + ' returns full, and a list node is free.') };
+    : goal.returns === 'Empty' ? 'the take of ' + run.passName(e.row) + ' returns empty, and an accepted item is in the queue.' : 'the send of '
+      + run.passName(e.row) + ' returns full, and a list node is free.') };
 }
 
-return { answerOf, chainName, requestText, valueText, wordText, event, pass, waits, chain, list, PROGRAM, BROKEN_LINES, WORDS_OF, program, placeOf, layOut, turnTitle, waitText, broken, banner, order, parting, lessonPart, screens, stepsOf, makeSteps, task, plural };
+return { answerOf, chainName, requestText, valueText, wordText, event, pass, waits, chain, list, PROGRAM, BROKEN_LINES, WORDS_OF, program, placeOf, layOut,
+  turnTitle, waitText, broken, banner, order, parting, lessonPart, screens, stepsOf, makeSteps, task, plural };
 })();
 </script>
 <script type=\"text/plain\" id=\"report\">";
@@ -1947,23 +2330,30 @@ const endText = (end, of) => '<span class=\"end ' + end.kind + (end.touch ? ' to
 const arrowText = ({ kind, text }) => '<span class=\"arrow ' + kind + '\">' + (kind === 'none' ? GAP : text === 'null' ? '' : ACROSS) + text + '</span>';
 const boxText = (box, of, kind = '') => '<li' + kind + '>' + (box.more ? '<span class=\"arrow\">' + box.more + ' more' + ACROSS + '</span>' : '')
   + '<span class=\"stack\"><span class=\"ends\">' + box.ends.map(end => endText(end, of)).join('') + '</span><span class=\"box ' + box.role + (box.touch ? ' touch' : '') + '\" data-key=\"' + box.key + '\">'
-  + box.lines.map((line, k) => k === 0 ? '<b>' + line + '</b>' : '<span class=\"line' + (k > 1 ? ' dim' : '') + '\">' + line + '</span>').join('') + '</span></span>' + (box.arrow ? arrowText(box.arrow) : '') + '</li>';
-const stripText = (boxes, name, loose = '') => '<div class=\"strip\" tabindex=\"0\" role=\"group\" aria-label=\"' + name + '\"><ol class=\"boxes' + loose + (boxes.length > 8 ? ' many' : '') + '\">' + boxes.join('') + '</ol></div>';
+  + box.lines.map((line, k) => k === 0 ? '<b>' + line + '</b>' : '<span class=\"line' + (k > 1 ? ' dim' : '') + '\">' + line + '</span>').join('')
+    + '</span></span>' + (box.arrow ? arrowText(box.arrow) : '') + '</li>';
+const stripText = (boxes, name, loose = '') => '<div class=\"strip\" tabindex=\"0\" role=\"group\" aria-label=\"' + name + '\"><ol class=\"boxes' + loose
+  + (boxes.length > 8 ? ' many' : '') + '\">' + boxes.join('') + '</ol></div>';
 
 // A chain: the nodes that are marked done, and apart from them those that wait, and the node in the tail.
 function chainText(told, with_spare) {
   const boxes = told.done.map(box => boxText({ ...box, ends: [...box.ends, { kind: 'note', text: 'marked done' }] }, box.key, ' class=\"done-one\"')).concat(
     told.boxes.map((box, k) => boxText(box, told.name, k === 0 && told.done.length ? ' class=\"apart\"' : '')));
   return '<p class=\"head\">' + told.head.map(marked).join(' ') + '</p><div class=\"nodes\">' + stripText(boxes, 'nodes of the ' + told.name)
-    + (with_spare && told.spare.length ? '<div class=\"words\"><span class=\"dim\">in no chain:</span>' + told.spare.map(one => '<span class=\"word' + (one.touch ? ' touch' : '') + '\" data-key=\"' + one.key + '\">' + one.text + '</span>').join('')
+    + (with_spare && told.spare.length ? '<div class=\"words\"><span class=\"dim\">in no chain:</span>'
+      + told.spare.map(one => '<span class=\"word' + (one.touch ? ' touch' : '') + '\" data-key=\"' + one.key + '\">' + one.text + '</span>').join('')
       + (told.more_spare ? '<span class=\"dim\">and ' + told.more_spare + ' more</span>' : '') + '</div>' : '') + '</div>';
 }
 
 function listText(told, with_words) {
   const more = told.more ? ['<li class=\"dim\">and ' + told.more + ' more</li>'] : [];
-  return (with_words ? '<div class=\"words\">' + told.words.map(word => '<span class=\"word' + (word.touch ? ' touch' : '') + '\">' + word.name + ' <b>' + word.text + '</b></span>').join('') + '</div>' : '')
-    + '<div class=\"parts\">' + told.rows.map(boxes => stripText(boxes.map(box => box.lines ? boxText(box, 'list') : '<li><span class=\"arrow\">' + box.more + ' more' + ACROSS + '</span></li>'), 'nodes of the list')).join('')
-    + (told.outside ? '<div class=\"outside\"><h3>' + plural(told.outside, 'node') + ' outside the list</h3>' + stripText([...told.free.map(box => boxText(box, 'list')), ...more], 'nodes outside the list', ' loose') + '</div>' : '') + '</div>';
+  return (with_words ? '<div class=\"words\">'
+    + told.words.map(word => '<span class=\"word' + (word.touch ? ' touch' : '') + '\">' + word.name + ' <b>' + word.text + '</b></span>').join('') + '</div>'
+    : '')
+    + '<div class=\"parts\">' + told.rows.map(boxes => stripText(boxes.map(box => box.lines ? boxText(box, 'list') : '<li><span class=\"arrow\">' + box.more
+      + ' more' + ACROSS + '</span></li>'), 'nodes of the list')).join('')
+    + (told.outside ? '<div class=\"outside\"><h3>' + plural(told.outside, 'node') + ' outside the list</h3>'
+      + stripText([...told.free.map(box => boxText(box, 'list')), ...more], 'nodes outside the list', ' loose') + '</div>' : '') + '</div>';
 }
 
 // Scrolls the row of boxes that has the touched one to it.
@@ -2034,7 +2424,9 @@ function drawProgram() {
     return '<div class=\"part\"><h3>' + title + '</h3><ol class=\"program\">' + lines.map(([text, places], k) => {
       const lit = told && told.part === part && told.k === k;
       const changed = (broken[part] || {})[k];
-      return '<li class=\"' + (lit ? 'lit ' : '') + (changed ? 'changed' : '') + '\"' + (lit ? ' aria-current=\"step\"' : '') + (changed ? ' title=\"this line is changed\"' : '') + '><span>' + (changed || text) + '</span><span>' + places.map(place => Telling.WORDS_OF[place]).filter(word => word).join(' ') + '</span></li>';
+      return '<li class=\"' + (lit ? 'lit ' : '') + (changed ? 'changed' : '') + '\"' + (lit ? ' aria-current=\"step\"' : '')
+        + (changed ? ' title=\"this line is changed\"' : '') + '><span>' + (changed || text) + '</span><span>'
+        + places.map(place => Telling.WORDS_OF[place]).filter(word => word).join(' ') + '</span></li>';
     }).join('') + '</ol></div>';
   }).join('');
   if (show('program', html) && told) {
@@ -2045,7 +2437,8 @@ function drawProgram() {
       if (top < card.scrollTop + head || top + 40 > card.scrollTop + card.clientHeight) card.scrollTop = top - (card.clientHeight + head) / 2;
     }
   }
-  show('holds', told ? '<p>' + told.holds.replace(/^[^:]*:/, '<b>$&</b>') + '</p>' : '<p class=\"dim\">Each line is lit when a step does it, with what holds at that moment. At the end of a line are its steps, as the lanes have them.</p>');
+  show('holds', told ? '<p>' + told.holds.replace(/^[^:]*:/, '<b>$&</b>') + '</p>'
+    : '<p class=\"dim\">Each line is lit when a step does it, with what holds at that moment. At the end of a line are its steps, as the lanes have them.</p>');
 }
 
 // ---- The columns of the lanes, and the turns: of the run as it stands, to its last event.
@@ -2089,7 +2482,8 @@ function drawNames() {
   if (wanted.join() !== shown_rows.join() || !$('names').firstChild) {
     shown_rows = wanted;
     $('names').innerHTML = wanted.map(row => '<div class=\"pass\" data-row=\"' + row + '\"><button class=\"step\" data-row=\"' + row + '\"><i class=\"dot\"></i><b>' + passName(row)
-      + '</b> <span></span><i class=\"next\"></i></button><button class=\"leap\" data-row=\"' + row + '\" title=\"its steps until its call returns or it waits\" aria-label=\"' + passName(row) + ' until its call returns or it waits\">&#187;</button>'
+      + '</b> <span></span><i class=\"next\"></i></button><button class=\"leap\" data-row=\"' + row
+        + '\" title=\"its steps until its call returns or it waits\" aria-label=\"' + passName(row) + ' until its call returns or it waits\">&#187;</button>'
       + '<button class=\"more\" data-row=\"' + row + '\" title=\"a further call of ' + passName(row) + '\" aria-label=\"a further call of ' + passName(row) + '\">+</button></div>').join('');
   }
   const moved = run.now > 0 ? run.events[run.now - 1].row : -1;
@@ -2129,7 +2523,8 @@ function drawTurns(view) {
   const at = c => left + (Math.max(view.lo, Math.min(c, view.lo + Math.floor(view.width / view.cell))) - view.lo) * view.cell;
   const nameOf = call => call ? passName(call.row) : 'no call';
   let s = '<svg width=\"' + width + '\" height=\"' + (groups + 1) * TURN + '\" role=\"img\" aria-label=\"the turns of the combiners, over the events of the lanes\">';
-  for (let x = -1; x < groups; x++) s += '<text class=\"side\" x=\"2\" y=\"' + ((x + 1) * TURN + 16) + '\">' + (sizes.narrow ? (x < 0 ? 'sends' : groups > 1 ? 'takes ' + (x + 1) : 'takes') : 'turns in the ' + chainName(run, x)) + '</text>';
+  for (let x = -1; x < groups; x++) s += '<text class=\"side\" x=\"2\" y=\"' + ((x + 1) * TURN + 16) + '\">'
+    + (sizes.narrow ? (x < 0 ? 'sends' : groups > 1 ? 'takes ' + (x + 1) : 'takes') : 'turns in the ' + chainName(run, x)) + '</text>';
   for (let k = lastUpTo(turns, turn => column[turn.from] >= view.hi); k >= 0; k--) {
     const turn = turns[k];
     if (column[turn.to] < view.lo) {
@@ -2156,7 +2551,8 @@ function cellText(view, i, c, wide, high, text, title, role, is_now) {
   const x = (c - view.lo) * view.cell, y = view.laneOf.get(run.events[i].row) * LANE + 1, later = i >= run.now;
   const frame = '<rect class=\"now\" x=\"' + Math.max(x - 0.5, 1) + '\" y=\"' + (y - 0.5) + '\" width=\"' + (wide * view.cell - 1) + '\" height=\"' + (high + 2) + '\" rx=\"5\"/>';
   return '<g class=\"cell' + (later ? ' later' : '') + '\" data-event=\"' + (i + 1) + '\"><title>' + title + '</title><rect x=\"' + (x + 0.5) + '\" y=\"' + (y + 0.5) + '\" width=\"' + (wide * view.cell - 3)
-    + '\" height=\"' + high + '\" rx=\"4\" fill=\"' + (later ? 'none' : 'var(--' + role + ')') + '\" stroke=\"var(--' + role + ')\"/><text class=\"code\" x=\"' + (x + Math.min(wide, 3) * view.cell / 2 - 1) + '\" y=\"'
+    + '\" height=\"' + high + '\" rx=\"4\" fill=\"' + (later ? 'none' : 'var(--' + role + ')') + '\" stroke=\"var(--' + role + ')\"/><text class=\"code\" x=\"'
+      + (x + Math.min(wide, 3) * view.cell / 2 - 1) + '\" y=\"'
     + (y + high / 2 + 5) + '\">' + text + '</text></g>' + (is_now ? frame : '');
 }
 
@@ -2175,7 +2571,8 @@ function columnText(view, c) {
   const i = layOut().first[c], e = run.events[i], x = (c - view.lo) * view.cell, kind = KINDS[number[e.kind]];
   let s = view.laneOf.has(e.row) && !e.waits ? cellText(view, i, c, 1, 28, kind[sizes.narrow ? 1 : 2], (i + 1) + ': ' + passName(e.row) + ' ' + e.kind, kind[3], i === run.now - 1) : '';
   if (e.serves && e.serves.row !== e.row && view.laneOf.has(e.serves.row)) {
-    s += '<rect x=\"' + x + '\" y=\"' + (view.laneOf.get(e.serves.row) * LANE + 28) + '\" width=\"' + (view.cell - 2) + '\" height=\"4\" rx=\"2\" fill=\"var(--serve)\"' + (i >= run.now ? ' opacity=\".45\"' : '') + '/>';
+    s += '<rect x=\"' + x + '\" y=\"' + (view.laneOf.get(e.serves.row) * LANE + 28) + '\" width=\"' + (view.cell - 2) + '\" height=\"4\" rx=\"2\" fill=\"var(--serve)\"'
+      + (i >= run.now ? ' opacity=\".45\"' : '') + '/>';
   }
   return s + ((i + 1) % 5 === 0 ? '<text class=\"tick\" x=\"' + x + '\" y=\"' + (view.height - 3) + '\">' + (i + 1) + '</text>' : '');
 }
@@ -2233,7 +2630,8 @@ function drawHistory() {
     if (!s.calls.length) return '<div>' + head + '<p class=\"dim\">none</p></div>';
     return '<div>' + head + '<div class=\"list\"><table class=\"mono\">' + s.calls.slice(from, from + HISTORY_LINES).map((call, d) => {
       const k = from + d, a = s.answers[k];
-      return '<tr' + (fresh(x) === k ? ' class=\"touch\"' : '') + '><td>' + run.front(x) + k + '</td><td>' + passName(call.row) + ' ' + callText(call) + '</td><td' + (a ? '' : ' class=\"pending\"') + '>' + Machine.answerText(a) + '</td></tr>';
+      return '<tr' + (fresh(x) === k ? ' class=\"touch\"' : '') + '><td>' + run.front(x) + k + '</td><td>' + passName(call.row) + ' ' + callText(call)
+        + '</td><td' + (a ? '' : ' class=\"pending\"') + '>' + Machine.answerText(a) + '</td></tr>';
     }).join('') + '</table></div></div>';
   }).join('');
   for (const list of $('history').querySelectorAll('.list')) {
@@ -2246,8 +2644,10 @@ function drawHistory() {
 function drawOrder() {
   if (!$('order').open) return;
   const { said, rows: lines } = Telling.order(run), from = Math.max(0, lines.length - HISTORY_LINES);
-  show('order-text', '<p>Each call takes effect at one event between its swap and its decision: where it is decided, and a Full at the load of the cursor, with which its scan begins. ' + marked(said) + '</p>'
-    + (lines.length ? '<div class=\"list\"><table class=\"mono\"><tr><th>order</th><th>takes effect</th><th>decided</th><th>call</th><th>answer</th></tr>' + lines.slice(from).map((one, k) => '<tr' + (one.decided === run.now ? ' class=\"touch\"' : '') + '><td>' + (from + k + 1) + '</td><td>event ' + one.effect
+  show('order-text', '<p>Each call takes effect at one event between its swap and its decision: where it is decided, and a Full at the load of the cursor, with which its scan begins. '
+    + marked(said) + '</p>'
+    + (lines.length ? '<div class=\"list\"><table class=\"mono\"><tr><th>order</th><th>takes effect</th><th>decided</th><th>call</th><th>answer</th></tr>'
+      + lines.slice(from).map((one, k) => '<tr' + (one.decided === run.now ? ' class=\"touch\"' : '') + '><td>' + (from + k + 1) + '</td><td>event ' + one.effect
       + '</td><td>event ' + one.decided + '</td><td>' + one.call + '</td><td>' + one.answer + '</td></tr>').join('') + '</table></div>' : '<p class=\"dim\">No call is decided yet.</p>'));
 }
 
@@ -2296,9 +2696,11 @@ function drawLesson() {
   $('moment').hidden = !moments.length;
   if (!moments.length) { show('moments', ''); return; }
   const at = run.chosen === 0 ? lastUpTo(moments, ([event]) => event > run.now) : -1;
-  show('moments', moments.map(([event], k) => '<button data-event=\"' + event + '\" title=\"event ' + event + '\"' + (k === at ? ' class=\"here\" aria-current=\"step\"' : '') + '>' + (k + 1) + '</button>').join(''));
+  show('moments', moments.map(([event], k) => '<button data-event=\"' + event + '\" title=\"event ' + event + '\"'
+    + (k === at ? ' class=\"here\" aria-current=\"step\"' : '') + '>' + (k + 1) + '</button>').join(''));
   show('moment-text', run.chosen > 0 ? 'This is your own branch. The list of runs in the player leads back to the run of the plan.'
-    : at < 0 ? 'Moments of this run: press one of these buttons, or the key <b>m</b>.' : (moments[at][0] === run.now ? '' : '<span class=\"dim\">At event ' + moments[at][0] + ':</span> ') + marked(moments[at][2]));
+    : at < 0 ? 'Moments of this run: press one of these buttons, or the key <b>m</b>.'
+      : (moments[at][0] === run.now ? '' : '<span class=\"dim\">At event ' + moments[at][0] + ':</span> ') + marked(moments[at][2]));
 }
 
 // The schedule that the reader made: the steps after those of the plan.
@@ -2319,10 +2721,14 @@ function drawLaw() {
   if (!variant) { show('law', ''); return; }
   const found = Telling.broken(run, run.events.length);
   let html = !run.variant ? '<p class=\"good\">This is the right table, and no law is broken.</p>'
-    : found.length ? '<ul style=\"margin:4px 0;padding-left:0;list-style:none\">' + found.map(one => '<li class=\"row\"><button data-event=\"' + one.event + '\">event ' + one.event + '</button><span>breaks the law: <b>' + one.text + '</b> <span class=\"dim\">(' + one.by + ')</span></span></li>').join('') + '</ul>'
+    : found.length ? '<ul style=\"margin:4px 0;padding-left:0;list-style:none\">'
+      + found.map(one => '<li class=\"row\"><button data-event=\"' + one.event + '\">event ' + one.event + '</button><span>breaks the law: <b>' + one.text
+      + '</b> <span class=\"dim\">(' + one.by + ')</span></span></li>').join('') + '</ul>'
     : '<p>This run breaks no law yet.</p>';
   if (run.variant && run.chosen === 0 && source.lesson && source.lesson.lost) html += '<p><b>' + marked(source.lesson.lost) + '</b></p>';
-  html += '<details' + (law_open ? ' open' : '') + '><summary>The change of the table of steps</summary>' + CHANGES[variant].map(change => '<code>' + change.in + '</code>' + (change.was ? '<del class=\"change mono\">' + escape(change.was) + '</del>' : '') + '<ins class=\"change mono\">' + escape(change.is) + '</ins>').join('') + '</details>';
+  html += '<details' + (law_open ? ' open' : '') + '><summary>The change of the table of steps</summary>'
+    + CHANGES[variant].map(change => '<code>' + change.in + '</code>' + (change.was ? '<del class=\"change mono\">' + escape(change.was) + '</del>' : '')
+    + '<ins class=\"change mono\">' + escape(change.is) + '</ins>').join('') + '</details>';
   show('law', html);
 }
 let law_open = false;
@@ -2390,10 +2796,14 @@ function drawLecture() {
   $('lecture').classList.toggle('pair', two);
   const html = sides.map(one => {
     const e = one.now > 0 ? one.events[one.now - 1] : one.events[0], told = Telling.chain(one, e.x);
-    return '<div class=\"side\">' + (two ? '<h2>' + tableName(one.variant) + '</h2>' : '') + '<div class=\"part part-chain\"><h3><b>The ' + told.name + '.</b> ' + told.head.map(marked).join(' ') + '</h3>' + stripOfLecture(told) + '</div><div class=\"part part-list\"><h3><b>The list.</b></h3>' + listText(Telling.list(one), false) + '</div></div>';
+    return '<div class=\"side\">' + (two ? '<h2>' + tableName(one.variant) + '</h2>' : '') + '<div class=\"part part-chain\"><h3><b>The ' + told.name + '.</b> '
+      + told.head.map(marked).join(' ') + '</h3>' + stripOfLecture(told) + '</div><div class=\"part part-list\"><h3><b>The list.</b></h3>'
+      + listText(Telling.list(one), false) + '</div></div>';
   }).join('');
-  $('lecture-line').innerHTML = sides.map(one => Telling.program(one)).map(told => told ? '<p><span>' + told.title + '</span><code>' + escape(told.line.trim()) + '</code></p>' : '<span>No step yet.</span>').join('');
-  if (lecture.html !== html || lecture.width !== window.innerWidth || lecture.height !== window.innerHeight) moving([$('lecture-sides')], lesson, at, () => { $('lecture-sides').innerHTML = html; fitLecture(); });
+  $('lecture-line').innerHTML = sides.map(one => Telling.program(one)).map(told => told ? '<p><span>' + told.title + '</span><code>' + escape(told.line.trim())
+    + '</code></p>' : '<span>No step yet.</span>').join('');
+  if (lecture.html !== html || lecture.width !== window.innerWidth || lecture.height !== window.innerHeight) moving([$('lecture-sides')], lesson, at,
+    () => { $('lecture-sides').innerHTML = html; fitLecture(); });
   Object.assign(lecture, { html, width: window.innerWidth, height: window.innerHeight });
   for (const side of $('lecture-sides').children) showTouched(side);
   $('lecture-lesson').value = lesson.id;
@@ -2563,7 +2973,8 @@ function openRun(opened, from, event) {
   choosePass(0);
   const { lesson, exercise } = from, { title, text } = lesson ? part() : exercise || { title: from.title, text: '' };
   document.body.classList.toggle('begins', !!from.is_own);
-  $('lesson-title').textContent = lesson ? (lesson.kind === 'tour' ? 'Stop ' + (TOUR.indexOf(lesson) + 1) + ' of ' + TOUR.length + ': ' : '') + title : (exercise ? 'Exercise: ' : '') + title + (from.is_own && !run.faults.length ? ', played by this page too, with the same events and report' : '');
+  $('lesson-title').textContent = lesson ? (lesson.kind === 'tour' ? 'Stop ' + (TOUR.indexOf(lesson) + 1) + ' of ' + TOUR.length + ': ' : '') + title
+    : (exercise ? 'Exercise: ' : '') + title + (from.is_own && !run.faults.length ? ', played by this page too, with the same events and report' : '');
   $('lesson-text').innerHTML = marked(text);
   $('stop-before').hidden = $('stop-next').hidden = !(lesson && lesson.kind === 'tour');
   $('to-lecture').hidden = !(lesson && lesson.moments.length);
@@ -2679,7 +3090,8 @@ $('words').innerHTML = Object.entries(WORDS).map(([word, text]) => '<dt>' + word
 $('legend').innerHTML = Object.keys(GROUPS_OF_KINDS).map(group => '<span><i class=\"dot\" style=\"background:var(--' + group + ')\"></i>' + GROUPS_OF_KINDS[group] + '</span>').join('')
   + '<span><i class=\"dot\" style=\"background:var(--serve);height:4px;vertical-align:middle\"></i>its request is being served</span><span><b>3&#215;</b> three reads of a state in a row</span><span>outlined: still to come</span>';
 $('kinds').innerHTML = KINDS.slice(1).map(kind => '<dt>' + kind[2] + ', <code>' + kind[1] + '</code> ' + kind[0] + '</dt><dd>' + kind[4] + '</dd>').join('');
-document.querySelector('.tables').innerHTML = '<option value=\"\">the right one</option>' + LESSONS.filter(lesson => lesson.table).map(lesson => '<option value=\"' + lesson.table + '\">' + lesson.title + '</option>').join('');
+document.querySelector('.tables').innerHTML = '<option value=\"\">the right one</option>'
+  + LESSONS.filter(lesson => lesson.table).map(lesson => '<option value=\"' + lesson.table + '\">' + lesson.title + '</option>').join('');
 $('lecture-lesson').innerHTML = LECTURES.map((lesson, k) => '<option value=\"' + lesson.id + '\">' + (k + 1) + '. ' + lesson.title + '</option>').join('');
 
 $('slider').addEventListener('input', () => seek(Number($('slider').value)));
