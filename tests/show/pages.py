@@ -109,7 +109,7 @@ def in_browser(jobs, dark=False, still=True):
              f"--user-data-dir={room}/profile", f"--blink-settings=preferredColorScheme={0 if dark else 1}", f"http://127.0.0.1:{server.server_port}/"],
             stdin=subprocess.DEVNULL, stdout=console, stderr=console)
         try:
-            found = [answers.get(timeout=120) for _ in jobs]
+            found = [answers.get(timeout=300) for _ in jobs]
         except queue.Empty:
             found = []
         finally:

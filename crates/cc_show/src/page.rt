@@ -204,7 +204,8 @@ body.lecture > header, body.lecture > main, body.lecture > footer, body.lecture 
 #lecture-line span { color: var(--dim); font-size: .75em; margin-right: 1em; } #lecture-line p span { color: var(--ink); }
 #lecture-line code { font-size: .95em; white-space: pre-wrap; font-weight: 600; }
 #lecture nav { gap: 8px; align-items: center; } #lecture nav button, #lecture nav select { min-height: 40px; font-size: 16px; } #lecture nav .gap { flex: 1; }
-body.blank #lecture > * { visibility: hidden; } body.blank { background: #000; }
+body.lecture #tip { font-size: clamp(15px, 1.5vw, 22px); max-width: min(560px, 94vw); }
+body.blank #lecture > *, body.blank #tip { visibility: hidden; } body.blank { background: #000; }
 @media (max-width: 1180px) { .intro { grid-template-columns: minmax(0, 1fr); } .choose { grid-template-columns: 1fr 1fr; } }
 @media (max-width: 900px) { .boxes:not(.many) { flex-wrap: wrap; width: auto; } .choose { grid-template-columns: minmax(0, 1fr); }
   #tour, #examples { columns: auto 220px; } .choose li { margin: 2px 0; } }
