@@ -359,7 +359,7 @@ const tests = {
         same([...$('lecture-line').querySelectorAll('code')].map(textOf), shown.map(one => Telling.program(one)).filter(told => told).map(told => told.line.trim()), 'the line of the program' + when);
         assert(size($('lecture-title')) >= 24 && size($('lecture-text')) >= 22 && size($('lecture-line')) >= 20, 'the letters are small' + when);
         assert(root.scrollHeight <= root.clientHeight && root.scrollWidth <= root.clientWidth, 'the screen has to be scrolled, ' + root.scrollHeight + ' of ' + root.clientHeight + when);
-        const controls = [...page.querySelectorAll('button, select, input, textarea, a[href], summary')].filter(visible);
+        const controls = [...page.querySelectorAll('button, select, input, textarea, a[href], summary, [tabindex="0"]')].filter(visible);
         assert(controls.length <= 10, 'there are ' + controls.length + ' controls' + when);
         if (at === 0) assert(key(page.body, 'ArrowRight') && key(page.body, 'PageUp') && key(page.body, ' ') && key(page.body, 'Backspace'), 'a key is not taken' + when);
         assert(key(page.body, 'PageDown'), 'Page down is not taken' + when);

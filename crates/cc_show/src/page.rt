@@ -2807,6 +2807,8 @@ function drawLecture() {
     () => { $('lecture-sides').innerHTML = html; fitLecture(); });
   Object.assign(lecture, { html, width: window.innerWidth, height: window.innerHeight });
   for (const side of $('lecture-sides').children) showTouched(side);
+  // the Tab key stops at a row of nodes only where that scrolls
+  for (const strip of $('lecture-sides').querySelectorAll('.strip')) strip.tabIndex = strip.scrollWidth > strip.clientWidth ? 0 : -1;
   $('lecture-lesson').value = lesson.id;
   $('lecture-back').disabled = at === 0 && LECTURES[0] === lesson;
   $('lecture-next').disabled = at === screens.length - 1 && LECTURES[LECTURES.length - 1] === lesson;
