@@ -44,10 +44,7 @@ impl Pool {
 }
 
 fn is_prime(n: usize) -> bool {
-    n >= 2
-        && (2..)
-            .take_while(|d| d * d <= n)
-            .all(|d| !n.is_multiple_of(d))
+    n >= 2 && (2..).take_while(|d| d * d <= n).all(|d| n % d != 0)
 }
 
 fn main() -> Result<(), OpenError> {

@@ -129,10 +129,10 @@ impl Panics {
 
     /// Raises the first panic again, unless this thread panics already.
     pub fn raise(mut self) {
-        if !panicking()
-            && let Some(panic) = self.0.take()
-        {
-            resume_unwind(panic);
+        if !panicking() {
+            if let Some(panic) = self.0.take() {
+                resume_unwind(panic);
+            }
         }
     }
 }

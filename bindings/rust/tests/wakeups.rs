@@ -989,7 +989,7 @@ fn ends(what: impl FnOnce() + Send + 'static) {
 
 /// Now and then so long a pause that the other side parks.
 fn pause(number: u64, every: u64) {
-    if number.is_multiple_of(every) {
+    if number % every == 0 {
         thread::sleep(Duration::from_micros(40 + number % 50));
     }
 }

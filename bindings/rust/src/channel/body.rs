@@ -117,12 +117,12 @@ impl<T> Parcel<T> {
     /// once the share is given up; one of the item's drop ends here, since the copy is there.
     #[inline]
     pub fn unpack(self) -> T {
-        if let (Some(copies), Some(boxed)) = (self.copies, self.boxed())
-            && boxed.left.load(Ordering::Acquire) != 1
-        {
-            let copy = catch_unwind(AssertUnwindSafe(|| copies(&boxed.item)));
-            ignore_panics([self], drop); // the share may be the last one by now
-            return copy.unwrap_or_else(|panic| resume_unwind(panic));
+        if let (Some(copies), Some(boxed)) = (self.copies, self.boxed()) {
+            if boxed.left.load(Ordering::Acquire) != 1 {
+                let copy = catch_unwind(AssertUnwindSafe(|| copies(&boxed.item)));
+                ignore_panics([self], drop); // the share may be the last one by now
+                return copy.unwrap_or_else(|panic| resume_unwind(panic));
+            }
         }
         let this = ManuallyDrop::new(self);
         // SAFETY: the parcel isn't used after this, nor dropped. It has the last share of the item.

@@ -143,10 +143,10 @@ impl<T> Drop for RecvFuture<'_, T> {
     fn drop(&mut self) {
         let (core, mut panics) = (self.receiver.core(), Panics::default());
         self.place.leave(self.receiver.0.line(), &mut panics);
-        if let Some(rendezvous) = core.rendezvous()
-            && let Some(item) = rendezvous.leave(take(&mut self.taker), &mut panics)
-        {
-            core.give_back_item(rendezvous, item);
+        if let Some(rendezvous) = core.rendezvous() {
+            if let Some(item) = rendezvous.leave(take(&mut self.taker), &mut panics) {
+                core.give_back_item(rendezvous, item);
+            }
         }
         panics.raise();
     }

@@ -458,7 +458,7 @@ fn calls(own: &mut Own, clock: &Clock, mut random: Random, first: u32, kinds: u6
                     .collect()
             }
             30..34 => {
-                let outcome = own.calls_other(kind.is_multiple_of(2), item);
+                let outcome = own.calls_other(kind % 2 == 0, item);
                 vec![(begin, clock.now(), 1, outcome)]
             }
             _ => own.selects(random.below(32), random.below(4) == 0, item, clock),

@@ -430,8 +430,10 @@ impl<T> Meets for Rendezvous<T> {
     fn begin(&self, lines: &mut Lines, side: usize) -> Option<Met> {
         let takes = side == TAKES;
         let pairs = &mut *lock(&self.pairs);
-        if takes && let Some(item) = pairs.returned.pop_front() {
-            return Some((Begun::Met(pairs.push(None, Some(item))), None));
+        if takes {
+            if let Some(item) = pairs.returned.pop_front() {
+                return Some((Begun::Met(pairs.push(None, Some(item))), None));
+            }
         }
         if lines.is_closed {
             return Some((Begun::Closed, None));
