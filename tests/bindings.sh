@@ -142,7 +142,7 @@ for source in "path = '$package'" "path = 'within'" "path = '$room/copy'" "git =
     printf 'vahepito = { %s }\n\n[workspace]\n' "$source" >>"$room/trial/Cargo.toml"
     for readme in README.md "$top/README.md"; do
         main_of "$readme" >"$room/trial/src/main.rs"
-        due=$([ "$readme" != README.md ] || seq -f 'line %g' 0 9)
+        due=$([ "$readme" = README.md ] && seq -f 'line %g' 0 9 || echo 'the sum is 20200')
         step "Rust: the main of $readme, by ${source//$room\//}" bash -c "cd '$room/trial' && prints '$due' cargo run --quiet"
     done
 done

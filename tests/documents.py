@@ -44,7 +44,7 @@ STRANGERS = ["README.md", "examples/*.md", "bindings/*/*.md", "docs/FORMATS.md",
 PROOFS = ["bin/x86_64-unknown-linux-gnu/PROOF", "bindings/rust/lib/x86_64-unknown-linux-gnu/PROOF"]
 # Lines that strangers' texts may not have: a section that isn't there, a program that a build leaves or that nothing leaves, a
 # size that no file has, and one of no file.
-WRONG = ['(README.md, "Nowhere")', "[here](docs/MODEL.md#nowhere)", "    crates/ccq/out/ccq play", "    ./nowhere PLAN", "`libvahepito.a` (1 KB)", "an archive of 45 KB"]
+WRONG = ['(README.md, "Nowhere")', "[here](docs/MODEL.md#nowhere)", "    crates/ccq/out/ccq play", "    ./nowhere PLAN", "```sh\n./nowhere PLAN\n```", "`libvahepito.a` (1 KB)", "an archive of 45 KB"]
 # Names that the tree doesn't have, and whose they are.
 OUTSIDE = {
     **dict.fromkeys(["std", "core", "None", "write"], "Rust's"),
@@ -56,7 +56,7 @@ OUTSIDE = {
     **dict.fromkeys(["blocking_recv", "blocking_send", "max_capacity", "Permit", "poll_recv", "recv_many"], "tokio's"),
     **dict.fromkeys(["tokio::time::timeout"], "tokio's"),
     **dict.fromkeys(["jq"], "a program's"),
-    **dict.fromkeys(["log.c"], "a reader's"),
+    **dict.fromkeys(["log.c", "item.c", "../trial/src/main.rs"], "a reader's"),
     **dict.fromkeys(["Disconnected", "recv"], "of the Rust crate, beside a crate's own"),
 }
 KINDS = "antt|c|cmake|edit|expect|h|html|in|js|json|md|py|rs|rt|sh|toml|txt"
@@ -253,6 +253,7 @@ def wrong_pointers(path, text):
 def wrong_programs(tree, path, text):
     """Programs that a clone doesn't have, with the lines that name them."""
     folder = path.parent.relative_to(TOP).as_posix() + "/"
+    text = re.sub(r"^```sh\n.*?^```", lambda found: found[0].replace("\n", "\n    "), text, flags=re.M | re.S)
     for at, line in enumerate(text.splitlines(), 1):
         left = re.findall(r"[\w./-]*\bout/\w+", line)
         if left:
@@ -261,6 +262,9 @@ def wrong_programs(tree, path, text):
         begun = re.match(r"    \(?(?:cd [\w/]+ && )?((?:\.{0,2}/)?[\w-]+(?:/[\w.-]+)*)(?: |$)", line)
         if begun and "/" in begun[1] and not begun[1].startswith("/"):
             name = begun[1].removeprefix("./")
+            # What the reader's own compiler leaves, by the lines before.
+            if f" -o {name}\n" in text or name.startswith("build/") and "cmake --build build\n" in text:
+                continue
             if name not in tree.files and (folder + name).removeprefix("./") not in tree.files:
                 yield at, f"{name}: a clone doesn't have it"
 
