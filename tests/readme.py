@@ -1,0 +1,199 @@
+#!/usr/bin/env python3
+"""Runs every command of README.md as a stranger does: in a Debian that has the packages which README installs, and no other.
+
+    tests/readme.py [--list]
+
+debootstrap makes the smallest variant of this machine's Debian, from this machine's mirror, in out/debian, which git ignores. It is
+made once: README's first commands install the packages there, and other packages in README, or another Debian, make it again. The
+tracked files of the clone are put into /root/vahepito, in a folder for temporary files that is the home of the user in there.
+
+In README a fenced block of the language `sh` has commands, one on each line. Each is run at the top of the clone, in a fresh shell with
+an empty environment, and has to end with status 0. If its comment ends with `prints: TEXT`, it has to print a line that begins with TEXT.
+A block of another language is a file, whose name is the last one in backticks before it. --list prints commands and files, and
+runs none.
+
+The tests of the crate make a twentieth of their rounds (VAHEPITO_ROUNDS). Prints a line with the processor seconds of each command.
+The exit status is 0 if all hold, 1 if one fails, and 77 if this machine can't make a chroot: not root, no debootstrap, no unshare, no
+mirror.
+"""
+import hashlib
+import os
+import pathlib
+import re
+import resource
+import shutil
+import subprocess
+import sys
+import tempfile
+import time
+
+TOP = pathlib.Path(__file__).resolve().parent.parent
+KEPT = TOP / "out" / "debian"
+ENVIRONMENT = {"HOME": "/root", "PATH": "/usr/local/sbin:/usr/local/bin:/usr/sbin:/usr/bin:/sbin:/bin", "LANG": "C.UTF-8", "VAHEPITO_ROUNDS": "5"}
+# Mounts that end with the command: the room is the home and the folder for temporary files.
+MOUNTS = """
+set -e
+mount -t proc proc "$1/proc"
+mount --rbind /dev "$1/dev"
+mount --bind "$2/home" "$1/root"
+mount --bind "$2/tmp" "$1/tmp"
+exec chroot "$1" /bin/bash -c 'cd "$1" && exec /bin/bash -c "$2"' shell "$3" "$4"
+"""
+
+
+class Skipped(Exception):
+    """Why nothing can be run here."""
+
+
+class Command:
+    """A line of a block of commands: what is run, and what it prints, if README says so."""
+
+    def __init__(self, line):
+        self.text, _, comment = line.partition("   #")
+        self.text = self.text.strip()
+        self.prints = (re.findall(r"prints: (.*)", comment) or [None])[0]
+
+
+class File:
+    """A block of another language: the file that a reader puts it into."""
+
+    def __init__(self, name, lines):
+        self.name, self.text = name, "\n".join(lines) + "\n"
+
+
+def parts(text):
+    """The commands and files of a document, in their order."""
+    names, lines, language = [], [], None
+    for line in text.splitlines():
+        if language is None and line.startswith("```"):
+            language, lines = line[3:].strip(), []
+        elif language is None:
+            names += re.findall(r"`([^`]+)`", line)
+        elif line != "```":
+            lines.append(line)
+        else:
+            if language == "sh":
+                yield from map(Command, filter(str.strip, lines))
+            else:
+                yield File(names[-1], lines)
+            language = None
+
+
+def mirror():
+    """This machine's Debian and the address of its packages."""
+    release = dict(re.findall(r'^(\w+)="?([^"\n]*)', pathlib.Path("/etc/os-release").read_text(), re.M))
+    if release.get("ID") != "debian":
+        raise Skipped("this machine isn't a Debian, whose mirror it would know")
+    targets = ["apt-get", "indextargets", "--format", "$(CODENAME) $(COMPONENT) $(REPO_URI)", "Created-By: Packages"]
+    for line in subprocess.run(targets, capture_output=True, text=True, check=True).stdout.splitlines():
+        codename, component, address = line.split()
+        if codename == release["VERSION_CODENAME"] and component == "main":
+            return codename, address
+    raise Skipped("apt-get knows no mirror of this Debian")
+
+
+def in_chroot(base, room, folder, command, limit=1800):
+    """Runs a command in a fresh shell; its exit status, what it printed, and its processor seconds."""
+    spent = lambda: sum(resource.getrusage(resource.RUSAGE_CHILDREN)[:2])
+    before = spent()
+    line = ["unshare", "--mount", "--pid", "--fork", "--kill-child", "bash", "-c", MOUNTS, "mounts", str(base), str(room), folder, command]
+    try:
+        done = subprocess.run(line, env=ENVIRONMENT, stdin=subprocess.DEVNULL, stdout=subprocess.PIPE, stderr=subprocess.STDOUT, text=True, errors="replace", timeout=limit)
+        return done.returncode, done.stdout, spent() - before
+    except subprocess.TimeoutExpired as stopped:
+        return "no end in time", (stopped.stdout or b"").decode(errors="replace"), spent() - before
+
+
+def have_base(packages):
+    """The folder of a Debian into which nothing but these packages was installed."""
+    codename, address = mirror()
+    key = hashlib.sha256(" ".join([codename, address, *packages]).encode()).hexdigest()[:12]
+    base = KEPT / f"{codename}-{key}"
+    if base.is_dir():
+        return base
+    shutil.rmtree(KEPT, ignore_errors=True)
+    KEPT.mkdir(parents=True)
+    print(f"readme: makes a {codename} in {base.relative_to(TOP)}, this once", flush=True)
+    making = KEPT / "making"
+    done = subprocess.run(["debootstrap", "--variant=minbase", codename, str(making), address], stdin=subprocess.DEVNULL, capture_output=True, text=True)
+    if done.returncode != 0:
+        raise Skipped(f"debootstrap from {address} failed: {(done.stdout + done.stderr).strip().splitlines()[-1]}")
+    shutil.copy("/etc/resolv.conf", making / "etc/resolv.conf")
+    making.rename(base)
+    return base
+
+
+def check_machine():
+    if os.geteuid() != 0:
+        raise Skipped("only root can make a chroot")
+    for program in ("debootstrap", "unshare", "apt-get", "git"):
+        if not shutil.which(program):
+            raise Skipped(f"{program} is not on this machine")
+    if subprocess.run(["unshare", "--mount", "--pid", "--fork", "true"], capture_output=True).returncode != 0:
+        raise Skipped("unshare isn't allowed here")
+
+
+def put_clone(folder):
+    """The tracked files, as they are now."""
+    folder.mkdir()
+    names = subprocess.run(["git", "-C", str(TOP), "ls-files", "-z"], capture_output=True, check=True).stdout
+    packed = subprocess.run(["tar", "-C", str(TOP), "--null", "-T", "-", "-cf", "-"], input=names, capture_output=True, check=True).stdout
+    subprocess.run(["tar", "-C", str(folder), "-xf", "-"], input=packed, check=True)
+
+
+def run_all(room, found):
+    """Runs all; the number of commands that failed."""
+    packages = [part.text for part in found if isinstance(part, Command) and part.text.startswith("apt-get ")]
+    base, failed = have_base(packages), 0
+    for folder in ("home", "tmp"):
+        (room / folder).mkdir()
+    clone = room / "home" / "vahepito"
+    put_clone(clone)
+    status, said, _ = in_chroot(base, room, "/", "apt-get update")
+    if status != 0:
+        raise Skipped(f"apt-get update failed in the chroot: {said.strip().splitlines()[-1]}")
+    for part in found:
+        if isinstance(part, File):
+            path = clone / part.name
+            path.parent.mkdir(parents=True, exist_ok=True)
+            path.write_text(part.text)
+            continue
+        start = time.time()
+        status, said, seconds = in_chroot(base, room, "/root/vahepito", part.text)
+        fault = f"status {status}" if status != 0 else ""
+        if not fault and part.prints and not any(line.startswith(part.prints) for line in said.splitlines()):
+            fault = f"no line that it prints begins with {part.prints!r}"
+        if not fault:
+            print(f"readme: {part.text}: passed ({seconds:.1f} processor seconds, {time.time() - start:.0f} s)", flush=True)
+        else:
+            failed += 1
+            print(f"readme: {part.text}: FAILED ({fault}); its last lines:\n" + "\n".join(said.splitlines()[-40:]), flush=True)
+    return failed
+
+
+def main():
+    found = list(parts((TOP / "README.md").read_text()))
+    if sys.argv[1:] == ["--list"]:
+        for part in found:
+            print(part.text if isinstance(part, Command) else f"{part.name}: {len(part.text.splitlines())} lines")
+        return 0
+    if sys.argv[1:]:
+        print(__doc__)
+        return 0 if sys.argv[1:] == ["--help"] else 64
+    commands = [part for part in found if isinstance(part, Command)]
+    if len(commands) < 2 or not any(part.text.startswith("apt-get ") for part in commands) or len(commands) == len(found):
+        print("readme: README.md has no commands, no packages or no files, so this script reads it wrongly")
+        return 1
+    try:
+        check_machine()
+        with tempfile.TemporaryDirectory() as room:
+            failed = run_all(pathlib.Path(room), found)
+    except Skipped as why:
+        print(f"readme: the commands of README in a fresh Debian: SKIPPED: {why}")
+        return 77
+    print(f"readme: {len(commands) - failed} of {len(commands)} commands of README pass in a fresh Debian")
+    return 1 if failed else 0
+
+
+if __name__ == "__main__":
+    sys.exit(main())
