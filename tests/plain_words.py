@@ -11,7 +11,7 @@ Five checks, in about two seconds:
   letters of either case. Each names the words to use, and has a sentence in which it is found.
 - Names: none of the words of NAMES is a part of a name in the code, in definitions or in the bindings.
 - Quotes: after a line `<!-- from PATH -->` the next block of code has the lines of that file, one after another.
-- Pictures: those that bench/pictures.py draws are of the tables that docs/BENCH.md has.
+- Figures: the pictures that bench/pictures.py draws, and README's table of speed, are those of the tables that docs/BENCH.md has.
 
 Blocks of code, words between backquotes, headings and comments hold no patterns, and neither does the table of steps in
 docs/ALGORITHM.md, which tools/steps_table.py writes. The exit status is 0 if all checks pass.
@@ -189,9 +189,10 @@ def check_quotes():
                 yield f"{path}:{number + 1}: the next block isn't in {mark[1]}"
 
 
-def check_pictures():
-    check = [sys.executable, os.path.join(TOP, "bench", "pictures.py"), "--check"]
-    yield from subprocess.run(check, capture_output=True, text=True).stdout.splitlines()
+def check_figures():
+    for check in (["pictures.py", "--check"], ["readme.py"]):
+        command = [sys.executable, os.path.join(TOP, "bench", *check[:1]), *check[1:]]
+        yield from subprocess.run(command, capture_output=True, text=True).stdout.splitlines()
 
 
 def main():
@@ -203,7 +204,7 @@ def main():
     if sys.argv[1:]:
         print(__doc__)
         return 0 if sys.argv[1:] == ["--help"] else 64
-    faults = [fault for check in (check_words, check_patterns, check_names, check_quotes, check_pictures) for fault in check()]
+    faults = [fault for check in (check_words, check_patterns, check_names, check_quotes, check_figures) for fault in check()]
     for fault in faults:
         print(fault)
     print(f"plain words: {len(faults)} faults" if faults else "plain words: README and docs are as they should be")

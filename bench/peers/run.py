@@ -1,7 +1,7 @@
 #!/usr/bin/env python3
 """Times the proved queue beside its peers, in one run, and writes the tables and pictures of docs/BENCH.md.
 
-    bench/peers/run.py [--seconds N] [--print | --busy | --tail | --steps] [--again]
+    bench/peers/run.py [--seconds N] [--print | --all | --busy | --tail | --busy-tail | --steps] [--again]
 
 One command, in some N seconds (420 where no number is given; 120 are a short form, and 20 a trial), after the build. It
 takes crossbeam's, flume's and smol's queues from Debian's packages: those that aren't there it installs, where it is root
@@ -11,8 +11,9 @@ A run is some rounds of bursts: each round runs each queue in each shape once, a
 process of its own. The medians of the rounds are told, and their quartiles. What others took of the processors
 meanwhile is measured and written beside them. --print writes nothing into docs, --again takes the figures of the last run.
 With --busy a process is busy on each processor meanwhile, and the table `busy` of docs/BENCH.md is written. With --tail
-the slowest calls are measured, and the table `tail` is written. With --steps the exports are timed with the same atomic steps
-by hand, and the table `steps` is written.
+the slowest calls are measured, and the table `tail` is written; with --busy-tail these with a process that is busy on each processor,
+and the table `busy_tail`. With --steps the exports are timed with the same atomic steps by hand, and the table `steps` is written.
+--all measures all but the steps, in some N + 300 seconds, then draws the pictures and writes README's table (bench/readme.py).
 """
 import argparse
 import glob
@@ -272,7 +273,7 @@ def text_of(machine, length, versions, all_tables, numbers):
         + ("the machine was idle otherwise: " if idle else "**others ran meanwhile, so compare within a column alone**: ")
         + f"other processes had {machine['others']:.2f} processors in the mean and {machine['worst']:.2f} in the worst round "
         f"({busiest}), and the host took {machine['stolen']:.2f}."), "", wrapped(
-        f"*words* are the exports of the proved library, with bodies of one word, and *typed* the channel of any type of `bindings/rust`, with a bound of {BOUND}. "
+        f"*words* are the exports of the library, with bodies of one word, and *typed* the channel of any type of `bindings/rust`, with a bound of {BOUND}. "
         "Both are over the relaxed archive, and *typed, strict* is the channel over the strict one. "
         f"The peers are {queues}std's `sync_channel`, whose one receiver is shared under a lock, and std's `Mutex` with two "
         "`Condvar`s round a `VecDeque`, which notifies only if a thread waits. ArrayQueue and concurrent-queue have no calls that wait: they are tried again, first with "
@@ -311,14 +312,26 @@ def beside_busy(programs, seconds):
 
 # The slowest calls.
 
-def slowest_calls(programs, queues, seconds):
-    """The rows of the table `tail`: percentiles of the time of a send that doesn't wait, beside four receivers that block."""
-    counts = (4, 16, 64)
+# What docs/BENCH.md gets once the slowest calls were measured beside busy processes.
+BUSY_TAIL = """
+`bench/peers/run.py --busy-tail`: the same with a busy process on each processor, ns. ArrayQueue's receivers don't block: they try, spin and
+yield.
+
+![The slowest calls on a busy machine: ns](pictures/bench-busy_tail.svg)
+
+<!-- busy_tail -->
+<!-- end of busy_tail -->
+"""
+
+
+def slowest_calls(programs, queues, seconds, counts):
+    """The rows of the tables `tail` and `busy_tail`: percentiles of the time of a send that doesn't wait, beside four receivers that
+    block."""
     cells, start, rounds = {(count, queue): [] for count in counts for queue in queues}, time.time(), 0
     while time.time() - start < seconds:
         for count, queue in random.sample(list(cells), len(cells)):
             command = command_of(programs, "tail", queue, shape(count, 4, 1024), 1000)
-            done = subprocess.run(command, capture_output=True, text=True, check=True, timeout=60)
+            done = subprocess.run(command, capture_output=True, text=True, check=True, timeout=120)
             cells[count, queue].append([float(word) for word in done.stdout.split()])
         rounds += 1
     load = ", ".join(f"{one:.2f}" for one in os.getloadavg())
@@ -327,6 +340,24 @@ def slowest_calls(programs, queues, seconds):
     parts = {"p99": 1, "p99.9": 2, "p99.99": 3}
     rows = [[part, str(count), *(median(count, queue, at) for queue in queues)] for count in counts for part, at in parts.items()]
     return [["part", "senders", *queues], *rows]
+
+
+def write_tail(programs, there, seconds):
+    queues = ["typed", *(queue for queue in there if queue not in POLLED), "Mutex+Condvar"]
+    write("tail", slowest_calls(programs, queues, seconds, (4, 16, 64)))
+
+
+def write_busy_tail(programs, there, seconds):
+    """Writes the table, after that of the idle machine if docs/BENCH.md has none yet."""
+    wanted = ["crossbeam-channel", "crossbeam-queue", "async-channel"]
+    with busy_processors():
+        rows = slowest_calls(programs, ["typed", *(queue for queue in wanted if queue in there), "Mutex+Condvar"], seconds, (4, 16))
+    with open(BENCH) as file:
+        text = file.read()
+    if "<!-- busy_tail -->" not in text:
+        with open(BENCH, "w") as file:
+            file.write(text.replace("<!-- end of tail -->\n", "<!-- end of tail -->\n" + BUSY_TAIL))
+    write("busy_tail", rows)
 
 
 # The same steps by hand.
@@ -366,10 +397,14 @@ def main():
     parser.add_argument("--seconds", type=int, default=420)
     parser.add_argument("--print", action="store_true")
     parser.add_argument("--again", action="store_true")
+    parser.add_argument("--all", action="store_true")
     parser.add_argument("--busy", action="store_true")
+    parser.add_argument("--busy-tail", action="store_true")
     parser.add_argument("--tail", action="store_true")
     parser.add_argument("--steps", action="store_true")
     options = parser.parse_args()
+    if options.all and (options.again or options.print):
+        parser.error("--all measures, and writes")
     kept = os.path.join(OUT, "last.json")
     if options.again:
         with open(kept) as file:
@@ -382,8 +417,9 @@ def main():
         if options.steps:
             return write("steps", by_hand(programs, options.seconds))
         if options.tail:
-            queues = ["typed", *(queue for queue in there if queue not in POLLED), "Mutex+Condvar"]
-            return write("tail", slowest_calls(programs, queues, options.seconds))
+            return write_tail(programs, there, options.seconds)
+        if options.busy_tail:
+            return write_busy_tail(programs, there, options.seconds)
         order = [*OURS, "strict", *there, *OF_STD]
         told = measure(programs, tables(order), options.seconds)
         told.update(queues=order, versions={library: version(library) for library in there})
@@ -404,6 +440,12 @@ def main():
         with open(os.path.join(PICTURES, f"peers-{name}.svg"), "w") as file:
             file.write(picture(title, joined, unit, rows, numbers))
     print(f"peers: wrote {os.path.relpath(BENCH)} and {len(all_tables)} pictures in {os.path.relpath(PICTURES)}")
+    if options.all:
+        write_tail(programs, there, 100)
+        write("busy", beside_busy(programs, 100))
+        write_busy_tail(programs, there, 100)
+        for script in (["pictures.py"], ["readme.py", "--write"]):
+            subprocess.run([sys.executable, os.path.join(TOP, "bench", script[0]), *script[1:]], check=True)
 
 
 if __name__ == "__main__":

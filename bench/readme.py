@@ -1,0 +1,91 @@
+#!/usr/bin/env python3
+"""Writes the speed table of README.md from the tables of docs/BENCH.md, or checks that it is what they give.
+
+    bench/readme.py [--write]
+
+Each figure is a cell of docs/BENCH.md: an item's time by the clock, a send that finds the queue full at a capacity of 1,024, and the
+p99.99 of a send beside four receivers and, once `bench/peers/run.py --all` has measured that, a busy process on each processor. The
+peers' versions are those that docs/BENCH.md names. Without --write it writes nothing, and says if README differs; exit status 1
+then.
+"""
+import os
+import re
+import sys
+
+TOP = os.path.dirname(os.path.dirname(os.path.abspath(__file__)))
+BEGIN, END = "<!-- speed -->\n", "<!-- end of speed -->\n"
+# The rows, by their names in the tables of docs/BENCH.md.
+ROWS = ["words", "typed", "crossbeam-channel", "crossbeam's ArrayQueue", "async-channel", "Mutex+Condvar"]
+LIBRARIES = {"crossbeam's ArrayQueue": "crossbeam-queue"}
+IN_TAIL = {"crossbeam's ArrayQueue": "crossbeam-queue"}
+
+
+def rows_after(text, mark):
+    """The first table after a mark: {row: {column: cell}}, and all lines as lists of cells."""
+    lines = text[text.index(mark):].split("\n")
+    begin = next(at for at, line in enumerate(lines) if line.startswith("|"))
+    end = next(at for at in range(begin, len(lines) + 1) if at == len(lines) or not lines[at].startswith("|"))
+    head, _, *rows = [[cell.strip().strip("*") for cell in line.strip().strip("|").split("|")] for line in lines[begin:end]]
+    return {row[0]: dict(zip(head, row)) for row in rows}, [dict(zip(head, row)) for row in rows]
+
+
+def named(text, row):
+    """A row's name, with the version that was measured."""
+    if row in ("words", "typed"):
+        return f"**{row}**"
+    if row == "Mutex+Condvar":
+        return row if "which notifies only if a thread waits" in " ".join(text.split()) else "Mutex+Condvar, always notifying"
+    library = LIBRARIES.get(row, row)
+    version = re.search(rf"\b{library} ([\d.]*\d)", " ".join(text[text.index("The peers are"):].split()))
+    return f"{'ArrayQueue' if library != row else library} {version[1]}"
+
+
+def brief(nanoseconds):
+    """A time of the tail, in the unit that makes it short."""
+    value = float(nanoseconds.replace(",", ""))
+    return f"{value / 1e6:.1f} ms" if value >= 99_500 else f"{value / 1e3:.0f} us"
+
+
+def section(text):
+    clock, _ = rows_after(text, "### An item's time, by the clock")
+    full, _ = rows_after(text, "### A send that finds the queue full, by capacity")
+    is_busy = "<!-- busy_tail -->" in text
+    _, tails = rows_after(text, "<!-- busy_tail -->" if is_busy else "<!-- tail -->")
+    tail = next(row for row in tails if row["part"] == "p99.99" and row["senders"] == "16")
+    columns = ["one thread", "4/4", "32/32", "Full"] + ["p99.99"] * is_busy
+    lines = ["Nanoseconds on four idle processors: an item on one thread, and at 4/4 and 32/32 senders/receivers; a send to a",
+             "full queue (capacity 1,024)" + ("; the p99.99 of a send by 16 threads, beside four busy processes." if is_busy else "."),
+             "", f"| | {' | '.join(columns)} |", "|---" * (len(columns) + 1) + "|"]
+    for row in ROWS:
+        cells = [clock[row][column] for column in columns[:3]] + [full[row]["1024"]]
+        if is_busy:
+            slowest = tail.get(IN_TAIL.get(row, row))
+            cells.append(brief(slowest) if slowest else "–")
+        lines.append(f"| {named(text, row)} | {' | '.join(cells)} |")
+    if not is_busy:
+        lines += ["", f"The p99.99 of a send, with 16 senders: typed {brief(tail['typed'])}, crossbeam-channel {brief(tail['crossbeam-channel'])}."]
+    return "\n".join(lines) + "\n"
+
+
+def main():
+    if sys.argv[1:] not in ([], ["--write"]):
+        print(__doc__)
+        return 0 if sys.argv[1:] == ["--help"] else 64
+    with open(os.path.join(TOP, "docs", "BENCH.md"), encoding="utf-8") as file:
+        due = section(file.read())
+    path = os.path.join(TOP, "README.md")
+    with open(path, encoding="utf-8") as file:
+        before, rest = file.read().split(BEGIN)
+    now, after = rest.split(END)
+    if sys.argv[1:]:
+        with open(path, "w", encoding="utf-8") as file:
+            file.write(before + BEGIN + due + END + after)
+        print(due, end="")
+        return 0
+    if now != due:
+        print("README.md: its speed table isn't that of docs/BENCH.md: bench/readme.py --write")
+    return int(now != due)
+
+
+if __name__ == "__main__":
+    sys.exit(main())
