@@ -1,7 +1,7 @@
 #!/usr/bin/env python3
 """Runs every command of README.md as a stranger does: in a Debian that has the packages which README installs, and no other.
 
-    tests/readme.py [--list]
+    tests/readme.py [--gate | --list]
 
 debootstrap makes the smallest variant of this machine's Debian, from this machine's mirror, in out/debian, which git ignores. It is
 made once: README's first commands install the packages there, and other packages in README, or another Debian, make it again. The
@@ -12,7 +12,9 @@ an empty environment, and has to end with status 0. If its comment ends with `pr
 A block of another language is a file, whose name is the last one in backticks before it. --list prints commands and files, and
 runs none.
 
-The tests of the crate make a twentieth of their rounds (VAHEPITO_ROUNDS). Prints a line with the processor seconds of each command.
+The tests of the crate make a twentieth of their rounds (VAHEPITO_ROUNDS). With --gate, as ./test calls it, `./test --quick` is left out,
+whose checks are the gate's own, and so are the examples in the crate's documentation (RUSTDOC), which an old rustc compiles one by one.
+A line says so. Prints a line with the processor seconds of each command.
 The exit status is 0 if all hold, 1 if one fails, and 77 if this machine can't make a chroot: not root, no debootstrap, no unshare, no
 mirror.
 """
@@ -30,6 +32,7 @@ import time
 TOP = pathlib.Path(__file__).resolve().parent.parent
 KEPT = TOP / "out" / "debian"
 ENVIRONMENT = {"HOME": "/root", "PATH": "/usr/local/sbin:/usr/local/bin:/usr/sbin:/usr/bin:/sbin:/bin", "LANG": "C.UTF-8", "VAHEPITO_ROUNDS": "5"}
+OF_THE_GATE = "./test --quick"
 # Mounts that end with the command: the room is the home and the folder for temporary files.
 MOUNTS = """
 set -e
@@ -142,7 +145,7 @@ def put_clone(folder):
 
 
 def run_all(room, found):
-    """Runs all; the number of commands that failed."""
+    """Runs these; the number of commands that failed."""
     packages = [part.text for part in found if isinstance(part, Command) and part.text.startswith("apt-get ")]
     base, failed = have_base(packages), 0
     for folder in ("home", "tmp"):
@@ -177,9 +180,13 @@ def main():
         for part in found:
             print(part.text if isinstance(part, Command) else f"{part.name}: {len(part.text.splitlines())} lines")
         return 0
-    if sys.argv[1:]:
+    if sys.argv[1:] not in ([], ["--gate"]):
         print(__doc__)
         return 0 if sys.argv[1:] == ["--help"] else 64
+    if sys.argv[1:]:
+        found = [part for part in found if not (isinstance(part, Command) and part.text == OF_THE_GATE)]
+        ENVIRONMENT["RUSTDOC"] = "true"
+        print(f"readme: left out here: {OF_THE_GATE}, and the examples in the crate's documentation")
     commands = [part for part in found if isinstance(part, Command)]
     if len(commands) < 2 or not any(part.text.startswith("apt-get ") for part in commands) or len(commands) == len(found):
         print("readme: README.md has no commands, no packages or no files, so this script reads it wrongly")
