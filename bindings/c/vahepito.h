@@ -37,11 +37,12 @@
  * No call but vahepito_new takes memory.
  *
  * Each call takes effect at one moment between its begin and its return: this is proved of the order of the queue's atomic
- * steps. That these steps have the order of the clock, and what they do to other memory, isn't. None of them
- * is pending when a call returns, and tests look for the following:
+ * steps. That these steps have the order of the clock, and what they do to other memory, isn't. Tests look for the following:
  * - A take that begins after a send has returned finds the item, unless another take of its group took it; and a send that
  *   begins after takes have returned finds the room that they made. "After" is by any order that the program has: on one
- *   thread, by a join, a lock or a flag.
+ *   thread, by a join, a lock, or a flag that is stored with release and loaded with acquire. On x86-64 any flag will do, and so
+ *   does the clock: no step is pending when a call returns. On aarch64 the last store of a call may be pending then, and a call's first
+ *   loads may come before a load without acquire that is before the call.
  * - Memory written before a send is seen after the take of its item. So a word may be a pointer.
  * A call waits for at most one service of each call of its kind before it, and then may serve `bound` calls itself. This is proved, in steps
  * of the threads whose calls came before: no other thread can hold a call up. That the system runs these threads isn't.

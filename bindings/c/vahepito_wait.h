@@ -58,8 +58,9 @@
  * 3. So each thing that was made after e made a notification. By 1 and 2 each of these was used by a call that left by
  *    notified - 1 and tried after e. That call took something, or notified another one. So as many things were taken after e
  *    as were made, and none is left.
- * It uses that a try which begins after a send or a take has returned sees what that made (vahepito.h), and that all accesses
- * to the counts are sequentially consistent. The program interleavings.c runs the code of this header in every interleaving
+ * It uses that make and check of one thread, and join and look of another, have one order that all threads agree on: all
+ * accesses to the counts are sequentially consistent, and so are the library's steps. vahepito_in_order has what that takes on
+ * each machine. The program interleavings.c runs the code of this header in every interleaving
  * of small models, and finds a lost wake-up if one of the steps is wrong. */
 #ifndef VAHEPITO_WAIT_H
 #define VAHEPITO_WAIT_H
@@ -118,8 +119,19 @@ static inline bool vahepito_change(vahepito_line *line, uint64_t *counts, uint64
     return __atomic_compare_exchange_n(&line->counts, counts, next, 0, __ATOMIC_SEQ_CST, __ATOMIC_SEQ_CST);
 }
 
+/* Between the library's accesses of a call and one of the counts: the two have the order of the program. For x86-64 and aarch64
+ * compilers agree how a sequentially consistent access is written, and no fence is needed: when a call returns, none of
+ * its stores is pending on x86-64, and on aarch64 they are `stlr`, after which `ldar` and `ldaxr` wait. For other machines, where
+ * the library's compiler and this one may differ, it is a fence. */
+static inline void vahepito_in_order(void) {
+#if !defined(__x86_64__) && !defined(__aarch64__)
+    __atomic_thread_fence(__ATOMIC_SEQ_CST);
+#endif
+}
+
 /* Notifies one call of the line, or all. */
 static inline void vahepito_notify(vahepito_line *line, bool all) {
+    vahepito_in_order();
     uint64_t counts = __atomic_load_n(&line->counts, __ATOMIC_SEQ_CST);
     while (counts >= VAHEPITO_ONE_WAITING) {
         const uint64_t next = all ? (counts >> 32) + (uint32_t)counts : counts - VAHEPITO_ONE_WAITING + 1;
@@ -161,9 +173,20 @@ typedef struct {
 
 #define VAHEPITO_BACKOFF {0}
 
+/* The hint of a thread that spins: on aarch64 as Rust's std has it. */
+static inline void vahepito_pause(void) {
+#if defined(__x86_64__)
+    __builtin_ia32_pause();
+#elif defined(__aarch64__)
+    __asm__ volatile("isb" ::: "memory");
+#else
+    __asm__ volatile("" ::: "memory");
+#endif
+}
+
 static inline void vahepito_between_turns(vahepito_backoff *backoff) {
     if (backoff->round < 7) {
-        for (uint32_t spin = (uint32_t)1 << backoff->round++; spin > 0; spin--) __builtin_ia32_pause();
+        for (uint32_t spin = (uint32_t)1 << backoff->round++; spin > 0; spin--) vahepito_pause();
     } else {
         (void)sched_yield();
     }
@@ -226,6 +249,7 @@ __attribute__((noinline, unused)) static uint32_t vahepito_wait(vahepito_line *l
     }
     do {
         (void)__atomic_fetch_add(&line->counts, VAHEPITO_ONE_WAITING, __ATOMIC_SEQ_CST);
+        vahepito_in_order();
         code = attempt(request);
         if (code != nothing) {
             vahepito_leave(line);

@@ -17,10 +17,12 @@
 //! again while it stands in line keeps its place, and may look once more.
 //!
 //! **What is used of the queue.** A try that begins after *make* was answered finds what it made,
-//! unless another try took it first: the steps of the queue are those of one run, each step sees the
-//! longest run there is, and when a call returns none of its stores is pending. The accesses to `waiting`
-//! are sequentially consistent; all of them, and the queue's steps, have one order that every thread
-//! agrees on.
+//! unless another try took it first. The accesses to `waiting` and the queue's steps are sequentially
+//! consistent, so that all of them have one order that every thread agrees on. On x86-64 some of the queue's
+//! stores are plain moves; when a call returns, none of them is pending. On aarch64 the last store of a call may
+//! be pending when the call returns, but a load of `waiting` behind it is later in that order (`stlr`, `ldar`).
+//! The other accesses, of the counts of items and of a seat's flag, need no more than acquire and release: a look at counts
+//! that finds nothing takes each seat once, so that it comes before or after each holder of the seat.
 //!
 //! **The claim.** When nobody makes a step any more, there isn't at once a waiter in line and something
 //! for its try to take.
