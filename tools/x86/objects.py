@@ -1,4 +1,5 @@
 """Reads an x86-64 ELF object, or the one object of an archive: each function with its bytes, and what the linker will put there.
+Another machine's objects have the same tables (aarch64/decode.py).
 
 The compiler gives each function a section of its own, `.text.NAME`, and a function's jump tables the section `.rodata.NAME`.
 What isn't laid out so is refused, as is a reference into the middle of a function.
@@ -83,10 +84,12 @@ def object_in(data: bytes) -> tuple:
 class Object:
     """The sections of an object, and the relocations of each."""
 
+    machine = 62
+
     def __init__(self, data: bytes):
         self.data = data
-        if data[:6] != b"\x7fELF\x02\x01" or self.fields("H", 18) != (62,):
-            raise Refused("this is no x86-64 object")
+        if data[:6] != b"\x7fELF\x02\x01" or self.fields("H", 18) != (self.machine,):
+            raise Refused("this is no object of the machine that is looked at")
         (where,) = self.fields("Q", 0x28)
         size, count, names = self.fields("HHH", 0x3A)
         heads = [self.fields("IIQQQQII", where + size * k) for k in range(count)]

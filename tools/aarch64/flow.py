@@ -1,0 +1,192 @@
+"""Where the pointers in a function for AArch64 come from: before each instruction, what each register and each slot of the stack
+may hold.
+
+A value is a set of origins, each a path with a distance, as x86/flow.py has them: `x0` is the argument in that register, and
+`x0[0][8]` what was loaded 8 bytes behind what was loaded from where `x0` points. A number has no origin, and `?` is the path of a
+value of which nothing is known. A distance is a number of bytes; ("*", n), n bytes behind where some index leads; or None, unknown.
+
+What an instruction isn't known to do leaves a value of which nothing is known; a jump by a register is refused.
+"""
+import re
+
+from aarch64.decode import Code, Instruction, Memory, decode
+from x86.flow import NUMBER, UNKNOWN, joined, paths
+from x86.objects import Refused
+
+ARGUMENTS = [f"x{n}" for n in range(9)]
+KEPT_BY_A_CALL = {f"x{n}" for n in range(19, 30)} | {"sp"}
+DEEPEST = 9
+# A load of a word with acquire, a store of one with release, and the two halves of a read-modify-write.
+LOAD, STORE, TAKES, PUTS = "ldar", "stlr", "ldaxr", "stlxr"
+# What reads or writes memory as no other thread sees it in one order.
+PLAIN = re.compile(r"(ld|st)(r|ur|p|np)(s?[bhw])?$|ldpsw$")
+SHORT = re.compile(r"ld(u?rs?[bhw]|psw)")
+NO_RESULT = set("cmp cmn tst ccmp ccmn fcmp nop yield isb dmb dsb brk hint prfm b br bl blr ret cbz cbnz tbz tbnz".split())
+SUMS = set("add sub adds subs and ands orr eor bic neg negs".split())
+MAKES_NUMBERS = set("movz movn lsl lsr asr ror mul msub mneg umulh smulh udiv sdiv clz rbit rev cset csetm ubfx ubfiz sbfx sbfiz sxtw sxtb sxth uxtb uxth uxtw mvn".split())
+ENDS = {"ret", "brk"}
+CHOICES = {"cbz", "cbnz", "tbz", "tbnz"}
+
+
+def moved(value: frozenset, distance: int | None) -> frozenset:
+    """These pointers at this distance from where they are; None: an index is added."""
+
+    def by(known):
+        if isinstance(known, tuple) and distance is not None:
+            return ("*", known[1] + distance)
+        if known is None or isinstance(known, tuple):
+            return known
+        return ("*", known) if distance is None else known + distance
+
+    return frozenset((path, by(known)) for path, known in value)
+
+
+def behind(path: str, distance) -> tuple:
+    """The origin of what is loaded there."""
+    if path == "?" or distance is None or path.count("[") >= DEEPEST:
+        return ("?", None)
+    return (f"{path}[{'*+%d' % distance[1] if isinstance(distance, tuple) else distance}]", 0)
+
+
+def slot_of(at: frozenset) -> int | None:
+    """The slot of the stack that these pointers are, if that is known."""
+    (path, distance) = next(iter(at)) if len(at) == 1 else ("?", None)
+    return distance if path == "stack" and isinstance(distance, int) else None
+
+
+class Function:
+    """A function's instructions, by their number, with what is known before each of those that may run."""
+
+    def __init__(self, code: Code):
+        self.name, self.code = code.name, code
+        self.instructions = decode(code.name, code.bytes)
+        self.numbers = {each.address: k for k, each in enumerate(self.instructions)}
+        self.before: dict = {}
+        own = {"sp", "x29"}
+        self.lends = any(i.memory is None and i.operands and i.operands[0] not in own and own & set(i.operands[1:]) for i in self.instructions)
+
+    def where(self, i: Instruction) -> str:
+        return f"{self.name}+{i.address:x}"
+
+    # ---- what follows
+
+    def successors(self, k: int) -> list:
+        """The instructions of this function that may follow."""
+        i = self.instructions[k]
+        if i.name in ENDS or (i.name == "b" and i.address in self.code.references):
+            return []
+        if i.name == "bl" and i is self.instructions[-1]:
+            return []  # what it calls doesn't return
+        if i.name == "br":
+            raise Refused(f"{self.where(i)}: jumps by {i.text}")
+        jumps = i.name == "b" or i.name in CHOICES or i.name.startswith("b.")
+        targets = ([i.operands[-1]] if jumps else []) + ([] if i.name == "b" else [i.address + 4])
+        if not set(targets) <= self.numbers.keys():
+            raise Refused(f"{self.where(i)}: leads out of the function")
+        return [self.numbers[target] for target in targets]
+
+    # ---- values
+
+    def address(self, state: dict, memory: Memory, is_shifted: bool) -> frozenset:
+        """What a place in memory is reached by."""
+        base = state.get(memory.base, UNKNOWN)
+        if memory.index is None:
+            return moved(base, memory.offset)
+        return moved(base if is_shifted else base | state.get(memory.index, UNKNOWN), None)
+
+    def loaded(self, state: dict, i: Instruction, at: frozenset) -> frozenset:
+        if SHORT.match(i.name) or not i.is_wide or i.name in (LOAD, TAKES):
+            return NUMBER
+        if i.address in self.code.references:
+            return UNKNOWN
+        if (slot := slot_of(at)) is not None:
+            return state.get(slot, UNKNOWN)
+        return frozenset(behind(*each) for each in at) or UNKNOWN
+
+    def result(self, state: dict, i: Instruction) -> frozenset:
+        """What an instruction that names no memory leaves in its first register."""
+        first, *others = i.operands
+        values = [state.get(each, UNKNOWN) if isinstance(each, str) else NUMBER for each in others]
+        if first.startswith("v") or i.address in self.code.references:
+            return UNKNOWN
+        if not i.is_wide or i.name in MAKES_NUMBERS:
+            return NUMBER
+        if i.name == "mov":
+            return values[0]
+        if i.name in ("add", "sub") and isinstance(others[-1], int):
+            return moved(values[0], others[-1] if i.name == "add" else -others[-1])
+        if i.name in SUMS:
+            return moved(frozenset().union(*(values[:1] if i.is_shifted else values)), None)
+        if i.name == "madd":
+            return moved(values[2], None)
+        if i.name in ("csel", "csinc"):
+            value = joined(values[0], values[1])
+            return value if i.name == "csel" else moved(value, None)
+        return UNKNOWN
+
+    # ---- one instruction
+
+    def after(self, state: dict, i: Instruction) -> dict:
+        if i.name in ("bl", "blr"):
+            return {at: v for at, v in state.items() if at in KEPT_BY_A_CALL or at == "zero" or (isinstance(at, int) and not self.lends)}
+        if i.memory:
+            return self.after_access(state, i)
+        if i.name in NO_RESULT or i.name.startswith("b.") or not i.operands or not isinstance(i.operands[0], str):
+            return state
+        return {**state, i.operands[0]: self.result(state, i), "zero": NUMBER}
+
+    def after_access(self, state: dict, i: Instruction) -> dict:
+        at, state = self.address(state, i.memory, i.is_shifted), dict(state)
+        if i.name.startswith("ld"):
+            for n, register in enumerate(i.operands):
+                state[register] = self.loaded(state, i, moved(at, 8 * n))
+        else:
+            self.store(state, i, at)
+        if i.name == PUTS:
+            state[i.operands[0]] = NUMBER
+        if i.memory.before or i.memory.behind:
+            state[i.memory.base] = moved(state.get(i.memory.base, UNKNOWN), i.memory.before + i.memory.behind)
+        state["zero"] = NUMBER
+        return state
+
+    def store(self, state: dict, i: Instruction, at: frozenset) -> None:
+        """What a store leaves in the slots of the stack."""
+        registers = i.operands[1:] if i.name == PUTS else i.operands
+        if (slot := slot_of(at)) is None:
+            if paths(at) & {"stack"} or (self.lends and paths(at) & {"?"}):
+                for known in [known for known in state if isinstance(known, int)]:
+                    del state[known]
+            return
+        size = 16 if registers[0].startswith("v") else 8
+        for known in [known for known in state if isinstance(known, int) and slot - 8 < known < slot + size * len(registers)]:
+            del state[known]
+        for n, register in enumerate(registers):
+            if i.is_wide:
+                state[slot + 8 * n] = state.get(register, UNKNOWN)
+
+    def follow(self) -> None:
+        """Finds `before`, from the arguments on, until nothing is added."""
+        start = {r: frozenset({(r, 0)}) for r in ARGUMENTS} | {r: frozenset({(f"kept {r}", 0)}) for r in KEPT_BY_A_CALL}
+        self.before = {0: start | {"sp": frozenset({("stack", 0)}), "zero": NUMBER}}
+        todo = [0]
+        while todo:
+            k = todo.pop()
+            after = self.after(self.before[k], self.instructions[k])
+            for j in self.successors(k):
+                known = self.before.get(j)
+                now = after if known is None else {at: joined(known[at], after[at]) for at in known.keys() & after.keys()}
+                if known != now:
+                    self.before[j] = now
+                    todo.append(j)
+
+    def accesses(self) -> list:
+        """Each access of memory that isn't the own stack's or a constant's: the instruction, and where its address comes from."""
+        found = []
+        for k, state in sorted(self.before.items()):
+            i = self.instructions[k]
+            if i.memory is None or i.address in self.code.references:
+                continue
+            at = self.address(state, i.memory, i.is_shifted)
+            if paths(at) != {"stack"}:
+                found.append((i, at or UNKNOWN))
+        return found
