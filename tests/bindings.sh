@@ -149,7 +149,7 @@ done
 # The last of these, by git, again from what cargo has vendored.
 step 'Rust: the dependency by git, vendored' bash -c "cd '$room/trial' && mkdir .cargo && cargo vendor --offline >.cargo/config.toml &&
     CARGO_TARGET_DIR='$room/of_vendored' cargo build -vv --offline 2>&1 | grep 'links .*/trial/vendor/vahepito/lib/'"
-target=aarch64-unknown-linux-gnu
+target=riscv64gc-unknown-linux-gnu
 step 'Rust: another target is refused' bash -c "cd '$room/copy' && ! cargo check --offline --target $target 2>'$room/said' &&
-    grep -F 'is built for x86_64-unknown-linux-gnu alone, and the target is $target' '$room/said' && grep -F 'feature \`unproved\`' '$room/said'"
+    grep -F 'is built for x86_64-unknown-linux-gnu and aarch64-unknown-linux-gnu alone, and the target is $target' '$room/said' && grep -F 'feature \`unproved\`' '$room/said'"
 end_steps

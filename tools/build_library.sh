@@ -1,157 +1,259 @@
 #!/bin/bash
-# Proves and builds the static library from the sources, and compares it with the archives in bindings/rust/lib, byte for byte.
+# Proves and builds the static library from the sources, for each target, and compares it with the archives in bindings/rust/lib,
+# byte for byte.
 #
-# Usage: tools/build_library.sh [--over-gate] [--update]
+# Usage: tools/build_library.sh [--target TARGET] [--over-gate] [--update]
 #        tools/build_library.sh --sums
 #
-# `rt lib` proves and builds what is below crates/cc_capi, and `rattle build`, which `rt lib` calls, that itself. In its
-# archive, and in the toolchain's functions for memory (liblibc_c.a), the three symbols that don't begin with vahepito_ are
-# renamed; all else stays as it was built. That is libvahepito_strict.a. libvahepito.a is made of it by tools/stores.py, which
-# turns locked stores into plain ones; the same stores have to be found in the compiler's own module. PROOF has the sums of the
-# archives and of the sources, and the line by which the library was proved.
+# The targets are x86_64-unknown-linux-gnu and aarch64-unknown-linux-gnu; --target chooses one. The toolchain's compiler has
+# both, so that no program for aarch64 is needed.
+#
+# `rt lib` proves and builds what is below crates/cc_capi, and `rattle build`, which `rt lib` calls, that itself, for each target.
+# In its archive, and in the functions for memory, the three symbols that don't begin with vahepito_ are renamed; all else stays as
+# it was built. That is libvahepito_strict.a. Beside it module.ll.xz is what the toolchain's compiler read, as text: PROOF says
+# with which words the compiler was called, and tests/module.py calls another one.
+#
+# For x86-64 libvahepito.a is made of the strict archive by tools/stores.py, which turns locked stores into plain ones; the same
+# stores have to be found in the compiler's own module. The functions for memory are the toolchain's (liblibc_c.a).
+# For aarch64 there is no such archive, since the law of plain stores is one of x86. tools/arm_words.py shows there that each
+# access of a shared word is sequentially consistent. The functions for memory are those of bindings/c/heap.c.
 #
 # Without python3-capstone nothing can be turned: then --update fails, and else libvahepito.a has to be what was built but for
 # single bytes that make an exchange a move; a line says that nothing more was looked at.
 #
 # --over-gate takes the libraries below cc_capi as `rt ci` left them in this folder a moment ago: `rt lib` would prove them
-# once more. Both ways give the same bytes.
+# once more. For the second target it takes what it proved for the first, if the same functions are read. All ways give the same bytes.
 # --update writes what was built into bindings/rust/lib.
-# --sums builds nothing: it compares the sums in PROOF with the archives and the sources as they stand.
+# --sums builds nothing: it compares the sums in each PROOF with the archives and the sources as they are, and looks for paths of
+# a host in the archives.
 # Exit status 0 if bindings/rust/lib is what was built.
 set -u
 top=$(cd "$(dirname "$0")/.." && pwd) || exit 1
 name=library
 . "$top/tools/building.sh"
 cd "$top" || exit 1
-target=x86_64-unknown-linux-gnu
-kept=bindings/rust/lib/$target
-made=out/lib/$target
-build=rt_lib update=
+targets=(x86_64-unknown-linux-gnu aarch64-unknown-linux-gnu)
+over_gate= update= only_sums= scratch=
 mapfile -t crates < <(crates_of cc_capi)
 
-# The lines of PROOF with the sums of the archives in a folder, and of the sources.
+fail() { echo "library: FAILED: $*" >&2 && exit 1; }
+
+# The archives of a target.
+archives_of() {
+    case $1 in
+    x86_64-*) echo libvahepito.a libvahepito_strict.a libvahepito_heap.a ;;
+    *) echo libvahepito_strict.a libvahepito_heap.a ;;
+    esac
+}
+
+# The lines of PROOF with the sums of what a folder has for a target, and of the sources.
 sums() {
     local archive
-    for archive in libvahepito.a libvahepito_strict.a libvahepito_heap.a; do
-        echo "sha256 of $archive: $(sum_of "$1/$archive")"
+    for archive in $(archives_of "$1"); do
+        echo "sha256 of $archive: $(sum_of "$2/$archive")"
     done
+    echo "sha256 of module.ll: $(xz -dc "$2/module.ll.xz" | sum_of -)"
     echo "sha256 of the sources: $(sum_of_sources "${crates[@]}")"
 }
 
-for word; do
-    case $word in
+# Whether the archives of a folder, and the module, have no path of the machine that they were built on.
+names_no_host() {
+    ! { cat "$1"/*.a && xz -dc "$1/module.ll.xz"; } | grep -aoE "($top|/(home|root|tmp|work|opt|build|mnt|srv|usr|var)/)[[:print:]]*" ||
+        { echo "library: an archive of $1 has the path of a machine" >&2 && return 1; }
+}
+
+compare_sums() {
+    local target kept status=0
+    for target in "${targets[@]}"; do
+        kept=bindings/rust/lib/$target
+        names_no_host "$kept" && diff <(grep '^sha256 of ' "$kept/PROOF") <(sums "$target" "$kept") && continue
+        echo "library: $kept/PROOF isn't of these sources and archives: tools/build_library.sh --update builds them again" >&2
+        status=1
+    done
+    return "$status"
+}
+
+while [ $# != 0 ]; do
+    case $1 in
     -h | --help) sed -n '2,/^[^#]/s/^# \{0,1\}//p' tools/build_library.sh && exit ;;
-    --over-gate) build=over_gate ;;
+    --over-gate) over_gate=yes ;;
     --update) update=yes ;;
-    --sums)
-        diff <(grep '^sha256 of ' "$kept/PROOF") <(sums "$kept") && exit
-        echo "library: $kept/PROOF isn't of these sources and archives: tools/build_library.sh --update builds them anew" >&2
-        exit 1
+    --sums) only_sums=yes ;;
+    --target)
+        [[ " ${targets[*]} " == *" ${2-} "* ]] || { echo "library: the targets are ${targets[*]}" >&2 && exit 64; }
+        targets=("$2") && shift
         ;;
-    *) echo 'usage: tools/build_library.sh [--over-gate] [--update | --sums]' >&2 && exit 64 ;;
+    *) echo 'usage: tools/build_library.sh [--target TARGET] [--over-gate] [--update] | --sums' >&2 && exit 64 ;;
     esac
+    shift
 done
+if [ -n "$only_sums" ]; then compare_sums && exit || exit 1; fi
 if ! command -v rt >/dev/null; then
     echo 'library: the command rt is not on the path: it proves and builds the library, and nothing else does' >&2
     exit 1
 fi
 kit=$(dirname "$(dirname "$(realpath "$(command -v rt)")")")
+clang=$kit/toolchain/bin/clang
 
-# The toolchain, whose clang writes down the module too that it compiles: as text, as it is behind the optimizer.
-watched=$top/out/toolchain module=$top/out/lib/module.ll
-rm -rf "$watched" "$module"
-mkdir -p "$watched/bin" "$made" crates/cc_capi/out
-ln -s "$kit"/toolchain/lib "$watched/" && ln -s "$kit"/toolchain/bin/* "$watched/bin/" && rm "$watched/bin/clang" || exit 1
-cat >"$watched/bin/clang" <<END
+# A folder of the toolchain for a target, whose clang keeps what rattle gives it, and by which words. rattle takes the folder for
+# aarch64's by the name of this file, which nothing reads: a static library is linked with nothing.
+make_toolchain() {
+    watched=$top/out/toolchain/$1
+    rm -rf "$watched" && mkdir -p "$watched"/{bin,lib,kept} && ln -s "$kit"/toolchain/bin/* "$watched/bin/" && rm "$watched/bin/clang" || return 1
+    case $1 in
+    x86_64-*) ln -s "$kit"/toolchain/lib/* "$watched/lib/" ;;
+    *) : >"$watched/lib/ld-linux-aarch64.so.1" ;;
+    esac
+    cat >"$watched/bin/clang" <<END
 #!/bin/bash
-"$kit/toolchain/bin/clang" "\$@" && "$kit/toolchain/bin/clang" "\${@/#-c/-S}" -emit-llvm -o "$module"
+echo "\$*" >>"$watched/kept/words"
+for word; do [ ! -f "\$word" ] || cp "\$word" "$watched/kept/"; done
+exec "$clang" "\$@"
 END
-chmod +x "$watched/bin/clang"
-
-# `rt lib` doesn't let one choose the toolchain, and the libraries of `rt ci` lack the stamp that it asks for.
-rattle=("$kit/bin/rattle" build --crate-name cc_capi src/lib.rt --extern "std=$kit/rlibs/std.rlib" -L "dependency=$kit/rlibs")
-for crate in "${crates[@]}"; do
-    [ "$crate" = cc_capi ] && continue
-    rattle+=(-L "dependency=$top/crates/$crate/out/rlib")
-done
-for crate in $(sed -n 's/^cc_capi .*: //p' crates.txt); do
-    folder=$top/crates/$crate/out/rlib
-    [ -d "crates/$crate" ] || folder=$kit/rlibs
-    rattle+=(--extern "$crate=$folder/$crate.rlib")
-done
-rattle+=(--antt-project "$kit/rattle/logic/antt-project.json" --logic-built "$kit/logic_built" --jobs 1)
-rattle+=(--links cc_capi= --crate-type staticlib --backend llvm --toolchain "$watched" -o out/libcc_capi.a)
-
-rt_lib() { build_with_those_below cc_capi "${rattle[@]}" </dev/null; }
-
-over_gate() {
-    left=$(functions_of cc_capi) running=
-    scratch=$(mktemp -d) || return 1
-    trap clean_up EXIT
-    run_in cc_capi "${rattle[@]}" </dev/null || { tail -n 60 "$scratch/log" >&2 && return 1; }
+    chmod +x "$watched/bin/clang"
 }
 
-# Makes libvahepito.a of the strict archive, and checks it twice. Without Capstone it takes the one in the tree, if that differs
-# in nothing but the codes of exchanges.
-relax() {
-    local status
-    tools/stores.py relax "$made/libvahepito_strict.a" "$made/libvahepito.a" >"$made/stores"
-    status=$?
-    if [ "$status" = 69 ] && [ -z "$update" ]; then
-        echo "library: which stores may be plain: SKIPPED: python3-capstone is not on this machine"
-        grep '^stores: ' "$kept/PROOF" >"$made/stores"
-        ! cmp -l "$made/libvahepito_strict.a" "$kept/libvahepito.a" 2>&1 | grep -vE '^ *[0-9]+ 207 211$' && cp "$kept/libvahepito.a" "$made/"
+# Proves and builds cc_capi for a target, and before the first one what is below. `rt lib` doesn't let one choose the toolchain, and
+# the libraries of `rt ci` lack the stamp that it asks for.
+build() {
+    local rattle=("$kit/bin/rattle" build --crate-name cc_capi src/lib.rt --extern "std=$kit/rlibs/std.rlib" -L "dependency=$kit/rlibs") crate folder
+    for crate in "${crates[@]}"; do
+        [ "$crate" = cc_capi ] || rattle+=(-L "dependency=$top/crates/$crate/out/rlib")
+    done
+    for crate in $(sed -n 's/^cc_capi .*: //p' crates.txt); do
+        folder=$top/crates/$crate/out/rlib
+        [ -d "crates/$crate" ] || folder=$kit/rlibs
+        rattle+=(--extern "$crate=$folder/$crate.rlib")
+    done
+    rattle+=(--antt-project "$kit/rattle/logic/antt-project.json" --logic-built "$kit/logic_built" --jobs 1)
+    [ -z "$over_gate" ] || rattle+=(--incremental "$top/out/lib/incremental")
+    rattle+=(--links cc_capi= --crate-type staticlib --backend llvm --target "$1" --toolchain "$watched" -o out/libcc_capi.a)
+    if [ -z "$over_gate$scratch" ]; then
+        build_with_those_below cc_capi "${rattle[@]}" </dev/null
         return
     fi
-    [ "$status" = 0 ] && tools/stores.py check "$made/libvahepito_strict.a" "$made/libvahepito.a" &&
-        tools/stores.py compare "$made/libvahepito_strict.a" "$module"
+    left=$(functions_of cc_capi) running=
+    [ -n "$scratch" ] || { scratch=$(mktemp -d) && trap clean_up EXIT; } || return 1
+    run_in cc_capi "${rattle[@]}" </dev/null || { tail -n 60 "$scratch/log" >&2 && return 1; }
 }
 
 # The toolchain's three names for memory, as the library's own: of the same lengths, so that no other byte changes.
 renamed='s/rattle_alloc/vahepito_mem/g; s/rattle_realloc/vahepito_renew/g; s/rattle_dealloc/vahepito_freed/g'
 
-sources=$(sum_of_sources "${crates[@]}")
-"$build" || { echo "library: FAILED after $SECONDS s" >&2 && exit 1; }
-proof=$(grep -a '^logic=proved ' "$scratch/log" | tail -n 1)
-if [ -z "$proof" ] || [ "$(sum_of_sources "${crates[@]}")" != "$sources" ]; then
-    echo 'library: FAILED: no line logic=proved was seen, or the sources have changed meanwhile' >&2
-    exit 1
-fi
-LC_ALL=C sed "$renamed" crates/cc_capi/out/libcc_capi.a >"$made/libvahepito_strict.a"
-relax || { echo 'library: FAILED: the stores that are plain are not shown to be right' >&2 && exit 1; }
-# `realloc` shares bytes with a name there, so that one is renamed by its table. Large blocks begin where a line of the cache does.
-objcopy -D --redefine-sym rattle_alloc=vahepito_mem --redefine-sym rattle_realloc=vahepito_renew \
-    --redefine-sym rattle_dealloc=vahepito_freed --redefine-sym malloc=vahepito_block "$kit/c/liblibc_c.a" "$made/libvahepito_heap.a" &&
-    "$kit/toolchain/bin/clang" --target=$target -std=c11 -O2 -fPIC -g0 -c bindings/c/blocks.c -o "$made/blocks.o" &&
-    "$kit/toolchain/bin/llvm-ar" rcsD "$made/libvahepito_heap.a" "$made/blocks.o" && rm "$made/blocks.o" || exit 1
-if nm -g --format=just-symbols "$made"/*.a | grep -vxE 'vahepito_.*|.*\.o:|mem(cpy|move|set)|malloc|posix_memalign|realloc|free|'; then
-    echo 'library: FAILED: these symbols are neither of the library nor what it needs of the C library' >&2
-    exit 1
-fi
-cat >"$made/PROOF" <<END
+# The module as the compiler read it, as text, and `words`: those that say how it compiles it, without the names of files. For aarch64
+# rattle calls it twice, and looks at the module in between; one call has to give the same.
+keep_module() {
+    words=$(head -n 1 "$watched/kept/words")
+    words=$(sed -E 's/--sysroot=\S+ //; s/ -x ir module\.bc//; s/ -o \S+//; s/ -c( |$)/ /; s/ -S -emit-llvm.*//; s/  */ /g; s/^ | $//g' <<<"$words")
+    (cd "$watched/kept" && "$clang" --target="$1" -Werror -S -emit-llvm -Xclang -disable-llvm-passes -x ir module.bc -o "$top/$made/module.ll") &&
+        "$clang" $words -S -emit-llvm -x ir "$made/module.ll" -o "$made/optimized.ll" &&
+        "$clang" $words -c -x ir "$made/module.ll" -o "$made/again.o" &&
+        LC_ALL=C sed -i "$renamed" "$made/again.o" && "$kit/toolchain/bin/llvm-ar" p "$made/libvahepito_strict.a" | cmp - "$made/again.o" &&
+        xz -9e -T1 -c "$made/module.ll" >"$made/module.ll.xz" && rm "$made/module.ll" "$made/again.o"
+}
+
+# Makes libvahepito.a of the strict archive, and checks it twice. Without Capstone it takes the one in the tree, if that differs
+# in nothing but the codes of exchanges. Its last line is for PROOF.
+relax() {
+    local status
+    tools/stores.py relax "$made/libvahepito_strict.a" "$made/libvahepito.a" >"$made/looked"
+    status=$?
+    if [ "$status" = 69 ] && [ -z "$update" ]; then
+        echo "library: which stores may be plain: SKIPPED: python3-capstone is not on this machine"
+        grep '^stores: ' "$kept/PROOF" >"$made/looked"
+        ! cmp -l "$made/libvahepito_strict.a" "$kept/libvahepito.a" 2>&1 | grep -vE '^ *[0-9]+ 207 211$' && cp "$kept/libvahepito.a" "$made/"
+        return
+    fi
+    [ "$status" = 0 ] && tools/stores.py check "$made/libvahepito_strict.a" "$made/libvahepito.a" &&
+        tools/stores.py compare "$made/libvahepito_strict.a" "$made/optimized.ll"
+}
+
+# Shows that the words are accessed in one order. Its line is for PROOF.
+look_at_words() {
+    local status
+    tools/arm_words.py "$made/libvahepito_strict.a" "$made/optimized.ll" >"$made/looked"
+    status=$?
+    [ "$status" != 0 ] && cat "$made/looked"
+    [ "$status" != 69 ] || [ -n "$update" ] && return "$status"
+    echo "library: the accesses of shared words on aarch64: SKIPPED: python3-capstone is not on this machine"
+    grep '^words: ' "$kept/PROOF" >"$made/looked"
+}
+
+# The functions for memory. `realloc` shares bytes with a name in the toolchain's, so that one is renamed by its table. Large blocks
+# begin where a line of the cache does.
+make_heap() {
+    local compile=("$clang" --target="$1" -std=c11 -O2 -fPIC -g0 -c) objects=(blocks)
+    case $1 in
+    x86_64-*)
+        objcopy -D --redefine-sym rattle_alloc=vahepito_mem --redefine-sym rattle_realloc=vahepito_renew \
+            --redefine-sym rattle_dealloc=vahepito_freed --redefine-sym malloc=vahepito_block "$kit/c/liblibc_c.a" "$made/libvahepito_heap.a" || return 1
+        ;;
+    *) objects+=(heap) ;;
+    esac
+    for object in "${objects[@]}"; do
+        "${compile[@]}" "bindings/c/$object.c" -o "$made/$object.o" &&
+            "$kit/toolchain/bin/llvm-ar" rcsD "$made/libvahepito_heap.a" "$made/$object.o" && rm "$made/$object.o" || return 1
+    done
+}
+
+# What PROOF says below its sums.
+closing_of() {
+    case $1 in
+    x86_64-*) echo 'libvahepito_strict.a is what was proved and built. libvahepito.a is the same, but some of its stores are plain moves in place of
+locked exchanges: tools/stores.py says which may be, and the laws of crates/cc_x86 that they can'\''t be told apart on x86-TSO.
+The proofs end at the exports of these two. The crate, the headers and libvahepito_heap.a are not proved.' ;;
+    *) echo 'libvahepito_strict.a is what was proved and built: the same source and contracts as for x86-64. docs/TRUST.md says what is trusted
+on this machine. The proofs end at the exports. The crate, the headers and libvahepito_heap.a are not proved.' ;;
+    esac
+}
+
+# Proves and builds the library for a target, and compares it, or writes it.
+make_for() {
+    local target=$1 start=$SECONDS proof watched words archive
+    local kept=bindings/rust/lib/$target made=out/lib/$target
+    rm -rf "$made" && mkdir -p "$made" crates/cc_capi/out && make_toolchain "$target" || exit 1
+    build "$target" || fail "$target, after $SECONDS s"
+    proof=$(grep -a '^logic=proved ' "$scratch/log" | tail -n 1)
+    [[ $proof == *" target=$target "* ]] && [ "$(sum_of_sources "${crates[@]}")" = "$sources" ] ||
+        fail "no line logic=proved was seen for $target, or the sources have changed meanwhile"
+    LC_ALL=C sed "$renamed" crates/cc_capi/out/libcc_capi.a >"$made/libvahepito_strict.a"
+    keep_module "$target" || fail 'the module that was kept as text is not what was compiled'
+    case $target in
+    x86_64-*) relax || fail 'the stores that are plain are not shown to be right' ;;
+    *) look_at_words || fail 'the accesses of shared words are not shown to be right' ;;
+    esac
+    make_heap "$target" || exit 1
+    if nm -g --format=just-symbols "$made"/*.a | grep -vxE 'vahepito_.*|.*\.o:|mem(cpy|move|set)|malloc|posix_memalign|realloc|free|'; then
+        fail 'these symbols are neither of the library nor what it needs of the C library'
+    fi
+    names_no_host "$made" || exit 1
+    cat >"$made/PROOF" <<END
 Vahepito $(sed -n 's/^version = "\(.*\)"$/\1/p' bindings/rust/Cargo.toml) for $target: the library, and its functions for memory.
 docs/TRUST.md in the repository says what each word of the proof's line means, and how to compare a second build.
 
-$(sums "$made")
+$(sums "$target" "$made")
 crates: ${crates[*]}
 toolchain: $(rt version)
 proof: $proof
-$(tail -n 1 "$made/stores")
+compiler: $("$clang" --version | head -n 1), $words
+$(tail -n 1 "$made/looked")
 
-libvahepito_strict.a is what was proved and built. libvahepito.a is the same, but some of its stores are plain moves in place of
-locked exchanges: tools/stores.py says which may be, and the laws of crates/cc_x86 that they can't be told apart on x86-TSO.
-The proofs end at the exports of these two. The crate, the headers and libvahepito_heap.a are not proved.
+$(closing_of "$target")
 END
-rm "$made/stores"
-if [ -n "$update" ]; then
-    mkdir -p "$kept"
-    cp "$made"/* "$kept/"
-    echo "library: $kept is what was built, in $SECONDS s"
-elif cmp "$kept/libvahepito_strict.a" "$made/libvahepito_strict.a" && cmp "$kept/libvahepito.a" "$made/libvahepito.a" &&
-    cmp "$kept/libvahepito_heap.a" "$made/libvahepito_heap.a" &&
-    diff <(grep -vE '^(proof|toolchain): ' "$kept/PROOF") <(grep -vE '^(proof|toolchain): ' "$made/PROOF"); then
-    echo "library: proved and built in $SECONDS s, and $kept is the same, byte for byte"
-else
-    echo "library: $kept isn't what was built of these sources: tools/build_library.sh --update writes it" >&2
+    rm "$made"/{looked,optimized.ll}
+    if [ -n "$update" ]; then
+        mkdir -p "$kept" && cp "$made"/* "$kept/" && echo "library: $kept is what was built, in $((SECONDS - start)) s"
+        return
+    fi
+    for archive in $(archives_of "$target"); do cmp "$kept/$archive" "$made/$archive" || return 1; done
+    diff <(grep -vE '^(proof|toolchain): ' "$kept/PROOF") <(grep -vE '^(proof|toolchain): ' "$made/PROOF") &&
+        echo "library: proved and built in $((SECONDS - start)) s, and $kept is the same, byte for byte"
+}
+
+sources=$(sum_of_sources "${crates[@]}")
+rm -rf out/lib/incremental && mkdir -p out/lib/incremental || exit 1
+for target in "${targets[@]}"; do
+    make_for "$target" && continue
+    echo "library: bindings/rust/lib/$target isn't what was built of these sources: tools/build_library.sh --update writes it" >&2
     exit 1
-fi
+done

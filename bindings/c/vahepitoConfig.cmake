@@ -1,9 +1,9 @@
 # Gives the target vahepito::vahepito: headers and archives of the folder in which this file lies, wherever that is. The target
 # vahepito::strict has the library with no plain store in its place, as it was proved and built, and vahepito::shared the shared
 # library.
-if(NOT CMAKE_SYSTEM_NAME STREQUAL "Linux" OR NOT CMAKE_SYSTEM_PROCESSOR MATCHES "^(x86_64|AMD64)$" OR NOT CMAKE_SIZEOF_VOID_P EQUAL 8)
+if(NOT CMAKE_SYSTEM_NAME STREQUAL "Linux" OR NOT CMAKE_SYSTEM_PROCESSOR MATCHES "^(@PROCESSORS@)$" OR NOT CMAKE_SIZEOF_VOID_P EQUAL 8)
   set(vahepito_FOUND FALSE)
-  set(vahepito_NOT_FOUND_MESSAGE "its archives are for Linux on x86_64 with 64 bits")
+  set(vahepito_NOT_FOUND_MESSAGE "its archives are for Linux on the processor @PROCESSORS@ with 64 bits")
   return()
 endif()
 

@@ -2,14 +2,22 @@
 //! `realloc` and `free`).
 //!
 //! The archives lie in `lib/TARGET/`, with `PROOF`, which has their sums and the line by which they were proved.
-//! With the feature `strict` the library is the one with no plain store, as it was proved and built. `VAHEPITO_LIB` names another library, and `VAHEPITO_HEAP` other functions for memory. A line of
+//! With the feature `strict` the library is the one with no plain store, as it was proved and built; for aarch64 that is the only one.
+//! `VAHEPITO_LIB` names another library, and `VAHEPITO_HEAP` other functions for memory. A line of
 //! `cargo build -vv` says which archives are linked. With the feature `unproved` none is.
 use std::env;
 use std::path::{Path, PathBuf};
 use std::process::exit;
 
-/// The target that the archives are built for.
-const SUPPORTED: &str = "x86_64-unknown-linux-gnu";
+/// The targets that the archives are built for.
+const SUPPORTED: [&str; 2] = ["x86_64-unknown-linux-gnu", "aarch64-unknown-linux-gnu"];
+
+/// The target for which the library also has plain stores: the law that they can't be seen is one of x86.
+const WITH_PLAIN_STORES: &str = "x86_64-unknown-linux-gnu";
+
+fn target() -> String {
+    env::var("TARGET").expect("cargo sets it")
+}
 
 fn stop(lines: &[&str]) -> ! {
     for line in lines {
@@ -36,18 +44,19 @@ fn named(variable: &str) -> Option<PathBuf> {
 
 /// The archive of this name.
 fn archive(name: &str) -> PathBuf {
-    let target = env::var("TARGET").expect("cargo sets it");
-    if target != SUPPORTED {
+    let target = target();
+    if !SUPPORTED.contains(&target.as_str()) {
         stop(&[
             &format!(
-                "the proved queue of vahepito is built for {SUPPORTED} alone, and the target is {target}"
+                "the proved queue of vahepito is built for {} alone, and the target is {target}",
+                SUPPORTED.join(" and ")
             ),
             "on any other target use the feature `unproved`: a lock stands in the place of the proved queue, and nothing is proved",
             "or name archives that were built for this target by VAHEPITO_LIB and VAHEPITO_HEAP",
         ]);
     }
     let root = PathBuf::from(env::var_os("CARGO_MANIFEST_DIR").expect("cargo sets it"));
-    let path = root.join("lib").join(SUPPORTED).join(name);
+    let path = root.join("lib").join(target).join(name);
     if !path.is_file() {
         stop(&[&format!(
             "{} is missing in the crate's folder",
@@ -101,7 +110,7 @@ fn main() {
     let library = named("VAHEPITO_LIB").unwrap_or_else(|| {
         check_processor();
         let is_strict = env::var_os("CARGO_FEATURE_STRICT").is_some();
-        archive(if is_strict {
+        archive(if is_strict || target() != WITH_PLAIN_STORES {
             "libvahepito_strict.a"
         } else {
             "libvahepito.a"
