@@ -39,6 +39,8 @@ INDEX = TOP / "docs/pages/index.html"
 PROGRAM = pathlib.Path(os.environ.get("CCQ", TOP / "crates/ccq/out/ccq"))
 PLANS = sorted(path for path in (TOP / "examples").glob("*.json") if not path.name.startswith("receipts"))
 LAPTOP, PHONE = {"width": 1366, "height": 768}, {"width": 390, "height": 844}
+# Projectors, and a laptop's window under the browser's bars.
+SCREENS = [{"width": 1024, "height": 768}, {"width": 1920, "height": 1080}, {"width": 1366, "height": 640}]
 # A small phone, and a laptop at 200 %.
 SMALL, ZOOMED = {"width": 320, "height": 640}, {"width": 683, "height": 384}
 STEPS = 100
@@ -245,7 +247,8 @@ def lectures():
     index = {"src": "/pages/", **LAPTOP}
     wrong = 0
     for still in (True, False):
-        jobs = [{"test": "motion", "still": still, **index}] + [{"test": "lecture", **index}, {"test": "path", "steps": steps, **index}, {"test": "served", **index}] * still
+        jobs = [{"test": "motion", "still": still, **index}] + [{"test": "lecture", **index}, *({"test": "fits", **index, **size} for size in SCREENS),
+                {"test": "path", "steps": steps, **index}, {"test": "served", **index}] * still
         for job, answer in zip(jobs, in_browser(jobs, still=still)):
             wrong += failed(job["test"], answer)
     return not wrong

@@ -396,6 +396,24 @@ const tests = {
     return true;
   },
 
+  // On a projector of this size each screen of each lecture is whole: nothing scrolls.
+  fits({ $, page, view, job }) {
+    const root = page.documentElement, size = element => parseFloat(view.getComputedStyle(element).fontSize);
+    page.querySelector('#choose a[data-id=lone]').click();
+    key(page.body, 'l');
+    for (let count = 1; ; count++) {
+      const when = ' at ' + $('lecture-count').textContent + ' of ' + $('lecture-lesson').value;
+      assert(root.scrollHeight <= root.clientHeight && root.scrollWidth <= root.clientWidth, 'the screen has to be scrolled, ' + root.scrollHeight + ' of ' + root.clientHeight + when);
+      for (const strip of $('lecture-sides').querySelectorAll('.strip')) {
+        assert(strip.scrollWidth <= strip.clientWidth + 1, 'a row of nodes is wider than its room' + when);
+        assert(size(strip.firstChild) >= Math.max(12.5, job.width / 150), 'the nodes have letters of ' + size(strip.firstChild) + when);
+      }
+      assert(size($('lecture-text')) >= Math.max(20, job.width / 60), 'the sentence has letters of ' + size($('lecture-text')) + when);
+      if ($('lecture-next').disabled) { assert(count > 110, count + ' screens were seen'); return true; }
+      key(page.body, 'PageDown');
+    }
+  },
+
   // Each exercise: its hint, a solution by keys, the shortest one by its button, and its state in the address.
   async exercises({ $, page, view, wait }) {
     const exercises = JSON.parse($('exercises').textContent), rowOf = name => [...$('caller').options].findIndex(option => option.text === name);

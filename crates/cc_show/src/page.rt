@@ -189,16 +189,16 @@ body.bare header, body.bare #intro, body.bare #choose, body.bare footer { displa
 /* The lecture: one moment a screen. */
 body.lecture > header, body.lecture > main, body.lecture > footer, body.lecture > .skip { display: none; }
 #lecture { min-height: 100vh; display: grid; grid-template-columns: minmax(0, 1fr); grid-template-rows: auto auto 1fr auto auto; gap: 8px; padding: 14px 26px;
-  max-width: 1680px; margin: 0 auto; }
-#lecture h2 { font-size: clamp(20px, 2.3vw, 34px); line-height: 1.2; margin: 0; } #lecture .top { align-items: baseline; }
-#lecture-count { font-size: clamp(14px, 1.3vw, 20px); color: var(--dim); white-space: nowrap; }
-#lecture-text { font-size: clamp(18px, 2vw, 30px); line-height: 1.35; margin: 0; min-height: 1.35em; }
+  max-width: 2800px; margin: 0 auto; }
+#lecture h2 { font-size: clamp(20px, 2.3vw, 60px); line-height: 1.2; margin: 0; } #lecture .top { align-items: baseline; }
+#lecture-count { font-size: clamp(14px, 1.3vw, 34px); color: var(--dim); white-space: nowrap; }
+#lecture-text { font-size: clamp(18px, 2vw, 52px); line-height: 1.35; margin: 0; min-height: 1.35em; }
 #lecture-sides { display: grid; grid-template-columns: minmax(0, 1fr); gap: 10px 26px; align-items: center; }
-#lecture h3 { font-size: clamp(15px, 1.35vw, 20px); margin: 0 0 2px; font-weight: 400; } #lecture .side > h2 { font-size: clamp(17px, 1.6vw, 24px); }
+#lecture h3 { font-size: clamp(15px, 1.35vw, 36px); margin: 0 0 2px; font-weight: 400; } #lecture .side > h2 { font-size: clamp(17px, 1.6vw, 42px); }
 #lecture .part-chain .boxes { font-size: var(--of-chain, 20px); } #lecture .part-list .boxes { font-size: var(--of-list, 20px); }
-#lecture.pair h3 { font-size: clamp(14px, 1.1vw, 18px); } #lecture.pair #lecture-sides { align-items: start; } #lecture.pair .part { margin-bottom: 4px; }
+#lecture.pair h3 { font-size: clamp(14px, 1.1vw, 28px); } #lecture.pair #lecture-sides { align-items: start; } #lecture.pair .part { margin-bottom: 4px; }
 #lecture .part { margin-bottom: 10px; }
-#lecture-line { margin: 0; min-height: 3.4em; font-size: clamp(16px, 1.75vw, 26px); display: grid;
+#lecture-line { margin: 0; min-height: 3.4em; font-size: clamp(16px, 1.75vw, 46px); display: grid;
   grid-template-columns: repeat(auto-fit, minmax(min(100%, 420px), 1fr)); gap: 4px 26px; align-items: center; }
 #lecture-line p { margin: 0; background: var(--touch); border-left: 6px solid var(--touch-line); border-radius: 4px; padding: 4px 14px; }
 #lecture-line span { color: var(--dim); font-size: .75em; margin-right: 1em; } #lecture-line p span { color: var(--ink); }
@@ -206,7 +206,8 @@ body.lecture > header, body.lecture > main, body.lecture > footer, body.lecture 
 #lecture nav { gap: 8px; align-items: center; } #lecture nav button, #lecture nav select { min-height: 40px; font-size: 16px; } #lecture nav .gap { flex: 1; }
 body.lecture #tip { font-size: clamp(15px, 1.5vw, 22px); max-width: min(560px, 94vw); }
 body.blank #lecture > *, body.blank #tip { visibility: hidden; } body.blank { background: #000; }
-@media (max-width: 1180px) { .intro { grid-template-columns: minmax(0, 1fr); } .choose { grid-template-columns: 1fr 1fr; } }
+@media (max-height: 700px) { #lecture { padding: 6px 26px; gap: 4px; } #lecture-line { min-height: 2em; } }
+@media (max-width: 1180px) { #lecture.pair .boxes:not(.many) { flex-wrap: wrap; width: auto; } .intro { grid-template-columns: minmax(0, 1fr); } .choose { grid-template-columns: 1fr 1fr; } }
 @media (max-width: 900px) { .boxes:not(.many) { flex-wrap: wrap; width: auto; } .choose { grid-template-columns: minmax(0, 1fr); }
   #tour, #examples { columns: auto 220px; } .choose li { margin: 2px 0; } }
 @media (max-width: 640px) {
@@ -2816,9 +2817,10 @@ function drawLecture() {
 const stripOfLecture = told => chainText(told, false).replace(/^<p class=\"head\">.*?<\\/p>/, '');
 
 // Draws the chain and the list as large as they fit on the screen: first in width, and then in height, the list before the chain.
-const LETTERS = [26, 23, 21, 19, 18, 17, 16, 15, 14, 13, 12.5];
+const LETTERS = [64, 54, 46, 39, 33, 29, 26, 23, 21, 19, 18, 17, 16, 15, 14, 13, 12.5];
 function fitLecture() {
-  const sides = $('lecture-sides'), root = document.documentElement, at = { chain: 0, list: 0 };
+  const largest = LETTERS.findIndex(size => size <= Math.max(26, window.innerWidth / 58));
+  const sides = $('lecture-sides'), root = document.documentElement, at = { chain: largest, list: largest };
   const put = part => sides.style.setProperty('--of-' + part, LETTERS[at[part]] + 'px');
   const isWide = part => [...sides.querySelectorAll('.part-' + part + ' .strip')].some(strip => strip.scrollWidth > strip.clientWidth);
   const isHigh = () => root.scrollHeight > root.clientHeight;
