@@ -134,6 +134,7 @@ def padded(calls, skew, late):
         taken = [list(item) for item in {tuple(call["take"]) for call in calls if call.get("take")}]
         wide += [{"begin": 0, "send": item} for item in taken if item not in sent]
         wide += [{"begin": 0, "take": None} for item in sent if item not in taken]
+        wide += [{"begin": 0, "close": True}] * any("close" in call for call in calls)
     return wide
 
 
@@ -244,6 +245,8 @@ def judged(number):
     options = ["--capacity", str(capacity)] * bool(capacity) + ["--skew", str(skew)] * bool(skew)
     run = subprocess.run([PROGRAM, "judge", *options], input=text, capture_output=True, text=True, check=False)
     wide, ties = padded(calls, skew, late), ties_of(calls, skew)
+    # Of a log that begins late the queue may hold items that the log lacks.
+    capacity = None if late else capacity
     closes = any("close" in call for call in calls)
     answers = [call["answer"] for call in calls if "send" in call and "answer" in call]
     full = 0 if capacity else answers.count("full")

@@ -1,6 +1,7 @@
 -- The status of a judged log, by whether its answer was written.
 use Rattle.std.proofs.Common.{◌≡◌, ◌⊎◌, ℕ, List, Option, Result, Ok, Err, inl, inr, refl, sym, subst}
 use Rattle.cc_judge.specs.declared.decide.Verdict.{Verdict}
+use Rattle.cc_judge.specs.Late.{judged_capacity}
 use Rattle.cc_judge.specs.Verdict.{IsVerdict}
 use Rattle.cc_cli.specs.Judged.{IsDue, IsJudged, IsRefused, Judges, told_status, verdict_status}
 use Rattle.cc_cli.specs.Names.{AnswerFault, Call, Log, LogFault, Options, Rules}
@@ -15,7 +16,7 @@ told rules calls verdict right (Err AnswerFault.Memory) = inl refl
 told rules calls verdict right (Err AnswerFault.Write) = inr (verdict, right, inr refl)
 
 -- a log that was read and judged
-pub judged_due : (options : Options) (left : Option (List ℕ)) (log : Log) (status : ℕ) → log.rules.capacity ≡ options.capacity
+pub judged_due : (options : Options) (left : Option (List ℕ)) (log : Log) (status : ℕ) → log.rules.capacity ≡ judged_capacity log.late options.capacity
     → (input : List ℕ) × HasInput left input × Gives log_view (Ok log) (log_of options.skew input) → IsJudged log.rules log.calls.items status → Judges options left status
 judged_due options left log status capacity read (inl memory) = inl memory
 judged_due options left log status capacity read (inr (verdict, right, inr failed)) = inr (inl failed)

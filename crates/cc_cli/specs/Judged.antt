@@ -1,5 +1,6 @@
 -- The exit status of a judged log.
 use Rattle.std.specs.Prelude.{ℕ, ◌≡◌, ◌⊎◌, List, Option, Result, Ok, Err}
+use Rattle.cc_judge.specs.Late.{judged_capacity}
 use Rattle.cc_judge.specs.Verdict.{IsVerdict}
 use Rattle.cc_judge.specs.declared.decide.Verdict.{Verdict}
 use Rattle.cc_log.specs.Lines.{HasInput}
@@ -33,7 +34,7 @@ IsRefused _ status = (status ≡ 2) ⊎ (status ≡ 3)
 
 -- the rules are those of the log, by these options
 pub record HasRules (options : Options) (log : Spelled) (rules : Rules) : Type 0 where
-  pub capacity : rules.capacity ≡ options.capacity
+  pub capacity : rules.capacity ≡ judged_capacity log.late options.capacity
   pub closes : rules.closes ≡ log.closes
   pub ties : rules.ties.items ≡ log.ties
 

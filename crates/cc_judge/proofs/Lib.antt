@@ -18,3 +18,5 @@ pub mod Views
 pub mod Weaker
 pub mod Shares
 pub mod Clips
+pub mod Marks
+pub mod Late

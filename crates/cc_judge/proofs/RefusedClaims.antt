@@ -57,10 +57,12 @@ claims_refused = record {
   accepted_though_untaken = λ h. untaken h.0 h.1;
   as_many_takes_as_items = λ f. one_of_two f.may f.fewer (is_in f 0 refl) (is_in f 1 refl);
   clean_without_an_order = λ rules o. absurd (cc (o.legal.1));
+  close_before_a_late_log_forgotten = λ is. absurd (cc (is));
   closed_early_beside_a_close = λ rules c. late closed 1 0 (call 2 3 Act.Closed) (call 0 1 Act.Close) 3 refl refl refl (omega arith) (c.later 0 record { call = call 0 1 Act.Close; call_is = refl; act_is = refl });
   covered_in_part = λ rules before. late beside 0 1 (call 0 5 (Act.Send 0)) (call 1 6 (Act.Send 1)) 5 refl refl refl (omega arith) before;
   ended_while_open = λ e. absurd (cc (e));
   full_before_a_send_began = not_out;
+  late_log_judged_by_a_capacity = λ is. absurd (cc (is));
   lines_turned_round = λ kept. absurd (omega (arith, kept 0 1 refl refl));
   never_sent_of_a_sent_item = λ is. absurd (cc (is));
   none_beside_an_item = λ d. absurd (cc (d.0));

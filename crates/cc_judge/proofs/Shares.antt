@@ -11,7 +11,8 @@ use Rattle.cc_judge.proofs.Turns.{nat_cases}
 use Rattle.cc_judge.specs.Complete.{Once, IsLeft, IsWaiting, Enough, Ready}
 use Rattle.cc_judge.proofs.Views.{Faultless, faultless_has_order, taker, one_call, one_act, none_took}
 use Rattle.cc_judge.proofs.Complete.{Quiet}
-use Rattle.cc_judge.proofs.Weaker.{Weaker, weaken}
+use Rattle.cc_judge.specs.Late.{Weaker}
+use Rattle.cc_judge.proofs.Weaker.{weaken}
 
 -- ---- the log in which a take has an item
 

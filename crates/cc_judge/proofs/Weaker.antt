@@ -1,13 +1,12 @@
 -- An order of a log is one of a log that says less of its calls.
-use Rattle.std.proofs.Common.{◌≡◌, ℕ, zero, suc, ◌<◌, ◌≤◌, List, [], ◌∷◌, ◌++◌, Option, Some, None, IsSome, refl, sym, ap, ◌∙◌, subst, arith}
+use Rattle.std.proofs.Common.{◌≡◌, ℕ, zero, suc, ◌+◌, ◌<◌, ◌≤◌, inl, inr, List, [], ◌∷◌, ◌++◌, length, Option, Some, None, IsSome, refl, sym, ap, ◌∙◌, subst, arith}
 use Rattle.std.specs.List.{slice_get}
 use Rattle.cc_judge.specs.Names.{Act, Call, Step, Rules}
 use Rattle.cc_judge.specs.Order.{MayHaveDone, IsOrder, IsLinearizable}
-
--- the second log says no more of each call than the first: it began no later, ended no earlier or hasn't, and may have done as much
-pub record Weaker (calls loose : List Call) : Type 0 where
-  pub there : (p : ℕ) (c : Call) → slice_get calls p ≡ Some c → (d : Call) × (slice_get loose p ≡ Some d) × ((act : Act) → MayHaveDone c.act act → MayHaveDone d.act act)
-  pub back : (p : ℕ) (d : Call) → slice_get loose p ≡ Some d → (c : Call) × (slice_get calls p ≡ Some c) × (d.begin ≤ c.begin) × ((e : ℕ) → d.end ≡ Some e → (f : ℕ) × (c.end ≡ Some f) × (f ≤ e))
+use Rattle.cc_judge.specs.Faults.{Did, Differ}
+use Rattle.cc_judge.specs.Late.{LateLogsHaveNoFault, Weaker, WindowsAreLinearizable}
+use Rattle.cc_judge.proofs.Late.{late_logs_are_linearizable}
+use Rattle.cc_judge.proofs.Marks.{get_behind, get_front, get_split}
 
 some_of : (o : Option ℕ) → IsSome o → (e : ℕ) × (o ≡ Some e)
 some_of None some = cc
@@ -97,3 +96,64 @@ forgotten_weaker (x ∷ calls) past = record { there = there (forgotten_weaker c
 -- a late log of a queue whose whole log has an order has one
 pub late_is_fair : (rules : Rules) (calls past : List Call) → IsLinearizable rules (calls ++ past) → IsLateLinearizable rules calls
 late_is_fair rules calls past o = (forgotten past, forgotten_past past, (o.0, weaken rules (calls ++ past) (calls ++ forgotten past) o.0 (forgotten_weaker calls past) o.1))
+
+-- ---- windows
+
+-- who sends in a log of which less is known sends in the log too
+sends_too : (said : Act) (x : ℕ) → ((act : Act) → MayHaveDone said act → Act.Send x ≡ act) → said ≡ Act.Send x
+sends_too (Act.Send v) x may = sym (may (Act.Send v) refl)
+sends_too (Act.Took v) x may = sym (may (Act.Took v) refl)
+sends_too Act.FoundNone x may = sym (may Act.FoundNone refl)
+sends_too Act.Taking x may = let e : Act.Send x ≡ Act.FoundNone = may Act.FoundNone tt in cc
+sends_too Act.Full x may = sym (may Act.Full refl)
+sends_too Act.Closed x may = sym (may Act.Closed refl)
+sends_too Act.Ended x may = sym (may Act.Ended refl)
+sends_too Act.Close x may = sym (may Act.Close refl)
+
+did_too : (calls loose : List Call) → Weaker calls loose → (p x : ℕ) → Did loose p (Act.Send x) → Did calls p (Act.Send x)
+did_too calls loose w p x d =
+    let r = w.back p d.call d.call_is in
+    let s = w.there p r.0 r.1 in
+    let both : Some s.0 ≡ Some d.call = sym s.1 ∙ d.call_is in
+    let one : s.0 ≡ d.call = cc in
+    let send : s.0.act ≡ Act.Send x = ap (λ (y : Call). y.act) one ∙ d.act_is in
+    record { call = r.0; call_is = r.1; act_is = sends_too r.0.act x (λ act may. subst (λ (a : Act). MayHaveDone a act) send (s.2 act may)) }
+
+-- what a log lacks is the same behind one of which less is known
+record Alike (calls loose : List Call) : Type 0 where
+  same : length calls ≡ length loose
+
+with_lacked : (calls loose lacked : List Call) → Weaker calls loose → Alike calls loose → Weaker (calls ++ lacked) (loose ++ lacked)
+with_lacked calls loose lacked w alike = record {
+  there = λ p c is. elim (get_split calls lacked p c is) [
+    | inl mine ↦ let r = w.there p c mine in (r.0, get_front loose lacked p r.0 r.1, r.2)
+    | inr behind ↦ (c, ap (slice_get (loose ++ lacked)) (behind.1 ∙ ap (λ (n : ℕ). n + behind.0) alike.same) ∙ get_behind loose lacked behind.0 ∙ behind.2, λ act may. may)
+  ];
+  back = λ p d is. elim (get_split loose lacked p d is) [
+    | inl mine ↦ let r = w.back p d mine in (r.0, get_front calls lacked p r.0 r.1, r.2, r.3)
+    | inr behind ↦ (d, ap (slice_get (calls ++ lacked)) (behind.1 ∙ ap (λ (n : ℕ). n + behind.0) (sym alike.same)) ∙ get_behind calls lacked behind.0 ∙ behind.2, omega arith, λ e ends. (e, ends, omega arith))
+  ];
+}
+
+-- two lists that have something at the same places are of one length
+no_longer : (xs ys : List Call) → ((p : ℕ) (x : Call) → slice_get xs p ≡ Some x → (y : Call) × (slice_get ys p ≡ Some y)) → length xs ≤ length ys
+no_longer [] ys has = omega arith
+no_longer (x ∷ xs) [] has = let r = has 0 x refl in let e : None ≡ Some r.0 = r.1 in cc
+no_longer (x ∷ xs) (y ∷ ys) has = let h = no_longer xs ys (λ p z is. has (suc p) z is) in omega (arith, h)
+
+alike : (calls loose : List Call) → Weaker calls loose → Alike calls loose
+alike calls loose w =
+    let a = no_longer calls loose (λ p c is. let r = w.there p c is in (r.0, r.1)) in
+    let b = no_longer loose calls (λ p d is. let r = w.back p d is in (r.0, r.1)) in
+    record { same = omega (arith, a, b) }
+
+differ_too : (calls loose lacked : List Call) → Weaker (calls ++ lacked) (loose ++ lacked) → Differ (calls ++ lacked) → Differ (loose ++ lacked)
+differ_too calls loose lacked w differ item i j one other = differ item i j (did_too (calls ++ lacked) (loose ++ lacked) w i item one) (did_too (calls ++ lacked) (loose ++ lacked) w j item other)
+
+pub windows_are_linearizable : WindowsAreLinearizable
+windows_are_linearizable whole part calls loose lacked items w sound rules differ is =
+    let more = with_lacked calls loose lacked w (alike calls loose w) in
+    late_logs_are_linearizable whole part loose lacked items sound rules (differ_too calls loose lacked more differ) (is.0, weaken whole (calls ++ lacked) (loose ++ lacked) is.0 more is.1)
+
+pub late_logs_have_no_fault : LateLogsHaveNoFault
+late_logs_have_no_fault whole part calls loose lacked items w sound rules differ is fault verdict = verdict.1 (windows_are_linearizable whole part calls loose lacked items w sound rules differ is)

@@ -6,3 +6,4 @@ pub mod Table
 pub mod Complete
 pub mod Verdict
 pub mod Refused
+pub mod Late

@@ -1,8 +1,9 @@
 -- Refused claims: for each kind of mistake a small log, and a claim about it that the clause doesn't admit.
-use Rattle.std.specs.Prelude.{◌≡◌, ℕ, List, [], ◌∷◌, Option, Some, None, false, slice_get}
+use Rattle.std.specs.Prelude.{◌≡◌, ℕ, List, [], ◌∷◌, Option, Some, None, true, false, slice_get}
 use Rattle.cc_judge.specs.Names.{Act, Call, Rules}
 use Rattle.cc_judge.specs.Order.{Does, Allows, IsOrder}
 use Rattle.cc_judge.specs.Faults.{Passed, TakenBeforeSent, TakenTwice, SentBefore, Fewer, Covers, ClosedEarly}
+use Rattle.cc_judge.specs.Late.{judged_capacity, padded}
 use Rattle.cc_judge.specs.Checks.{GoesOn, IsKept, IsSurelyOut, BeginsFrom}
 
 -- a claim that doesn't hold
@@ -43,10 +44,12 @@ pub record RefusedClaims : Type 0 where
   pub accepted_though_untaken : Refused ((take : ℕ) × Passed (waiting 0 (Act.Send 0) ∷ []) 0 take)
   pub as_many_takes_as_items : Refused (Fewer two_wait 2 (BeginsFrom two_wait None))
   pub clean_without_an_order : (rules : Rules) → Refused (IsOrder rules (call 0 1 (Act.Took 7) ∷ []) (record { place = 0; act = Act.Took 7 } ∷ []))
+  pub close_before_a_late_log_forgotten : Refused (padded true true [] 0 ≡ [])
   pub closed_early_beside_a_close : (rules : Rules) → Refused (ClosedEarly rules closed 1)
   pub covered_in_part : (rules : Rules) → Refused (Covers rules beside 0 1 [])
   pub ended_while_open : Refused (Allows false Act.Ended)
   pub full_before_a_send_began : Refused (IsSurelyOut (waiting 4 (Act.Send 0) ∷ []) 0 4)
+  pub late_log_judged_by_a_capacity : Refused (judged_capacity true (Some 1) ≡ Some 1)
   pub lines_turned_round : Refused (IsKept turned record { earlier = 0; later = 1 })
   pub never_sent_of_a_sent_item : Refused (slice_get placed 0 ≡ Some None)
   pub none_beside_an_item : Refused (Does None (7 ∷ []) Act.FoundNone (7 ∷ []))

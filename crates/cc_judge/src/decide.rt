@@ -4,6 +4,11 @@ ghost use Rattle.cc_judge.specs.Names.{Verdict, Fault};
 ghost use Rattle.cc_judge.specs.Table.{IsIndex};
 ghost use Rattle.cc_judge.specs.Faults.{Differ};
 ghost use Rattle.cc_judge.specs.Complete.{LogsWithoutFaultsHaveOrders};
+ghost use Rattle.cc_judge.specs.Late.{
+  LateLogsAreLinearizable,
+  LateLogsHaveNoFault,
+  WindowsAreLinearizable,
+};
 ghost use Rattle.cc_judge.specs.Verdict.{IsVerdict, Stands, Indexes, FaultsHaveNoOrder};
 
 use crate::closing::{is_closed_early, is_reopened, was_open};
@@ -136,6 +141,21 @@ pub fn faults_have_no_order()
 #[tactic(auto, using(crate::proofs::Shares::completeness))]
 pub fn logs_without_faults_have_orders()
     ensures { LogsWithoutFaultsHaveOrders }
+{}
+
+/// The law: a log that begins late has a legal order, if the log has one that it is a part of.
+pub fn late_logs_are_linearizable()
+    ensures { LateLogsAreLinearizable }
+{}
+
+/// The law: the same of a part of which less is known, as of one that is cut at its end.
+pub fn windows_are_linearizable()
+    ensures { WindowsAreLinearizable }
+{}
+
+/// The law: no right verdict on a log that begins late is a fault, if the log that it is a part of has a legal order.
+pub fn late_logs_have_no_fault()
+    ensures { LateLogsHaveNoFault }
 {}
 
 /// The first take whose item no call sent, or whose item was sent by a call that began after the take had ended.

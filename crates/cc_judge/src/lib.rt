@@ -21,6 +21,9 @@ mod table;
 mod times;
 
 pub use clauses::clauses_refuse;
-pub use decide::{Fault, Verdict, faults_have_no_order, judge, logs_without_faults_have_orders};
+pub use decide::{
+    Fault, Verdict, faults_have_no_order, judge, late_logs_are_linearizable,
+    late_logs_have_no_fault, logs_without_faults_have_orders, windows_are_linearizable,
+};
 pub use log::{Act, Call, Rules, Stay, Step, Tie};
 pub use order::is_order;

@@ -7,7 +7,8 @@ use Rattle.cc_log.specs.Names.{Call, LineFault, Log, LogFault, Options, State}
 use Rattle.cc_log.specs.Answers.{Gives, IsLongLine, Refuses}
 use Rattle.cc_log.specs.Lines.{GivesLine, HasInput, HasLines, IsAhead, IsSound, IsTooLong, held, is_blank, line_limit, lines_of}
 use Rattle.cc_log.specs.declared.lines.Lines.{Lines}
-use Rattle.cc_log.specs.Log.{Known, Refusal, no_calls, ◌>>=◌, at_first, bad_line, bodies_of, calls_of, has_close, if_some, log_of, padded, spelled, ties_of, tree_of, with_line, with_lines, with_tree}
+use Rattle.cc_judge.specs.Late.{padded}
+use Rattle.cc_log.specs.Log.{Known, Refusal, no_calls, ◌>>=◌, at_first, bad_line, bodies_of, calls_of, has_close, if_some, log_of, spelled, ties_of, tree_of, with_line, with_lines, with_tree}
 use Rattle.cc_log.specs.State.{IsStep, Shows, log_view}
 use Rattle.cc_log.proofs.Ahead.{some_ahead, some_input}
 use Rattle.cc_log.proofs.Steps.{calls_length, refused_first}
@@ -101,12 +102,15 @@ has_calls options s known shows = ap length shows.calls ∙ calls_length options
 pub no_calls_given : (options : Options) (s : State) (known : Known) → Shows options s known → nat_eq (length s.log.calls.items) 0 ≡ true → if_some options.skew known ≡ Err no_calls
 no_calls_given options s known shows none = ap (λ b. if b then Err no_calls else Ok (spelled options.skew known)) (ap (λ n. nat_eq n 0) (sym (has_calls options s known shows)) ∙ none)
 
-pub finished : (options : Options) (s : State) (known : Known) (calls : List Call) (items : ℕ) → Shows options s known → nat_eq (length s.log.calls.items) 0 ≡ false → items ≡ length (keys s.items) → calls ≡ padded s.late s.log.calls.items items
-    → if_some options.skew known ≡ Ok (record { calls = calls; closes = s.log.rules.closes; ties = s.log.rules.ties.items })
+pub finished : (options : Options) (s : State) (known : Known) (calls : List Call) (items : ℕ) → Shows options s known → nat_eq (length s.log.calls.items) 0 ≡ false → items ≡ length (keys s.items) → calls ≡ padded s.late s.log.rules.closes s.log.calls.items items
+    → if_some options.skew known ≡ Ok (record { late = s.late; calls = calls; closes = s.log.rules.closes; ties = s.log.rules.ties.items })
 finished options s known calls items shows some count is =
-    let whole : calls ≡ padded known.late (calls_of options.skew known.before) (length (bodies_of known.before)) =
-    is ∙ ap (λ n. padded s.late s.log.calls.items n) (count ∙ ap length shows.bodies) ∙ ap (λ cs. padded s.late cs (length (bodies_of known.before))) shows.calls ∙ ap (λ b. padded b (calls_of options.skew known.before) (length (bodies_of known.before))) shows.late in
+    let due = λ (late : Bool). λ (closes : Bool). padded late closes (calls_of options.skew known.before) (length (bodies_of known.before)) in
+    let whole : calls ≡ padded known.late (has_close known.before) (calls_of options.skew known.before) (length (bodies_of known.before)) =
+    is ∙ ap (λ n. padded s.late s.log.rules.closes s.log.calls.items n) (count ∙ ap length shows.bodies) ∙ ap (λ cs. padded s.late s.log.rules.closes cs (length (bodies_of known.before))) shows.calls
+    ∙ ap (λ b. due b s.log.rules.closes) shows.late ∙ ap (λ b. due known.late b) shows.closes in
     ap (λ b. if b then Err no_calls else Ok (spelled options.skew known)) (ap (λ n. nat_eq n 0) (sym (has_calls options s known shows)) ∙ some)
-    ∙ ap (λ cs. Ok (record { calls = cs; closes = has_close known.before; ties = ties_of options.skew known.before })) (sym whole)
-    ∙ ap (λ b. Ok (record { calls = calls; closes = b; ties = ties_of options.skew known.before })) (sym shows.closes)
-    ∙ ap (λ ts. Ok (record { calls = calls; closes = s.log.rules.closes; ties = ts })) (sym shows.ties)
+    ∙ ap (λ cs. Ok (record { late = known.late; calls = cs; closes = has_close known.before; ties = ties_of options.skew known.before })) (sym whole)
+    ∙ ap (λ b. Ok (record { late = known.late; calls = calls; closes = b; ties = ties_of options.skew known.before })) (sym shows.closes)
+    ∙ ap (λ ts. Ok (record { late = known.late; calls = calls; closes = s.log.rules.closes; ties = ts })) (sym shows.ties)
+    ∙ ap (λ b. Ok (record { late = b; calls = calls; closes = s.log.rules.closes; ties = s.log.rules.ties.items })) (sym shows.late)

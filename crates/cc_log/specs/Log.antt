@@ -1,10 +1,11 @@
 -- The log that the lines of an input spell, or the first line with a fault.
-use Rattle.std.specs.Prelude.{ℕ, zero, suc, ◌+◌, ◌-◌, ◌^◌, ◌==◌, ◌&&◌, min, Bool, true, false, not, List, [], ◌∷◌, ◌++◌, length, nat_lt, if◌then◌else◌, Option, Some, None, option_map, slice_get, slice_set, unwrap_or, fold, replicate, Result, Ok, Err}
+use Rattle.std.specs.Prelude.{ℕ, ◌+◌, ◌-◌, ◌^◌, ◌==◌, ◌&&◌, min, Bool, true, false, not, List, [], ◌∷◌, ◌++◌, length, nat_lt, if◌then◌else◌, Option, Some, None, option_map, Result, Ok, Err}
 use Rattle.std.specs.List.{position_or_len}
 use Rattle.serde_json.specs.Data.{Data}
 use Rattle.indexmap.specs.IndexSet.{insert_key}
 use Rattle.std.specs.Str.{bytes_eq}
 use Rattle.cc_plan.specs.Json.{json_of}
+use Rattle.cc_judge.specs.Late.{padded}
 use Rattle.cc_log.specs.Names.{Act, Call, Last, Line, LineFault, Said, Tie}
 use Rattle.cc_log.specs.Line.{Body, begins_late, line_of, or_fault, thread_of}
 use Rattle.cc_log.specs.Lines.{is_blank, line_limit, lines_of}
@@ -131,47 +132,11 @@ abbrev pub has_close : List Entry → Bool
 has_close [] = false
 has_close (e ∷ before) = if is_close e.line.said then true else has_close before
 
--- ---- a log that begins late
-
--- a call that began before the others and hasn't returned
-abbrev pub early : Act → Call
-early act = record { begin = 0; end = None; act = act }
-
--- of each item whether a call sent it: of none at first
-abbrev pub mark_sent : List Bool → Act → List Bool
-mark_sent marks (Act.Send item) = slice_set marks item true
-mark_sent marks _ = marks
-
-abbrev pub mark_taken : List Bool → Act → List Bool
-mark_taken marks (Act.Took item) = slice_set marks item true
-mark_taken marks _ = marks
-
-abbrev pub sent_items : (items : ℕ) → List Call → List Bool
-sent_items items calls = fold (λ marks call. mark_sent marks call.act) (replicate items false) calls
-
-abbrev pub taken_items : (items : ℕ) → List Call → List Bool
-taken_items items calls = fold (λ marks call. mark_taken marks call.act) (replicate items false) calls
-
--- what the log may lack of an item: its send if it was taken, and its take if it was sent
-abbrev pub lacking : (is_sent is_taken : Bool) → (item : ℕ) → List Call
-lacking false true item = early (Act.Send item) ∷ []
-lacking true false item = early Act.Taking ∷ []
-lacking _ _ item = []
-
--- the same of all items below a number
-abbrev pub padding : (sent taken : List Bool) → (items : ℕ) → List Call
-padding sent taken zero = []
-padding sent taken (suc item) = padding sent taken item ++ lacking (unwrap_or (slice_get sent item) false) (unwrap_or (slice_get taken item) false) item
-
--- the calls of a log that begins late, or doesn't
-abbrev pub padded : (late : Bool) → List Call → (items : ℕ) → List Call
-padded false calls items = calls
-padded true calls items = calls ++ padding (sent_items items calls) (taken_items items calls) items
-
 -- ---- the log
 
 -- the calls of a log, and the rest that is known of it
 pub record Spelled : Type 0 where
+  pub late : Bool
   pub calls : List Call
   pub closes : Bool
   pub ties : List Tie
@@ -229,7 +194,8 @@ with_lines known number (line ∷ rest) = with_line known number line >>= (λ ne
 
 abbrev pub spelled : (skew : ℕ) → Known → Spelled
 spelled skew known = record {
-  calls = padded known.late (calls_of skew known.before) (length (bodies_of known.before));
+  late = known.late;
+  calls = padded known.late (has_close known.before) (calls_of skew known.before) (length (bodies_of known.before));
   closes = has_close known.before;
   ties = ties_of skew known.before;
 }

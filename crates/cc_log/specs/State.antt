@@ -57,4 +57,4 @@ Adds old new e (Err fault) = Refuses fault (allowed e (last_in old e.thread) (se
 
 -- the log that was read
 abbrev pub log_view : Log → Spelled
-log_view log = record { calls = log.calls.items; closes = log.rules.closes; ties = log.rules.ties.items }
+log_view log = record { late = log.late; calls = log.calls.items; closes = log.rules.closes; ties = log.rules.ties.items }

@@ -1,6 +1,6 @@
 //! The calls that a log which begins late may lack.
 ghost use Rattle.std.specs.Prelude.{◌≡◌, ◌++◌, slice_get, slice_set, unwrap_or, true, false, IfErr, OnOk, IfOk};
-ghost use Rattle.cc_log.specs.Log.{lacking, padded, sent_items, taken_items};
+ghost use Rattle.cc_judge.specs.Late.{early_close, lacking, padded, sent_items, taken_items};
 ghost use Rattle.cc_log.specs.Names.{LogFault};
 
 use crate::fault::LogFault;
@@ -73,10 +73,31 @@ fn push_lacking(
     Ok(())
 }
 
-/// Adds the calls that a log which begins late may lack: of each item that no line sent, a send, and of each that no line took,
-/// a take, all of which began before the others and haven't returned.
-pub fn pad(alloc: Global, late: bool, calls: &mut Vec<Call>, items: usize) -> Result<(), LogFault>
-    ensures calls { OnOk result (calls.new.items ≡ padded late calls.old.items items) }
+/// Adds the close that the log may lack, if closes are judged.
+fn push_close(calls: &mut Vec<Call>, closes: bool) -> Result<(), LogFault>
+    ensures calls { OnOk result (calls.new.items ≡ calls.old.items ++ early_close closes) }
+    ensures memory { IfErr result (λ fault. fault ≡ LogFault.Memory) }
+{
+    if closes {
+        calls.push(Call {
+            begin: 0,
+            end: None,
+            act: Act::Close,
+        })?;
+    }
+    Ok(())
+}
+
+/// Adds the calls that a log which begins late may lack: of each item that no line sent, a send, of each that no line took, a
+/// take, and a close if closes are judged. All of these began before the others and haven't returned.
+pub fn pad(
+    alloc: Global,
+    late: bool,
+    closes: bool,
+    calls: &mut Vec<Call>,
+    items: usize,
+) -> Result<(), LogFault>
+    ensures calls { OnOk result (calls.new.items ≡ padded late closes calls.old.items items) }
     ensures memory { IfErr result (λ fault. fault ≡ LogFault.Memory) }
 {
     if !late {
@@ -89,5 +110,5 @@ pub fn pad(alloc: Global, late: bool, calls: &mut Vec<Call>, items: usize) -> Re
         let is_taken = is_marked(&taken, item);
         push_lacking(calls, is_sent, is_taken, item)?;
     }
-    Ok(())
+    push_close(calls, closes)
 }

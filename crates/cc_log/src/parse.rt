@@ -1,5 +1,6 @@
 //! The log that the lines of an input spell.
 ghost use Rattle.std.specs.Prelude.{◌≡◌, ◌<◌, ◌-◌, ◌^◌, ℕ, List, [], false, IfOk};
+ghost use Rattle.cc_judge.specs.Late.{judged_capacity};
 ghost use Rattle.cc_log.specs.Answers.{Gives};
 ghost use Rattle.cc_log.specs.Lines.{HasInput};
 ghost use Rattle.cc_log.specs.Log.{Known, at_first, if_some, log_of};
@@ -68,7 +69,9 @@ pub struct Notes {
 pub struct Log {
     /// The calls: those of the lines, in order, and after them those that a log which begins late may lack.
     pub calls: Vec<Call>,
-    /// The rest that is known of the log.
+    /// Whether the log begins late.
+    pub late: bool,
+    /// The rest that is known of the log. The capacity is that of the options, or none if the log begins late.
     pub rules: Rules,
     /// How many items there are: those of the calls are below.
     pub items: usize,
@@ -89,6 +92,7 @@ impl Log {
     {
         Log {
             calls: Vec::new(alloc),
+            late: false,
             rules: Rules {
                 capacity: options.capacity,
                 closes: false,
@@ -126,10 +130,17 @@ fn at_first(alloc: Global, options: Options) -> State
     }
 }
 
+/// The capacity by which a log is judged: none if the log begins late, since it may lack items that are in the queue.
+fn judged_capacity(late: bool, capacity: Option<u32>) -> Option<u32>
+    ensures { result ≡ judged_capacity late capacity }
+{
+    if late { None } else { capacity }
+}
+
 /// The log of all lines.
 fn finish(alloc: Global, state: State) -> Result<Log, LogFault>
     ensures due { (options : Options) (known : Known) → Shows options state known → Gives log_view result (if_some options.skew known) }
-    ensures capacity { IfOk result (λ log. log.rules.capacity ≡ state.log.rules.capacity) }
+    ensures capacity { IfOk result (λ log. log.rules.capacity ≡ judged_capacity log.late state.log.rules.capacity) }
 {
     let State {
         mut log,
@@ -140,7 +151,9 @@ fn finish(alloc: Global, state: State) -> Result<Log, LogFault>
         return Err(LogFault::Empty);
     }
     log.items = items.len();
-    pad(alloc, late, &mut log.calls, items.len())?;
+    log.late = late;
+    log.rules.capacity = judged_capacity(late, log.rules.capacity);
+    pad(alloc, late, log.rules.closes, &mut log.calls, items.len())?;
     Ok(log)
 }
 
@@ -149,7 +162,7 @@ fn finish(alloc: Global, state: State) -> Result<Log, LogFault>
 pub fn read_log<R: Source>(alloc: Global, source: &mut R, options: Options) -> Result<Log, LogFault>
     requires { R.read_failures source.old < 2 ^ 64 - 1 }
     ensures due { (input : List ℕ) × HasInput (R.bytes_left source.old) input × Gives log_view result (log_of options.skew input) }
-    ensures capacity { IfOk result (λ log. log.rules.capacity ≡ options.capacity) }
+    ensures capacity { IfOk result (λ log. log.rules.capacity ≡ judged_capacity log.late options.capacity) }
 {
     let mut state = at_first(alloc, options);
     let mut lines = Lines::new(alloc)?;

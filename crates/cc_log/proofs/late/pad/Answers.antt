@@ -1,5 +1,5 @@
 use Rattle.std.proofs.Common.{◌≡◌, ◌++◌, ◌+◌, ◌∙◌, suc, ap, append_assoc, false, slice_get, unwrap_or, arith}
-use Rattle.cc_log.specs.Log.{lacking, padding}
+use Rattle.cc_judge.specs.Late.{lacking, padding}
 use Rattle.cc_log.proofs.late.pad.Goals as goal
 
 pub loop-item-preserved : goal.loop-item-preserved

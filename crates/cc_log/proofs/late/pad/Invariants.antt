@@ -1,5 +1,5 @@
 use Rattle.std.proofs.Common.{◌≡◌, ◌++◌}
-use Rattle.cc_log.specs.Log.{padding}
+use Rattle.cc_judge.specs.Late.{padding}
 use Rattle.cc_log.proofs.late.pad.Given as goal
 
 abbrev pub invariant-loop-item : goal.invariant-loop-item

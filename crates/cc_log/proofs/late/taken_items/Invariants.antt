@@ -1,5 +1,5 @@
 use Rattle.std.proofs.Common.{◌≡◌, take}
-use Rattle.cc_log.specs.Log.{taken_items}
+use Rattle.cc_judge.specs.Late.{taken_items}
 use Rattle.cc_log.proofs.late.taken_items.Given as goal
 
 abbrev pub invariant-loop-call : goal.invariant-loop-call
