@@ -26,7 +26,7 @@ import sys
 sys.dont_write_bytecode = True
 try:
     from aarch64.decode import ArmObject
-    from aarch64.flow import LOAD, PLAIN, PUTS, STORE, TAKES, Function
+    from aarch64.flow import LOAD, PLAIN, PUTS, STORE, TAKES, Function, are_alike
     from x86.flow import paths
     from x86.objects import Refused, object_in
 except ModuleNotFoundError as missing:
@@ -36,8 +36,9 @@ except ModuleNotFoundError as missing:
     sys.exit(69)
 
 KINDS = {LOAD: "loads", STORE: "stores", PUTS: "read-modify-writes"}
-# By which path a function of each kind reaches the words of the table; tools/x86/discipline.py has the same.
-TABLES = {"vahepito_": "x0[0][0][8]", "cc_queue::turns::": "x0[0][8]"}
+# By which path a function of each kind reaches the words of the table: the first whose name begins so. tools/x86/discipline.py has the
+# last two.
+TABLES = {"vahepito_call_turn_": "x0[8][0][8]", "vahepito_": "x0[0][0][8]", "cc_queue::turns::": "x0[0][8]"}
 # The functions that do the steps of calls, by handles and by one pointer.
 STEPS = re.compile(r"cc_queue::turns::|cc_passes::pool::pooled|cc_passes::handles::handle_inner|vahepito_(begin|turn|try|call|is_worn|group|drop|free)")
 MARKED = re.compile(r"\s+(?:%\S+ = )?(load atomic|store atomic|atomicrmw|cmpxchg|fence)\b")
@@ -68,10 +69,19 @@ def check(function: Function) -> collections.Counter:
             continue
         if not PLAIN.match(i.name):
             raise Refused(f"{here}: is no access that is known")
-        same = [place for place in at for other in shared if place[0] == other[0] and touch(place[1], i.span, other[1])]
+        same = [place for place in at for other in shared if are_alike(place[0], other[0]) and touch(place[1], i.span, other[1])]
         if same or table in paths(at):
             raise Refused(f"{here}: a plain access of a shared word, by {sorted(paths(at))}")
+    return counts_of(function)
+
+
+def counts_of(function: Function) -> collections.Counter:
     return collections.Counter(KINDS[i.name] for i in function.instructions if i.name in KINDS)
+
+
+def line_of(total: collections.Counter) -> str:
+    """The line of PROOF."""
+    return "words: " + ", ".join(f"{total[kind]} {kind}" for kind in KINDS.values()) + " of shared words, each sequentially consistent"
 
 
 def counts_of_module(text: str) -> dict:
@@ -115,7 +125,7 @@ def main() -> int:
     except Refused as why:
         print(f"words: refused: {why}", file=sys.stderr)
         return 1
-    print("words: " + ", ".join(f"{total[kind]} {kind}" for kind in KINDS.values()) + " of shared words, each sequentially consistent")
+    print(line_of(total))
     return 0
 
 

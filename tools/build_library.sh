@@ -141,10 +141,12 @@ build() {
 renamed='s/rattle_alloc/vahepito_mem/g; s/rattle_realloc/vahepito_renew/g; s/rattle_dealloc/vahepito_freed/g'
 
 # The module as the compiler read it, as text, and `words`: those that say how it compiles it, without the names of files. For aarch64
-# rattle calls it twice, and looks at the module in between; one call has to give the same.
+# rattle calls it twice, and looks at the module in between; one call has to give the same. Without the toolchain's folder clang would
+# find a libgcc of the machine there, and call its atomics in place of writing them.
 keep_module() {
     words=$(head -n 1 "$watched/kept/words")
     words=$(sed -E 's/--sysroot=\S+ //; s/ -x ir module\.bc//; s/ -o \S+//; s/ -c( |$)/ /; s/ -S -emit-llvm.*//; s/  */ /g; s/^ | $//g' <<<"$words")
+    [[ $1 == x86_64-* ]] || words+=' -mno-outline-atomics'
     (cd "$watched/kept" && "$clang" --target="$1" -Werror -S -emit-llvm -Xclang -disable-llvm-passes -x ir module.bc -o "$top/$made/module.ll") &&
         "$clang" $words -S -emit-llvm -x ir "$made/module.ll" -o "$made/optimized.ll" &&
         "$clang" $words -c -x ir "$made/module.ll" -o "$made/again.o" &&

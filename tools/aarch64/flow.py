@@ -3,7 +3,8 @@ may hold.
 
 A value is a set of origins, each a path with a distance, as x86/flow.py has them: `x0` is the argument in that register, and
 `x0[0][8]` what was loaded 8 bytes behind what was loaded from where `x0` points. A number has no origin, and `?` is the path of a
-value of which nothing is known. A distance is a number of bytes; ("*", n), n bytes behind where some index leads; or None, unknown.
+value of which nothing is known. A distance is a number of bytes; ("*", n), n bytes behind where some index leads; or None, unknown. In
+a path these are the steps `[8]`, `[*+8]` and `[?]`.
 
 What an instruction isn't known to do leaves a value of which nothing is known; a jump by a register is refused.
 """
@@ -43,9 +44,22 @@ def moved(value: frozenset, distance: int | None) -> frozenset:
 
 def behind(path: str, distance) -> tuple:
     """The origin of what is loaded there."""
-    if path == "?" or distance is None or path.count("[") >= DEEPEST:
+    if path == "?" or path.count("[") >= DEEPEST:
         return ("?", None)
-    return (f"{path}[{'*+%d' % distance[1] if isinstance(distance, tuple) else distance}]", 0)
+    step = "?" if distance is None else "*+%d" % distance[1] if isinstance(distance, tuple) else distance
+    return (f"{path}[{step}]", 0)
+
+
+def are_alike(path: str, other: str) -> bool:
+    """Whether two paths may lead to the same place: their steps are the same, or that of one isn't known. Two steps by an index are
+    told apart by the field that they lead to."""
+    steps, others = path.rstrip("]").split("["), other.rstrip("]").split("[")
+    return len(steps) == len(others) and all(is_same_step(*both) for both in zip(steps, others))
+
+
+def is_same_step(one: str, other: str) -> bool:
+    one, other = one.rstrip("]"), other.rstrip("]")
+    return one == other or "?" in (one, other) or (one[0] == "*") != (other[0] == "*")
 
 
 def slot_of(at: frozenset) -> int | None:
@@ -117,7 +131,7 @@ class Function:
             return moved(values[0], others[-1] if i.name == "add" else -others[-1])
         if i.name in SUMS:
             return moved(frozenset().union(*(values[:1] if i.is_shifted else values)), None)
-        if i.name == "madd":
+        if i.name in ("madd", "umaddl", "smaddl"):
             return moved(values[2], None)
         if i.name in ("csel", "csinc"):
             value = joined(values[0], values[1])
