@@ -3,3 +3,4 @@ pub mod Declined
 pub mod Explained
 pub mod JudgeOptions
 pub mod Judged
+pub mod Removed

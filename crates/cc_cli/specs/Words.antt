@@ -1,6 +1,7 @@
 -- The words of a line that its parser doesn't see: help by its word, the form of a run that is shown, and the file of a task's
 -- input.
-use Rattle.std.specs.Prelude.{ℕ, ◌==◌, ◌&&◌, ◌||◌, ◌++◌, Bool, false, not, List, [], ◌∷◌, codes, if◌then◌else◌, Option, Some, None}
+use Rattle.std.specs.Prelude.{ℕ, ◌==◌, ◌+◌, ◌&&◌, ◌||◌, ◌++◌, Bool, false, not, List, [], ◌∷◌, codes, if◌then◌else◌, Option, Some, None, slice_index_or, length}
+use Rattle.std.specs.List.{remove}
 use Rattle.std.specs.Str.{bytes_eq}
 use Rattle.cc_cli.specs.Names.{Form}
 
@@ -37,14 +38,26 @@ is_option (first ∷ second ∷ rest) = first == 45
 abbrev pub file_named : List ℕ → Option (List ℕ)
 file_named name = if bytes_eq name (codes "-") then None else Some name
 
--- the file that a line names
-abbrev pub file_of : List (List ℕ) → Option (List ℕ)
-file_of (task ∷ name ∷ []) = if reads_input task && not (is_option name) then file_named name else None
-file_of (task ∷ mark ∷ name ∷ []) = if reads_input task && bytes_eq mark (codes "--") then file_named name else None
-file_of words = None
+-- the place of a line's file: behind the task, or behind the mark `--` there
+abbrev pub place_of_file : List (List ℕ) → Option ℕ
+place_of_file (task ∷ name ∷ []) = if reads_input task && not (is_option name) then Some 1 else None
+place_of_file (task ∷ mark ∷ name ∷ rest) = if reads_input task && not (is_option mark) then Some 1 else (if reads_input task && bytes_eq mark (codes "--") then Some 2 else None)
+place_of_file words = None
 
--- the line without it
+-- the word at this place as a file, if it is the last word
+abbrev pub file_at : Option ℕ → List (List ℕ) → Option (List ℕ)
+file_at None words = None
+file_at (Some place) words = if length words == place + 1 then file_named (slice_index_or words place []) else None
+
+-- the file that a line names, if no word follows it
+abbrev pub file_of : List (List ℕ) → Option (List ℕ)
+file_of words = file_at (place_of_file words) words
+
+-- the words but the one at this place
+abbrev pub without_place : Option ℕ → List (List ℕ) → List (List ℕ)
+without_place None words = words
+without_place (Some place) words = remove words place
+
+-- the line without its file
 abbrev pub line_without_file : List (List ℕ) → List (List ℕ)
-line_without_file (task ∷ name ∷ []) = if reads_input task && not (is_option name) then task ∷ [] else task ∷ name ∷ []
-line_without_file (task ∷ mark ∷ name ∷ []) = if reads_input task && bytes_eq mark (codes "--") then task ∷ [] else task ∷ mark ∷ name ∷ []
-line_without_file words = words
+line_without_file words = without_place (place_of_file words) words

@@ -1,7 +1,7 @@
 //! The words of a line that its parser doesn't see: help by its word, the form of a run that is shown, and the file of a
 //! task's input.
-ghost use Rattle.std.specs.Prelude.{◌≡◌, IfOk, map, option_map, string_bytes};
-ghost use Rattle.cc_cli.specs.Words.{file_named, file_of, form_of, is_option, line_without_file, line_without_form, reads_input, spelled};
+ghost use Rattle.std.specs.Prelude.{◌≡◌, ◌<◌, IfOk, IfSome, length, map, option_map, string_bytes};
+ghost use Rattle.cc_cli.specs.Words.{file_named, file_of, form_of, is_option, line_without_file, line_without_form, place_of_file, reads_input, spelled};
 
 use cc_log::Options;
 use cc_show::Form;
@@ -76,39 +76,57 @@ fn is_option(word: &[u8]) -> bool
 }
 
 /// The file of this name; `-` is standard input.
-fn file_named(name: &str) -> Option<&str>
-    ensures { option_map (λ file. file.now) result ≡ file_named name.now }
+fn file_named(name: String) -> Option<String>
+    ensures { option_map string_bytes result ≡ file_named (string_bytes name) }
 {
-    if name == "-" { None } else { Some(name) }
+    if name.as_str() == "-" {
+        None
+    } else {
+        Some(name)
+    }
+}
+
+/// The place in a line of the file that it names: of the word after a task that reads an input, unless that begins with `-`;
+/// or of the word behind `--`, if that comes after the task.
+fn place_of_file(words: &[String]) -> Option<usize>
+    ensures place { result ≡ place_of_file (map string_bytes words.now) }
+    ensures within { IfSome result (λ place. place < length words.now) }
+{
+    match words {
+        [task, name, ..] if reads_input(task.as_str()) && !is_option(name.as_bytes()) => Some(1),
+        [task, mark, _, ..] if reads_input(task.as_str()) && mark.as_str() == "--" => Some(2),
+        _ => None,
+    }
 }
 
 /// A line without the file that it names.
-#[derive(Clone, Copy)]
-pub struct WithoutFile<'a> {
+#[derive(Drop)]
+pub struct WithoutFile {
     /// Its words, but the file.
-    pub words: &'a [String],
-    /// The name of the file of its input; none if that is standard input, or the line asks for no task that reads one.
-    pub file: Option<&'a str>,
+    pub words: Vec<String>,
+    /// The name of the file of its input; none if that is standard input, if the line asks for no task that reads one, or if
+    /// words follow the file.
+    pub file: Option<String>,
 }
 
-/// The line, and the file that it names: the one word after a task that reads an input, which doesn't begin with `-` or
-/// comes after `--`. A `-` alone is standard input.
-pub fn without_file(words: &[String]) -> WithoutFile<'_>
-    ensures words { map string_bytes result.words.now ≡ line_without_file (map string_bytes words.now) }
-    ensures file { option_map (λ name. name.now) result.file ≡ file_of (map string_bytes words.now) }
+/// The line, and the file that it names: the word after a task that reads an input, which doesn't begin with `-` or comes
+/// after `--`. A `-` alone is standard input. Words behind the file stay in the line, and its file is none then.
+#[tactic(auto, using(crate::proofs::Removed::map_remove, crate::proofs::Removed::last_word))]
+pub fn without_file(words: Vec<String>) -> WithoutFile
+    ensures words { map string_bytes result.words.items ≡ line_without_file (map string_bytes words.items) }
+    ensures file { option_map string_bytes result.file ≡ file_of (map string_bytes words.items) }
 {
-    let parted = match words {
-        [task, name] => reads_input(task.as_str()) && !is_option(name.as_bytes()),
-        [task, mark, _] => reads_input(task.as_str()) && mark.as_str() == "--",
-        _ => false,
+    let mut words = words;
+    let Some(place) = place_of_file(words.as_slice()) else {
+        return WithoutFile { words, file: None };
     };
-    match words {
-        [task, .., name] if parted => WithoutFile {
-            words: &words[..1],
-            file: file_named(name.as_str()),
-        },
-        _ => WithoutFile { words, file: None },
-    }
+    let name = words.remove(place);
+    let file = if words.len() == place {
+        file_named(name)
+    } else {
+        None
+    };
+    WithoutFile { words, file }
 }
 
 /// A command line, without the program's name, its options and the file of its input.

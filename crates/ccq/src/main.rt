@@ -63,16 +63,16 @@ fn answer<R: Threads + Wait + Sync + Files, S: Source, W: Sink, E: Sink>(
         return decline_options(errors);
     };
     let formed = without_form(judging.words);
-    let parted = without_file(formed.words.as_slice());
+    let parted = without_file(formed.words);
     let line = CommandLine {
-        words: parted.words,
+        words: parted.words.as_slice(),
         form: formed.form,
         options: judging.options,
     };
-    let Some(name) = parted.file else {
+    let Some(name) = &parted.file else {
         return run(rt, alloc, line, standard, sink, errors);
     };
-    match File::open(rt, name) {
+    match File::open(rt, name.as_str()) {
         Ok(file) => {
             let mut source = Device::new(file);
             run(rt, alloc, line, &mut source, sink, errors)
