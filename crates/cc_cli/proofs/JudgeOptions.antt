@@ -1,11 +1,11 @@
 -- Reading the options of a line goes from a word to the next.
 use native.Mathlib.Numerals.{unary_clauses}
-use Rattle.std.proofs.Common.{rules, ◌+◌, if◌then◌else◌, is_none, ◌≡◌, ◌≤◌, length, ℕ, zero, suc, List, [], ◌∷◌, ◌++◌, Option, Some, None, true, false, map, take, drop, slice_get, refl, ap, subst, sym, ◌∙◌, codes}
+use Rattle.std.proofs.Common.{rules, ◌+◌, if◌then◌else◌, is_none, ◌≡◌, ◌≤◌, length, ℕ, zero, suc, List, [], ◌∷◌, ◌++◌, Option, Some, None, Result, Ok, Err, true, false, map, take, drop, slice_get, refl, ap, subst, sym, ◌∙◌, codes}
 use Rattle.std.proofs.lemmas.List.{take-append-drop}
 use Rattle.std.specs.Str.{bytes_eq}
-use Rattle.cc_cli.specs.Names.{Numbered, Options, Reading}
+use Rattle.cc_cli.specs.Names.{Numbered, OptionFault, Options, Reading}
 use Rattle.cc_log.specs.Options.{no_options}
-use Rattle.cc_cli.specs.JudgeOptions.{by_reading, line_without_options, read_next, read_options}
+use Rattle.cc_cli.specs.JudgeOptions.{by_reading, line_without_options, read_next, read_options, unless_wanted}
 
 -- the word at a place, and those behind it
 pub here : {X : Type 0} (ws : List X) (k : ℕ) (w : X) → slice_get ws k ≡ Some w → drop k ws ≡ w ∷ drop (suc k) ws
@@ -45,7 +45,7 @@ without f ws after k h = rw (h) (simp unary_clauses (mapped_without f ws k))
 
 -- what comes of the word at a place
 pub step : (o : Options) (wanted : Option Numbered) (ws : List (List ℕ)) (k : ℕ) (w : List ℕ) → slice_get ws k ≡ Some w → (r : Reading) → read_next o wanted w ≡ r
-    → read_options o wanted (take k ws) (drop k ws) ≡ by_reading r (read_options o wanted (take (suc k) ws) (drop (suc k) ws)) (Some (o, ws))
+    → read_options o wanted (take k ws) (drop k ws) ≡ by_reading r (read_options o wanted (take (suc k) ws) (drop (suc k) ws)) (Ok (o, ws))
     (λ more. read_options more None (take k ws) (drop (suc k) ws)) (λ option. read_options o (Some option) (take k ws) (drop (suc k) ws))
 step o wanted ws k w h r e = rw (next ws k w h, ← e) (
     let all : take k ws ++ w ∷ drop (suc k) ws ≡ ws = rw (← here ws k w h) (take-append-drop k ws) in
@@ -57,7 +57,7 @@ of_judge [] w h e = search rules
 of_judge (x ∷ ws) w h e = search rules
 
 -- a line of another task has no options
-pub of_another_task : (ws : List (List ℕ)) (w : List ℕ) → slice_get ws 0 ≡ Some w → bytes_eq w (codes "judge") ≡ false → Some (no_options, ws) ≡ line_without_options ws
+pub of_another_task : (ws : List (List ℕ)) (w : List ℕ) → slice_get ws 0 ≡ Some w → bytes_eq w (codes "judge") ≡ false → Ok (no_options, ws) ≡ line_without_options ws
 of_another_task [] w h e = search rules
 of_another_task (x ∷ ws) w h e = search rules
 
@@ -81,17 +81,17 @@ past (x ∷ ws) zero h = search rules
 past (x ∷ ws) (suc k) h = let rest = past ws k h in search rules
 
 -- Reading a line that is read to a place, whose whole reading is `all`.
-module _ (o : Options) (wanted : Option Numbered) (ws : List (List ℕ)) (k : ℕ) (all : Option (Options × List (List ℕ))) (so_far : read_options o wanted (take k ws) (drop k ws) ≡ all) where
+module _ (o : Options) (wanted : Option Numbered) (ws : List (List ℕ)) (k : ℕ) (all : Result (Options × List (List ℕ)) OptionFault) (so_far : read_options o wanted (take k ws) (drop k ws) ≡ all) where
   -- there is no further word
-  pub ended : length ws ≤ k → (if is_none wanted then Some (o, ws) else None) ≡ all
+  pub ended : length ws ≤ k → unless_wanted wanted (o, ws) ≡ all
   ended h = rw (← all_kept ws k h) (subst (λ l. read_options o wanted (take k ws) l ≡ all) (none_left ws k h) so_far)
 
   module _ (w : List ℕ) (word : slice_get ws k ≡ Some w) where
     -- the next word is wrong, the mark, none of an option, a whole option, or the name of one
-    pub wrong : read_next o wanted w ≡ Reading.Wrong → None ≡ all
-    wrong e = sym (step o wanted ws k w word Reading.Wrong e) ∙ so_far
+    pub wrong : (fault : OptionFault) → read_next o wanted w ≡ Reading.Wrong fault → Err fault ≡ all
+    wrong fault e = sym (step o wanted ws k w word (Reading.Wrong fault) e) ∙ so_far
 
-    pub marked : read_next o wanted w ≡ Reading.Mark → Some (o, ws) ≡ all
+    pub marked : read_next o wanted w ≡ Reading.Mark → Ok (o, ws) ≡ all
     marked e = sym (step o wanted ws k w word Reading.Mark e) ∙ so_far
 
     pub kept : read_next o wanted w ≡ Reading.Word → read_options o wanted (take (k + 1) ws) (drop (k + 1) ws) ≡ all

@@ -1,10 +1,10 @@
 -- The options of a line of `judge`, which the parser of command lines doesn't see. They are anywhere before the mark `--`, in any
 -- order, each once.
-use Rattle.std.specs.Prelude.{ℕ, ◌==◌, ◌+◌, ◌*◌, ◌-◌, ◌^◌, ◌&&◌, true, false, List, [], ◌∷◌, ◌++◌, codes, if◌then◌else◌, Option, Some, None, nat_le, nat_lt, is_none, length}
+use Rattle.std.specs.Prelude.{ℕ, ◌==◌, ◌+◌, ◌*◌, ◌-◌, ◌^◌, ◌&&◌, true, false, List, [], ◌∷◌, ◌++◌, codes, if◌then◌else◌, Option, Some, None, Result, Ok, Err, nat_le, nat_lt, is_none, length}
 use Rattle.std.specs.Str.{bytes_eq}
 use Rattle.std.specs.List.{before_first, after_first, position_or_len}
 use Rattle.cc_log.specs.Options.{no_options}
-use Rattle.cc_cli.specs.Names.{Numbered, Options, Reading}
+use Rattle.cc_cli.specs.Names.{Numbered, OptionFault, Options, Reading}
 
 -- the number below 2 ^ 64 that these digits write behind those of n
 abbrev pub digits_after : ℕ → List ℕ → Option ℕ
@@ -16,24 +16,30 @@ abbrev pub number_in : List ℕ → Option ℕ
 number_in [] = None
 number_in (c ∷ rest) = digits_after 0 (c ∷ rest)
 
+-- the options with a capacity more: one in its range, if none is given yet
+abbrev pub with_capacity : Options → ℕ → Result Options OptionFault
+with_capacity o n = if is_none o.capacity
+    then (if nat_lt 0 n && nat_lt n (2 ^ 32) then Ok (record o { capacity = Some n }) else Err (OptionFault.Number Numbered.Capacity))
+    else Err (OptionFault.Twice Numbered.Capacity)
+
 -- the options with a number more: one in its range, of an option that isn't given yet
-abbrev pub with_number : Options → Numbered → Option ℕ → Option Options
-with_number o option None = None
-with_number o Numbered.Capacity (Some n) = if is_none o.capacity && nat_lt 0 n && nat_lt n (2 ^ 32) then Some (record o { capacity = Some n }) else None
-with_number o Numbered.Skew (Some n) = if o.skew == 0 then Some (record o { skew = n }) else None
+abbrev pub with_number : Options → Numbered → Option ℕ → Result Options OptionFault
+with_number o option None = Err (OptionFault.Number option)
+with_number o Numbered.Capacity (Some n) = with_capacity o n
+with_number o Numbered.Skew (Some n) = if o.skew == 0 then Ok (record o { skew = n }) else Err (OptionFault.Twice Numbered.Skew)
 
 -- the options with that of a page more, if it isn't given yet
-abbrev pub with_page : Options → Option Options
-with_page o = if o.page then None else Some (record o { page = true })
+abbrev pub with_page : Options → Result Options OptionFault
+with_page o = if o.page then Err OptionFault.PageTwice else Ok (record o { page = true })
 
 -- the option of this name that takes a number
 abbrev pub option_named : List ℕ → Option Numbered
 option_named name = if bytes_eq name (codes "--capacity") then Some Numbered.Capacity else (if bytes_eq name (codes "--skew") then Some Numbered.Skew else None)
 
 -- the reading of an option: these options, unless the option is wrong
-abbrev pub given_or_wrong : Option Options → Reading
-given_or_wrong None = Reading.Wrong
-given_or_wrong (Some o) = Reading.Given o
+abbrev pub given_or_wrong : Result Options OptionFault → Reading
+given_or_wrong (Err fault) = Reading.Wrong fault
+given_or_wrong (Ok o) = Reading.Given o
 
 -- a word with the name of this option before its `=`, and a number behind it
 abbrev pub read_valued : Options → Option Numbered → (value : List ℕ) → Reading
@@ -58,28 +64,37 @@ read_next o None word = read_word o word
 read_next o (Some option) word = given_or_wrong (with_number o option (number_in word))
 
 -- one of these by the kind of a word: of another word, of the mark, of options, of an option that wants a number
-abbrev pub by_reading : {Y : Type 0} → Reading → Option Y → Option Y → (Options → Option Y) → (Numbered → Option Y) → Option Y
+abbrev pub by_reading : {Y : Type 0} → Reading → Result Y OptionFault → Result Y OptionFault → (Options → Result Y OptionFault) → (Numbered → Result Y OptionFault) → Result Y OptionFault
 by_reading Reading.Word word mark given wants = word
 by_reading Reading.Mark word mark given wants = mark
 by_reading (Reading.Given o) word mark given wants = given o
 by_reading (Reading.Wants option) word mark given wants = wants option
-by_reading Reading.Wrong word mark given wants = None
+by_reading (Reading.Wrong fault) word mark given wants = Err fault
 
--- The options, and the words that are none, of a line whose first words gave these options and kept these words. None if an option is
--- wrong, or its number is missing.
-abbrev pub read_options : Options → (wanted : Option Numbered) → (kept : List (List ℕ)) → List (List ℕ) → Option (Options × List (List ℕ))
-read_options o wanted kept [] = if is_none wanted then Some (o, kept) else None
+-- what was read, unless a number is missing
+abbrev pub unless_wanted : {Y : Type 0} → (wanted : Option Numbered) → Y → Result Y OptionFault
+unless_wanted None read = Ok read
+unless_wanted (Some option) read = Err (OptionFault.Number option)
+
+-- The options, and the words that are none, of a line whose first words gave these options and kept these words. Or the fault of
+-- an option, whose number may be missing.
+abbrev pub read_options : Options → (wanted : Option Numbered) → (kept : List (List ℕ)) → List (List ℕ) → Result (Options × List (List ℕ)) OptionFault
+read_options o wanted kept [] = unless_wanted wanted (o, kept)
 read_options o wanted kept (word ∷ rest) = by_reading (read_next o wanted word)
     (read_options o wanted (kept ++ word ∷ []) rest)
-    (Some (o, kept ++ word ∷ rest))
+    (Ok (o, kept ++ word ∷ rest))
     (λ more. read_options more None kept rest)
     (λ option. read_options o (Some option) kept rest)
 
 -- the options of a line, and the line without them; a line of another task has none
-abbrev pub line_without_options : List (List ℕ) → Option (Options × List (List ℕ))
-line_without_options [] = Some (no_options, [])
-line_without_options (task ∷ rest) = if bytes_eq task (codes "judge") then read_options no_options None (task ∷ []) rest else Some (no_options, task ∷ rest)
+abbrev pub line_without_options : List (List ℕ) → Result (Options × List (List ℕ)) OptionFault
+line_without_options [] = Ok (no_options, [])
+line_without_options (task ∷ rest) = if bytes_eq task (codes "judge") then read_options no_options None (task ∷ []) rest else Ok (no_options, task ∷ rest)
 
--- the line if the options are wrong
-abbrev pub options_line : List ℕ
-options_line = codes "error: judge takes --page, --capacity N (1 to 4294967295) and --skew N, once each, and a file\n"
+-- the line of a fault of an option
+abbrev pub option_line : OptionFault → List ℕ
+option_line (OptionFault.Number Numbered.Capacity) = codes "error: --capacity takes a whole number from 1 to 4294967295\n\nFor more information, try '--help'.\n"
+option_line (OptionFault.Number Numbered.Skew) = codes "error: --skew takes a whole number from 0 to 18446744073709551615\n\nFor more information, try '--help'.\n"
+option_line (OptionFault.Twice Numbered.Capacity) = codes "error: --capacity is given twice\n\nFor more information, try '--help'.\n"
+option_line (OptionFault.Twice Numbered.Skew) = codes "error: --skew is given twice\n\nFor more information, try '--help'.\n"
+option_line OptionFault.PageTwice = codes "error: --page is given twice\n\nFor more information, try '--help'.\n"

@@ -11,5 +11,6 @@ pub use Rattle.cc_log.specs.declared.fault.LogFault.{LogFault}
 pub use Rattle.cc_log.specs.declared.parse.Log.{Log}
 pub use Rattle.cc_log.specs.declared.parse.Options.{Options}
 pub use Rattle.cc_cli.specs.declared.judge_options.Numbered.{Numbered}
+pub use Rattle.cc_cli.specs.declared.judge_options.OptionFault.{OptionFault}
 pub use Rattle.cc_cli.specs.declared.judge_options.Reading.{Reading}
 pub use Rattle.cc_cli.specs.declared.judging.page.AnswerFault.{AnswerFault}

@@ -1,8 +1,9 @@
 //! The options of a line of `judge`, which the parser of command lines doesn't see: how many items the queue holds, by how much
 //! clocks may differ, and whether the answer is a page.
 ghost use Rattle.std.specs.Prelude.{◌≡◌, ◌<◌, ◌-◌, ◌^◌, map, option_map, slice_get, string_bytes};
+ghost use Rattle.std.specs.Result.{result_map_both};
 ghost use Rattle.cc_io.specs.FaultLine.{Told};
-ghost use Rattle.cc_cli.specs.JudgeOptions.{line_without_options, options_line, number_in, option_named, read_next, read_word, given_or_wrong, with_number, with_page};
+ghost use Rattle.cc_cli.specs.JudgeOptions.{line_without_options, number_in, option_line, option_named, read_next, read_word, given_or_wrong, with_capacity, with_number, with_page};
 
 use cc_io::{Sink, told};
 use cc_log::Options;
@@ -14,6 +15,17 @@ pub enum Numbered {
     Capacity,
     /// By how much clocks may differ.
     Skew,
+}
+
+/// A fault of an option.
+#[derive(Clone, Copy)]
+pub enum OptionFault {
+    /// This option has no number, or none in its range.
+    Number(Numbered),
+    /// This option was given before.
+    Twice(Numbered),
+    /// `--page` was given before.
+    PageTwice,
 }
 
 /// The kind of a word of a line.
@@ -28,7 +40,7 @@ pub enum Reading {
     /// An option whose number is the next word.
     Wants(Numbered),
     /// An option that is wrong, or was given before.
-    Wrong,
+    Wrong(OptionFault),
 }
 
 /// The number below 2^64 that a text of digits alone writes.
@@ -62,43 +74,62 @@ fn option_named(name: &str) -> Option<Numbered>
 }
 
 /// The options with a number more: one in its range, of an option that isn't given yet.
-fn with_number(options: Options, option: Numbered, number: Option<u64>) -> Option<Options>
+fn with_number(
+    options: Options,
+    option: Numbered,
+    number: Option<u64>,
+) -> Result<Options, OptionFault>
     ensures { result ≡ with_number options option number }
 {
-    let number = number?;
+    let Some(number) = number else {
+        return Err(OptionFault::Number(option));
+    };
     match option {
-        Numbered::Capacity if options.capacity.is_none() && number != 0 => Some(Options {
-            capacity: Some(u32::try_from(number).ok()?),
-            ..options
-        }),
-        Numbered::Skew if options.skew == 0 => Some(Options {
+        Numbered::Capacity => with_capacity(options, number),
+        Numbered::Skew if options.skew == 0 => Ok(Options {
             skew: number,
             ..options
         }),
-        _ => None,
+        Numbered::Skew => Err(OptionFault::Twice(Numbered::Skew)),
+    }
+}
+
+/// The options with a capacity more: from 1 to 2^32 - 1, if none is given yet.
+fn with_capacity(options: Options, number: u64) -> Result<Options, OptionFault>
+    ensures { result ≡ with_capacity options number }
+{
+    if options.capacity.is_some() {
+        return Err(OptionFault::Twice(Numbered::Capacity));
+    }
+    match u32::try_from(number) {
+        Ok(capacity) if capacity != 0 => Ok(Options {
+            capacity: Some(capacity),
+            ..options
+        }),
+        _ => Err(OptionFault::Number(Numbered::Capacity)),
     }
 }
 
 /// The options with that of a page more, if it isn't given yet.
-fn with_page(options: Options) -> Option<Options>
+fn with_page(options: Options) -> Result<Options, OptionFault>
     ensures { result ≡ with_page options }
 {
     if options.page {
-        return None;
+        return Err(OptionFault::PageTwice);
     }
-    Some(Options {
+    Ok(Options {
         page: true,
         ..options
     })
 }
 
 /// The reading of an option: these options, unless the option is wrong.
-fn given_or_wrong(options: Option<Options>) -> Reading
+fn given_or_wrong(options: Result<Options, OptionFault>) -> Reading
     ensures { result ≡ given_or_wrong options }
 {
     match options {
-        Some(options) => Reading::Given(options),
-        None => Reading::Wrong,
+        Ok(options) => Reading::Given(options),
+        Err(fault) => Reading::Wrong(fault),
     }
 }
 
@@ -152,17 +183,16 @@ pub struct WithoutOptions {
     pub options: Options,
 }
 
-/// The line, and the options by which it judges a log; none of them if it has another task. Or None if an option is wrong: it has no
-/// number in its range, or is given twice.
+/// The line, and the options by which it judges a log; none of them if it has another task. Or the fault of an option.
 #[tactic(auto, using(crate::proofs::JudgeOptions::step, crate::proofs::JudgeOptions::kept_without, crate::proofs::JudgeOptions::rest_without, crate::proofs::JudgeOptions::of_judge, crate::proofs::JudgeOptions::of_another_task))]
-pub fn without_options(words: Vec<String>) -> Option<WithoutOptions>
-    ensures { option_map (λ line. (line.options, map string_bytes line.words.items)) result ≡ line_without_options (map string_bytes words.items) }
+pub fn without_options(words: Vec<String>) -> Result<WithoutOptions, OptionFault>
+    ensures { result_map_both (λ line. (line.options, map string_bytes line.words.items)) (λ fault. fault) result ≡ line_without_options (map string_bytes words.items) }
 {
     let mut words = words;
     let mut options = Options::none();
     match word_at(words.as_slice(), 0) {
         Some("judge") => {}
-        _ => return Some(WithoutOptions { words, options }),
+        _ => return Ok(WithoutOptions { words, options }),
     }
     let mut wanted = None;
     let mut kept = 1;
@@ -171,8 +201,8 @@ pub fn without_options(words: Vec<String>) -> Option<WithoutOptions>
             break;
         };
         match read_next(options, wanted, word) {
-            Reading::Wrong => return None,
-            Reading::Mark => return Some(WithoutOptions { words, options }),
+            Reading::Wrong(fault) => return Err(fault),
+            Reading::Mark => return Ok(WithoutOptions { words, options }),
             Reading::Word => kept += 1,
             Reading::Given(more) => {
                 options = more;
@@ -185,22 +215,41 @@ pub fn without_options(words: Vec<String>) -> Option<WithoutOptions>
             }
         }
     }
-    if wanted.is_some() {
-        return None;
+    match wanted {
+        Some(option) => Err(OptionFault::Number(option)),
+        None => Ok(WithoutOptions { words, options }),
     }
-    Some(WithoutOptions { words, options })
 }
 
-/// Refuses a line of `judge` whose options are wrong, and returns the status.
-pub fn decline_options<E: Sink>(errors: &mut E) -> u8
+/// The line of a fault of an option.
+fn option_line(fault: OptionFault) -> &'static [u8]
+    ensures { result.now ≡ option_line fault }
+{
+    match fault {
+        OptionFault::Number(Numbered::Capacity) => {
+            b"error: --capacity takes a whole number from 1 to 4294967295\n\nFor more information, try '--help'.\n"
+        }
+        OptionFault::Number(Numbered::Skew) => {
+            b"error: --skew takes a whole number from 0 to 18446744073709551615\n\nFor more information, try '--help'.\n"
+        }
+        OptionFault::Twice(Numbered::Capacity) => {
+            b"error: --capacity is given twice\n\nFor more information, try '--help'.\n"
+        }
+        OptionFault::Twice(Numbered::Skew) => {
+            b"error: --skew is given twice\n\nFor more information, try '--help'.\n"
+        }
+        OptionFault::PageTwice => {
+            b"error: --page is given twice\n\nFor more information, try '--help'.\n"
+        }
+    }
+}
+
+/// Refuses a line of `judge` with a wrong option: reports its fault, and returns the status.
+pub fn decline_options<E: Sink>(errors: &mut E, fault: OptionFault) -> u8
     requires { E.write_failures errors.old < 2 ^ 64 - 1 }
     ensures status { result ≡ 64 }
     ensures told { Told (E.bytes_written errors.old) (E.bytes_written errors.new)
-        (E.write_failures errors.old) (E.write_failures errors.new) options_line }
+        (E.write_failures errors.old) (E.write_failures errors.new) (option_line fault) }
 {
-    told(
-        errors,
-        b"error: judge takes --page, --capacity N (1 to 4294967295) and --skew N, once each, and a file\n",
-        64,
-    )
+    told(errors, option_line(fault), 64)
 }

@@ -59,8 +59,9 @@ fn answer<R: Threads + Wait + Sync + Files, S: Source, W: Sink, E: Sink>(
     requires writes { W.write_failures sink.old < 2 ^ 64 - 1 }
     requires errors { E.write_failures errors.old < 2 ^ 64 - 1 }
 {
-    let Some(judging) = without_options(words) else {
-        return decline_options(errors);
+    let judging = match without_options(words) {
+        Ok(judging) => judging,
+        Err(fault) => return decline_options(errors, fault),
     };
     let formed = without_form(judging.words);
     let parted = without_file(formed.words);

@@ -8,7 +8,7 @@ use Rattle.cc_cli.proofs.judge_options.without_options.Goals.{in-Word, in-Given,
 pub returns-in-Wrong : goal.returns-in-Wrong
 returns-in-Wrong c =
     let word : slice_get (map string_bytes c.loop.words.items) c.loop.kept ≡ Some c.in-Some.word.now = search rules in
-    wrong c.loop.options c.loop.wanted _ c.loop.kept _ c.loop.invariant.rest _ word (search rules)
+    wrong c.loop.options c.loop.wanted _ c.loop.kept _ c.loop.invariant.rest _ word _ (search rules)
 
 pub returns-in-Mark : goal.returns-in-Mark
 returns-in-Mark c =
@@ -36,16 +36,16 @@ loop-preserved c =
       }
     ]
 
-pub returns-then-is_some : goal.returns-then-is_some
-returns-then-is_some c =
+pub returns-in-Some-wanted : goal.returns-in-Some-wanted
+returns-in-Some-wanted c =
     let all : length (map string_bytes c.loop.words.items) ≤ c.loop.kept = elim c.loop-test.branch [
       | else-loop-test w ↦ rw (length-map c.loop.words.items string_bytes) (search rules)
       | then-loop-test+in_default-word_at w ↦ past _ _ (search rules)
     ] in
     let told = ended c.loop.options c.loop.wanted _ c.loop.kept _ c.loop.invariant.rest all in search rules
 
-pub returns : goal.returns
-returns c =
+pub returns-in-None : goal.returns-in-None
+returns-in-None c =
     let all : length (map string_bytes c.loop.words.items) ≤ c.loop.kept = elim c.loop-test.branch [
       | else-loop-test w ↦ rw (length-map c.loop.words.items string_bytes) (search rules)
       | then-loop-test+in_default-word_at w ↦ past _ _ (search rules)
