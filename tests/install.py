@@ -6,6 +6,8 @@
 - `make install` into an empty folder leaves the program, its manual page and three files of completions, and no other
   file; the program plays a plan; `make uninstall` removes them all.
 - The commands, and the options of each command, that the help of `ccq` names are those in each of the completions.
+- The page for man has its sections, in their order, and no line of more than 80 columns on a terminal of that width, as groff sets
+  it, if groff is installed. groff warns of nothing there.
 - bash, and zsh and fish if they are installed, complete the lines of ROWS: each shell runs at a terminal, where the script
   types a line, presses the tab key, and reads the line that the shell then has. A shell lists all commands for a line that
   has none.
@@ -32,6 +34,7 @@ INSTALLED = {
     "usr/share/zsh/site-functions/_ccq": 0o644,
     "usr/share/fish/vendor_completions.d/ccq.fish": 0o644,
 }
+SECTIONS = ["NAME", "SYNOPSIS", "DESCRIPTION", "OPTIONS", "EXIT STATUS", "EXAMPLES", "SEE ALSO"]
 # A line as far as it is typed, and what the tab key adds to it.
 ROWS = [
     ("ccq pl", "ay "),
@@ -100,6 +103,17 @@ def installs():
         check(played.endswith("audit clean\n"), "the installed program plays no plan")
         output("make", "-s", "uninstall", *where)
         check(files_below(folder) == {}, f"uninstall leaves {files_below(folder)}")
+
+
+def is_set():
+    """Sets the page for man on a terminal of 80 columns."""
+    ran = subprocess.run(["groff", "-man", "-Tutf8", "-ww", "-rLL=80n", "docs/ccq.1"], capture_output=True, text=True, cwd=TOP)
+    shown = re.sub(r"\x1b\[[0-9;]*m|.\x08", "", ran.stdout)
+    check(ran.returncode == 0 and not ran.stderr, f"groff says of docs/ccq.1: {ran.stderr}")
+    sections = re.findall(r"^[A-Z][A-Z ]+$", shown, re.M)
+    check(sections == SECTIONS, f"docs/ccq.1 has the sections {sections}")
+    wide = [line for line in shown.split("\n") if len(line) > 80]
+    check(not wide, f"docs/ccq.1 has lines of more than 80 columns: {wide}")
 
 
 def helps():
@@ -187,6 +201,10 @@ def completes(shell, commands):
 
 
 installs()
+if shutil.which("groff"):
+    is_set()
+else:
+    print("install: the page for man on 80 columns: SKIPPED: groff is not on this machine")
 due = helps()
 for shell, reader in (("bash", in_bash), ("zsh", in_zsh), ("fish", in_fish)):
     with open(f"{TOP}/bin/completions/ccq.{shell}") as file:

@@ -137,7 +137,8 @@ Each thread has a stack as large as the limit on stacks (`ulimit -s`); 128 KiB a
 8 MiB the stacks of 127 threads are 1 GB of address space, of which little is used, and with what
 the C library reserves such a run needs up to 3.5 GB of it on four processors. Under a limit on
 that (`ulimit -v`) a thread may be refused; with small stacks 100 MB are enough:
-  (ulimit -s 128; ulimit -v 100000; ccq drive --senders 63 --receivers 64)
+  (ulimit -s 128; ulimit -v 100000
+    ccq drive --senders 63 --receivers 64)
 
 Exit status:
   0   done, and the verdict is clean
