@@ -12,7 +12,7 @@ The head of tests/command_lines says how the rows by hand are written.
 
 After the rows: every strict prefix of two plans; inputs of 16 MiB, at the limit and one byte past it; lists of a plan at
 their limit and one item past it; a large input in little memory; a word that is no text; outputs without room, at once or
-after a prefix of the text; and the width of each text of help. Before them, the script shows that it finds a wrong status, a
+after a prefix of the text; inputs that can't be read; and the width of each text of help. Before them, the script shows that it finds a wrong status, a
 wrong text, a wrong prefix, one on the other output, a word too many, and an input that was read. Exit status 0 if all did so.
 It proves and builds nothing: `rt ci` does.
 """
@@ -24,6 +24,7 @@ import pathlib
 import pty
 import re
 import resource
+import shutil
 import signal
 import subprocess
 import sys
@@ -154,8 +155,8 @@ def others():
 
 
 def is_told(program, words, status, err, **outputs):
-    """Whether a program ends with this status if an output has no room, and writes this on standard error."""
-    ran = subprocess.run([program, *words], stdin=subprocess.DEVNULL, **outputs)
+    """Whether a program ends with this status if a stream is another one, and writes this on standard error."""
+    ran = subprocess.run([program, *words], **{"stdin": subprocess.DEVNULL, **outputs})
     if (ran.returncode, ran.stderr or b"") == (status, err):
         return True
     print(f"{program} {words}: status {ran.returncode} and {ran.stderr!r} in place of {status} and {err!r}")
@@ -195,6 +196,25 @@ def without_room(program):
     for text in (b"", b"sent 20\n", b"sent 20\ntaken 20\n", b"sent 20\ntaken 20\naudit clean"):
         yield fills(program, ["drive", "--items", "5"], text)
     yield fills(program, ["drive", "--help"], b"Drives")
+
+
+def unread(program):
+    """Inputs that can't be read: a folder as standard input, and a file without permission."""
+    folder = os.open(TOP, os.O_RDONLY)
+    reason = b"ccq: standard input: Is a directory (os error 21)\n"
+    for task in ("play", "audit", "judge", "why", "show"):
+        yield is_told(program, [task], 4, reason, stdin=folder, stdout=subprocess.DEVNULL, stderr=subprocess.PIPE)
+    os.close(folder)
+    with tempfile.TemporaryDirectory() as room:
+        os.chmod(room, 0o755)
+        locked = pathlib.Path(room, "locked")
+        locked.touch(0o000)
+        # root may read each file, so the program is run as nobody
+        nobody = {"user": 65534, "group": 65534} if os.geteuid() == 0 else {}
+        ours = shutil.copy(program, room)
+        for task in ("play", "judge"):
+            reason = f"ccq: {locked}: Permission denied (os error 13)\n".encode()
+            yield is_told(ours, [task, locked], 66, reason, stdout=subprocess.DEVNULL, stderr=subprocess.PIPE, **nobody)
 
 
 def hints(program):
@@ -272,7 +292,7 @@ def on_programs():
         well = finds_what_is_wrong(program)
         for row in (it for part in rows for it in part):
             well &= does(program, row)
-        well &= all([*without_room(program), *hints(program)]) and is_narrow(program)
+        well &= all([*without_room(program), *unread(program), *hints(program)]) and is_narrow(program)
         if not well:
             return False
         worked, corpus, lines, large = map(len, rows)

@@ -13,16 +13,16 @@ kept None = tt
 kept (Some xs) = refl
 
 module _ (left : Option (List ℕ)) (reads : ℕ) (old new : Option (List ℕ)) (fails fails_after : ℕ) (errors_old errors_new : Option (List ℕ)) (before after status : ℕ) where
-  pub declined : (form : Form) (options : Options) (asked : Option Task) (faults : Kinds) (kind : ErrorKind) → (kind ≡ ErrorKind.OutOfMemory) ⊎ ((asked ≡ None) × IsAmong kind faults) → Declines old new fails fails_after errors_old errors_new before after status kind
-      → Runs left left reads reads old new fails fails_after errors_old errors_new before after status form options asked faults
+  pub declined : (name : List ℕ) (form : Form) (options : Options) (asked : Option Task) (faults : Kinds) (kind : ErrorKind) → (kind ≡ ErrorKind.OutOfMemory) ⊎ ((asked ≡ None) × IsAmong kind faults) → Declines old new fails fails_after errors_old errors_new before after status kind
+      → Runs left left reads reads old new fails fails_after errors_old errors_new before after status name form options asked faults
   unfolding line_of shown_line
-  declined form options (Some Task.Play) faults kind (inl memory) d = let out = subst (Declines old new fails fails_after errors_old errors_new before after status) memory d in (Err PlayFault.NoMemory, out.1, omega arith, omega (arith, out.2), out.0, out.3)
-  declined form options (Some Task.Audit) faults kind (inl memory) d = let out = subst (Declines old new fails fails_after errors_old errors_new before after status) memory d in (Err PlayFault.NoMemory, out.1, omega arith, omega (arith, out.2), out.0, out.3)
-  declined form options (Some Task.Judge) faults kind (inl memory) d = let out = subst (Declines old new fails fails_after errors_old errors_new before after status) memory d in inl out.0
-  declined form options (Some Task.Why) faults kind (inl memory) d =
+  declined name form options (Some Task.Play) faults kind (inl memory) d = let out = subst (Declines old new fails fails_after errors_old errors_new before after status) memory d in (Err PlayFault.NoMemory, out.1, omega arith, omega (arith, out.2), out.0, out.3)
+  declined name form options (Some Task.Audit) faults kind (inl memory) d = let out = subst (Declines old new fails fails_after errors_old errors_new before after status) memory d in (Err PlayFault.NoMemory, out.1, omega arith, omega (arith, out.2), out.0, out.3)
+  declined name form options (Some Task.Judge) faults kind (inl memory) d = let out = subst (Declines old new fails fails_after errors_old errors_new before after status) memory d in inl out.0
+  declined name form options (Some Task.Why) faults kind (inl memory) d =
       let out = subst (Declines old new fails fails_after errors_old errors_new before after status) memory d in
       record { none = λ zero. absurd (omega (arith, out.0, zero)); some = λ one. absurd (omega (arith, out.0, one)) }
-  declined form options (Some Task.Show) faults kind (inl memory) d = let out = subst (Declines old new fails fails_after errors_old errors_new before after status) memory d in (Err (ShowFault.Play PlayFault.NoMemory), out.1, omega arith, omega (arith, out.2), out.0, out.3)
-  declined form options (Some t) faults kind (inr h) d = cc
-  declined form options None faults kind (inl memory) d = (kept left, refl, (kind, inl memory, d))
-  declined form options None faults kind (inr h) d = (kept left, refl, (kind, inr h.1, d))
+  declined name form options (Some Task.Show) faults kind (inl memory) d = let out = subst (Declines old new fails fails_after errors_old errors_new before after status) memory d in (Err (ShowFault.Play PlayFault.NoMemory), out.1, omega arith, omega (arith, out.2), out.0, out.3)
+  declined name form options (Some t) faults kind (inr h) d = cc
+  declined name form options None faults kind (inl memory) d = (kept left, refl, (kind, inl memory, d))
+  declined name form options None faults kind (inr h) d = (kept left, refl, (kind, inr h.1, d))

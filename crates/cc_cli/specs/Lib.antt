@@ -1,6 +1,7 @@
 pub mod Names
 pub mod CommandLine
 pub mod Words
+pub mod Input
 pub mod JudgeOptions
 pub mod Judged
 pub mod Why

@@ -14,3 +14,4 @@ pub use Rattle.cc_cli.specs.declared.judge_options.Numbered.{Numbered}
 pub use Rattle.cc_cli.specs.declared.judge_options.OptionFault.{OptionFault}
 pub use Rattle.cc_cli.specs.declared.judge_options.Reading.{Reading}
 pub use Rattle.cc_cli.specs.declared.judging.page.AnswerFault.{AnswerFault}
+pub use Rattle.cc_cli.specs.declared.input.Input.{Input}

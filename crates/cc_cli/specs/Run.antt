@@ -12,14 +12,30 @@ use Rattle.cc_show.specs.Show.{Shows, failed_reads_of, failed_writes_of, shown_l
 use Rattle.cc_cli.specs.Judged.{Judges}
 use Rattle.cc_cli.specs.Why.{Explains}
 
--- the line if the file of this name can't be opened, with the system's reason
-abbrev pub unopened_line : (name reason : List ℕ) → List ℕ
-unopened_line name reason = codes "ccq: " ++ name ++ codes ": " ++ reason ++ codes "\n"
+-- the line if the input of this name can't be opened or read, with the system's reason
+abbrev pub unread_line : (name reason : List ℕ) → List ℕ
+unread_line name reason = codes "ccq: " ++ name ++ codes ": " ++ reason ++ codes "\n"
 
--- a line is refused whose file can't be opened, or there was no memory to report that
+-- The lines on standard error about an input.
+module _ (errors_old errors_new : Option (List ℕ)) (before after : ℕ) where
+  -- reading the input of this name failed: its name and the system's reason, unless there is no memory for the reason
+  abbrev pub TellsUnread : (name : List ℕ) → Type 0
+  TellsUnread name = ((reason : List ℕ) × Told errors_old errors_new before after (unread_line name reason)) ⊎ Told errors_old errors_new before after (line_of (Err PlayFault.Read))
+
+  -- the outcome of a play or an audit of this input
+  abbrev pub Tells : (name : List ℕ) → Result Verdict PlayFault → Type 0
+  Tells name (Err PlayFault.Read) = TellsUnread name
+  Tells name outcome = Told errors_old errors_new before after (line_of outcome)
+
+  -- the outcome of a show of this input
+  abbrev pub TellsShown : (name : List ℕ) → Result Verdict ShowFault → Type 0
+  TellsShown name (Err (ShowFault.Play PlayFault.Read)) = TellsUnread name
+  TellsShown name outcome = Told errors_old errors_new before after (shown_line outcome)
+
+-- a file can't be opened, or there was no memory to report that
 module _ (errors_old errors_new : Option (List ℕ)) (before after status : ℕ) where
   abbrev pub RefusesFile : (name : List ℕ) → Type 0
-  RefusesFile name = ((status ≡ 64) × ((reason : List ℕ) × Told errors_old errors_new before after (unopened_line name reason))) ⊎ ((status ≡ 3) × Told errors_old errors_new before after no_memory_line)
+  RefusesFile name = ((status ≡ 66) × ((reason : List ℕ) × Told errors_old errors_new before after (unread_line name reason))) ⊎ ((status ≡ 3) × Told errors_old errors_new before after no_memory_line)
 
 -- The bytes that a line without a task leaves on both outputs, each with its number of failed writes, and the status.
 module _ (old new : Option (List ℕ)) (fails fails_after : ℕ) (errors_old errors_new : Option (List ℕ)) (before after status : ℕ) where
@@ -43,22 +59,22 @@ module _ (old new : Option (List ℕ)) (fails fails_after : ℕ) (errors_old err
   Declines _ = Complains ⊎ RunsOut
 
 -- The bytes that a whole line leaves, on its input too, with the number of failed reads. If it asks for a play, an audit or a
--- run in a form, that is done as far as it goes and its outcome reported. If it asks for a verdict on a log by these options,
+-- run in a form, that is done as far as it goes and its outcome reported, by the name of its input if reading that failed. If it asks for a verdict on a log by these options,
 -- the status is that of a right one. If it asks for the place of an input's fault, the status says whether it has one. If it asks for none, nothing is read, and it is declined for a fault that the parser of command lines finds in it, or for lack of memory.
 module _ (left_old left_new : Option (List ℕ)) (reads reads_after : ℕ) (old new : Option (List ℕ)) (fails fails_after : ℕ) (errors_old errors_new : Option (List ℕ)) (before after status : ℕ) where
-  abbrev pub Does : (Option (List ℕ) → Option (List ℕ) → Result Verdict PlayFault → Option (List ℕ) → Option (List ℕ) → Type 0) → Type 0
-  Does Work = (outcome : Result Verdict PlayFault) × Work left_old left_new outcome old new × (reads_after ≡ reads + failed_reads outcome) × (fails_after ≡ fails + failed_writes outcome)
-      × (status ≡ status_of outcome) × Told errors_old errors_new before after (line_of outcome)
+  abbrev pub Does : (name : List ℕ) → (Option (List ℕ) → Option (List ℕ) → Result Verdict PlayFault → Option (List ℕ) → Option (List ℕ) → Type 0) → Type 0
+  Does name Work = (outcome : Result Verdict PlayFault) × Work left_old left_new outcome old new × (reads_after ≡ reads + failed_reads outcome) × (fails_after ≡ fails + failed_writes outcome)
+      × (status ≡ status_of outcome) × Tells errors_old errors_new before after name outcome
 
-  abbrev pub DoesShow : Form → Type 0
-  DoesShow form = (outcome : Result Verdict ShowFault) × Shows form left_old left_new outcome old new × (reads_after ≡ reads + failed_reads_of outcome) × (fails_after ≡ fails + failed_writes_of outcome)
-      × (status ≡ shown_status outcome) × Told errors_old errors_new before after (shown_line outcome)
+  abbrev pub DoesShow : (name : List ℕ) → Form → Type 0
+  DoesShow name form = (outcome : Result Verdict ShowFault) × Shows form left_old left_new outcome old new × (reads_after ≡ reads + failed_reads_of outcome) × (fails_after ≡ fails + failed_writes_of outcome)
+      × (status ≡ shown_status outcome) × TellsShown errors_old errors_new before after name outcome
 
-  abbrev pub Runs : Form → Options → Option Task → Kinds → Type 0
-  Runs form options (Some Task.Play) faults = Does Plays
-  Runs form options (Some Task.Audit) faults = Does Audits
-  Runs form options (Some Task.Judge) faults = Judges options left_old status
-  Runs form options (Some Task.Why) faults = Explains left_old left_new status
-  Runs form options (Some Task.Show) faults = DoesShow form
-  Runs form options None faults = Keeps left_old left_new × (reads_after ≡ reads)
+  abbrev pub Runs : (name : List ℕ) → Form → Options → Option Task → Kinds → Type 0
+  Runs name form options (Some Task.Play) faults = Does name Plays
+  Runs name form options (Some Task.Audit) faults = Does name Audits
+  Runs name form options (Some Task.Judge) faults = Judges options left_old status
+  Runs name form options (Some Task.Why) faults = Explains left_old left_new status
+  Runs name form options (Some Task.Show) faults = DoesShow name form
+  Runs name form options None faults = Keeps left_old left_new × (reads_after ≡ reads)
       × ((found : ErrorKind) × IsAmong found (ErrorKind.OutOfMemory ∷ faults) × Declines old new fails fails_after errors_old errors_new before after status found)

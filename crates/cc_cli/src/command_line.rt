@@ -179,7 +179,8 @@ Exit status:
   3   memory or a thread was refused, or a thread reached its limit
   4   reading or writing failed
   5   the judge is undecided, or a run has too many events to be shown
-  64  the command line is refused";
+  64  the command line is refused
+  66  the file of the input can't be opened";
 
 const PLAY_DETAILS: &str = "\
 A plan is a JSON object with the keys:
@@ -272,7 +273,8 @@ Exit status:
   0   the input isn't refused
   1   it is, with P1 to P4
   3   memory was refused
-  4   reading or writing failed";
+  4   reading or writing failed
+  66  the file can't be opened";
 
 const SHOW_DETAILS: &str = "\
 The page draws the run of a plan event by event, forwards and backwards, and needs no network.

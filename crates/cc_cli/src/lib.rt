@@ -11,6 +11,7 @@ pub mod drive_line;
 mod driving;
 mod gate;
 pub mod hint;
+pub mod input;
 pub mod judge_options;
 mod judging;
 pub mod reading;

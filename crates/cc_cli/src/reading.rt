@@ -2,18 +2,23 @@
 ghost use Rattle.std.specs.Prelude.{◌≡◌, ◌<◌, ◌-◌, ◌^◌, map, string_bytes};
 ghost use Rattle.clap.specs.Words.{fault_of, kind_of};
 ghost use Rattle.cc_cli.specs.CommandLine.{commands, task_of};
-ghost use Rattle.cc_cli.specs.Run.{Declines, Helps, RefusesFile, Runs, unopened_line};
+ghost use Rattle.cc_cli.specs.Run.{Declines, Helps, RefusesFile, Runs, Tells, TellsShown, TellsUnread, unread_line};
+ghost use Rattle.cc_cli.specs.Names.{PlayFault};
+ghost use Rattle.cc_play.specs.Outcome.{status_of};
+ghost use Rattle.cc_show.specs.Show.{shown_status};
 ghost use Rattle.cc_io.specs.FaultLine.{Told};
 
 use crate::command_line::{Task, asked};
+use crate::input::Reasoned;
 use crate::judging::judge_input;
 use crate::why::why_input;
 use crate::words::CommandLine;
+use cc_audit::Verdict;
 use cc_io::{Pen, Sink, Source, out_of_memory, told, write_bytes};
 use cc_play::play::play;
 use cc_play::{PlayFault, audit_bytes, tell};
 use cc_show::show::show;
-use cc_show::tell_shown;
+use cc_show::{ShowFault, tell_shown};
 use clap::Error;
 use clap::error::ErrorKind;
 use std::alloc::Global;
@@ -24,7 +29,7 @@ use std::io;
 /// if a fault was found, 2 if the input is refused, 3 if memory is, 4 if a device fails, 5 if the judge is undecided or the run
 /// is too long to be shown, and 64 if the line is refused. Faults are reported on `errors`, whose own failures change nothing.
 #[tactic(auto, using(crate::proofs::Declined::declined))]
-pub fn run<R: Source, W: Sink, E: Sink>(
+pub fn run<R: Source + Reasoned, W: Sink, E: Sink>(
     alloc: Global,
     line: CommandLine<'_>,
     source: &mut R,
@@ -40,25 +45,81 @@ pub fn run<R: Source, W: Sink, E: Sink>(
         (W.bytes_written sink.old) (W.bytes_written sink.new)
         (W.write_failures sink.old) (W.write_failures sink.new)
         (E.bytes_written errors.old) (E.bytes_written errors.new)
-        (E.write_failures errors.old) (E.write_failures errors.new) result line.entry.form line.entry.options
+        (E.write_failures errors.old) (E.write_failures errors.new) result line.entry.input.now line.entry.form line.entry.options
         (task_of (map string_bytes line.entry.words.now)) (fault_of commands (map string_bytes line.entry.words.now)) }
 {
     match asked(alloc, line.words) {
         Ok(Task::Play) => {
             let outcome = play(alloc, source, sink);
-            tell(errors, outcome)
+            tell_outcome(alloc, errors, line.input, source, outcome)
         }
         Ok(Task::Audit) => {
             let outcome = audit_bytes(alloc, source, sink);
-            tell(errors, outcome)
+            tell_outcome(alloc, errors, line.input, source, outcome)
         }
-        Ok(Task::Judge) => judge_input(alloc, line.options, source, sink, errors),
-        Ok(Task::Why) => why_input(alloc, source, sink, errors),
+        Ok(Task::Judge) => judge_input(alloc, line, source, sink, errors),
+        Ok(Task::Why) => why_input(alloc, line.input, source, sink, errors),
         Ok(Task::Show) => {
             let outcome = show(alloc, line.form, source, sink);
-            tell_shown(errors, outcome)
+            tell_shown_outcome(alloc, errors, line.input, source, outcome)
         }
         Err(error) => decline(alloc, &error, sink, errors),
+    }
+}
+
+/// Reports the outcome of a play or an audit of the input of this name, and returns the status.
+fn tell_outcome<S: Reasoned, E: Sink>(
+    alloc: Global,
+    errors: &mut E,
+    name: &str,
+    source: &S,
+    outcome: Result<Verdict, PlayFault>,
+) -> u8
+    requires { E.write_failures errors.old < 2 ^ 64 - 1 }
+    ensures status { result ≡ status_of outcome }
+    ensures told { Tells (E.bytes_written errors.old) (E.bytes_written errors.new)
+        (E.write_failures errors.old) (E.write_failures errors.new) name.now outcome }
+{
+    match outcome {
+        Err(PlayFault::Read) => tell_unread(alloc, errors, name, source),
+        outcome => tell(errors, outcome),
+    }
+}
+
+/// Reports the outcome of a show of the input of this name, and returns the status.
+fn tell_shown_outcome<S: Reasoned, E: Sink>(
+    alloc: Global,
+    errors: &mut E,
+    name: &str,
+    source: &S,
+    outcome: Result<Verdict, ShowFault>,
+) -> u8
+    requires { E.write_failures errors.old < 2 ^ 64 - 1 }
+    ensures status { result ≡ shown_status outcome }
+    ensures told { TellsShown (E.bytes_written errors.old) (E.bytes_written errors.new)
+        (E.write_failures errors.old) (E.write_failures errors.new) name.now outcome }
+{
+    match outcome {
+        Err(ShowFault::Play(PlayFault::Read)) => tell_unread(alloc, errors, name, source),
+        outcome => tell_shown(errors, outcome),
+    }
+}
+
+/// Reports that reading the input of this name failed, with the system's reason, and returns the status.
+pub(crate) fn tell_unread<S: Reasoned, E: Sink>(
+    alloc: Global,
+    errors: &mut E,
+    name: &str,
+    source: &S,
+) -> u8
+    requires { E.write_failures errors.old < 2 ^ 64 - 1 }
+    ensures status { result ≡ 4 }
+    ensures told { TellsUnread (E.bytes_written errors.old) (E.bytes_written errors.new)
+        (E.write_failures errors.old) (E.write_failures errors.new) name.now }
+{
+    match source.reason(alloc) {
+        Some(reason) => tell_reason(errors, name.as_bytes(), reason.as_bytes(), 4),
+        None => tell(errors, Err(PlayFault::Read)),
     }
 }
 
@@ -97,7 +158,7 @@ fn help<W: Sink, E: Sink>(sink: &mut W, errors: &mut E, text: &[u8]) -> u8
     }
 }
 
-/// Refuses a line whose file can't be opened: reports the file with the system's reason, and returns the status.
+/// Reports that the file of this name can't be opened, with the system's reason, and returns the status.
 pub fn decline_file<E: Sink>(alloc: Global, errors: &mut E, name: &[u8], error: &io::Error) -> u8
     requires { E.write_failures errors.old < 2 ^ 64 - 1 }
     ensures { RefusesFile (E.bytes_written errors.old) (E.bytes_written errors.new)
@@ -105,16 +166,16 @@ pub fn decline_file<E: Sink>(alloc: Global, errors: &mut E, name: &[u8], error: 
 {
     match (error.kind(), format!(in alloc; "{error}")) {
         (io::ErrorKind::OutOfMemory, _) | (_, Err(_)) => out_of_memory(errors),
-        (_, Ok(reason)) => tell_unopened(errors, name, reason.as_bytes()),
+        (_, Ok(reason)) => tell_reason(errors, name, reason.as_bytes(), 66),
     }
 }
 
-/// Reports that the file of this name can't be opened, with the reason, and returns the status.
-fn tell_unopened<E: Sink>(errors: &mut E, name: &[u8], reason: &[u8]) -> u8
+/// Reports why the input of this name can't be opened or read, and returns this status.
+fn tell_reason<E: Sink>(errors: &mut E, name: &[u8], reason: &[u8], status: u8) -> u8
     requires { E.write_failures errors.old < 2 ^ 64 - 1 }
-    ensures status { result ≡ 64 }
+    ensures status { result ≡ status }
     ensures told { Told (E.bytes_written errors.old) (E.bytes_written errors.new)
-        (E.write_failures errors.old) (E.write_failures errors.new) (unopened_line name.now reason.now) }
+        (E.write_failures errors.old) (E.write_failures errors.new) (unread_line name.now reason.now) }
 {
     let mut pen = Pen::new();
     pen.text(errors, b"ccq: ");
@@ -123,5 +184,5 @@ fn tell_unopened<E: Sink>(errors: &mut E, name: &[u8], reason: &[u8]) -> u8
     pen.text(errors, reason);
     pen.text(errors, b"\n");
     let _outcome = pen.finish(errors);
-    64
+    status
 }

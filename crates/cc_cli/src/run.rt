@@ -9,6 +9,7 @@ ghost use Rattle.std.specs.Bool.{OnTrue, OnFalse};
 
 use crate::drive_line::{asked, asks_to_drive};
 use crate::driving::{drive_to, tell_end};
+use crate::input::Reasoned;
 use crate::reading;
 use crate::reading::decline;
 use crate::words::CommandLine;
@@ -22,7 +23,7 @@ use std::thread::Threads;
 /// the version was asked for and went to the sink; 1 if a fault was found, 2 if the input is refused, 3 if memory or a thread
 /// is, or a worker reached its limit, 4 if a device fails, 5 if the judge is undecided or a run is too long to be shown, and 64
 /// if the line is refused. Faults are reported on `errors`, whose own failures change nothing.
-pub fn run<R: Threads + Wait + Sync, S: Source, W: Sink, E: Sink>(
+pub fn run<R: Threads + Wait + Sync, S: Source + Reasoned, W: Sink, E: Sink>(
     rt: &R,
     alloc: Global,
     line: CommandLine<'_>,
@@ -47,7 +48,7 @@ pub fn run<R: Threads + Wait + Sync, S: Source, W: Sink, E: Sink>(
         (W.bytes_written sink.old) (W.bytes_written sink.new)
         (W.write_failures sink.old) (W.write_failures sink.new)
         (E.bytes_written errors.old) (E.bytes_written errors.new)
-        (E.write_failures errors.old) (E.write_failures errors.new) result line.entry.form line.entry.options
+        (E.write_failures errors.old) (E.write_failures errors.new) result line.entry.input.now line.entry.form line.entry.options
         (task_of (map string_bytes line.entry.words.now)) (fault_of commands (map string_bytes line.entry.words.now))) }
 {
     if asks_to_drive(line.words) {

@@ -2,6 +2,8 @@
 ghost use Rattle.std.specs.Prelude.{◌≡◌, ◌<◌, ◌-◌, ◌^◌, IfOk, IsSome, None};
 ghost use Rattle.cc_cli.specs.Why.{Explains, Found};
 
+use crate::input::Reasoned;
+use crate::reading::tell_unread;
 use crate::why_line::line_of;
 use cc_io::{InputFault, Sink, Source, out_of_memory, read_input, told, write_bytes};
 use cc_plan::{PlanFault, explain};
@@ -46,10 +48,11 @@ fn write_answer<W: Sink, E: Sink>(answer: &Answer, sink: &mut W, errors: &mut E)
     }
 }
 
-/// Reads an input from the source, and writes the place at which it is refused to the sink. It returns the exit status: 0 if it isn't
+/// Reads the input of this name from the source, and writes the place at which it is refused to the sink. It returns the exit status: 0 if it isn't
 /// refused, 1 if it is, 3 if memory is refused and 4 if a device fails. A failure is reported on `errors`.
-pub fn why_input<R: Source, W: Sink, E: Sink>(
+pub fn why_input<R: Source + Reasoned, W: Sink, E: Sink>(
     alloc: Global,
+    name: &str,
     source: &mut R,
     sink: &mut W,
     errors: &mut E,
@@ -61,7 +64,7 @@ pub fn why_input<R: Source, W: Sink, E: Sink>(
 {
     match answer_from(alloc, source) {
         Ok(answer) => write_answer(&answer, sink, errors),
-        Err(InputFault::Read) => told(errors, b"ccq: reading failed\n", 4),
+        Err(InputFault::Read) => tell_unread(alloc, errors, name, source),
         Err(InputFault::NoMemory) => out_of_memory(errors),
     }
 }

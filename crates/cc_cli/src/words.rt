@@ -138,4 +138,6 @@ pub struct CommandLine<'a> {
     pub form: Form,
     /// The options by which it judges a log, if it judges one.
     pub options: Options,
+    /// The name of its input.
+    pub input: &'a str,
 }

@@ -4,6 +4,7 @@
 ghost use Rattle.std.specs.Prelude.{◌<◌, ◌-◌, ◌^◌};
 
 use cc_cli::hint::{hint, is_explained};
+use cc_cli::input::{Input, Reasoned};
 use cc_cli::judge_options::{decline_options, without_options};
 use cc_cli::not_text;
 use cc_cli::reading::{decline, decline_file};
@@ -20,13 +21,20 @@ use std::sync::Wait;
 use std::thread::Threads;
 
 fn main(rt: HostRuntime) -> ExitCode {
-    let mut source = Device::new(rt.stdin());
+    let mut standard = Input::new(rt.stdin());
     let mut sink = Device::new(rt.stdout());
     let mut errors = Device::new(rt.stderr());
     let status = match words(&rt) {
         Ok(words) => {
             let hints = rt.stderr().is_terminal() && is_explained(&words);
-            match answer(&rt, rt.alloc(), words, &mut source, &mut sink, &mut errors) {
+            match answer(
+                &rt,
+                rt.alloc(),
+                words,
+                &mut standard,
+                &mut sink,
+                &mut errors,
+            ) {
                 2 if hints => hint(&mut Device::new(rt.stderr())),
                 status => status,
             }
@@ -47,7 +55,7 @@ fn words(rt: &HostRuntime) -> Result<Vec<String>, Error> {
 }
 
 /// Does a line over the file that it names, or over standard input if it names none, and answers the exit status.
-fn answer<R: Threads + Wait + Sync + Files, S: Source, W: Sink, E: Sink>(
+fn answer<R: Threads + Wait + Sync + Files, S: Source + Reasoned, W: Sink, E: Sink>(
     rt: &R,
     alloc: Global,
     words: Vec<String>,
@@ -69,13 +77,17 @@ fn answer<R: Threads + Wait + Sync + Files, S: Source, W: Sink, E: Sink>(
         words: parted.words.as_slice(),
         form: formed.form,
         options: judging.options,
+        input: match &parted.file {
+            Some(name) => name.as_str(),
+            None => "standard input",
+        },
     };
     let Some(name) = &parted.file else {
         return run(rt, alloc, line, standard, sink, errors);
     };
     match File::open(rt, name.as_str()) {
         Ok(file) => {
-            let mut source = Device::new(file);
+            let mut source = Input::new(file);
             run(rt, alloc, line, &mut source, sink, errors)
         }
         Err(error) => decline_file(alloc, errors, name.as_bytes(), &error),

@@ -3,11 +3,14 @@ ghost use Rattle.std.specs.Prelude.{◌≡◌, ◌⊎◌, ◌<◌, ◌-◌, ◌^
 ghost use Rattle.cc_judge.specs.Verdict.{IsVerdict};
 ghost use Rattle.cc_cli.specs.Judged.{IsJudged, IsRefused, Judges, told_status, verdict_status};
 
+use crate::input::Reasoned;
 use crate::judging::page::{AnswerFault, write_page};
 use crate::judging::verdict_line::text_of;
+use crate::reading::tell_unread;
+use crate::words::CommandLine;
 use cc_io::{Sink, Source, out_of_memory, told, write_bytes};
 use cc_judge::{Verdict, judge};
-use cc_log::{Log, LogFault, Options, read_log};
+use cc_log::{Log, LogFault, read_log};
 use cc_play::{PlayFault, tell};
 use std::alloc::{AllocError, Global};
 
@@ -39,14 +42,20 @@ fn verdict_on(alloc: Global, log: &Log) -> Result<Found, AllocError>
     Ok(Found { verdict, line })
 }
 
-/// Reports why an input is no log, and returns the status.
-fn refused<E: Sink>(alloc: Global, errors: &mut E, fault: &LogFault) -> u8
+/// Reports why the input of this name is no log, and returns the status.
+fn refused<R: Reasoned, E: Sink>(
+    alloc: Global,
+    errors: &mut E,
+    name: &str,
+    source: &R,
+    fault: &LogFault,
+) -> u8
     requires { E.write_failures errors.old < 2 ^ 64 - 1 }
     ensures { IsRefused fault.now result }
 {
     match fault {
         LogFault::Memory => out_of_memory(errors),
-        LogFault::Read => tell(errors, Err(PlayFault::Read)),
+        LogFault::Read => tell_unread(alloc, errors, name, source),
         _ => tell_refusal(alloc, errors, fault),
     }
 }
@@ -108,13 +117,13 @@ fn judge_log<W: Sink, E: Sink>(alloc: Global, log: &Log, sink: &mut W, errors: &
     tell_written(errors, status, outcome)
 }
 
-/// Reads a log from the source, judges it, and writes the verdict to the sink, as a line or as a page. It returns the exit status: 0
+/// Reads the log of a line from the source, judges it by the line's options, and writes the verdict to the sink, as a line or as a page. It returns the exit status: 0
 /// if the log is linearizable, 1 if it isn't, 2 if the log is refused, 3 if memory is, 4 if a device fails, and 5 if the
 /// verdict is undecided. A refusal or a failure is reported on `errors`. The status is that of a right verdict on the log that the
 /// input spells, or says that the input spells none.
-pub fn judge_input<R: Source, W: Sink, E: Sink>(
+pub fn judge_input<R: Source + Reasoned, W: Sink, E: Sink>(
     alloc: Global,
-    options: Options,
+    line: CommandLine<'_>,
     source: &mut R,
     sink: &mut W,
     errors: &mut E,
@@ -122,10 +131,10 @@ pub fn judge_input<R: Source, W: Sink, E: Sink>(
     requires reads { R.read_failures source.old < 2 ^ 64 - 1 }
     requires writes { W.write_failures sink.old < 2 ^ 64 - 1 }
     requires errors { E.write_failures errors.old < 2 ^ 64 - 1 }
-    ensures { Judges options (R.bytes_left source.old) result }
+    ensures { Judges line.entry.options (R.bytes_left source.old) result }
 {
-    match read_log(alloc, source, options) {
+    match read_log(alloc, source, line.options) {
         Ok(log) => judge_log(alloc, &log, sink, errors),
-        Err(fault) => refused(alloc, errors, &fault),
+        Err(fault) => refused(alloc, errors, line.input, source, &fault),
     }
 }

@@ -1,6 +1,6 @@
 use Rattle.std.proofs.Common.{is_err}
 use Rattle.cc_io.proofs.Writing.{then, all_out}
-use Rattle.cc_cli.proofs.reading.tell_unopened.Goals as goal
+use Rattle.cc_cli.proofs.reading.tell_reason.Goals as goal
 
 pub returns-clause-told : goal.returns-clause-told
 returns-clause-told g c = record {
