@@ -265,6 +265,7 @@ The input is read as receipts if it is an object with the key `accepted` or `tak
 plan. The answer is one line. If the input is refused it has the line and the column, the path, what
 is there, and what is wrong with it:
   1:72 schedule[0][0]: \"s2\" names no pass (s1, r1)
+Of a log of calls the line says that it is one, which `ccq judge` reads.
 
 If several values have the same fault, the first in the table of keys is reported, and of a list the
 first. A key that isn't known comes before one that is missing, and both before all values.

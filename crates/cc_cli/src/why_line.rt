@@ -208,9 +208,27 @@ fn start_of(place: Place) -> usize {
     }
 }
 
+/// Whether the first line of an input is that of a log of calls: an object that names a thread and a begin, or the late beginning
+/// of a log.
+fn begins_log(input: &[u8]) -> bool {
+    let first = input.split(|byte| *byte == b'\n').next().unwrap_or(b"");
+    match std::str::from_utf8(first) {
+        Ok(line) => {
+            line.trim_start().starts_with('{')
+                && (line.contains("\"begins\"")
+                    || (line.contains("\"thread\"") && line.contains("\"begin\"")))
+        }
+        Err(_) => false,
+    }
+}
+
 /// The line with the place of a fault, or that there is none.
 pub fn line_of(alloc: Global, input: &[u8], why: &Explained) -> Result<String, AllocError> {
     match (why.fault, why.place, why.table.kind) {
+        (Some(_), _, Kind::Plan) if begins_log(input) => String::from_str(
+            alloc,
+            "neither a plan nor receipts: this is a log of calls, which `ccq judge` reads\n",
+        ),
         (None, _, Kind::Plan) => String::from_str(alloc, "no fault: this plan isn't refused\n"),
         (None, _, Kind::Receipts) => {
             String::from_str(alloc, "no fault: these receipts aren't refused\n")
