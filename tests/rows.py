@@ -12,7 +12,8 @@ The head of tests/command_lines says how the rows by hand are written.
 
 After the rows: every strict prefix of two plans; inputs of 16 MiB, at the limit and one byte past it; lists of a plan at
 their limit and one item past it; a large input in little memory; a word that is no text; outputs without room, at once or
-after a prefix of the text; inputs that can't be read; and the width of each text of help. Before them, the script shows that it finds a wrong status, a
+after a prefix of the text; inputs that can't be read; what a person at a terminal is told, by a terminal of the script's own; and
+the width of each text of help. Before them, the script shows that it finds a wrong status, a
 wrong text, a wrong prefix, one on the other output, a word too many, and an input that was read. Exit status 0 if all did so.
 It proves and builds nothing: `rt ci` does.
 """
@@ -24,11 +25,14 @@ import pathlib
 import pty
 import re
 import resource
+import select
 import shutil
 import signal
 import subprocess
 import sys
 import tempfile
+import termios
+import time
 
 sys.dont_write_bytecode = True
 import derive
@@ -217,6 +221,64 @@ def unread(program):
             yield is_told(ours, [task, locked], 66, reason, stdout=subprocess.DEVNULL, stderr=subprocess.PIPE, **nobody)
 
 
+class Terminal:
+    """A program some of whose streams are a terminal."""
+
+    def __init__(self, program, words, at, **others):
+        self.ours, theirs = pty.openpty()
+        modes = termios.tcgetattr(theirs)
+        modes[3] &= ~termios.ECHO
+        termios.tcsetattr(theirs, termios.TCSANOW, modes)
+        self.child = subprocess.Popen([program, *words], cwd=TOP, **{"stdin": subprocess.DEVNULL, **others, **dict.fromkeys(at, theirs)})
+        os.close(theirs)
+
+    def read_up_to(self, pattern, seconds=30):
+        """What the terminal shows, up to a pattern or to the end of the program."""
+        shown, end = b"", time.monotonic() + seconds
+        while not re.search(pattern, shown) and time.monotonic() < end:
+            if select.select([self.ours], [], [], 0.2)[0]:
+                try:
+                    shown += os.read(self.ours, 4096)
+                except OSError: # the end, as Linux has it
+                    break
+        return shown
+
+    def end(self):
+        """The status, and what the program wrote to its other streams."""
+        texts = self.child.communicate(timeout=30)
+        os.close(self.ours)
+        return self.child.returncode, *texts
+
+
+def at_terminals(program):
+    """At a terminal a task says what it waits for, no page is written, and a drive of seconds says how far it is."""
+
+    def same(what, seen, due):
+        if seen != due:
+            print(f"{program} {what}: {seen!r} at a terminal, and not {due!r}")
+        return seen == due
+
+    for task, waits in (("play", b"a plan on standard input; Ctrl-D ends it"), ("audit", b"receipts on standard input; Ctrl-D ends them")):
+        there = Terminal(program, [task], ["stdin", "stderr"], stdout=subprocess.PIPE)
+        shown = there.read_up_to(rb"\n")
+        os.write(there.ours, b"\x04")
+        yield same(task, (shown, there.end()[:2]), (b"ccq: waiting for " + waits + b"\r\n", (2, b"")))
+    for line in ("show examples/one_item.json", "judge --page examples/calls.jsonl"):
+        there = Terminal(program, line.split(), ["stdout"], stderr=subprocess.PIPE)
+        due = b"error: a page is for a browser, and standard output is a terminal: add `> page.html`\n"
+        yield same(line, (there.read_up_to(b"."), there.end()), (b"", (64, None, due)))
+    there = Terminal(program, "show --trace examples/one_item.json".split(), ["stdout"], stderr=subprocess.PIPE)
+    yield same("show --trace", there.read_up_to(rb"\n")[:10], b'{"event":1') and same("show --trace", there.end()[0], 0)
+    # It needs minutes; and writes nothing else while it runs, also if standard error is no terminal
+    line = "drive --items 1000000 --senders 63 --capacity 1".split()
+    there, piped = Terminal(program, line, ["stderr"], stdout=subprocess.PIPE), Terminal(program, line, [], stdout=subprocess.PIPE, stderr=subprocess.PIPE)
+    shown = there.read_up_to(rb" a second  $")
+    for it in (there, piped):
+        it.child.send_signal(signal.SIGINT)
+    well = re.fullmatch(rb"(\rccq: \d+ s, \d+ calls answered, \d+ a second  )+", shown) is not None
+    yield same("drive", (well, shown if not well else b""), (True, b"")) and same("drive", there.end()[:2], (-signal.SIGINT, b"")) and same("drive", piped.end(), (-signal.SIGINT, b"", b""))
+
+
 def hints(program):
     """At a terminal a second line after a refusal names `ccq why`, for the tasks whose inputs it explains."""
     hint = "ccq: `ccq why INPUT` reports the place of the fault\r\n"
@@ -292,7 +354,7 @@ def on_programs():
         well = finds_what_is_wrong(program)
         for row in (it for part in rows for it in part):
             well &= does(program, row)
-        well &= all([*without_room(program), *unread(program), *hints(program)]) and is_narrow(program)
+        well &= all([*without_room(program), *unread(program), *hints(program), *at_terminals(program)]) and is_narrow(program)
         if not well:
             return False
         worked, corpus, lines, large = map(len, rows)

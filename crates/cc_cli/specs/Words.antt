@@ -1,6 +1,6 @@
 -- The words of a line that its parser doesn't see: help by its word, the form of a run that is shown, and the file of a task's
 -- input.
-use Rattle.std.specs.Prelude.{ℕ, ◌==◌, ◌+◌, ◌&&◌, ◌||◌, ◌++◌, Bool, false, not, List, [], ◌∷◌, codes, if◌then◌else◌, Option, Some, None, slice_index_or, length}
+use Rattle.std.specs.Prelude.{ℕ, ◌==◌, ◌+◌, ◌&&◌, ◌||◌, ◌++◌, Bool, false, true, not, List, [], ◌∷◌, codes, if◌then◌else◌, Option, Some, None, slice_index_or, length}
 use Rattle.std.specs.List.{remove}
 use Rattle.std.specs.Str.{bytes_eq}
 use Rattle.cc_cli.specs.Names.{Form}
@@ -61,3 +61,15 @@ without_place (Some place) words = remove words place
 -- the line without its file
 abbrev pub line_without_file : List (List ℕ) → List (List ℕ)
 line_without_file words = without_place (place_of_file words) words
+
+-- the task of a line that reads an input and has no further word but the mark
+abbrev pub waiting_task : List (List ℕ) → Option (List ℕ)
+waiting_task (task ∷ []) = if reads_input task then Some task else None
+waiting_task (task ∷ mark ∷ []) = if reads_input task && bytes_eq mark (codes "--") then Some task else None
+waiting_task words = None
+
+-- it asks for a page: it shows a run in this form, or judges a log with or without `--page`
+abbrev pub writes_page : Option (List ℕ) → Form → Bool → Bool
+writes_page None form page = false
+writes_page (Some task) Form.Page page = if bytes_eq task (codes "show") then true else (if bytes_eq task (codes "judge") then page else false)
+writes_page (Some task) Form.Trace page = if bytes_eq task (codes "judge") then page else false

@@ -285,7 +285,7 @@ Option, right behind `show`:
            values before and after, and the number of the pass's call
 
 What a plan is: `ccq play --help`. It is refused as there. Exit status 5: the run has more than
-20000 events, and nothing is written.
+20000 events, and nothing is written. No page is written to a terminal: exit status 64.
 
 Example, in which one item is passed on:
   echo '{\"capacity\":2,\"bound\":2,\"life\":10,\"senders\":[[7]],\"receivers\":[1],

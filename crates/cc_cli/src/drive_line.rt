@@ -129,6 +129,10 @@ A drive measures what the threads received, each item that was sent and each tha
 whether these receipts fit together. It doesn't measure times, or the order of the threads' steps,
 which is another in each run.
 
+If standard error is a terminal, a run of two seconds and more shows there how many calls were
+answered, and how many in a second; an answer may be that the queue is full or empty. The line of an
+interrupted run stays.
+
 A combiner serves as many calls as the bound allows, and hands over to the next in line. With
 more threads than processors, a bound below a quarter of a side's threads is slow: the next in line
 is often a thread that doesn't run, and the side waits for it.

@@ -6,9 +6,9 @@ ghost use Rattle.cc_cli.specs.declared.driving.RunFault.{RunFault};
 ghost use Rattle.cc_drive.specs.Ran.{IsWhole};
 ghost use Rattle.cc_cli.specs.Drive.{Leaves, counts_text, end_text, line_of, status_of};
 
-use crate::gate::open_gates;
+use crate::gate::gates_of;
 use cc_audit::Verdict;
-use cc_drive::{DriveConfig, DriveEnd, DriveFault, drive};
+use cc_drive::{DriveConfig, DriveEnd, DriveFault, Gate, drive};
 use cc_io::{Pen, Sink, WriteFault, out_of_memory, told};
 use cc_plan::write_verdict;
 use std::alloc::Global;
@@ -43,34 +43,36 @@ impl From<WriteFault> for RunFault {
     }
 }
 
-/// Drives a queue by threads that no gate holds up, and writes how the run ended: how many sends were accepted, how many
-/// items were taken, and the verdict. Nothing is written before the run has its end.
-pub fn drive_to<R: Threads + Wait + Sync, W: Sink>(
+/// Drives a queue by threads, each with a copy of this gate, and writes how the run ended: how many sends were accepted, how
+/// many items were taken, and the verdict. Nothing is written before the run has its end.
+pub fn drive_to<R: Threads + Wait + Sync, G: Gate + Send + Copy, W: Sink>(
     rt: &R,
     alloc: Global,
     config: &DriveConfig,
+    gate: G,
     sink: &mut W,
 ) -> Result<DriveEnd, RunFault>
     requires { W.write_failures sink.old < 2 ^ 64 - 1 }
     ensures { Leaves config.now result (W.bytes_written sink.old) (W.bytes_written sink.new)
         (W.write_failures sink.old) (W.write_failures sink.new) }
 {
-    let end = driven(rt, alloc, config)?;
+    let end = driven(rt, alloc, config, gate)?;
     write_end(sink, &end)?;
     Ok(end)
 }
 
-/// Drives a queue by threads that no gate holds up.
+/// Drives a queue by threads, each with a copy of this gate.
 #[tactic(auto, using(cc_drive::proofs::Crewed::whole_if_ok))]
-fn driven<R: Threads + Wait + Sync>(
+fn driven<R: Threads + Wait + Sync, G: Gate + Send + Copy>(
     rt: &R,
     alloc: Global,
     config: &DriveConfig,
+    gate: G,
 ) -> Result<DriveEnd, DriveFault>
     ensures { IfOk result (IsWhole config.now) }
 {
     let workers = u64::from(config.senders) + u64::from(config.receivers);
-    let gates = open_gates(alloc, workers)?;
+    let gates = gates_of(alloc, gate, workers)?;
     drive(rt, alloc, config, gates)
 }
 

@@ -1,28 +1,20 @@
-//! The gate of the program's threads.
+//! The gates of the program's threads.
 ghost use Rattle.std.specs.Prelude.{◌≡◌, IfOk, vec_len};
 
-use cc_drive::{Gate, Go, Point};
+use cc_drive::Gate;
 use std::alloc::{AllocError, Global};
 
-/// A gate that holds no worker up.
-#[derive(Clone, Copy)]
-pub struct Open;
-
-impl Gate for Open {
-    fn at(&mut self, _point: Point) -> Go
-        ensures { result ≡ Go.On }
-    {
-        Go::On
-    }
-}
-
-/// This number of gates.
-pub(crate) fn open_gates(alloc: Global, count: u64) -> Result<Vec<Open>, AllocError>
+/// This number of gates, each a copy of this one.
+pub(crate) fn gates_of<G: Gate + Copy>(
+    alloc: Global,
+    gate: G,
+    count: u64,
+) -> Result<Vec<G>, AllocError>
     ensures { IfOk result (λ gates. vec_len gates ≡ count) }
 {
     let mut gates = Vec::new(alloc);
     for _ in 0..count {
-        gates.push(Open)?;
+        gates.push(gate)?;
     }
     Ok(gates)
 }

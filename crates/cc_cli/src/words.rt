@@ -1,7 +1,7 @@
 //! The words of a line that its parser doesn't see: help by its word, the form of a run that is shown, and the file of a
 //! task's input.
 ghost use Rattle.std.specs.Prelude.{◌≡◌, ◌<◌, IfOk, IfSome, length, map, option_map, string_bytes};
-ghost use Rattle.cc_cli.specs.Words.{file_named, file_of, form_of, is_option, line_without_file, line_without_form, place_of_file, reads_input, spelled};
+ghost use Rattle.cc_cli.specs.Words.{file_named, file_of, form_of, is_option, line_without_file, line_without_form, place_of_file, reads_input, spelled, waiting_task, writes_page};
 
 use cc_log::Options;
 use cc_show::Form;
@@ -140,4 +140,28 @@ pub struct CommandLine<'a> {
     pub options: Options,
     /// The name of its input.
     pub input: &'a str,
+}
+
+/// The task of a line that reads an input and has no further word; the mark `--` may follow.
+pub fn waiting_task(words: &[String]) -> Option<&str>
+    ensures { option_map (λ task. task.now) result ≡ waiting_task (map string_bytes words.now) }
+{
+    match words {
+        [task] if reads_input(task.as_str()) => Some(task.as_str()),
+        [task, mark] if reads_input(task.as_str()) && mark.as_str() == "--" => {
+            Some(task.as_str())
+        }
+        _ => None,
+    }
+}
+
+/// Whether the line asks for a page: it shows a run as a page, or judges a log with `--page`.
+pub fn writes_page(line: CommandLine<'_>) -> bool
+    ensures { result ≡ writes_page (waiting_task (map string_bytes line.entry.words.now)) line.entry.form line.entry.options.page }
+{
+    match (waiting_task(line.words), line.form) {
+        (Some("show"), Form::Page) => true,
+        (Some("judge"), _) => line.options.page,
+        _ => false,
+    }
 }

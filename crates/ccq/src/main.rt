@@ -1,18 +1,21 @@
 //! Plays and shows plans, audits receipts, judges logs of calls, and drives queues by threads.
 #![tactic(auto)]
 
+mod progress;
+
 ghost use Rattle.std.specs.Prelude.{◌<◌, ◌-◌, ◌^◌};
 
-use cc_cli::hint::{hint, is_explained};
-use cc_cli::input::{Input, Reasoned};
+use cc_cli::hint::{decline_page, hint, is_explained, tell_waiting};
+use cc_cli::input::Input;
 use cc_cli::judge_options::{decline_options, without_options};
 use cc_cli::not_text;
 use cc_cli::reading::{decline, decline_file};
 use cc_cli::run::run;
-use cc_cli::words::{CommandLine, spelled, without_file, without_form};
-use cc_io::{Device, Sink, Source};
+use cc_cli::words::{CommandLine, spelled, waiting_task, without_file, without_form, writes_page};
+use cc_io::{Device, Sink};
 use clap::Error;
-use std::alloc::{AllocError, Global};
+use progress::{Counter, Meter};
+use std::alloc::AllocError;
 use std::env;
 use std::fs::{File, Files};
 use std::io::{ErrorKind, IsTerminal};
@@ -21,20 +24,12 @@ use std::sync::Wait;
 use std::thread::Threads;
 
 fn main(rt: HostRuntime) -> ExitCode {
-    let mut standard = Input::new(rt.stdin());
     let mut sink = Device::new(rt.stdout());
     let mut errors = Device::new(rt.stderr());
     let status = match words(&rt) {
         Ok(words) => {
             let hints = rt.stderr().is_terminal() && is_explained(&words);
-            match answer(
-                &rt,
-                rt.alloc(),
-                words,
-                &mut standard,
-                &mut sink,
-                &mut errors,
-            ) {
+            match answer(&rt, &rt, words, &mut sink, &mut errors) {
                 2 if hints => hint(&mut Device::new(rt.stderr())),
                 status => status,
             }
@@ -54,16 +49,15 @@ fn words(rt: &HostRuntime) -> Result<Vec<String>, Error> {
     }
 }
 
-/// Does a line over the file that it names, or over standard input if it names none, and answers the exit status.
-fn answer<R: Threads + Wait + Sync + Files, S: Source + Reasoned, W: Sink, E: Sink>(
+/// Does a line over the file that it names, or over standard input if it names none, and answers the exit status. The host has the
+/// streams and the clock.
+fn answer<R: Threads + Wait + Sync + Files, W: Sink, E: Sink>(
     rt: &R,
-    alloc: Global,
+    host: &HostRuntime,
     words: Vec<String>,
-    standard: &mut S,
     sink: &mut W,
     errors: &mut E,
 ) -> u8
-    requires reads { S.read_failures standard.old < 2 ^ 64 - 1 }
     requires writes { W.write_failures sink.old < 2 ^ 64 - 1 }
     requires errors { E.write_failures errors.old < 2 ^ 64 - 1 }
 {
@@ -82,14 +76,68 @@ fn answer<R: Threads + Wait + Sync + Files, S: Source + Reasoned, W: Sink, E: Si
             None => "standard input",
         },
     };
-    let Some(name) = &parted.file else {
-        return run(rt, alloc, line, standard, sink, errors);
-    };
-    match File::open(rt, name.as_str()) {
-        Ok(file) => {
-            let mut source = Input::new(file);
-            run(rt, alloc, line, &mut source, sink, errors)
+    if host.stdout().is_terminal() && writes_page(line) {
+        return decline_page(errors);
+    }
+    match &parted.file {
+        None => answer_standard(rt, host, line, sink, errors),
+        Some(name) => answer_file(rt, host, line, name.as_str(), sink, errors),
+    }
+}
+
+/// Does a line over standard input, and answers the exit status. At a terminal it says first what it waits for; a drive that
+/// takes long says how far it is.
+fn answer_standard<R: Threads + Wait + Sync, W: Sink, E: Sink>(
+    rt: &R,
+    host: &HostRuntime,
+    line: CommandLine<'_>,
+    sink: &mut W,
+    errors: &mut E,
+) -> u8
+    requires writes { W.write_failures sink.old < 2 ^ 64 - 1 }
+    requires errors { E.write_failures errors.old < 2 ^ 64 - 1 }
+{
+    let is_told = host.stderr().is_terminal();
+    if is_told && host.stdin().is_terminal() {
+        if let Some(task) = waiting_task(line.words) {
+            tell_waiting(&mut Device::new(host.stderr()), task);
         }
-        Err(error) => decline_file(alloc, errors, name.as_bytes(), &error),
+    }
+    let meter = if is_told { Meter::new(host) } else { None };
+    let gate = Counter::new(meter.as_ref());
+    let mut source = Input::new(host.stdin());
+    let status = run(rt, host.alloc(), line, gate, &mut source, sink, errors);
+    if let Some(meter) = &meter {
+        meter.finish();
+    }
+    status
+}
+
+/// Does a line over the file of this name, and answers the exit status.
+fn answer_file<R: Threads + Wait + Sync + Files, W: Sink, E: Sink>(
+    rt: &R,
+    host: &HostRuntime,
+    line: CommandLine<'_>,
+    name: &str,
+    sink: &mut W,
+    errors: &mut E,
+) -> u8
+    requires writes { W.write_failures sink.old < 2 ^ 64 - 1 }
+    requires errors { E.write_failures errors.old < 2 ^ 64 - 1 }
+{
+    match File::open(rt, name) {
+        Ok(file) => {
+            let gate = Counter::new(None);
+            run(
+                rt,
+                host.alloc(),
+                line,
+                gate,
+                &mut Input::new(file),
+                sink,
+                errors,
+            )
+        }
+        Err(error) => decline_file(host.alloc(), errors, name.as_bytes(), &error),
     }
 }

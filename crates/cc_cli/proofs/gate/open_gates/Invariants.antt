@@ -1,5 +1,0 @@
-use Rattle.std.specs.Prelude.{◌≡◌, vec_len}
-use Rattle.cc_cli.proofs.gate.open_gates.Given as goal
-
-abbrev pub invariant-loop : goal.invariant-loop
-invariant-loop l = vec_len l.gates ≡ l.counter
