@@ -11,7 +11,7 @@ knows nothing of the program's: it tries every call that began before each call 
 failure, unless calls of one thread share a stamp. Without words it also records 80,000 calls each of this crate's channel, of
 std's, of crossbeam's and flume's where Debian's packages of them are, and of a queue with a fault, which has to be found. And
 it records a ring of one's own by a program in Rust and by one in C: as it is, with a planted fault, which has to be found, and
-while the program is killed.
+while the program is killed. `windows.py` has the windows of logs.
 """
 
 import json
@@ -25,6 +25,9 @@ import tempfile
 import time
 from concurrent.futures import ThreadPoolExecutor
 from pathlib import Path
+
+sys.dont_write_bytecode = True
+from windows import judge_windows
 
 TOP = Path(__file__).resolve().parent.parent
 PROGRAM = Path(os.environ.get("CCQ", TOP / "crates/ccq/out/ccq"))
@@ -353,7 +356,7 @@ def main(count=None, first=0):
     if not os.access(PROGRAM, os.X_OK):
         print("judge: there is no crates/ccq/out/ccq: run `rt ci` first, or `rt run` in crates/ccq")
         return 1
-    recorded = count is not None or all([judge_recorded(), judge_ring_in_c()])
+    recorded = count is not None or all([judge_windows(), judge_recorded(), judge_ring_in_c()])
     numbers = [*range(first, first + count)] if count else [*range(1500), *RARE]
     count = len(numbers)
     clean = wrong = unknown = 0
