@@ -15,6 +15,15 @@ const bare = text => text.replace(/[*`]|\[\[|\]\]/g, '').replace(/\s+/g, ' ').tr
 const textOf = element => element.textContent.replace(/\s+/g, ' ').trim();
 const same = (found, due, what) => assert(JSON.stringify(found) === JSON.stringify(due), what + ' is ' + JSON.stringify(found) + ', and ' + JSON.stringify(due) + ' is due');
 
+// Follows an address, after the page has written its own: it does that a moment after a move.
+async function follow(view, address) {
+  await new Promise(go => setTimeout(go, 300));
+  if (view.location.hash === address) return;
+  const followed = new Promise(go => view.addEventListener('hashchange', () => setTimeout(go, 0), { once: true }));
+  view.location.hash = address;
+  await followed;
+}
+
 // The machine of the page and its texts, by which a run is made again beside the one that is drawn.
 function partsOf(page, view) {
   if (!view.parts_of_the_page) {
@@ -373,11 +382,9 @@ const tests = {
     key(page.body, 'Home');
     await wait(300);
     assert(view.location.hash === '#lecture=full_early&screen=1', 'the address is ' + view.location.hash);
-    view.location.hash = '#lecture=three&screen=5';
-    await wait(50);
+    await follow(view, '#lecture=three&screen=5');
     assert(/marks node 1 done/.test($('lecture-text').textContent), 'the address leads to ' + $('lecture-text').textContent);
-    view.location.hash = '#lecture=lone&screen=1';
-    await wait(50);
+    await follow(view, '#lecture=lone&screen=1');
     $('lecture-text').querySelector('.term').dispatchEvent(new view.MouseEvent('mouseover', { bubbles: true }));
     assert(!$('tip').hidden && key(page.body, 'PageDown') && $('tip').hidden, 'the explanation of a word stays on the next screen');
     $('lecture-lesson').value = 'take';
@@ -436,10 +443,8 @@ const tests = {
       same(view.location.hash, address, 'the address');
       $('again').click();
       assert(whereOf($) === from && textOf($('task-state')) === 'Not solved yet.', 'start again leads to ' + $('where').textContent);
-      view.location.hash = '';
-      await wait(30);
-      view.location.hash = address;
-      await wait(30);
+      await follow(view, '');
+      await follow(view, address);
       assert(whereOf($) === from + steps && /^Solved/.test(textOf($('task-state'))), 'the address leads to ' + $('where').textContent + ', ' + textOf($('task-state')));
       $('again').click();
       $('solve').click();
@@ -630,10 +635,8 @@ const tests = {
     const link = $('link').value, was = { event: whereOf($), plan: $('plan').value, report: $('whole').textContent };
     assert(/#plan=/.test(link), 'the link is ' + link);
     $('first').click();
-    view.location.hash = '';
-    await wait(50);
-    view.location.hash = link.slice(link.indexOf('#'));
-    await wait(50);
+    await follow(view, '');
+    await follow(view, link.slice(link.indexOf('#')));
     $('texts').open = true;
     await wait(50);
     assert(whereOf($) === was.event && $('plan').value === was.plan && $('whole').textContent === was.report && $('lesson-title').textContent === 'A plan from a link', 'the link opens another run, at ' + $('where').textContent);
