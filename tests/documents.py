@@ -12,7 +12,7 @@
   In the texts of STRANGERS, which a reader of a clone has, no program is one that a build leaves, and a line of a block of code
   that begins with a path begins with that of a file of the tree.
 - Numbers: a size behind the name of a file, as `NAME` (12 KB), is its size, and no size stands where no file is named. The line of
-  the proof that docs/TRUST.md quotes is that of the library, and it explains each word of the lines of both PROOFs.
+  the proof that docs/TRUST.md quotes is that of the library, and it explains each word of the lines of each PROOF.
 - Merges: no document has a line that a merge leaves, as `<<<<<<< ` and a branch.
 - The map: docs/MAP.md names each source and spec file of the crates, each file of FOLDERS and each one at the top. A name in
   backticks is a path from the folder or the crate that the heading names, or from the folder of the name before it in its
@@ -41,7 +41,7 @@ DOCUMENTS = ["README.md", "CONTRIBUTING.md", "docs/*.md", "bindings/*/*.md"]
 # Texts that name sections, and those of readers who have a clone and no toolchain.
 TEXTS = [*DOCUMENTS, "CHANGELOG.md", "examples/*.md", "crates/*/src/**/*.rt", "bindings/*/**/*.rs", "bindings/c/*.[ch]", "tools/*.sh", "tests/*.sh", "tools/*.py", "tests/*.py", "play", "show", "test", "Makefile"]
 STRANGERS = ["README.md", "examples/*.md", "bindings/*/*.md", "docs/FORMATS.md", "docs/JUDGE.md", "docs/USING.md", "docs/BENCH.md", "docs/TEACHING.md", "play", "show", "Makefile"]
-PROOFS = ["bin/x86_64-unknown-linux-gnu/PROOF", "bindings/rust/lib/x86_64-unknown-linux-gnu/PROOF"]
+PROOFS = ["bin/x86_64-unknown-linux-gnu/PROOF", "bindings/rust/lib/x86_64-unknown-linux-gnu/PROOF", "bindings/rust/lib/aarch64-unknown-linux-gnu/PROOF"]
 # Lines that strangers' texts may not have: a section that isn't there, a program that a build leaves or that nothing leaves, a
 # size that no file has, and one of no file.
 WRONG = ['(README.md, "Nowhere")', "[here](docs/MODEL.md#nowhere)", "    crates/ccq/out/ccq play", "    ./nowhere PLAN", "```sh\n./nowhere PLAN\n```", "`libvahepito.a` (1 KB)", "an archive of 45 KB"]
