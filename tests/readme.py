@@ -16,7 +16,7 @@ The tests of the crate make a twentieth of their rounds (VAHEPITO_ROUNDS). With 
 whose checks are the gate's own, and so are the examples in the crate's documentation (RUSTDOC), which an old rustc compiles one by one.
 A line says so. Prints a line with the processor seconds of each command.
 The exit status is 0 if all hold, 1 if one fails, and 77 if this machine can't make a chroot: not root, no debootstrap, no unshare, no
-mirror.
+mirror, or none that gives the packages.
 """
 import hashlib
 import os
@@ -33,6 +33,8 @@ TOP = pathlib.Path(__file__).resolve().parent.parent
 KEPT = TOP / "out" / "debian"
 ENVIRONMENT = {"HOME": "/root", "PATH": "/usr/local/sbin:/usr/local/bin:/usr/sbin:/usr/bin:/sbin:/bin", "LANG": "C.UTF-8", "VAHEPITO_ROUNDS": "5"}
 OF_THE_GATE = "./test --quick"
+# What apt-get says if the mirror, or the disk, can't give a package that exists.
+OF_THE_MIRROR = r"(?m)^E: (Failed to fetch .*|You don't have enough free space .*)|^.*No space left on device$"
 # Mounts that end with the command: the room is the home and the folder for temporary files.
 MOUNTS = """
 set -e
@@ -163,6 +165,9 @@ def run_all(room, found):
             continue
         start = time.time()
         status, said, seconds = in_chroot(base, room, "/root/vahepito", part.text)
+        unfetched = re.search(OF_THE_MIRROR, said) if status != 0 and part.text in packages else None
+        if unfetched:
+            raise Skipped(f"the packages couldn't be fetched: {unfetched[0]}")
         fault = f"status {status}" if status != 0 else ""
         if not fault and part.prints and not any(line.startswith(part.prints) for line in said.splitlines()):
             fault = f"no line that it prints begins with {part.prints!r}"
