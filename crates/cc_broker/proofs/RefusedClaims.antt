@@ -14,9 +14,9 @@ abbrev first_config : Config → List Setting → Config
 first_config c [] = c
 first_config c (s ∷ settings) = s.config
 
-swapped : (a b : Bor (List ℕ)) (c d : Config) (o : OpenedBroker) → c ≢ d → settings o.broker ≡ asked_settings ((a , d) ∷ (b , c) ∷ []) → HasOpened ((a , c) ∷ (b , d) ∷ []) o → ⊥
+swapped : (a b : Bor (List ℕ)) (c d : Config) (o : OpenedBroker) → c ≢ d → settings o.broker ≡ asked_settings ((a, d) ∷ (b, c) ∷ []) → HasOpened ((a, c) ∷ (b, d) ∷ []) o → ⊥
 swapped a b c d o differ other opened =
-    let both : asked_settings ((a , c) ∷ (b , d) ∷ []) ≡ asked_settings ((a , d) ∷ (b , c) ∷ []) = sym opened.settings_are ∙ other in
+    let both : asked_settings ((a, c) ∷ (b, d) ∷ []) ≡ asked_settings ((a, d) ∷ (b, c) ∷ []) = sym opened.settings_are ∙ other in
     differ (ap (first_config c) both)
 
 passes_swapped : (y z : Topic) (p q : Senders × Receivers) → y.setting.config.senders ≢ z.setting.config.senders → AreTheirPasses (y ∷ z ∷ []) (p ∷ q ∷ []) → AreTheirPasses (y ∷ z ∷ []) (q ∷ p ∷ []) → ⊥

@@ -13,6 +13,6 @@ Refused claim = claim → ⊥
 
 pub record RefusedClaims : Type 0 where
   -- of two topics each has the other's configuration
-  pub configurations_swapped : (a b : Bor (List ℕ)) (c d : Config) (o : OpenedBroker) → c ≢ d → settings o.broker ≡ asked_settings ((a , d) ∷ (b , c) ∷ []) → Refused (HasOpened ((a , c) ∷ (b , d) ∷ []) o)
+  pub configurations_swapped : (a b : Bor (List ℕ)) (c d : Config) (o : OpenedBroker) → c ≢ d → settings o.broker ≡ asked_settings ((a, d) ∷ (b, c) ∷ []) → Refused (HasOpened ((a, c) ∷ (b, d) ∷ []) o)
   -- of two queues each has the other's passes
   pub passes_of_two_topics_swapped : (y z : Topic) (p q : Senders × Receivers) → y.setting.config.senders ≢ z.setting.config.senders → AreTheirPasses (y ∷ z ∷ []) (p ∷ q ∷ []) → Refused (AreTheirPasses (y ∷ z ∷ []) (q ∷ p ∷ []))
