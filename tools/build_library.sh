@@ -22,7 +22,7 @@
 # single bytes that make an exchange a move; a line says that nothing more was looked at.
 #
 # --over-gate takes the libraries below cc_capi as `rt ci` left them in this folder a moment ago: `rt lib` would prove them
-# once more. For the second target it takes what it proved for the first, if the same functions are read. All ways give the same bytes.
+# once more. Both ways give the same bytes.
 # --update writes what was built into bindings/rust/lib.
 # --sums builds nothing: it compares the sums in each PROOF with the archives and the sources as they are, and looks for paths of
 # a host in the archives.
@@ -126,7 +126,6 @@ build() {
         rattle+=(--extern "$crate=$folder/$crate.rlib")
     done
     rattle+=(--antt-project "$kit/rattle/logic/antt-project.json" --logic-built "$kit/logic_built" --jobs 1)
-    [ -z "$over_gate" ] || rattle+=(--incremental "$top/out/lib/incremental")
     rattle+=(--links cc_capi= --crate-type staticlib --backend llvm --target "$1" --toolchain "$watched" -o out/libcc_capi.a)
     if [ -z "$over_gate$scratch" ]; then
         build_with_those_below cc_capi "${rattle[@]}" </dev/null
@@ -253,7 +252,6 @@ END
 }
 
 sources=$(sum_of_sources "${crates[@]}")
-rm -rf out/lib/incremental && mkdir -p out/lib/incremental || exit 1
 for target in "${targets[@]}"; do
     make_for "$target" && continue
     echo "library: bindings/rust/lib/$target isn't what was built of these sources: tools/build_library.sh --update writes it" >&2
