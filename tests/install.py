@@ -43,6 +43,7 @@ ROWS = [
     ("ccq judge --p", "age "),
     ("ccq judge --page examples/one", "_item.json "),
     ("ccq judge --skew ", ""),
+    ("ccq judge --u", "ntil "),
     ("ccq show --t", "race "),
     ("ccq drive --se", "nders "),
     ("ccq drive --senders 4 --b", "ound "),

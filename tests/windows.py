@@ -6,7 +6,8 @@ Usage: tests/windows.py
 The queues are Python's `queue.Queue` and a `deque` under a lock that can be closed. Threads send, take and close; a clock is read
 directly before and after each call. A window begins and ends at a moment, and is said to begin late: it lacks calls before it, the
 items of these that are still in the queue, and often the close. Half of the windows are judged with the capacity of the queue.
-None may be accused, whatever the judge's rules are: each is of a correct queue. Then two takes of a window are exchanged, the
+None may be accused, whatever the judge's rules are: each is of a correct queue. Some are cut by the program too, which has to say the
+same. Then two takes of a window are exchanged, the
 first of which ended before the second began, of items sent one after another; or a send that found the queue closed is
 said to have been accepted. These have to be found.
 """
@@ -27,6 +28,8 @@ TOP = Path(__file__).resolve().parent.parent
 PROGRAM = Path(os.environ.get("CCQ", TOP / "crates/ccq/out/ccq"))
 CAPACITY = 16
 WINDOWS = 1000
+# Every how many windows the program itself cuts one out of the whole log, too.
+CUTS = 7
 # How many calls each thread of a recording makes.
 CALLS = 1200
 LATE = '{"begins":"late"}\n'
@@ -134,20 +137,27 @@ def record(kind, seed):
 
 
 def cut(call, until):
-    """The call as it was at a moment: one that ended later hasn't returned."""
+    """The call as it was at a moment: one that ended later hasn't returned. Or None, if it is a send that was refused later."""
     if call["end"] < until:
         return call
+    if "send" in call and "answer" in call:
+        return None
     open_call = {key: value for key, value in call.items() if key not in ("end", "answer")}
     return open_call | ({"take": None} if "take" in call else {})
 
 
 def window(calls, rng):
-    """The calls between two moments, with those that were under way at the first, or without."""
+    """The calls between two moments, with those that were under way at the first, or without; and the moments."""
     size = rng.choice([3, 10, 40, 200, 600])
     first = rng.randrange(len(calls) - size)
     start, until = calls[first]["begin"], calls[first + size]["begin"]
-    key = rng.choice(["begin", "end"])
-    return [cut(call, until) for call in calls if call[key] >= start and call["begin"] < until]
+    return within(calls, rng.choice(["begin", "end"]), start, until), start, until
+
+
+def within(calls, key, start, until):
+    """The calls that began or ended at the first moment or later, and began before the second."""
+    kept = [cut(call, until) for call in calls if call[key] >= start and call["begin"] < until]
+    return [call for call in kept if call]
 
 
 def exchanged(calls):
@@ -175,9 +185,9 @@ def reopened(calls):
     return None
 
 
-def judged(options, text):
-    """What the program says of a log that begins late."""
-    run = subprocess.run([PROGRAM, "judge", *options], input=LATE + text, capture_output=True, text=True, check=False)
+def judged(options, text, first=LATE):
+    """What the program says of a log that begins late, or doesn't."""
+    run = subprocess.run([PROGRAM, "judge", *options], input=first + text, capture_output=True, text=True, check=False)
     return run.returncode, run.stdout or run.stderr
 
 
@@ -189,7 +199,7 @@ def judged_window(logs, number):
     """Of a window what is wrong with its verdict, or None; whether it has calls that found the queue full or closed; and the same of
     the planted faults: what is wrong, and how many there are."""
     rng = random.Random(number)
-    calls = window(logs[number % len(logs)], rng)
+    calls, start, until = window(logs[number % len(logs)], rng)
     options = ["--capacity", str(CAPACITY)] * (rng.random() < 0.5)
     answers = {call.get("answer") for call in calls}
     status, said = judged(options, text_of(calls))
@@ -199,7 +209,20 @@ def judged_window(logs, number):
         status, said = judged(options, text_of(plant))
         if status != 1:
             wrong.append(f"the fault in window {number} isn't found: {said}")
+    if number % CUTS == 0:
+        wrong += cut_wrongly(logs[number % len(logs)], number, start, until)
     return wrong, "full" in answers and bool(options), "close" in {key for call in calls for key in call}, len(plants)
+
+
+def cut_wrongly(calls, number, start, until):
+    """What is wrong if the program cuts the log itself: at both moments, and at the second, with the capacity and with every call
+    before it."""
+    whole = text_of(calls)
+    due = judged([], text_of(within(calls, "end", start, until)))
+    both = judged(["--from", str(start), f"--until={until}"], whole, "")
+    first = judged(["--until", str(until), "--capacity", str(CAPACITY)], whole, "")
+    wrong = [] if both == due else [f"window {number} cut by the program: {both[1]}, and by the test: {due[1]}"]
+    return wrong + ([f"log {number} until {until} is accused: {first[1]}"] if first[0] != 0 else [])
 
 
 def judge_windows():

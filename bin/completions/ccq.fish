@@ -14,6 +14,8 @@ complete -c ccq -n '__fish_seen_subcommand_from help' -f -a "$commands"
 complete -c ccq -n '__fish_seen_subcommand_from judge' -l page -d 'write a page that draws the calls'
 complete -c ccq -n '__fish_seen_subcommand_from judge' -x -l capacity -d 'items that the queue holds, 1 to 4294967295'
 complete -c ccq -n '__fish_seen_subcommand_from judge' -x -l skew -d 'by how much clocks may differ'
+complete -c ccq -n '__fish_seen_subcommand_from judge' -x -l from -d 'the time from which on the log is judged'
+complete -c ccq -n '__fish_seen_subcommand_from judge' -x -l until -d 'the time until which the log is judged'
 complete -c ccq -n '__fish_seen_subcommand_from show' -l trace -d 'write a line of JSON for each event'
 complete -c ccq -n '__fish_seen_subcommand_from drive' -f
 complete -c ccq -n '__fish_seen_subcommand_from drive' -x -l senders -d 'threads that send, 1 to 63'

@@ -26,6 +26,8 @@ _ccq() {
             '--page[write a page that draws the calls]' \
             '--capacity[items that the queue holds]:1 to 4294967295:' \
             '--skew[by how much clocks may differ]:a number:' \
+            '--from[the time from which on the log is judged]:a number:' \
+            '--until[the time until which the log is judged]:a number:' \
             '1:log:_files'
           ;;
         why) _arguments $help '1:plan or receipts:_files' ;;

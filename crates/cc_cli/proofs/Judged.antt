@@ -17,18 +17,18 @@ told rules calls verdict right (Err AnswerFault.Write) = inr (verdict, right, in
 
 -- a log that was read and judged
 pub judged_due : (options : Options) (left : Option (List ℕ)) (log : Log) (status : ℕ) → log.rules.capacity ≡ judged_capacity log.late options.capacity
-    → (input : List ℕ) × HasInput left input × Gives log_view (Ok log) (log_of options.skew input) → IsJudged log.rules log.calls.items status → Judges options left status
+    → (input : List ℕ) × HasInput left input × Gives log_view (Ok log) (log_of options input) → IsJudged log.rules log.calls.items status → Judges options left status
 judged_due options left log status capacity read (inl memory) = inl memory
 judged_due options left log status capacity read (inr (verdict, right, inr failed)) = inr (inl failed)
 judged_due options left log status capacity read (inr (verdict, right, inl is)) =
     inr (inr (read.0, read.1, subst (λ due. IsDue options due status) (sym read.2) (log.rules, verdict, record { capacity = capacity; closes = refl; ties = refl }, right, is)))
 
-refused_with : (options : Options) (left : Option (List ℕ)) (fault : LogFault) (status : ℕ) (input : List ℕ) → HasInput left input → IsDue options (log_of options.skew input) 2 → (status ≡ 2) ⊎ (status ≡ 3) → Judges options left status
-refused_with options left fault status input has due (inl two) = inr (inr (input, has, subst (λ s. IsDue options (log_of options.skew input) s) (sym two) due))
+refused_with : (options : Options) (left : Option (List ℕ)) (fault : LogFault) (status : ℕ) (input : List ℕ) → HasInput left input → IsDue options (log_of options input) 2 → (status ≡ 2) ⊎ (status ≡ 3) → Judges options left status
+refused_with options left fault status input has due (inl two) = inr (inr (input, has, subst (λ s. IsDue options (log_of options input) s) (sym two) due))
 refused_with options left fault status input has due (inr memory) = inl memory
 
 -- an input that is refused
-pub refused_due : (options : Options) (left : Option (List ℕ)) (fault : LogFault) (status : ℕ) → (input : List ℕ) × HasInput left input × Gives log_view (Err fault) (log_of options.skew input) → IsRefused fault status → Judges options left status
+pub refused_due : (options : Options) (left : Option (List ℕ)) (fault : LogFault) (status : ℕ) → (input : List ℕ) × HasInput left input × Gives log_view (Err fault) (log_of options input) → IsRefused fault status → Judges options left status
 refused_due options left LogFault.Memory status read is = inl is
 refused_due options left LogFault.Read status read is = inr (inl is)
 refused_due options left (LogFault.Line line fault) status read is = refused_with options left (LogFault.Line line fault) status read.0 read.1 (subst (λ due. IsDue options due 2) (sym read.2) refl) is

@@ -22,11 +22,25 @@ with_capacity o n = if is_none o.capacity
     then (if nat_lt 0 n && nat_lt n (2 ^ 32) then Ok (record o { capacity = Some n }) else Err (OptionFault.Number Numbered.Capacity))
     else Err (OptionFault.Twice Numbered.Capacity)
 
+-- the options with a skew more, if none is given yet, and no time until which the log is judged
+abbrev pub with_skew : Options → ℕ → Result Options OptionFault
+with_skew o n = if o.skew == 0
+    then (if is_none o.window.until then Ok (record o { skew = n }) else Err OptionFault.UntilBesideSkew)
+    else Err (OptionFault.Twice Numbered.Skew)
+
+-- the options with a time more until which the log is judged, if none is given yet, and no skew
+abbrev pub with_until : Options → ℕ → Result Options OptionFault
+with_until o n = if is_none o.window.until
+    then (if o.skew == 0 then Ok (record o { window = record { from = o.window.from; until = Some n } }) else Err OptionFault.UntilBesideSkew)
+    else Err (OptionFault.Twice Numbered.Until)
+
 -- the options with a number more: one in its range, of an option that isn't given yet
 abbrev pub with_number : Options → Numbered → Option ℕ → Result Options OptionFault
 with_number o option None = Err (OptionFault.Number option)
 with_number o Numbered.Capacity (Some n) = with_capacity o n
-with_number o Numbered.Skew (Some n) = if o.skew == 0 then Ok (record o { skew = n }) else Err (OptionFault.Twice Numbered.Skew)
+with_number o Numbered.Skew (Some n) = with_skew o n
+with_number o Numbered.From (Some n) = if is_none o.window.from then Ok (record o { window = record { from = Some n; until = o.window.until } }) else Err (OptionFault.Twice Numbered.From)
+with_number o Numbered.Until (Some n) = with_until o n
 
 -- the options with that of a page more, if it isn't given yet
 abbrev pub with_page : Options → Result Options OptionFault
@@ -34,7 +48,8 @@ with_page o = if o.page then Err OptionFault.PageTwice else Ok (record o { page 
 
 -- the option of this name that takes a number
 abbrev pub option_named : List ℕ → Option Numbered
-option_named name = if bytes_eq name (codes "--capacity") then Some Numbered.Capacity else (if bytes_eq name (codes "--skew") then Some Numbered.Skew else None)
+option_named name = if bytes_eq name (codes "--capacity") then Some Numbered.Capacity else (if bytes_eq name (codes "--skew") then Some Numbered.Skew
+    else (if bytes_eq name (codes "--from") then Some Numbered.From else (if bytes_eq name (codes "--until") then Some Numbered.Until else None)))
 
 -- the reading of an option: these options, unless the option is wrong
 abbrev pub given_or_wrong : Result Options OptionFault → Reading
@@ -97,4 +112,9 @@ option_line (OptionFault.Number Numbered.Capacity) = codes "error: --capacity ta
 option_line (OptionFault.Number Numbered.Skew) = codes "error: --skew takes a whole number from 0 to 18446744073709551615\n\nFor more information, try '--help'.\n"
 option_line (OptionFault.Twice Numbered.Capacity) = codes "error: --capacity is given twice\n\nFor more information, try '--help'.\n"
 option_line (OptionFault.Twice Numbered.Skew) = codes "error: --skew is given twice\n\nFor more information, try '--help'.\n"
+option_line (OptionFault.Number Numbered.From) = codes "error: --from takes a whole number from 0 to 18446744073709551615\n\nFor more information, try '--help'.\n"
+option_line (OptionFault.Number Numbered.Until) = codes "error: --until takes a whole number from 0 to 18446744073709551615\n\nFor more information, try '--help'.\n"
+option_line (OptionFault.Twice Numbered.From) = codes "error: --from is given twice\n\nFor more information, try '--help'.\n"
+option_line (OptionFault.Twice Numbered.Until) = codes "error: --until is given twice\n\nFor more information, try '--help'.\n"
+option_line OptionFault.UntilBesideSkew = codes "error: --until and --skew can't be given together\n\nFor more information, try '--help'.\n"
 option_line OptionFault.PageTwice = codes "error: --page is given twice\n\nFor more information, try '--help'.\n"

@@ -45,4 +45,4 @@ IsDue options (Err refusal) status = status ≡ 2
 
 -- The input of a source was judged: the status is due, or says that memory was refused or that a device failed.
 abbrev pub Judges : Options → (left : Option (List ℕ)) → ℕ → Type 0
-Judges options left status = (status ≡ 3) ⊎ ((status ≡ 4) ⊎ ((input : List ℕ) × HasInput left input × IsDue options (log_of options.skew input) status))
+Judges options left status = (status ≡ 3) ⊎ ((status ≡ 4) ⊎ ((input : List ℕ) × HasInput left input × IsDue options (log_of options input) status))

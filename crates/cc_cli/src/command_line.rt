@@ -252,6 +252,8 @@ Options:
   --page        writes the answer as a page for a browser that draws the calls; needs no network
   --capacity N  the queue holds N items: judges the answer full
   --skew N      clocks may differ by N: a call may have begun N earlier and ended N later
+  --from T      judges calls that ended at T or later, as a log that begins late
+  --until T     judges calls that began before T; those that ended at T or later haven't returned
 
 The answer is `judge clean: ..`, `judge fault: ..` with the pattern and its lines, or
 `judge undecided`. A log that is refused has one line on standard error, as `ccq: log refused: ..`.

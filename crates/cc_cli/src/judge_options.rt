@@ -1,12 +1,12 @@
 //! The options of a line of `judge`, which the parser of command lines doesn't see: how many items the queue holds, by how much
-//! clocks may differ, and whether the answer is a page.
+//! clocks may differ, which part of the log is judged, and whether the answer is a page.
 ghost use Rattle.std.specs.Prelude.{◌≡◌, ◌<◌, ◌-◌, ◌^◌, map, option_map, slice_get, string_bytes};
 ghost use Rattle.std.specs.Result.{result_map_both};
 ghost use Rattle.cc_io.specs.FaultLine.{Told};
-ghost use Rattle.cc_cli.specs.JudgeOptions.{line_without_options, number_in, option_line, option_named, read_next, read_word, given_or_wrong, with_capacity, with_number, with_page};
+ghost use Rattle.cc_cli.specs.JudgeOptions.{line_without_options, number_in, option_line, option_named, read_next, read_word, given_or_wrong, with_capacity, with_number, with_page, with_skew, with_until};
 
 use cc_io::{Sink, told};
-use cc_log::Options;
+use cc_log::{Options, Window};
 
 /// An option that takes a number.
 #[derive(Clone, Copy)]
@@ -15,6 +15,10 @@ pub enum Numbered {
     Capacity,
     /// By how much clocks may differ.
     Skew,
+    /// The time from which on the log is judged.
+    From,
+    /// The time until which it is.
+    Until,
 }
 
 /// A fault of an option.
@@ -24,6 +28,8 @@ pub enum OptionFault {
     Number(Numbered),
     /// This option was given before.
     Twice(Numbered),
+    /// `--until` and a `--skew` above 0 were given.
+    UntilBesideSkew,
     /// `--page` was given before.
     PageTwice,
 }
@@ -69,11 +75,14 @@ fn option_named(name: &str) -> Option<Numbered>
     match name {
         "--capacity" => Some(Numbered::Capacity),
         "--skew" => Some(Numbered::Skew),
+        "--from" => Some(Numbered::From),
+        "--until" => Some(Numbered::Until),
         _ => None,
     }
 }
 
-/// The options with a number more: one in its range, of an option that isn't given yet.
+/// The options with a number more: one in its range, of an option that isn't given yet. A log is judged until a time or with a skew,
+/// since by clocks that differ calls of one thread may be cut together.
 fn with_number(
     options: Options,
     option: Numbered,
@@ -86,12 +95,52 @@ fn with_number(
     };
     match option {
         Numbered::Capacity => with_capacity(options, number),
-        Numbered::Skew if options.skew == 0 => Ok(Options {
+        Numbered::Skew => with_skew(options, number),
+        Numbered::From if options.window.from.is_none() => Ok(Options {
+            window: Window {
+                from: Some(number),
+                ..options.window
+            },
+            ..options
+        }),
+        Numbered::From => Err(OptionFault::Twice(Numbered::From)),
+        Numbered::Until => with_until(options, number),
+    }
+}
+
+/// The options with a skew more, if none is given yet, and no time until which the log is judged.
+fn with_skew(options: Options, number: u64) -> Result<Options, OptionFault>
+    ensures { result ≡ with_skew options number }
+{
+    if options.skew != 0 {
+        return Err(OptionFault::Twice(Numbered::Skew));
+    }
+    match options.window.until {
+        Some(_) => Err(OptionFault::UntilBesideSkew),
+        None => Ok(Options {
             skew: number,
             ..options
         }),
-        Numbered::Skew => Err(OptionFault::Twice(Numbered::Skew)),
     }
+}
+
+/// The options with a time more until which the log is judged, if none is given yet, and no skew.
+fn with_until(options: Options, number: u64) -> Result<Options, OptionFault>
+    ensures { result ≡ with_until options number }
+{
+    if options.window.until.is_some() {
+        return Err(OptionFault::Twice(Numbered::Until));
+    }
+    if options.skew != 0 {
+        return Err(OptionFault::UntilBesideSkew);
+    }
+    Ok(Options {
+        window: Window {
+            until: Some(number),
+            ..options.window
+        },
+        ..options
+    })
 }
 
 /// The options with a capacity more: from 1 to 2^32 - 1, if none is given yet.
@@ -237,6 +286,21 @@ fn option_line(fault: OptionFault) -> &'static [u8]
         }
         OptionFault::Twice(Numbered::Skew) => {
             b"error: --skew is given twice\n\nFor more information, try '--help'.\n"
+        }
+        OptionFault::Number(Numbered::From) => {
+            b"error: --from takes a whole number from 0 to 18446744073709551615\n\nFor more information, try '--help'.\n"
+        }
+        OptionFault::Number(Numbered::Until) => {
+            b"error: --until takes a whole number from 0 to 18446744073709551615\n\nFor more information, try '--help'.\n"
+        }
+        OptionFault::Twice(Numbered::From) => {
+            b"error: --from is given twice\n\nFor more information, try '--help'.\n"
+        }
+        OptionFault::Twice(Numbered::Until) => {
+            b"error: --until is given twice\n\nFor more information, try '--help'.\n"
+        }
+        OptionFault::UntilBesideSkew => {
+            b"error: --until and --skew can't be given together\n\nFor more information, try '--help'.\n"
         }
         OptionFault::PageTwice => {
             b"error: --page is given twice\n\nFor more information, try '--help'.\n"

@@ -1,36 +1,36 @@
 -- Reading a log line by line.
-use Rattle.std.proofs.Common.{◌≡◌, ◌≢◌, ◌+◌, ◌++◌, ◌<◌, ℕ, Bool, true, false, List, [], ◌∷◌, length, nat_eq, nat_lt, if◌then◌else◌, Option, Result, Ok, Err, refl, sym, ap, subst, ◌∙◌, map, arith, true≢false}
+use Rattle.std.proofs.Common.{◌≡◌, ◌≢◌, ◌+◌, ◌++◌, ◌<◌, ◌||◌, is_some, ℕ, Bool, true, false, List, [], ◌∷◌, length, nat_eq, nat_lt, if◌then◌else◌, Option, Result, Ok, Err, refl, sym, ap, subst, ◌∙◌, map, arith, true≢false}
 use Rattle.std.specs.Result.{IsErrAnd}
 use Rattle.std.specs.HashMap.{keys}
 use Rattle.std.proofs.lemmas.Bool.{lt-ltb}
-use Rattle.cc_log.specs.Names.{Call, LineFault, Log, LogFault, Options, State}
+use Rattle.cc_log.specs.Names.{Call, LineFault, Log, LogFault, Options, State, Window}
 use Rattle.cc_log.specs.Answers.{Gives, IsLongLine, Refuses}
 use Rattle.cc_log.specs.Lines.{GivesLine, HasInput, HasLines, IsAhead, IsSound, IsTooLong, held, is_blank, line_limit, lines_of}
 use Rattle.cc_log.specs.declared.lines.Lines.{Lines}
 use Rattle.cc_judge.specs.Late.{padded}
-use Rattle.cc_log.specs.Log.{Known, Refusal, no_calls, ◌>>=◌, at_first, bad_line, bodies_of, calls_of, has_close, if_some, log_of, spelled, ties_of, tree_of, with_line, with_lines, with_tree}
+use Rattle.cc_log.specs.Log.{Known, Refusal, no_calls, ◌>>=◌, at_first, bad_line, bodies_of, calls_of, has_close, if_some, is_late, log_of, spelled, ties_of, tree_of, with_line, with_lines, with_tree}
 use Rattle.cc_log.specs.State.{IsStep, Shows, log_view}
 use Rattle.cc_log.proofs.Ahead.{some_ahead, some_input}
 use Rattle.cc_log.proofs.Steps.{calls_length, refused_first}
 
 -- the source had an input from which the lines up to here were read
-pub record Leads (left : Option (List ℕ)) (known : Known) (number : ℕ) (after : List ℕ) : Type 0 where
+pub record Leads (options : Options) (left : Option (List ℕ)) (known : Known) (number : ℕ) (after : List ℕ) : Type 0 where
   pub input : List ℕ
   pub has : HasInput left input
-  pub same : with_lines at_first 1 (lines_of input) ≡ with_lines known number (lines_of after)
+  pub same : with_lines (at_first options.window) 1 (lines_of input) ≡ with_lines known number (lines_of after)
 
 -- nothing was read yet
-pub leads_at_first : (l : Lines) (left : Option (List ℕ)) → held l ≡ [] → (after : List ℕ) → IsAhead l left after → Leads left at_first 1 after
-leads_at_first l left none after ahead = record {
+pub leads_at_first : (options : Options) (l : Lines) (left : Option (List ℕ)) → held l ≡ [] → (after : List ℕ) → IsAhead l left after → Leads options left (at_first options.window) 1 after
+leads_at_first options l left none after ahead = record {
   input = after;
   has = subst (HasInput left) (sym (ahead.text_is ∙ ap (λ h. h ++ ahead.rest) none)) ahead.in_source;
   same = refl;
 }
 
 -- after one more line
-pub leads_on : (left_first left_old left_new : Option (List ℕ)) (old new : Lines) (known next : Known) (number : ℕ) (line : List ℕ) → GivesLine old new left_old left_new line → with_line known number line ≡ Ok next
-    → ((after : List ℕ) → IsAhead old left_old after → Leads left_first known number after) → (after : List ℕ) → IsAhead new left_new after → Leads left_first next (number + 1) after
-leads_on left_first left_old left_new old new known next number line gives is leads after ahead =
+pub leads_on : (options : Options) (left_first left_old left_new : Option (List ℕ)) (old new : Lines) (known next : Known) (number : ℕ) (line : List ℕ) → GivesLine old new left_old left_new line → with_line known number line ≡ Ok next
+    → ((after : List ℕ) → IsAhead old left_old after → Leads options left_first known number after) → (after : List ℕ) → IsAhead new left_new after → Leads options left_first next (number + 1) after
+leads_on options left_first left_old left_new old new known next number line gives is leads after ahead =
     let h = gives after ahead in
     let before = leads h.text h.ahead in
     record {
@@ -46,44 +46,44 @@ pub record Due {A V : Type 0} (left : Option (List ℕ)) (value : A → V) (resu
   pub gives : Gives value result (due input)
 
 -- no further line
-pub at_end : (left_first left : Option (List ℕ)) (l : Lines) (known : Known) (number skew : ℕ) (result : Result Log LogFault) → HasLines l left [] [] → ((after : List ℕ) → IsAhead l left after → Leads left_first known number after)
-    → Gives log_view result (if_some skew known) → (input : List ℕ) × HasInput left_first input × Gives log_view result (log_of skew input)
-at_end left_first left l known number skew result none leads gives =
+pub at_end : (left_first left : Option (List ℕ)) (l : Lines) (known : Known) (number : ℕ) (options : Options) (result : Result Log LogFault) → HasLines l left [] [] → ((after : List ℕ) → IsAhead l left after → Leads options left_first known number after)
+    → Gives log_view result (if_some options.skew known) → (input : List ℕ) × HasInput left_first input × Gives log_view result (log_of options input)
+at_end left_first left l known number options result none leads gives =
     let h = leads none.text none.ahead in
-    (h.input, h.has, subst (λ r. Gives log_view result (r >>= if_some skew)) (sym (h.same ∙ ap (λ lines. with_lines known number lines) none.lines_are)) gives)
+    (h.input, h.has, subst (λ r. Gives log_view result (r >>= if_some options.skew)) (sym (h.same ∙ ap (λ lines. with_lines known number lines) none.lines_are)) gives)
 
 -- a refused line
-pub refused_line : (left_first left : Option (List ℕ)) (l : Lines) (known : Known) (number skew : ℕ) (line : List ℕ) (rest : List (List ℕ)) (fault : LogFault) → HasLines l left [] (line ∷ rest)
-    → ((after : List ℕ) → IsAhead l left after → Leads left_first known number after) → Refuses fault (with_line known number line) → (input : List ℕ) × HasInput left_first input × Refuses fault (log_of skew input)
-refused_line left_first left l known number skew line rest fault has leads refuses =
+pub refused_line : (left_first left : Option (List ℕ)) (l : Lines) (known : Known) (number : ℕ) (options : Options) (line : List ℕ) (rest : List (List ℕ)) (fault : LogFault) → HasLines l left [] (line ∷ rest)
+    → ((after : List ℕ) → IsAhead l left after → Leads options left_first known number after) → Refuses fault (with_line known number line) → (input : List ℕ) × HasInput left_first input × Refuses fault (log_of options input)
+refused_line left_first left l known number options line rest fault has leads refuses =
     let h = leads has.text has.ahead in (
       h.input,
       h.has,
-      subst (λ r. Refuses fault (r >>= if_some skew)) (sym (h.same ∙ ap (λ lines. with_lines known number lines) has.lines_are))
-          (refused_first fault (with_line known number line >>= (λ k. with_lines k (number + 1) rest)) (if_some skew) (refused_first fault (with_line known number line) (λ k. with_lines k (number + 1) rest) refuses)),
+      subst (λ r. Refuses fault (r >>= if_some options.skew)) (sym (h.same ∙ ap (λ lines. with_lines known number lines) has.lines_are))
+          (refused_first fault (with_line known number line >>= (λ k. with_lines k (number + 1) rest)) (if_some options.skew) (refused_first fault (with_line known number line) (λ k. with_lines k (number + 1) rest) refuses)),
     )
 
 -- a line that is too long
 long_refused : (known : Known) (number : ℕ) (line : List ℕ) → line_limit < length line → with_line known number line ≡ Err (bad_line number LineFault.TooLong)
 long_refused known number line long = ap (λ b. if b then Err (bad_line number LineFault.TooLong) else (if is_blank line then Ok known else (tree_of number line >>= with_tree known number))) (lt-ltb line_limit (length line) long)
 
-pub long_line : (left_first left : Option (List ℕ)) (l : Lines) (known : Known) (number skew : ℕ) (fault : LogFault) → IsLongLine number (IsTooLong l left) fault
-    → ((after : List ℕ) → IsAhead l left after → Leads left_first known number after) → (input : List ℕ) × HasInput left_first input × Refuses fault (log_of skew input)
-long_line left_first left l known number skew (LogFault.Line line fault) long leads =
+pub long_line : (left_first left : Option (List ℕ)) (l : Lines) (known : Known) (number : ℕ) (options : Options) (fault : LogFault) → IsLongLine number (IsTooLong l left) fault
+    → ((after : List ℕ) → IsAhead l left after → Leads options left_first known number after) → (input : List ℕ) × HasInput left_first input × Refuses fault (log_of options input)
+long_line left_first left l known number options (LogFault.Line line fault) long leads =
     let t = long.2 in
-    refused_line left_first left l known number skew t.line t.rest (LogFault.Line line fault) t.has_lines leads
+    refused_line left_first left l known number options t.line t.rest (LogFault.Line line fault) t.has_lines leads
     (long_refused known number t.line t.long ∙ ap (λ n. Err (bad_line n LineFault.TooLong)) (sym long.0) ∙ ap (λ f. Err (bad_line line f)) (sym long.1))
-long_line left_first left l known number skew (LogFault.SentTwice first second item) long leads = absurd long
-long_line left_first left l known number skew LogFault.Empty long leads = absurd long
-long_line left_first left l known number skew LogFault.Read long leads = let i = some_input left_first in (i.0, i.1, tt)
-long_line left_first left l known number skew LogFault.Memory long leads = let i = some_input left_first in (i.0, i.1, tt)
+long_line left_first left l known number options (LogFault.SentTwice first second item) long leads = absurd long
+long_line left_first left l known number options LogFault.Empty long leads = absurd long
+long_line left_first left l known number options LogFault.Read long leads = let i = some_input left_first in (i.0, i.1, tt)
+long_line left_first left l known number options LogFault.Memory long leads = let i = some_input left_first in (i.0, i.1, tt)
 
 -- a line that was refused after it was read
-pub line_refused : (left_first left_old left_new : Option (List ℕ)) (old new : Lines) (known : Known) (number skew : ℕ) (line : List ℕ) (fault : LogFault) → IsSound new left_new → GivesLine old new left_old left_new line
-    → ((after : List ℕ) → IsAhead old left_old after → Leads left_first known number after) → Refuses fault (with_line known number line) → (input : List ℕ) × HasInput left_first input × Refuses fault (log_of skew input)
-line_refused left_first left_old left_new old new known number skew line fault sound gives leads refuses =
+pub line_refused : (left_first left_old left_new : Option (List ℕ)) (old new : Lines) (known : Known) (number : ℕ) (options : Options) (line : List ℕ) (fault : LogFault) → IsSound new left_new → GivesLine old new left_old left_new line
+    → ((after : List ℕ) → IsAhead old left_old after → Leads options left_first known number after) → Refuses fault (with_line known number line) → (input : List ℕ) × HasInput left_first input × Refuses fault (log_of options input)
+line_refused left_first left_old left_new old new known number options line fault sound gives leads refuses =
     let some = some_ahead new left_new sound in
-    refused_line left_first left_old old known number skew line (lines_of some.0) fault (gives some.0 some.1) leads refuses
+    refused_line left_first left_old old known number options line (lines_of some.0) fault (gives some.0 some.1) leads refuses
 
 -- a fault that was passed on
 pub passed_on : {A V : Type 0} (left : Option (List ℕ)) (value : A → V) (due : List ℕ → Result V Refusal) (result : Result A LogFault) (fault : LogFault) → IsErrAnd result (λ f. f ≡ fault)
@@ -102,15 +102,21 @@ has_calls options s known shows = ap length shows.calls ∙ calls_length options
 pub no_calls_given : (options : Options) (s : State) (known : Known) → Shows options s known → nat_eq (length s.log.calls.items) 0 ≡ true → if_some options.skew known ≡ Err no_calls
 no_calls_given options s known shows none = ap (λ b. if b then Err no_calls else Ok (spelled options.skew known)) (ap (λ n. nat_eq n 0) (sym (has_calls options s known shows)) ∙ none)
 
-pub finished : (options : Options) (s : State) (known : Known) (calls : List Call) (items : ℕ) → Shows options s known → nat_eq (length s.log.calls.items) 0 ≡ false → items ≡ length (keys s.items) → calls ≡ padded s.late s.log.rules.closes s.log.calls.items items
-    → if_some options.skew known ≡ Ok (record { late = s.late; calls = calls; closes = s.log.rules.closes; ties = s.log.rules.ties.items })
-finished options s known calls items shows some count is =
-    let due = λ (late : Bool). λ (closes : Bool). padded late closes (calls_of options.skew known.before) (length (bodies_of known.before)) in
-    let whole : calls ≡ padded known.late (has_close known.before) (calls_of options.skew known.before) (length (bodies_of known.before)) =
-    is ∙ ap (λ n. padded s.late s.log.rules.closes s.log.calls.items n) (count ∙ ap length shows.bodies) ∙ ap (λ cs. padded s.late s.log.rules.closes cs (length (bodies_of known.before))) shows.calls
-    ∙ ap (λ b. due b s.log.rules.closes) shows.late ∙ ap (λ b. due known.late b) shows.closes in
+-- whether the log begins late
+late_given : (options : Options) (s : State) (known : Known) → Shows options s known → (s.late || is_some options.window.from) ≡ is_late known
+late_given options s known shows = ap (λ (b : Bool). b || is_some options.window.from) shows.late ∙ ap (λ (w : Window). known.late || is_some w.from) (sym shows.window)
+
+pub finished : (options : Options) (s : State) (known : Known) (late : Bool) (calls : List Call) (items : ℕ) → Shows options s known → nat_eq (length s.log.calls.items) 0 ≡ false → items ≡ length (keys s.items)
+    → late ≡ (s.late || is_some options.window.from) → calls ≡ padded late s.log.rules.closes s.log.calls.items items
+    → if_some options.skew known ≡ Ok (record { late = late; calls = calls; closes = s.log.rules.closes; ties = s.log.rules.ties.items })
+finished options s known late calls items shows some count late_is is =
+    let same : late ≡ is_late known = late_is ∙ late_given options s known shows in
+    let due = λ (b : Bool). λ (closes : Bool). padded b closes (calls_of options.skew known.before) (length (bodies_of known.before)) in
+    let whole : calls ≡ padded (is_late known) (has_close known.before) (calls_of options.skew known.before) (length (bodies_of known.before)) =
+    is ∙ ap (λ n. padded late s.log.rules.closes s.log.calls.items n) (count ∙ ap length shows.bodies) ∙ ap (λ cs. padded late s.log.rules.closes cs (length (bodies_of known.before))) shows.calls
+    ∙ ap (λ b. due b s.log.rules.closes) same ∙ ap (λ b. due (is_late known) b) shows.closes in
     ap (λ b. if b then Err no_calls else Ok (spelled options.skew known)) (ap (λ n. nat_eq n 0) (sym (has_calls options s known shows)) ∙ some)
-    ∙ ap (λ cs. Ok (record { late = known.late; calls = cs; closes = has_close known.before; ties = ties_of options.skew known.before })) (sym whole)
-    ∙ ap (λ b. Ok (record { late = known.late; calls = calls; closes = b; ties = ties_of options.skew known.before })) (sym shows.closes)
-    ∙ ap (λ ts. Ok (record { late = known.late; calls = calls; closes = s.log.rules.closes; ties = ts })) (sym shows.ties)
-    ∙ ap (λ b. Ok (record { late = b; calls = calls; closes = s.log.rules.closes; ties = s.log.rules.ties.items })) (sym shows.late)
+    ∙ ap (λ cs. Ok (record { late = is_late known; calls = cs; closes = has_close known.before; ties = ties_of options.skew known.before })) (sym whole)
+    ∙ ap (λ b. Ok (record { late = is_late known; calls = calls; closes = b; ties = ties_of options.skew known.before })) (sym shows.closes)
+    ∙ ap (λ ts. Ok (record { late = is_late known; calls = calls; closes = s.log.rules.closes; ties = ts })) (sym shows.ties)
+    ∙ ap (λ b. Ok (record { late = b; calls = calls; closes = s.log.rules.closes; ties = s.log.rules.ties.items })) (sym same)

@@ -6,3 +6,4 @@ pub mod Answers
 pub mod State
 pub mod Options
 pub mod Refused
+pub mod Window

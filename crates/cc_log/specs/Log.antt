@@ -1,14 +1,15 @@
 -- The log that the lines of an input spell, or the first line with a fault.
-use Rattle.std.specs.Prelude.{ℕ, ◌+◌, ◌-◌, ◌^◌, ◌==◌, ◌&&◌, min, Bool, true, false, not, List, [], ◌∷◌, ◌++◌, length, nat_lt, if◌then◌else◌, Option, Some, None, option_map, Result, Ok, Err}
+use Rattle.std.specs.Prelude.{ℕ, ◌+◌, ◌-◌, ◌^◌, ◌==◌, ◌&&◌, ◌||◌, min, is_some, Bool, true, false, not, List, [], ◌∷◌, ◌++◌, length, nat_lt, if◌then◌else◌, Option, Some, None, option_map, Result, Ok, Err}
 use Rattle.std.specs.List.{position_or_len}
 use Rattle.serde_json.specs.Data.{Data}
 use Rattle.indexmap.specs.IndexSet.{insert_key}
 use Rattle.std.specs.Str.{bytes_eq}
 use Rattle.cc_plan.specs.Json.{json_of}
 use Rattle.cc_judge.specs.Late.{padded}
-use Rattle.cc_log.specs.Names.{Act, Call, Last, Line, LineFault, Said, Tie}
+use Rattle.cc_log.specs.Names.{Act, Call, Last, Line, LineFault, Options, Said, Tie, Window}
 use Rattle.cc_log.specs.Line.{Body, begins_late, line_of, or_fault, thread_of}
 use Rattle.cc_log.specs.Lines.{is_blank, line_limit, lines_of}
+use Rattle.cc_log.specs.Window.{cut}
 
 -- why an input is no log
 pub data Refusal : Type 0 where
@@ -141,13 +142,14 @@ pub record Spelled : Type 0 where
   pub closes : Bool
   pub ties : List Tie
 
--- the lines so far: whether they say that the log begins late, and their calls
+-- the lines so far: the part of the log that is judged, whether they say that the log begins late, and their calls
 pub record Known : Type 0 where
+  pub window : Window
   pub late : Bool
   pub before : List Entry
 
-abbrev pub at_first : Known
-at_first = record { late = false; before = [] }
+abbrev pub at_first : Window → Known
+at_first window = record { window = window; late = false; before = [] }
 
 abbrev pub or_refusal : {A : Type 0} → (number : ℕ) → Result A LineFault → Result A Refusal
 or_refusal number (Ok x) = Ok x
@@ -172,12 +174,17 @@ with_entry known e = do
   fine ← allowed e (last_of e.thread known.before) (λ body. sender_of body known.before)
   Ok (record known { before = e ∷ known.before })
 
+-- the call as it is judged, if it is
+abbrev pub with_cut : Known → Entry → Option Line → Result Known Refusal
+with_cut known e None = Ok known
+with_cut known e (Some line) = with_entry known (record { number = e.number; thread = e.thread; line = line })
+
 abbrev pub is_first : Known → Bool
 is_first known = (length known.before == 0) && not known.late
 
 -- the tree of a line; a first one may say that the log begins late
 abbrev pub with_tree : Known → (number : ℕ) → Data → Result Known Refusal
-with_tree known number d = if is_first known && begins_late d then Ok (record known { late = true }) else entry_of number d >>= with_entry known
+with_tree known number d = if is_first known && begins_late d then Ok (record known { late = true }) else entry_of number d >>= (λ e. with_cut known e (cut known.window e.line))
 
 -- the tree of a line
 abbrev pub tree_of : (number : ℕ) → List ℕ → Result Data Refusal
@@ -192,10 +199,14 @@ abbrev pub with_lines : Known → (number : ℕ) → List (List ℕ) → Result 
 with_lines known number [] = Ok known
 with_lines known number (line ∷ rest) = with_line known number line >>= (λ next. with_lines next (number + 1) rest)
 
+-- the log begins late if it says so, or is judged from a time on
+abbrev pub is_late : Known → Bool
+is_late known = known.late || is_some known.window.from
+
 abbrev pub spelled : (skew : ℕ) → Known → Spelled
 spelled skew known = record {
-  late = known.late;
-  calls = padded known.late (has_close known.before) (calls_of skew known.before) (length (bodies_of known.before));
+  late = is_late known;
+  calls = padded (is_late known) (has_close known.before) (calls_of skew known.before) (length (bodies_of known.before));
   closes = has_close known.before;
   ties = ties_of skew known.before;
 }
@@ -204,5 +215,5 @@ abbrev pub if_some : (skew : ℕ) → Known → Result Spelled Refusal
 if_some skew known = if length known.before == 0 then Err no_calls else Ok (spelled skew known)
 
 -- the log that the input spells, or why it spells none: the first line with a fault, and its first fault
-abbrev pub log_of : (skew : ℕ) → (input : List ℕ) → Result Spelled Refusal
-log_of skew input = with_lines at_first 1 (lines_of input) >>= if_some skew
+abbrev pub log_of : Options → (input : List ℕ) → Result Spelled Refusal
+log_of options input = with_lines (at_first options.window) 1 (lines_of input) >>= if_some options.skew

@@ -11,3 +11,4 @@ pub use Rattle.cc_log.specs.declared.parse.Options.{Options}
 pub use Rattle.cc_log.specs.declared.state.State.{State}
 pub use Rattle.cc_log.specs.declared.threads.Last.{Last}
 pub use Rattle.cc_log.specs.declared.threads.Parsed.{Parsed}
+pub use Rattle.cc_log.specs.declared.window.Window.{Window}

@@ -22,6 +22,7 @@ entry_in number parsed = record { number = number; thread = string_bytes parsed.
 -- the state has what is known of the lines so far
 pub record Shows (options : Options) (s : State) (known : Known) : Type 0 where
   pub options_is : s.log.options ≡ options
+  pub window : known.window ≡ options.window
   pub capacity : s.log.rules.capacity ≡ options.capacity
   pub late : s.late ≡ known.late
   pub bodies : keys s.items ≡ bodies_of known.before

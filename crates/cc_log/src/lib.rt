@@ -1,7 +1,7 @@
 //! Logs of calls as texts, one JSON object a line, and how a log is read.
 //!
 //! `lines` has the lines of an input, `line` what one of them says, and `parse` the log of all. `state` adds the calls one by
-//! one, with `items` and `threads`, and `late` the calls that a log which begins late may lack.
+//! one, with `items` and `threads`; `window` cuts them, and `late` has the calls that a log which begins late may lack.
 #![tactic(auto)]
 
 mod clauses;
@@ -14,9 +14,11 @@ mod narrow;
 mod parse;
 mod state;
 mod threads;
+mod window;
 
 pub use clauses::definitions_refuse;
 pub use fault::{LineFault, LogFault};
 pub use line::{Body, Line, Said, body_text};
 pub use parse::{Log, Notes, Options, Shown, read_log};
 pub use threads::Last;
+pub use window::Window;

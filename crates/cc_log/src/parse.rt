@@ -13,6 +13,7 @@ use crate::line::Line;
 use crate::lines::Lines;
 use crate::state::{State, add_line};
 use crate::threads::Last;
+use crate::window::Window;
 use cc_io::Source;
 use cc_judge::{Call, Rules};
 use indexmap::IndexMap;
@@ -27,6 +28,8 @@ pub struct Options {
     pub skew: u64,
     /// Whether the answer is a page, for which the lines are kept.
     pub page: bool,
+    /// The part of the log that is judged.
+    pub window: Window,
 }
 
 impl Options {
@@ -38,6 +41,10 @@ impl Options {
             capacity: None,
             skew: 0,
             page: false,
+            window: Window {
+                from: None,
+                until: None,
+            },
         }
     }
 }
@@ -121,7 +128,7 @@ impl Log {
 
 /// The log of no lines.
 fn at_first(alloc: Global, options: Options) -> State
-    ensures { Shows options result at_first }
+    ensures { Shows options result (at_first options.window) }
 {
     State {
         log: Log::empty(alloc, options),
@@ -150,6 +157,7 @@ fn finish(alloc: Global, state: State) -> Result<Log, LogFault>
     if log.calls.is_empty() {
         return Err(LogFault::Empty);
     }
+    let late = late || log.options.window.from.is_some();
     log.items = items.len();
     log.late = late;
     log.rules.capacity = judged_capacity(late, log.rules.capacity);
@@ -161,7 +169,7 @@ fn finish(alloc: Global, state: State) -> Result<Log, LogFault>
 /// a fault, and its first fault.
 pub fn read_log<R: Source>(alloc: Global, source: &mut R, options: Options) -> Result<Log, LogFault>
     requires { R.read_failures source.old < 2 ^ 64 - 1 }
-    ensures due { (input : List ℕ) × HasInput (R.bytes_left source.old) input × Gives log_view result (log_of options.skew input) }
+    ensures due { (input : List ℕ) × HasInput (R.bytes_left source.old) input × Gives log_view result (log_of options input) }
     ensures capacity { IfOk result (λ log. log.rules.capacity ≡ judged_capacity log.late options.capacity) }
 {
     let mut state = at_first(alloc, options);

@@ -15,6 +15,7 @@ use crate::line::{Line, Said, begins_late};
 use crate::narrow::narrow;
 use crate::parse::{Log, Notes, Shown};
 use crate::threads::{Last, Parsed, after_last, fault_of, note_tie, read_call};
+use crate::window::cut;
 use cc_judge::{Act, Call};
 use serde_json::{Category, Value};
 use std::alloc::Global;
@@ -136,7 +137,7 @@ fn is_beginning(state: &State, tree: &Value) -> bool
     state.log.calls.is_empty() && !state.late && begins_late(tree)
 }
 
-/// Adds the line of a tree.
+/// Adds the line of a tree, if it is in the window.
 fn add_tree(alloc: Global, state: &mut State, tree: &Value, number: usize) -> Result<(), LogFault>
     ensures { (options : Options) (known : Known) → Shows options state.old known → IsStep options (with_tree known number (view tree.now)) result state.new }
 {
@@ -145,7 +146,11 @@ fn add_tree(alloc: Global, state: &mut State, tree: &Value, number: usize) -> Re
         return Ok(());
     }
     let parsed = read_call(alloc, tree, number)?;
-    add(alloc, state, parsed, number)
+    let Some(line) = cut(state.log.options.window, parsed.line) else {
+        return Ok(());
+    };
+    let Parsed { thread, line: _ } = parsed;
+    add(alloc, state, Parsed { thread, line }, number)
 }
 
 /// Adds a line; a blank one is passed over.

@@ -11,14 +11,14 @@ use Rattle.cc_log.proofs.parse.read_log.Goals as goal
 pub returns-in_err-lines-clause-due : goal.returns-in_err-lines-clause-due
 returns-in_err-lines-clause-due g c =
     let left = g.R.Source.bytes_left c.args.source.now in
-    passed_on left log_view (log_of c.args.options.skew) c.from_residual.result LogFault.Memory c.from_residual.ensures.1 (no_memory left (log_of c.args.options.skew))
+    passed_on left log_view (log_of c.args.options) c.from_residual.result LogFault.Memory c.from_residual.ensures.1 (no_memory left (log_of c.args.options))
 
 pub returns-in_err-next-clause-due : goal.returns-in_err-next-clause-due
 returns-in_err-next-clause-due g c =
     let left = g.R.Source.bytes_left c.args.source.now in
     let inv = c.loop-number.invariant in
-    passed_on left log_view (log_of c.args.options.skew) c.from_residual-in_err-next.result c.in_err-next.field-0.0 c.from_residual-in_err-next.ensures.1
-    (long_line left (g.R.Source.bytes_left c.loop-number.source) c.loop-number.lines inv.known c.loop-number.number c.args.options.skew c.in_err-next.field-0.0 c.in_err-next.ensures.fault inv.leads)
+    passed_on left log_view (log_of c.args.options) c.from_residual-in_err-next.result c.in_err-next.field-0.0 c.from_residual-in_err-next.ensures.1
+    (long_line left (g.R.Source.bytes_left c.loop-number.source) c.loop-number.lines inv.known c.loop-number.number c.args.options c.in_err-next.field-0.0 c.in_err-next.ensures.fault inv.leads)
 
 pub returns-then-not-branch-clause-due : goal.returns-then-not-branch-clause-due
 returns-then-not-branch-clause-due g c =
@@ -26,7 +26,7 @@ returns-then-not-branch-clause-due g c =
     let now = g.R.Source.bytes_left c.loop-number.source in
     let inv = c.loop-number.invariant in
     let off : c.in_ok-next.field-0 ≡ false = grind (arith, c.if-not-branch.true) in
-    at_end left now c.loop-number.lines inv.known c.loop-number.number c.args.options.skew c.finish.result
+    at_end left now c.loop-number.lines inv.known c.loop-number.number c.args.options c.finish.result
     (subst (λ b. OnFalse b (HasLines c.loop-number.lines now [] [])) off c.in_ok-next.ensures.none) inv.leads (c.finish.ensures.due c.args.options inv.known inv.shows)
 
 pub returns-in_err-add_line-clause-due : goal.returns-in_err-add_line-clause-due
@@ -37,8 +37,8 @@ returns-in_err-add_line-clause-due g c =
     let new = g.R.Source.bytes_left c.next.new.source in
     let on : c.in_ok-next.field-0 ≡ true = grind (arith, c.if-not-branch.false) in
     let gives = subst (λ b. OnTrue b (GivesLine c.loop-number.lines c.next.new.self old new c.next.new.line.items)) on c.in_ok-next.ensures.line in
-    passed_on left log_view (log_of c.args.options.skew) c.from_residual-in_err-add_line.result c.in_err-add_line.field-0.0 c.from_residual-in_err-add_line.ensures.1
-    (line_refused left old new c.loop-number.lines c.next.new.self inv.known c.loop-number.number c.args.options.skew c.next.new.line.items c.in_err-add_line.field-0.0 c.in_ok-next.ensures.sound gives inv.leads
+    passed_on left log_view (log_of c.args.options) c.from_residual-in_err-add_line.result c.in_err-add_line.field-0.0 c.from_residual-in_err-add_line.ensures.1
+    (line_refused left old new c.loop-number.lines c.next.new.self inv.known c.loop-number.number c.args.options c.next.new.line.items c.in_err-add_line.field-0.0 c.in_ok-next.ensures.sound gives inv.leads
     (subst (λ (t : List ℕ). Refuses c.in_err-add_line.field-0.0 (with_line inv.known c.loop-number.number t)) c.deref.ensures.value (c.in_err-add_line.ensures c.args.options inv.known inv.shows)))
 
 pub loop-number-preserved : goal.loop-number-preserved
@@ -55,9 +55,9 @@ loop-number-preserved g c =
       sound = c.in_ok-next.ensures.sound;
       known = step.0;
       shows = step.2;
-      leads = leads_on left old new c.loop-number.lines c.next.new.self inv.known step.0 c.loop-number.number c.next.new.line.items gives
+      leads = leads_on c.args.options left old new c.loop-number.lines c.next.new.self inv.known step.0 c.loop-number.number c.next.new.line.items gives
           (subst (λ (t : List ℕ). with_line inv.known c.loop-number.number t ≡ Ok step.0) c.deref.ensures.value step.1) inv.leads;
     }
 
 pub returns-clause-due : goal.returns-clause-due
-returns-clause-due g c = no_memory (g.R.Source.bytes_left c.args.source.now) (log_of c.args.options.skew)
+returns-clause-due g c = no_memory (g.R.Source.bytes_left c.args.source.now) (log_of c.args.options)

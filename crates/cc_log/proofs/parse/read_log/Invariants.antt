@@ -11,5 +11,5 @@ invariant-loop-number g l = record {
   sound : IsSound l.lines (g.R.Source.bytes_left l.source);
   known : Known;
   shows : Shows l.fn.options l.state known;
-  leads : (after : List ℕ) → IsAhead l.lines (g.R.Source.bytes_left l.source) after → Leads (g.R.Source.bytes_left l.fn.source) known l.number after;
+  leads : (after : List ℕ) → IsAhead l.lines (g.R.Source.bytes_left l.source) after → Leads l.fn.options (g.R.Source.bytes_left l.fn.source) known l.number after;
 }

@@ -1,7 +1,7 @@
 use Rattle.std.proofs.Common.{◌∙◌, sym}
 use Rattle.serde_json.specs.View.{view}
 use Rattle.cc_log.specs.State.{entry_in}
-use Rattle.cc_log.proofs.Steps.{refused_call, step_of_call, step_of_beginning}
+use Rattle.cc_log.proofs.Steps.{refused_call, step_of_call, step_of_none, step_of_beginning}
 use Rattle.cc_log.proofs.state.add_tree.Goals as goal
 
 pub returns-then-is_beginning : goal.returns-then-is_beginning
@@ -9,5 +9,5 @@ returns-then-is_beginning c = λ options known shows. step_of_beginning options 
 
 pub returns : goal.returns
 returns c = λ options known shows.
-    step_of_call options c.args.state.now c.add.new.state known c.args.number (view c.args.tree.now) (entry_in c.args.number c.in_ok-parsed.parsed) c.add.result shows
-    (sym c.is_beginning.ensures ∙ c.if-is_beginning.false) c.in_ok-parsed.ensures c.add.ensures
+    step_of_call options c.args.state.now c.add.new.state known c.args.number (view c.args.tree.now) (entry_in c.args.number c.in_ok-parsed.parsed) c.in-Some.line c.add.result shows
+    (sym c.is_beginning.ensures ∙ c.if-is_beginning.false) c.in_ok-parsed.ensures (sym c.cut.ensures ∙ c.in-Some.is) c.add.ensures
