@@ -49,6 +49,14 @@ fn words(rt: &HostRuntime) -> Result<Vec<String>, Error> {
     }
 }
 
+/// The name of the input of a line in messages.
+fn input_name(file: &Option<String>) -> &str {
+    match file {
+        Some(name) => name.as_str(),
+        None => "standard input",
+    }
+}
+
 /// Does a line over the file that it names, or over standard input if it names none, and answers the exit status. The host has the
 /// streams and the clock.
 fn answer<R: Threads + Wait + Sync + Files, W: Sink, E: Sink>(
@@ -71,10 +79,7 @@ fn answer<R: Threads + Wait + Sync + Files, W: Sink, E: Sink>(
         words: parted.words.as_slice(),
         form: formed.form,
         options: judging.options,
-        input: match &parted.file {
-            Some(name) => name.as_str(),
-            None => "standard input",
-        },
+        input: input_name(&parted.file),
     };
     if host.stdout().is_terminal() && writes_page(line) {
         return decline_page(errors);
