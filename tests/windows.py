@@ -147,11 +147,15 @@ def cut(call, until):
 
 
 def window(calls, rng):
-    """The calls between two moments, with those that were under way at the first, or without; and the moments."""
-    size = rng.choice([3, 10, 40, 200, 600])
-    first = rng.randrange(len(calls) - size)
-    start, until = calls[first]["begin"], calls[first + size]["begin"]
-    return within(calls, rng.choice(["begin", "end"]), start, until), start, until
+    """The calls between two moments, with those that were under way at the first, or without; and the moments. There are some: of
+    sends alone that are refused after the second moment nothing is left."""
+    while True:
+        size = rng.choice([3, 10, 40, 200, 600])
+        first = rng.randrange(len(calls) - size)
+        start, until = calls[first]["begin"], calls[first + size]["begin"]
+        kept = within(calls, rng.choice(["begin", "end"]), start, until)
+        if kept:
+            return kept, start, until
 
 
 def within(calls, key, start, until):
@@ -220,7 +224,8 @@ def cut_wrongly(calls, number, start, until):
     whole = text_of(calls)
     due = judged([], text_of(within(calls, "end", start, until)))
     both = judged(["--from", str(start), f"--until={until}"], whole, "")
-    first = judged(["--until", str(until), "--capacity", str(CAPACITY)], whole, "")
+    has_calls = within(calls, "begin", 0, until)
+    first = judged(["--until", str(until), "--capacity", str(CAPACITY)], whole, "") if has_calls else (0, "")
     wrong = [] if both == due else [f"window {number} cut by the program: {both[1]}, and by the test: {due[1]}"]
     return wrong + ([f"log {number} until {until} is accused: {first[1]}"] if first[0] != 0 else [])
 
