@@ -114,7 +114,7 @@ def assembler() -> list:
     """The command that assembles from standard input, if this machine has one."""
     if shutil.which("aarch64-linux-gnu-as"):
         return ["aarch64-linux-gnu-as", "-"]
-    return ["clang", "--target=aarch64-linux-gnu", "-c", "-x", "assembler", "-"] if shutil.which("clang") else []
+    return ["clang", "--target=aarch64-linux-gnu", "-march=armv8.4-a", "-c", "-x", "assembler", "-"] if shutil.which("clang") else []
 
 
 def main() -> int:
