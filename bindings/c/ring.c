@@ -1,14 +1,16 @@
 /* Records the calls of four threads on a ring of one's own, as a log to be judged.
  *
- *     cc -O2 -pthread ring.c -o ring && ./ring LOG [right|early] [ITEMS]
+ *     cc -O2 -pthread ring.c -o ring && ./ring LOG [right|early|hasty] [ITEMS] [stops]
  *     ccq judge LOG
  *
  * The ring is like that of Dmitry Vyukov: each place has a number that says whose turn it is. `early` plants a fault: now and then
- * a send gives its place to the takes before it has written the item. Each of two threads sends this number of items
- * (5,000), and two take until all is sent and the ring is empty. */
-#ifndef _POSIX_C_SOURCE
-#define _POSIX_C_SOURCE 200809L
+ * a send gives its place to the takes before it has written the item. `hasty` is the ring as he published it: a call that finds
+ * another one at work at its place says that there is no item or no room. Each of two threads sends this number of items
+ * (5,000), and two take until all is sent and the ring is empty. With `stops` these threads are stopped in the middle of calls. */
+#ifndef _GNU_SOURCE
+#define _GNU_SOURCE
 #endif
+#define VAHEPITO_RECORD_STOPS
 #include "vahepito_record.h"
 
 #include <inttypes.h>
@@ -26,11 +28,11 @@ struct place {
 };
 static struct place places[CAPACITY];
 static _Atomic uint64_t next_send, next_take;
-static bool early;
+static bool early, hasty, stops;
 
 /* The place of the next call, whose turn has to be its number and `shift` more; NULL if the other side's number says that there
  * is no room or no item. If it doesn't say so, a call of the other side is at work at the place, and this one waits: NULL would
- * be wrong, as an item whose send has returned may be after that place. */
+ * be wrong, as an item whose send has returned may be after that place. The hasty ring gives NULL. */
 static struct place *claim(_Atomic uint64_t *next, _Atomic uint64_t *other, uint64_t shift, uint64_t *number) {
     const uint64_t room = shift == 0 ? CAPACITY : 0;
     uint64_t at = atomic_load(next);
@@ -38,7 +40,7 @@ static struct place *claim(_Atomic uint64_t *next, _Atomic uint64_t *other, uint
         struct place *place = &places[at % CAPACITY];
         const uint64_t turn = atomic_load(&place->turn);
         if (turn != at + shift) {
-            if (turn < at + shift && atomic_load(other) + room == at) return NULL;
+            if (turn < at + shift && (hasty || atomic_load(other) + room == at)) return NULL;
             sched_yield();
             at = atomic_load(next);
         } else if (atomic_compare_exchange_weak(next, &at, at + 1)) {
@@ -117,10 +119,13 @@ int main(int count, char **words) {
     pthread_t threads[THREADS];
     const struct timespec tenth = {0, 100000000};
     if (count < 2 || vahepito_log_open(&calls, words[1]) != 0) {
-        fprintf(stderr, "usage: ring LOG [right|early] [ITEMS]\n");
+        fprintf(stderr, "usage: ring LOG [right|early|hasty] [ITEMS] [stops]\n");
         return 1;
     }
     early = count > 2 && strcmp(words[2], "early") == 0;
+    hasty = count > 2 && strcmp(words[2], "hasty") == 0;
+    stops = count > 4 && strcmp(words[4], "stops") == 0;
+    if (stops && vahepito_stops_open() != 0) return 1;
     if (count > 3) items = strtoull(words[3], NULL, 10);
     for (uint64_t at = 0; at < CAPACITY; at++) atomic_store(&places[at].turn, at);
     for (int at = 0; at < THREADS; at++) vahepito_recorder_open(&recorders[at], &calls);
@@ -128,11 +133,15 @@ int main(int count, char **words) {
         if (pthread_create(&threads[at], NULL, at < 2 ? sends : takes, &recorders[at]) != 0) return 1;
     /* If a thread hangs, the log is there by this. */
     while (atomic_load(&running) > 0) {
-        nanosleep(&tenth, NULL);
+        if (stops) vahepito_stop_threads(&calls, 100);
+        else nanosleep(&tenth, NULL);
         vahepito_log_round(&calls);
     }
     for (int at = 0; at < THREADS; at++) pthread_join(threads[at], NULL);
-    if (vahepito_log_close(&calls) != 0) return 1;
+    if (vahepito_log_close(&calls) != 0) {
+        perror("ring: the log ends early");
+        return 1;
+    }
     printf("%" PRIu64 " items are sent\n", 2 * items);
     return 0;
 }

@@ -9,8 +9,10 @@
  *     vahepito_end_recorded_send(&mine, VAHEPITO_SENT);        after it; or .._WAS_FULL, .._WAS_CLOSED
  *     vahepito_begin_recorded_take(&mine);
  *     vahepito_end_recorded_take(&mine, VAHEPITO_TOOK, item);  or .._FOUND_NONE, .._FOUND_END, without an item: 0
+ *     vahepito_begin_recorded_close(&mine);                    before each close, and after it
+ *     vahepito_end_recorded_close(&mine);
  *     vahepito_log_round(&log);                                now and then, by any thread
- *     vahepito_log_close(&log);                                at the end; 0, or -1 with errno of the first failure
+ *     vahepito_log_close(&log);                                at the end; 0 if the log is whole, or -1 with errno
  *
  * Items are numbers, and no two sends that are accepted have the same. A thread uses its own recorder alone, which isn't
  * moved, and begins no call before its last one has ended; if it gives that one up, it calls vahepito_give_up first. That call
@@ -20,7 +22,19 @@
  * the log of the run up to a moment of that round: pending calls are in it as calls that haven't returned. So the log is
  * right if the program hangs or is killed, and lacks only what came after the last round. Let the thread that waits for the
  * others do a round every tenth of a second. If a round is killed while it writes, the log is refused, by the line that
- * begins with `!`. Nothing is written past VAHEPITO_RECORD_LIMIT bytes (16 MiB).
+ * begins with `!`.
+ *
+ * A write that fails ends the log early, and so does a limit, of which there is none unless `log.limit` is set after
+ * vahepito_log_open, in bytes. The file is then as the last round left it, and vahepito_log_close returns -1, with errno of the first
+ * write that failed, or EFBIG for the limit. If `log.says_end` is set to 1 after vahepito_log_open, the last line says so too:
+ * {"ends":"whole"} or {"ends":"early"}; the log of a program that was killed has neither. `ccq judge` 0.4 refuses such a
+ * line, so take it off before.
+ *
+ * The stamps are those of vahepito_log_now(&log), which a caller can read too. The lines of two files of one such clock are one
+ * log, if the names of their threads differ.
+ *
+ * With VAHEPITO_RECORD_STOPS defined before the header (Linux), threads can be stopped in the middle of their calls: see
+ * vahepito_stop_threads below. Faults that need a thread to be interrupted between two of its steps are found far sooner so.
  *
  * A call costs two reads of the monotonic clock, two fences and some ten stores. Of 256 calls one takes a lock, before it
  * begins, and may do a round, which takes about half a microsecond a line. The package rust/record says why a round is right:
@@ -40,32 +54,40 @@
 #include <time.h>
 #include <unistd.h>
 
-#ifndef VAHEPITO_RECORD_LIMIT
-#define VAHEPITO_RECORD_LIMIT (16u << 20)
+#ifdef VAHEPITO_RECORD_LIMIT
+#error "VAHEPITO_RECORD_LIMIT is gone: set log.limit after vahepito_log_open"
 #endif
 
-/* What a call is, a send (0) or a take (1), and its answer. */
+/* What a call is, a send (0), a take (1) or a close (8), and its answer. */
 enum { VAHEPITO_IS_TAKE = 1, VAHEPITO_SENT = 2, VAHEPITO_WAS_FULL = 4, VAHEPITO_WAS_CLOSED = 6 };
 enum { VAHEPITO_TOOK = 3, VAHEPITO_FOUND_NONE = 5, VAHEPITO_FOUND_END = 7 };
+enum { VAHEPITO_IS_CLOSE = 8, VAHEPITO_HAS_CLOSED = 10, VAHEPITO_ACTS = 9 };
 
 enum { VAHEPITO_RECORDED = 256 };
 typedef struct { uint64_t begin, end, item, what; } vahepito_recorded;
 
-/* The calls of a thread that aren't written yet. Of `stage` the half is how many have ended; it's odd while one is pending. */
+/* The calls of a thread that aren't written yet. Of `stage` the half is how many have ended; it's odd while one is pending.
+ * `thread` is the system's number of the thread that made the last call, if threads can be stopped. */
 typedef struct vahepito_recorder {
     struct vahepito_log *log;
     struct vahepito_recorder *next;
     uint64_t name, stage, written, last;
+    long thread;
     vahepito_recorded calls[VAHEPITO_RECORDED];
 } vahepito_recorder;
 
-/* All recorders; of the file the bytes that stay, and all with the lines of pending calls; why nothing more is written: an
- * errno, or -1 at the limit; a lock. */
+/* All recorders; of the file the bytes that stay, the text behind them, of calls that were pending in the last round, and its size;
+ * the most bytes; whether the last line says how the log ends; why nothing more is written, an errno; a lock. */
 typedef struct vahepito_log {
     vahepito_recorder *first;
-    uint64_t names, kept, all, start;
-    int file, over, lock;
+    uint64_t names, kept, start, limit;
+    char *shown;
+    size_t shown_size;
+    int says_end, file, over, lock;
 } vahepito_log;
+
+#define VAHEPITO_ENDS_WHOLE "{\"ends\":\"whole\"}\n"
+#define VAHEPITO_ENDS_EARLY "{\"ends\":\"early\"}\n"
 
 #define VAHEPITO_GET(place, order) __atomic_load_n(&(place), __ATOMIC_##order)
 #define VAHEPITO_SET(place, value, order) __atomic_store_n(&(place), (value), __ATOMIC_##order)
@@ -79,6 +101,9 @@ static inline uint64_t vahepito_moment_after(const vahepito_log *log, uint64_t m
     return now;
 }
 
+/* Now, by the clock of the log's lines. */
+static inline uint64_t vahepito_log_now(const vahepito_log *log) { return vahepito_moment_after(log, 0); }
+
 static inline void vahepito_lock_log(vahepito_log *log) {
     while (__atomic_exchange_n(&log->lock, 1, __ATOMIC_ACQUIRE)) sched_yield();
 }
@@ -88,24 +113,41 @@ static inline vahepito_recorded *vahepito_call_of(vahepito_recorder *mine, uint6
 /* Writes the line of a call, which had ended or not. The precision 0 writes no number for 0. */
 static inline void vahepito_put_line(FILE *text, vahepito_recorder *mine, uint64_t call, int ended) {
     vahepito_recorded *const it = vahepito_call_of(mine, call);
-    const uint64_t what = VAHEPITO_GET(it->what, RELAXED) & (ended ? ~(uint64_t)0 : (uint64_t)VAHEPITO_IS_TAKE);
-    const int answered = what > VAHEPITO_IS_TAKE, take = (what & VAHEPITO_IS_TAKE) != 0;
+    const uint64_t what = VAHEPITO_GET(it->what, RELAXED) & (ended ? ~(uint64_t)0 : (uint64_t)VAHEPITO_ACTS);
+    const int answered = (what & ~(uint64_t)VAHEPITO_ACTS) != 0, take = (what & VAHEPITO_IS_TAKE) != 0;
     const char *const answer = what == VAHEPITO_WAS_FULL ? ",\"answer\":\"full\"" : what == VAHEPITO_WAS_CLOSED ? ",\"answer\":\"closed\""
         : what == VAHEPITO_FOUND_END ? ",\"answer\":\"ended\"" : "";
     fprintf(text, "{\"thread\":\"%" PRIu64 "\",\"begin\":%" PRIu64 "%s%.0" PRIu64, mine->name, VAHEPITO_GET(it->begin, RELAXED),
         answered ? ",\"end\":" : "", answered ? VAHEPITO_GET(it->end, RELAXED) : 0);
-    if (take && what != VAHEPITO_TOOK) fprintf(text, ",\"take\":null%s}\n", answer);
+    if (what & VAHEPITO_IS_CLOSE) fprintf(text, ",\"close\":true}\n");
+    else if (take && what != VAHEPITO_TOOK) fprintf(text, ",\"take\":null%s}\n", answer);
     else fprintf(text, ",\"%s\":[%" PRIu64 "]%s}\n", take ? "take" : "send", VAHEPITO_GET(it->item, RELAXED), answer);
 }
 
-/* Writes some bytes at a place of the file, if all before were written. */
-static inline void vahepito_log_write(vahepito_log *log, const char *bytes, size_t size, uint64_t at) {
-    const ssize_t wrote = log->over ? (ssize_t)size : pwrite(log->file, bytes, size, (off_t)at);
-    if (wrote != (ssize_t)size) log->over = wrote < 0 ? errno : ENOSPC;
+/* Writes some bytes at a place of the file: 0, or an errno. */
+static inline int vahepito_log_write(const vahepito_log *log, const char *bytes, size_t size, uint64_t at) {
+    while (size > 0) {
+        const ssize_t wrote = pwrite(log->file, bytes, size, (off_t)at);
+        if (wrote == 0 || (wrote < 0 && errno != EINTR)) return wrote < 0 ? errno : ENOSPC;
+        if (wrote > 0) bytes += wrote, size -= (size_t)wrote, at += (uint64_t)wrote;
+    }
+    return 0;
 }
 
-/* Writes the log up to now. The lines of pending calls come last, and the next round writes over them. While the text isn't
- * whole its first byte is `!`. */
+/* Writes a text behind the lines that stay: 0, or an errno. Until all of it is there its first byte is `!`. */
+static inline int vahepito_log_write_over(const vahepito_log *log, const char *bytes, size_t size, uint64_t at) {
+    int failed = size == 0 ? 0 : vahepito_log_write(log, "!", 1, at);
+    if (!failed && size > 0) failed = vahepito_log_write(log, bytes + 1, size - 1, at + 1);
+    return failed || size == 0 ? failed : vahepito_log_write(log, bytes, 1, at);
+}
+
+/* Cuts the file behind a size. If that fails there is nothing to be done. */
+static inline void vahepito_log_cut(const vahepito_log *log, uint64_t size) {
+    if (ftruncate(log->file, (off_t)size) != 0) return;
+}
+
+/* Writes the log up to now. The lines of pending calls come last, and the next round writes over them: what it writes is no
+ * shorter. If that fails, the file is put back to what the last round left. */
 static inline void vahepito_log_round(vahepito_log *log) {
     vahepito_recorder *one;
     uint64_t moment, call, ended = 0;
@@ -130,22 +172,31 @@ static inline void vahepito_log_round(vahepito_log *log) {
             vahepito_put_line(text, one, call, 0);
     }
     if (!log->over && (!text || fclose(text) != 0)) log->over = ENOMEM;
-    if (!log->over && log->kept + all > VAHEPITO_RECORD_LIMIT) log->over = -1;
+    if (!log->over && log->kept + all + (log->says_end ? sizeof VAHEPITO_ENDS_EARLY - 1 : 0) > log->limit) log->over = EFBIG;
     /* If no call has ended and no further one is pending, all is there */
-    if (!log->over && (ended > 0 || log->kept + all != log->all)) {
-        vahepito_log_write(log, "!", 1, log->kept);
-        vahepito_log_write(log, bytes + 1, all - 1, log->kept + 1);
-        vahepito_log_write(log, bytes, 1, log->kept);
+    if (!log->over && (ended > 0 || all != log->shown_size)) {
+        log->over = vahepito_log_write_over(log, bytes, all, log->kept);
+        if (log->over) {
+            vahepito_log_write_over(log, log->shown, log->shown_size, log->kept);
+            vahepito_log_cut(log, log->kept + log->shown_size);
+        } else {
+            free(log->shown);
+            log->shown_size = all - ended;
+            log->kept += ended;
+            /* The pending calls' lines, at the begin of the room that the text has */
+            for (call = 0; call < log->shown_size; call++) bytes[call] = bytes[ended + call];
+            log->shown = bytes;
+            bytes = NULL;
+        }
     }
     free(bytes);
-    log->all = log->kept + all;
-    log->kept += ended;
     VAHEPITO_SET(log->lock, 0, RELEASE);
 }
 
 /* A log in a new file: 0, or -1 with errno. */
 static inline int vahepito_log_open(vahepito_log *log, const char *path) {
-    log->first = NULL, log->names = log->kept = log->all = log->start = 0, log->over = log->lock = 0;
+    log->first = NULL, log->shown = NULL, log->shown_size = 0, log->limit = UINT64_MAX;
+    log->names = log->kept = log->start = 0, log->says_end = log->over = log->lock = 0;
     log->start = vahepito_moment_after(log, 0);
     log->file = open(path, O_WRONLY | O_CREAT | O_TRUNC, 0666);
     return log->file < 0 ? -1 : 0;
@@ -155,18 +206,121 @@ static inline int vahepito_log_open(vahepito_log *log, const char *path) {
 static inline void vahepito_recorder_open(vahepito_recorder *mine, vahepito_log *log) {
     vahepito_lock_log(log);
     mine->log = log, mine->next = log->first, mine->name = log->names++;
-    mine->stage = mine->written = mine->last = 0;
-    log->first = mine;
+    mine->stage = mine->written = mine->last = 0, mine->thread = 0;
+    VAHEPITO_SET(log->first, mine, RELEASE);
     VAHEPITO_SET(log->lock, 0, RELEASE);
 }
 
-/* Writes all calls, and closes the file. A call that is pending now hasn't returned. 0, or -1 with errno. */
+/* Writes all calls, and closes the file. A call that is pending now hasn't returned, and later calls aren't written. 0 if the log
+ * is whole, or -1 with errno. */
 static inline int vahepito_log_close(vahepito_log *log) {
+    int over;
     vahepito_log_round(log);
-    if (close(log->file) != 0 && log->over <= 0) log->over = errno;
-    errno = log->over > 0 ? log->over : 0;
-    return log->over > 0 ? -1 : 0;
+    vahepito_lock_log(log);
+    over = log->over;
+    if (log->says_end) {
+        const char *const line = over ? VAHEPITO_ENDS_EARLY : VAHEPITO_ENDS_WHOLE;
+        const size_t size = sizeof VAHEPITO_ENDS_EARLY - 1;
+        const uint64_t end = log->kept + log->shown_size;
+        const int failed = end + size > log->limit ? EFBIG : vahepito_log_write_over(log, line, size, end);
+        if (failed) vahepito_log_cut(log, end);
+        if (!over) over = failed;
+    }
+    if (close(log->file) != 0 && !over) over = errno;
+    free(log->shown);
+    log->shown = NULL, log->over = EBADF;
+    VAHEPITO_SET(log->lock, 0, RELEASE);
+    errno = over;
+    return over ? -1 : 0;
 }
+
+#ifdef VAHEPITO_RECORD_STOPS
+/* Stops of threads in the middle of their calls, for tests: again and again a thread whose recorded call is pending sleeps for 20
+ * to 220 microseconds, and the others go on.
+ *
+ *     vahepito_stops_open();                                   once, before threads start; 0, or -1 with errno: EBUSY if the signal
+ *                                                              has a handler
+ *     vahepito_stop_threads(&log, 100);                        by the thread that waits for the others: for 100 ms
+ *
+ * Limits. The thread gets the signal SIGURG, of which the program may have no other handler. A system call that it interrupts is
+ * restarted if it can be; nanosleep, poll, select, epoll_wait, the queues and semaphores of System V, and waits with a time
+ * limit return EINTR, which the queue has to expect. The handler needs some kilobytes of the thread's stack, takes no lock and leaves errno as it was.
+ * A thread that blocks SIGURG isn't stopped. A stop takes effect a microsecond after it was sent: it may come after the call. */
+#if !defined _DEFAULT_SOURCE && !defined _GNU_SOURCE
+#error "VAHEPITO_RECORD_STOPS needs _DEFAULT_SOURCE or _GNU_SOURCE, defined before the first header"
+#endif
+#include <signal.h>
+#include <sys/prctl.h>
+#include <sys/syscall.h>
+
+/* A number that changes with each stop, from which the times come. */
+static inline uint64_t vahepito_stop_turn(void) {
+    static uint64_t turn;
+    return __atomic_add_fetch(&turn, 0x9E3779B97F4A7C15u, __ATOMIC_RELAXED) >> 32;
+}
+
+static inline void vahepito_sleep(uint64_t nanoseconds) {
+    struct timespec time;
+    time.tv_sec = 0, time.tv_nsec = (long)nanoseconds;
+    nanosleep(&time, NULL);
+}
+
+static inline void vahepito_stop(int its_signal) {
+    const int before = errno;
+    (void)its_signal;
+    vahepito_sleep(20000 + vahepito_stop_turn() % 200000);
+    errno = before;
+}
+
+static inline int vahepito_stops_open(void) {
+    struct sigaction mine, before;
+    if (sigaction(SIGURG, NULL, &before) != 0) return -1;
+    if (before.sa_handler != SIG_DFL && before.sa_handler != SIG_IGN && before.sa_handler != vahepito_stop) {
+        errno = EBUSY;
+        return -1;
+    }
+    mine = before;
+    mine.sa_handler = vahepito_stop;
+    mine.sa_flags = SA_RESTART;
+    sigemptyset(&mine.sa_mask);
+    /* Sleeps of this thread, and of those that it starts later, are as short as they say: 50 microseconds less than usual */
+    prctl(PR_SET_TIMERSLACK, 1ul);
+    return sigaction(SIGURG, &mine, NULL);
+}
+
+/* The system's number of this thread. */
+static inline long vahepito_this_thread(void) {
+    static __thread long number;
+    if (number == 0) number = syscall(SYS_gettid);
+    return number;
+}
+
+/* A recorder whose call is pending, of several each as probable, or NULL. */
+static inline vahepito_recorder *vahepito_pending(vahepito_log *log) {
+    vahepito_recorder *one, *found = NULL;
+    uint64_t count = 0;
+    for (one = VAHEPITO_GET(log->first, ACQUIRE); one; one = one->next)
+        if (VAHEPITO_GET(one->stage, RELAXED) % 2 == 1 && vahepito_stop_turn() % ++count == 0) found = one;
+    return found;
+}
+
+/* Stops threads for some milliseconds. How many stops there were. */
+static inline unsigned long vahepito_stop_threads(vahepito_log *log, unsigned milliseconds) {
+    const uint64_t end = vahepito_log_now(log) + 1000000u * (uint64_t)milliseconds;
+    unsigned long stops = 0;
+    while (vahepito_log_now(log) < end) {
+        vahepito_recorder *pending = NULL;
+        int looks;
+        vahepito_sleep(vahepito_stop_turn() % 60000);
+        /* Calls are short, so it looks for one again and again */
+        for (looks = 0; !pending && looks < 1000; looks++) pending = vahepito_pending(log);
+        if (pending && VAHEPITO_GET(pending->thread, RELAXED) > 0
+            && syscall(SYS_tgkill, (long)getpid(), VAHEPITO_GET(pending->thread, RELAXED), (long)SIGURG) == 0)
+            stops++;
+    }
+    return stops;
+}
+#endif
 
 /* Notes a call that begins now, and after the last one had ended. All that the call does comes later. */
 static inline void vahepito_begin_recorded(vahepito_recorder *mine, uint64_t what, uint64_t item) {
@@ -174,6 +328,9 @@ static inline void vahepito_begin_recorded(vahepito_recorder *mine, uint64_t wha
     while (mine->stage / 2 - VAHEPITO_GET(mine->written, ACQUIRE) >= VAHEPITO_RECORDED) vahepito_log_round(mine->log);
     VAHEPITO_SET(it->item, item, RELAXED);
     VAHEPITO_SET(it->what, what, RELAXED);
+#ifdef VAHEPITO_RECORD_STOPS
+    VAHEPITO_SET(mine->thread, vahepito_this_thread(), RELAXED);
+#endif
     VAHEPITO_SET(it->begin, vahepito_moment_after(mine->log, mine->last), RELAXED);
     VAHEPITO_SET(mine->stage, mine->stage + 1, RELEASE);
     __sync_synchronize();
@@ -194,10 +351,12 @@ static inline void vahepito_begin_recorded_send(vahepito_recorder *mine, uint64_
 static inline void vahepito_end_recorded_send(vahepito_recorder *mine, unsigned answer) { vahepito_end_recorded(mine, answer, 0); }
 static inline void vahepito_begin_recorded_take(vahepito_recorder *mine) { vahepito_begin_recorded(mine, VAHEPITO_IS_TAKE, 0); }
 static inline void vahepito_end_recorded_take(vahepito_recorder *mine, unsigned answer, uint64_t item) { vahepito_end_recorded(mine, answer, item); }
+static inline void vahepito_begin_recorded_close(vahepito_recorder *mine) { vahepito_begin_recorded(mine, VAHEPITO_IS_CLOSE, 0); }
+static inline void vahepito_end_recorded_close(vahepito_recorder *mine) { vahepito_end_recorded(mine, VAHEPITO_HAS_CLOSED, 0); }
 
 /* Notes that the pending call won't return. */
 static inline void vahepito_give_up(vahepito_recorder *mine) {
-    vahepito_end_recorded(mine, vahepito_call_of(mine, mine->stage / 2)->what & VAHEPITO_IS_TAKE, 0);
+    vahepito_end_recorded(mine, vahepito_call_of(mine, mine->stage / 2)->what & VAHEPITO_ACTS, 0);
     while (VAHEPITO_GET(mine->written, ACQUIRE) < mine->stage / 2) vahepito_log_round(mine->log);
     vahepito_lock_log(mine->log);
     mine->name = mine->log->names++;

@@ -91,7 +91,7 @@ pub fn write_record(queue: &dyn Queue) -> io::Result<()> {
         .map_or(10_000, |word| word.parse().expect("a number"));
     let log = Log::create(path)?;
     record(queue, &log, calls);
-    log.finish()
+    Ok(log.finish()?)
 }
 
 pub fn main() -> io::Result<()> {

@@ -1,11 +1,13 @@
 //! Records the calls of four threads on a ring of one's own, as a log to be judged.
 //!
-//!     cargo run --release --example ring LOG [right|early] [ITEMS]
+//!     cargo run --release --example ring LOG [right|early|hasty] [ITEMS]
+//!     cargo run --release --features stops --example ring LOG [right|early|hasty] [ITEMS] stops
 //!     ccq judge LOG
 //!
 //! The ring is like that of Dmitry Vyukov: each place has a number that says whose turn it is. `early` plants a fault: now and then
-//! a send gives its place to the takes before it has written the item. Each of two threads sends this number of items
-//! (5,000), and two take until all is sent and the ring is empty.
+//! a send gives its place to the takes before it has written the item. `hasty` is the ring as he published it: a call that finds
+//! another one at work at its place says that there is no item or no room. Each of two threads sends this number of items
+//! (5,000), and two take until all is sent and the ring is empty. With `stops` these threads are stopped in the middle of calls.
 use std::io;
 use std::sync::Barrier;
 use std::sync::atomic::{AtomicU64, Ordering};
@@ -27,10 +29,11 @@ struct Ring {
     sends: AtomicU64,
     takes: AtomicU64,
     early: bool,
+    hasty: bool,
 }
 
 impl Ring {
-    fn new(capacity: u64, early: bool) -> Ring {
+    fn new(capacity: u64, kind: &str) -> Ring {
         let place = |turn| Place {
             turn: AtomicU64::new(turn),
             item: AtomicU64::new(0),
@@ -39,13 +42,14 @@ impl Ring {
             places: (0..capacity).map(place).collect(),
             sends: AtomicU64::new(0),
             takes: AtomicU64::new(0),
-            early,
+            early: kind == "early",
+            hasty: kind == "hasty",
         }
     }
 
     /// The place of the next call, whose turn has to be its number and `shift` more. Or None if the other side's number
     /// says that there is no room or no item. If it doesn't say so, a call of the other side is at work at the place, and this
-    /// one waits: None would be wrong, as an item whose send has returned may be after that place.
+    /// one waits: None would be wrong, as an item whose send has returned may be after that place. The hasty ring gives None.
     fn claim(&self, next: &AtomicU64, other: &AtomicU64, shift: u64) -> Option<(&Place, u64)> {
         let room = if shift == 0 {
             self.places.len() as u64
@@ -57,7 +61,8 @@ impl Ring {
             let place = &self.places[at as usize % self.places.len()];
             let turn = place.turn.load(Ordering::SeqCst);
             if turn != at + shift {
-                if turn < at + shift && other.load(Ordering::SeqCst) + room == at {
+                let is_left = self.hasty || other.load(Ordering::SeqCst) + room == at;
+                if turn < at + shift && is_left {
                     return None;
                 }
                 thread::yield_now();
@@ -119,16 +124,34 @@ fn takes(ring: &Ring, recorder: &mut Recorder, left: &AtomicU64) {
     }
 }
 
+#[cfg(feature = "stops")]
+fn stop_threads(log: &Log) -> io::Result<vahepito_record::Stops> {
+    log.stop_threads()
+}
+
+#[cfg(not(feature = "stops"))]
+fn stop_threads(_: &Log) -> io::Result<()> {
+    Err(io::Error::other("stops are there with --features stops"))
+}
+
 fn main() -> io::Result<()> {
     let words: Vec<String> = std::env::args().skip(1).collect();
-    let (path, early, items) = match &words[..] {
-        [path] => (path, false, 5_000),
-        [path, kind] => (path, kind == "early", 5_000),
-        [path, kind, items] => (path, kind == "early", items.parse().expect("a number")),
-        _ => return Err(io::Error::other("usage: ring LOG [right|early] [ITEMS]")),
+    let words: Vec<&str> = words.iter().map(String::as_str).collect();
+    let (path, kind, items, stops) = match words[..] {
+        [path] => (path, "right", "5000", false),
+        [path, kind] => (path, kind, "5000", false),
+        [path, kind, items] => (path, kind, items, false),
+        [path, kind, items, "stops"] => (path, kind, items, true),
+        _ => {
+            return Err(io::Error::other(
+                "usage: ring LOG [right|early|hasty] [ITEMS] [stops]",
+            ));
+        }
     };
-    let (ring, left, all_there) = (Ring::new(64, early), AtomicU64::new(2), Barrier::new(4));
+    let items = items.parse().map_err(io::Error::other)?;
+    let (ring, left, all_there) = (Ring::new(64, kind), AtomicU64::new(2), Barrier::new(4));
     let log = Log::create(path)?;
+    let _stops = stops.then(|| stop_threads(&log)).transpose()?;
     thread::scope(|scope| {
         for number in 0..2 {
             let mut recorder = log.recorder();
@@ -148,5 +171,5 @@ fn main() -> io::Result<()> {
             });
         }
     });
-    log.finish()
+    Ok(log.finish()?)
 }
