@@ -10,14 +10,17 @@ log with the number N is always the same. Without words it makes 1,500 logs, fro
 knows nothing of the program's: it tries every call that began before each call that is left had ended. `judge undecided` is a
 failure, unless calls of one thread share a stamp. Without words it also records 80,000 calls each of this crate's channel, of
 std's, of crossbeam's and flume's where Debian's packages of them are, and of a queue with a fault, which has to be found. And
-it records a ring of one's own by a program in Rust and by one in C: as it is, with a planted fault, which has to be found, and
-while the program is killed. `windows.py` has the windows of logs.
+it records a ring of one's own by a program in Rust and by one in C: as it is, also with stops, with a planted fault, which has to be found,
+while the program is killed, and with a file that can't grow. Logs in other forms are refused by their forms. `windows.py` has the windows of logs, `histories.py` those of other tools, and
+`bench/judged/run.py --short` records the queues that this machine has.
 """
 
+import gzip
 import json
 import os
 import random
 import re
+import resource
 import shutil
 import subprocess
 import sys
@@ -27,6 +30,7 @@ from concurrent.futures import ThreadPoolExecutor
 from pathlib import Path
 
 sys.dont_write_bytecode = True
+from histories import judge_histories
 from windows import judge_windows
 
 TOP = Path(__file__).resolve().parent.parent
@@ -272,6 +276,29 @@ def judged(number):
     return number, right, same, open_tie, f"{run.returncode}, {run.stdout or run.stderr}"
 
 
+# A log that another program writes in another form: how it begins, and what is said of it.
+LINE = b'{"thread":"a","begin":1,"end":2,"send":7}\n'
+FORMS = [
+    (b"\xef\xbb\xbf" + LINE, "a byte-order mark: write the log without one"),
+    (gzip.compress(LINE), "gzip: unpack the log first"),
+    *((LINE.decode().encode(code), "UTF-16: write the log as UTF-8") for code in ("utf-16", "utf-16-le", "utf-16-be")),
+    (LINE[1:], "no JSON object"),
+]
+
+
+def judge_forms():
+    """Whether the program says of each log in another form which one it is."""
+    right = True
+    for form, due in FORMS:
+        run = subprocess.run([PROGRAM, "judge"], input=form, capture_output=True, check=False)
+        said = run.stderr.decode()
+        if run.returncode != 2 or said != f"ccq: log refused: line 1: {due}\n":
+            right = False
+            print(f"judge: a log that begins with {form[:4]}: status {run.returncode}, {said}", end="")
+    print(f"judge: {len(FORMS)} logs in other forms are{'' if right else ' not'} refused by their forms")
+    return right
+
+
 def build(folder):
     """Builds tests/recorded with those of the peers that are on this machine, and the ring: the program, and their names."""
     peers = [peer for peer in ("crossbeam-channel", "flume") if any(REGISTRY.glob(f"{peer}-[0-9]*"))]
@@ -281,10 +308,10 @@ def build(folder):
         f'[[bin]]\nname = "recorded"\npath = "{TOP}/tests/recorded/main.rs"\n\n'
         f'[[bin]]\nname = "ring"\npath = "{TOP}/bindings/rust/record/examples/ring.rs"\n\n'
         f'[dependencies]\nvahepito = {{ path = "{TOP}/bindings/rust" }}\n'
-        f'vahepito-record = {{ path = "{TOP}/bindings/rust/record" }}\n{needs}'
+        f'vahepito-record = {{ path = "{TOP}/bindings/rust/record" }}\n{needs}\n[features]\nstops = ["vahepito-record/stops"]\n'
     )
     debian = ["--config", 'source.crates-io.replace-with = "debian"', "--config", f'source.debian.directory = "{REGISTRY}"']
-    command = ["cargo", *(debian if peers else []), "--quiet", "--offline", "build", "--release", "--features", ",".join(peers)]
+    command = ["cargo", *(debian if peers else []), "--quiet", "--offline", "build", "--release", "--features", ",".join(["stops", *peers])]
     built = subprocess.run(
         command, cwd=folder, env=os.environ | {"CARGO_TARGET_DIR": str(folder)}, capture_output=True, text=True, check=False
     )
@@ -299,14 +326,25 @@ def judged_file(log):
     return run.stdout or run.stderr
 
 
+def judge_cut_short(language, ring, log):
+    """Whether a recording that can't be written whole fails, and leaves a log that is judged."""
+    size = 1 << 20
+    limit = lambda: resource.setrlimit(resource.RLIMIT_FSIZE, (size, size))
+    run = subprocess.run([ring, log, "right", "50000"], stdout=subprocess.DEVNULL, stderr=subprocess.PIPE, preexec_fn=limit, restore_signals=False, check=False)
+    said = judged_file(log)
+    print(f"judge: the ring in {language}, in a file of at most {size} bytes: status {run.returncode}, {said}", end="")
+    return run.returncode == 1 and b"arge" in run.stderr and log.stat().st_size > size // 2 and said.startswith("judge clean: ")
+
+
 def judge_ring(language, ring, log):
-    """Whether the program finds the planted fault of a ring, and none without it, also if the recording is killed."""
-    right = True
-    for kind in ["right", "early"]:
-        subprocess.run([ring, log, kind], stdout=subprocess.DEVNULL, check=True)
+    """Whether the program finds the planted fault of a ring, and none without it, also with stops, and if the recording is killed or
+    can't be written whole."""
+    right = judge_cut_short(language, ring, log)
+    for kind in [["right"], ["early"], ["right", "5000", "stops"]]:
+        subprocess.run([ring, log, *kind], stdout=subprocess.DEVNULL, check=True)
         said = judged_file(log)
-        print(f"judge: the ring in {language}, {kind}: {said}", end="")
-        right &= said.startswith("judge fault: " if kind == "early" else "judge clean: ")
+        print(f"judge: the ring in {language}, {' '.join(kind)}: {said}", end="")
+        right &= said.startswith("judge fault: " if kind == ["early"] else "judge clean: ")
     clean = 0
     for later in range(5):
         log.unlink()
@@ -352,11 +390,17 @@ def judge_ring_in_c():
         return judge_ring("C", ring, Path(name, "ring.log"))
 
 
+def judge_queues():
+    """Whether the queues that this machine has are judged as they have to be: no control is accused, and each planted fault is found."""
+    command = [sys.executable, TOP / "bench/judged/run.py", "--short"]
+    return subprocess.run(command, env=os.environ | {"CCQ": str(PROGRAM)}, check=False).returncode == 0
+
+
 def main(count=None, first=0):
     if not os.access(PROGRAM, os.X_OK):
         print("judge: there is no crates/ccq/out/ccq: run `rt ci` first, or `rt run` in crates/ccq")
         return 1
-    recorded = count is not None or all([judge_windows(), judge_recorded(), judge_ring_in_c()])
+    recorded = count is not None or all([judge_forms(), judge_histories(), judge_windows(), judge_recorded(), judge_ring_in_c(), judge_queues()])
     numbers = [*range(first, first + count)] if count else [*range(1500), *RARE]
     count = len(numbers)
     clean = wrong = unknown = 0

@@ -1,0 +1,108 @@
+#!/usr/bin/env python3
+"""Splits a log of `ccq judge` into lanes, one for each thread that sent, and has each lane judged.
+
+    tools/lanes.py LOG [OPTIONS OF ccq judge]
+
+It is for queues that promise order for each sender alone, as moodycamel::ConcurrentQueue. A lane has the accepted and the pending
+sends of one thread, the takes that got one of these items, all closes, and each take that hasn't returned, since that may have
+got any item. Takes that found none and sends that were refused belong to no lane. A take of an item that no line sent is in a lane of its own
+with all such takes. A lane is judged as a log whose other lines are empty, so a fault has the line numbers of the whole log.
+
+Clean lanes mean: no item was taken twice, none was taken that wasn't sent, and the items of one thread were taken in the order in which it
+sent them. They don't mean that a take which found none was right, so a lost item is found only if a later one of its sender is
+taken. Prints a line for each lane that isn't clean, and one of all lanes; the exit status is the greatest of `ccq judge`, or 64 for a line
+that isn't understood. The program is `ccq` on the path, or what CCQ names.
+"""
+import json
+import os
+import subprocess
+import sys
+
+# The lane of takes of items that no line sent.
+UNSENT = "no line"
+
+
+class Refused(Exception):
+    """Why a log is refused."""
+
+
+def item_of(body):
+    """An item, with or without its brackets."""
+    return tuple(body) if isinstance(body, list) else (body,)
+
+
+def calls_of(lines):
+    """The calls of a log by their places, and whether it begins late."""
+    calls = {}
+    for place, line in enumerate(lines):
+        if not line.strip():
+            continue
+        try:
+            call = json.loads(line)
+        except ValueError as error:
+            raise Refused(f"line {place + 1}: no JSON object") from error
+        if not isinstance(call, dict):
+            raise Refused(f"line {place + 1}: no JSON object")
+        calls[place] = call
+    late = bool(calls) and "begins" in calls[min(calls)]
+    if late:
+        del calls[min(calls)]
+    for place, call in calls.items():
+        if "thread" not in call or not {"send", "take", "close"} & call.keys():
+            raise Refused(f"line {place + 1}: no call")
+    return calls, late
+
+
+def lanes_of(lines):
+    """The logs of the lanes, by the names of their threads."""
+    calls, late = calls_of(lines)
+    # A send without an answer was accepted, or is pending.
+    sent_by = {item_of(call["send"]): str(call["thread"]) for call in calls.values() if "send" in call and "answer" not in call}
+    lanes, shared = {thread: [] for thread in sent_by.values()}, []
+    for place, call in calls.items():
+        if "send" in call and "answer" not in call:
+            lanes[str(call["thread"])].append(place)
+        elif call.get("take") is not None:
+            lanes.setdefault(sent_by.get(item_of(call["take"]), UNSENT), []).append(place)
+        elif "close" in call or "take" in call and "end" not in call:
+            shared.append(place)
+    first = ['{"begins":"late"}\n'] if late else []
+    logs = {}
+    for thread, places in lanes.items():
+        kept = {*places, *shared}
+        logs[thread] = "".join([*first, *(line if place in kept else "\n" for place, line in enumerate(lines) if not first or place > 0)])
+    return logs
+
+
+def judge_lanes(program, lines, options=()):
+    """What the program says of each lane: its status, and its line."""
+    said = {}
+    for thread, log in lanes_of(lines).items():
+        run = subprocess.run([program, "judge", *options], input=log, capture_output=True, text=True, check=False)
+        said[thread] = run.returncode, (run.stdout or run.stderr).strip()
+    return said
+
+
+def main(words):
+    if not words or words[0].startswith("-"):
+        print("usage: tools/lanes.py LOG [OPTIONS OF ccq judge]", file=sys.stderr)
+        return 64
+    try:
+        with open(words[0], encoding="utf-8") as file:
+            said = judge_lanes(os.environ.get("CCQ", "ccq"), file.readlines(), words[1:])
+    except (OSError, Refused, UnicodeDecodeError) as error:
+        print(f"lanes: {error}", file=sys.stderr)
+        return 64
+    if not said:
+        print("lanes: no accepted send, and no take of an item", file=sys.stderr)
+        return 64
+    for thread, (status, line) in said.items():
+        if status != 0:
+            print(f"lanes: thread {thread}: {line}")
+    clean = sum(status == 0 for status, _ in said.values())
+    print(f"lanes: {clean} of {len(said)} lanes are clean")
+    return max((status for status, _ in said.values()), default=0)
+
+
+if __name__ == "__main__":
+    sys.exit(main(sys.argv[1:]))
