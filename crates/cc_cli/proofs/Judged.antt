@@ -32,5 +32,7 @@ pub refused_due : (options : Options) (left : Option (List ℕ)) (fault : LogFau
 refused_due options left LogFault.Memory status read is = inl is
 refused_due options left LogFault.Read status read is = inr (inl is)
 refused_due options left (LogFault.Line line fault) status read is = refused_with options left (LogFault.Line line fault) status read.0 read.1 (subst (λ due. IsDue options due 2) (sym read.2) refl) is
+refused_due options left (LogFault.Key line key) status read is = refused_with options left (LogFault.Key line key) status read.0 read.1 (subst (λ due. IsDue options due 2) (sym read.2) refl) is
+refused_due options left (LogFault.Clash line fault last) status read is = refused_with options left (LogFault.Clash line fault last) status read.0 read.1 (subst (λ due. IsDue options due 2) (sym read.2) refl) is
 refused_due options left (LogFault.SentTwice first second item) status read is = refused_with options left (LogFault.SentTwice first second item) status read.0 read.1 (subst (λ due. IsDue options due 2) (sym read.2) refl) is
 refused_due options left LogFault.Empty status read is = refused_with options left LogFault.Empty status read.0 read.1 (subst (λ due. IsDue options due 2) (sym read.2) refl) is

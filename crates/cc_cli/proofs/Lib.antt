@@ -3,4 +3,5 @@ pub mod Declined
 pub mod Explained
 pub mod JudgeOptions
 pub mod Judged
+pub mod RefusedClaims
 pub mod Removed

@@ -7,12 +7,10 @@ use Rattle.cc_log.specs.Lines.{HasInput}
 use Rattle.cc_log.specs.Log.{Refusal, Spelled, log_of}
 use Rattle.cc_cli.specs.Names.{AnswerFault, Call, LogFault, Options, Rules}
 
--- the status of a verdict: clean, a fault, a log that can't be judged, or undecided
+-- the status of a verdict: clean, a fault, or undecided
 abbrev pub verdict_status : Verdict → ℕ
 verdict_status (Verdict.Clean order) = 0
 verdict_status (Verdict.Fault fault) = 1
-verdict_status (Verdict.SentTwice first second) = 2
-verdict_status (Verdict.Stray place) = 2
 verdict_status Verdict.Undecided = 5
 
 -- the status if this one's answer was written, and if it wasn't

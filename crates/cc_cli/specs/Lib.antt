@@ -4,6 +4,7 @@ pub mod Words
 pub mod Input
 pub mod JudgeOptions
 pub mod Judged
+pub mod Refused
 pub mod Why
 pub mod Run
 pub mod Drive

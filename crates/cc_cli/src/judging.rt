@@ -1,13 +1,13 @@
 //! Judging a log, and writing the verdict.
 //!
 //! `judge` reads a log, judges it, and answers the status. `verdict_line` is the line of a verdict, and `page` its page: the
-//! fixed text of `fault_page`, with the calls that `choice` chooses. `closed` has which of a fault's items count since the queue
-//! was closed.
+//! fixed text of `fault_page`, with the calls that `choice` chooses. Both name the calls that the fault has, and no others.
 mod choice;
-mod closed;
+mod clauses;
 mod fault_page;
 mod judge;
 mod page;
 mod verdict_line;
 
+pub use clauses::definitions_refuse;
 pub use judge::judge_input;

@@ -22,3 +22,4 @@ pub mod words;
 
 pub use command_line::{Task, asked, not_text};
 pub use driving::{RunFault, drive_to, tell_end};
+pub use judging::definitions_refuse;

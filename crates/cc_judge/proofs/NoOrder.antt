@@ -35,14 +35,14 @@ taken_twice rules calls first second order differ f o =
     f.apart (sym s.place_is ∙ ap (λ (x : Step). x.place) same ∙ t.place_is)
 
 -- an item that was sent before another that a step took was taken by then
-taken_by_then : (rules : Rules) (calls : List Call) (order : List Step) → IsOrder rules calls order → Differ calls → (later_send later : ℕ) → Did calls later_send (Act.Send later) → (t : Step) → In t order → t.act ≡ Act.Took later → (send item : ℕ) → SentBefore rules calls send later_send item → TakenBy order (λ u. (u ≡ t) ⊎ Before u t order) item
-taken_by_then rules calls order o differ later_send later sent t within took send item before = elim (nat_cases item later) [
+taken_by_then : (rules : Rules) (calls : List Call) (order : List Step) → IsOrder rules calls order → Differ calls → (later_send later : ℕ) → Did calls later_send (Act.Send later) → (t : Step) → In t order → t.act ≡ Act.Took later → (send : ℕ) (closed : Option ℕ) (item : ℕ) → SentBefore rules calls send later_send closed item → TakenBy order (λ u. (u ≡ t) ⊎ Before u t order) item
+taken_by_then rules calls order o differ later_send later sent t within took send closed item before = elim (nat_cases item later) [
   | inl same ↦ record { step = t; within = within; act_is = took ∙ ap Act.Took (sym same); holds = inl refl }
   | inr other ↦
-      let s = sent_step rules calls order o differ send later_send item before in
+      let s = sent_step rules calls order o differ send later_send closed item before in
       let not_before : (u : Step) → Before u s.step order → u.act ≢ Act.Send later = λ (u : Step) (first : Before u s.step order) (is : u.act ≡ Act.Send later).
       let here : u.place ≡ later_send = differ later u.place later_send (sent_in_log rules calls order o u later (before_first u s.step order first) is) sent in
-      sent_first rules calls order o send later_send item before s.step u s.place_is s.act_is here first in
+      sent_first rules calls order o send later_send closed item before s.step u s.place_is s.act_is here first in
       let e = first_taken_first [] order s.step t item later (runs rules calls order o) (λ held. held) s.within within s.act_is not_before other took in
       record { step = e.step; within = before_first e.step t order e.before; act_is = e.act_is; holds = inr e.before }
 ]
@@ -57,12 +57,12 @@ overtaken rules calls stay later_send later_take order differ f o =
     ]
 
 -- an item that was sent before the call of a step, which is before another that found none or is that, was taken before that
-taken_before : (rules : Rules) (calls : List Call) (order : List Step) → IsOrder rules calls order → Differ calls → (e f : Step) → In f order → FindsNone e.act → ((item : ℕ) → f.act ≢ Act.Send item) → ((s : Step) → Before s f order → Before s e order) → (send item : ℕ) → SentBefore rules calls send f.place item → TakenBy order (λ u. Before u e order) item
-taken_before rules calls order o differ e f within none no_send on send item before =
-    let s = sent_step rules calls order o differ send f.place item before in
+taken_before : (rules : Rules) (calls : List Call) (order : List Step) → IsOrder rules calls order → Differ calls → (e f : Step) → In f order → FindsNone e.act → ((item : ℕ) → f.act ≢ Act.Send item) → ((s : Step) → Before s f order → Before s e order) → (send : ℕ) (closed : Option ℕ) (item : ℕ) → SentBefore rules calls send f.place closed item → TakenBy order (λ u. Before u e order) item
+taken_before rules calls order o differ e f within none no_send on send closed item before =
+    let s = sent_step rules calls order o differ send f.place closed item before in
     let first : Before s.step f order = elim (in_order s.step f order s.within within) [
       | inl same ↦ absurd (no_send item (ap (λ (x : Step). x.act) (sym same) ∙ s.act_is))
-      | inr placed ↦ elim placed [ inl right ↦ right | inr wrong ↦ absurd (sent_first rules calls order o send f.place item before s.step f s.place_is s.act_is refl wrong) ]
+      | inr placed ↦ elim placed [ inl right ↦ right | inr wrong ↦ absurd (sent_first rules calls order o send f.place closed item before s.step f s.place_is s.act_is refl wrong) ]
     ] in
     let u = taken_before_none [] order s.step e item (runs rules calls order o) (on s.step first) s.act_is none in
     record { step = u.step; within = before_first u.step e order u.before; act_is = u.act_is; holds = u.before }

@@ -1,5 +1,5 @@
 -- The clauses refuse these claims.
-use Rattle.std.proofs.Common.{◌≡◌, ℕ, zero, suc, ◌<◌, List, [], ◌∷◌, length, Some, None, inl, inr, false, refl, sym, ap, ◌∙◌, arith}
+use Rattle.std.proofs.Common.{◌≡◌, ℕ, zero, suc, ◌<◌, List, [], ◌∷◌, length, Option, Some, None, inl, inr, false, refl, sym, ap, ◌∙◌, arith}
 use Rattle.std.specs.List.{slice_get}
 use Rattle.cc_judge.specs.Names.{Act, Call, Rules}
 use Rattle.cc_judge.specs.Order.{EndsBefore}
@@ -46,11 +46,24 @@ one_of_two (x ∷ y ∷ rest) few first second = absurd (omega (arith, few))
 is_in : (f : Fewer two_wait 2 (BeginsFrom two_wait None)) (i : ℕ) → slice_get two_wait i ≡ Some (waiting 0 Act.Taking) → IsIn i f.may
 is_in f i is = elim (f.others i record { call = waiting 0 Act.Taking; call_is = is; act_is = refl }) [ inl here ↦ here | inr none ↦ absurd none ]
 
-sent_beside : (rules : Rules) → rules.closes ≡ false → SentBefore rules beside 0 1 0 → ⊥
-sent_beside rules is_open s = elim s.before [
-  | inl before ↦ late beside 0 1 (call 0 5 (Act.Send 0)) (call 1 6 (Act.Send 1)) 5 refl refl refl (omega arith) before
-  | inr shut ↦ absurd (cc (is_open, shut.judged))
-]
+sent_beside : (rules : Rules) (closed : Option ℕ) → rules.closes ≡ false → SentBefore rules beside 0 1 closed 0 → ⊥
+sent_beside rules None is_open s = late beside 0 1 (call 0 5 (Act.Send 0)) (call 1 6 (Act.Send 1)) 5 refl refl refl (omega arith) s.before
+sent_beside rules (Some shut) is_open s = absurd (cc (is_open, s.before.judged))
+
+-- a send doesn't show that the queue was closed
+shut_by_a_send : (rules : Rules) → SentBefore rules handed 0 1 (Some 0) 0 → ⊥
+shut_by_a_send rules s =
+    let w = s.before.was_closed in
+    let same : Some w.returned.call ≡ Some (call 0 1 (Act.Send 0)) = sym w.returned.call_is in
+    let is : w.returned.call ≡ call 0 1 (Act.Send 0) = cc in
+    let act : w.act ≡ Act.Send 0 = sym w.returned.act_is ∙ ap (λ (c : Call). c.act) is in
+    elim w.shows [
+      | inl close ↦ let e : Act.Close ≡ Act.Send 0 = sym close ∙ act in cc
+      | inr answers ↦ elim answers [
+        | inl answered ↦ let e : Act.Closed ≡ Act.Send 0 = sym answered ∙ act in cc
+        | inr ended ↦ let e : Act.Ended ≡ Act.Send 0 = sym ended ∙ act in cc
+      ]
+    ]
 
 pub claims_refused : RefusedClaims
 claims_refused = record {
@@ -67,7 +80,9 @@ claims_refused = record {
   never_sent_of_a_sent_item = λ is. absurd (cc (is));
   none_beside_an_item = λ d. absurd (cc (d.0));
   overtaken_in_one_go = sent_beside;
+  overtaken_since_a_close = λ rules o. absurd (cc (o.timely));
   overtakes_an_ended_call = λ next g. over next g;
+  shut_by_a_send = shut_by_a_send;
   taken_after_sent = λ t. late handed 1 0 (call 2 3 (Act.Took 0)) (call 0 1 (Act.Send 0)) 3 refl refl refl (omega arith) t.early;
   taken_twice_by_one_call = λ t. t.apart refl;
 }

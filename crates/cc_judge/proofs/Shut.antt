@@ -1,5 +1,5 @@
 -- A queue that was closed stays so: which steps come before which by that.
-use Rattle.std.proofs.Common.{◌≡◌, ◌≢◌, ℕ, ◌⊎◌, inl, inr, List, [], ◌∷◌, Bool, true, false, Some, refl, sym, ap, ◌∙◌, subst}
+use Rattle.std.proofs.Common.{◌≡◌, ◌≢◌, ℕ, ◌⊎◌, inl, inr, List, [], ◌∷◌, Bool, true, false, Option, Some, None, refl, sym, ap, ◌∙◌, subst}
 use Rattle.std.specs.List.{slice_get}
 use Rattle.cc_judge.specs.Names.{Act, Call, Rules, Step}
 use Rattle.cc_judge.specs.Order.{EndsBefore, Allows, Closes, closed_after, IsOrder}
@@ -133,24 +133,20 @@ one_item rules calls order o s send item other within place_is act_is sent =
     cc
 
 -- the step of an accepted send whose call comes before another
-pub sent_step : (rules : Rules) (calls : List Call) (order : List Step) → IsOrder rules calls order → Differ calls → (send from item : ℕ) → SentBefore rules calls send from item → StepOf order send (Act.Send item)
-sent_step rules calls order o differ send from item s = elim s.before [
-  | inl ends ↦ ended_step rules calls order o send from (Act.Send item) (λ is. cc) s.sent ends
-  | inr w ↦
-      let a = accepted_step rules calls order o differ send item w.accepted in
-      record { step = a.step; within = a.within; place_is = a.place_is; act_is = a.act_is ∙ ap Act.Send (one_item rules calls order o a.step send item a.item a.within a.place_is a.act_is s.sent) }
-]
+pub sent_step : (rules : Rules) (calls : List Call) (order : List Step) → IsOrder rules calls order → Differ calls → (send from : ℕ) (closed : Option ℕ) (item : ℕ) → SentBefore rules calls send from closed item → StepOf order send (Act.Send item)
+sent_step rules calls order o differ send from None item s = ended_step rules calls order o send from (Act.Send item) (λ is. cc) s.sent s.before
+sent_step rules calls order o differ send from (Some closed) item s =
+    let a = accepted_step rules calls order o differ send item s.before.accepted in
+    record { step = a.step; within = a.within; place_is = a.place_is; act_is = a.act_is ∙ ap Act.Send (one_item rules calls order o a.step send item a.item a.within a.place_is a.act_is s.sent) }
 
 -- no step of the other call comes before it
-pub sent_first : (rules : Rules) (calls : List Call) (order : List Step) → IsOrder rules calls order → (send from item : ℕ) → SentBefore rules calls send from item → (s f : Step) → s.place ≡ send → s.act ≡ Act.Send item → f.place ≡ from → Before f s order → ⊥
-sent_first rules calls order o send from item b s f s_place s_act f_place first = elim b.before [
-  | inl ends ↦ in_time rules calls order o f s first (subst (λ (x : ℕ × ℕ). EndsBefore calls x.0 x.1) (λ i. (sym s_place i, sym f_place i)) ends)
-  | inr w ↦ while_open w
-]
+pub sent_first : (rules : Rules) (calls : List Call) (order : List Step) → IsOrder rules calls order → (send from : ℕ) (closed : Option ℕ) (item : ℕ) → SentBefore rules calls send from closed item → (s f : Step) → s.place ≡ send → s.act ≡ Act.Send item → f.place ≡ from → Before f s order → ⊥
+sent_first rules calls order o send from None item b s f s_place s_act f_place first = in_time rules calls order o f s first (subst (λ (x : ℕ × ℕ). EndsBefore calls x.0 x.1) (λ i. (sym s_place i, sym f_place i)) b.before)
+sent_first rules calls order o send from (Some closed) item b s f s_place s_act f_place first = while_open b.before
   where
-    while_open : SentWhileOpen rules calls send from item → ⊥
+    while_open : SentWhileOpen rules calls send from closed item → ⊥
     while_open w =
-        let h = shown_step rules calls order o w.closed w.was_closed in
+        let h = shown_step rules calls order o closed w.was_closed in
         let shows : ShowsClosed h.step.act = subst ShowsClosed (sym h.act_is) w.was_closed.shows in
         let closes = o.closing w.judged in
         elim (in_order h.step f order h.within (before_first f s order first)) [

@@ -1,10 +1,10 @@
 -- The stay of an item in a legal order, and of calls that began later.
-use Rattle.std.proofs.Common.{◌≡◌, ◌≢◌, ℕ, ◌+◌, ◌<◌, ◌≤◌, ◌⊎◌, inl, inr, List, [], ◌∷◌, length, get_or, drop, Some, refl, sym, ap, ◌∙◌, subst, arith}
+use Rattle.std.proofs.Common.{◌≡◌, ◌≢◌, ℕ, ◌+◌, ◌<◌, ◌≤◌, ◌⊎◌, inl, inr, List, [], ◌∷◌, length, get_or, drop, Option, Some, None, refl, sym, ap, ◌∙◌, subst, arith}
 use Rattle.std.specs.List.{slice_get}
 use Rattle.std.proofs.lemmas.List.{drop_more}
 use Rattle.cc_judge.specs.Names.{Act, Call, Rules, Step, Stay, Leave}
 use Rattle.cc_judge.specs.Order.{EndsBefore, IsOrder}
-use Rattle.cc_judge.specs.Faults.{Did, Returned, Differ, WasClosed, SentBefore, IsLeft, Fewer, IsRising, Left, Stays, Passed, Follows, Overtaken, Covers}
+use Rattle.cc_judge.specs.Faults.{Did, Returned, Differ, WasClosed, SentWhileOpen, SentBefore, closed_by, IsLeft, Fewer, IsRising, Left, Stays, Passed, Follows, Overtaken, Covers}
 use Rattle.cc_judge.specs.Checks.{BeginsFrom, Until}
 use Rattle.cc_judge.proofs.Places.{In, in_order, in_at, at_in}
 use Rattle.cc_judge.proofs.Orders.{returned_step, took_in_log, apart, one_take}
@@ -13,8 +13,8 @@ use Rattle.cc_judge.proofs.Fewer.{another}
 -- ---- more is known of the takes, or the call began later
 
 stays_as : (rules : Rules) (calls : List Call) (stay : Stay) (from : ℕ) (P Q : ℕ → Type 0) → ((i : ℕ) → P i → Q i) → Stays rules calls stay from P → Stays rules calls stay from Q
-stays_as rules calls (Stay.Taken send take) from P Q give s = (s.0, s.1, s.2, give take s.3)
-stays_as rules calls (Stay.Left sends next) from P Q give s = record {
+stays_as rules calls (Stay.Taken send take closed) from P Q give s = (s.0, s.1, s.2, give take s.3)
+stays_as rules calls (Stay.Left sends next closed) from P Q give s = record {
   each = s.each;
   apart = s.apart;
   fewer = record {
@@ -45,28 +45,25 @@ not_closed calls next other closed here b w =
       ]
     ]
 
-sent_from : (rules : Rules) (calls : List Call) (send next other item : ℕ) → BeginsFrom calls (Some next) other → SentBefore rules calls send next item → SentBefore rules calls send other item
-sent_from rules calls send next other item b s = record {
-  sent = s.sent;
-  before = elim s.before [
-    | inl ends ↦ inl (ends_from calls send next other b ends)
-    | inr w ↦ inr (record {
+sent_from : (rules : Rules) (calls : List Call) (send next other : ℕ) (closed : Option ℕ) (item : ℕ) → BeginsFrom calls (Some next) other → SentBefore rules calls send next closed item → SentBefore rules calls send other closed item
+sent_from rules calls send next other None item b s = record { sent = s.sent; before = ends_from calls send next other b s.before }
+sent_from rules calls send next other (Some closed) item b s = record { sent = s.sent; before = while_open s.before }
+  where
+    while_open : SentWhileOpen rules calls send next closed item → SentWhileOpen rules calls send other closed item
+    while_open w = record {
       judged = w.judged;
       accepted = w.accepted;
-      closed = w.closed;
       was_closed = w.was_closed;
       by = elim w.by [
-        | inl here ↦ absurd (not_closed calls next other w.closed here b w.was_closed)
-        | inr ends ↦ inr (ends_from calls w.closed next other b ends)
+        | inl here ↦ absurd (not_closed calls next other closed here b w.was_closed)
+        | inr ends ↦ inr (ends_from calls closed next other b ends)
       ];
-    })
-  ];
-}
+    }
 
 stays_from : (rules : Rules) (calls : List Call) (stay : Stay) (next other : ℕ) (more : ℕ → Type 0) → BeginsFrom calls (Some next) other → Stays rules calls stay next more → Stays rules calls stay other more
-stays_from rules calls (Stay.Taken send take) next other more b s = (s.0, sent_from rules calls send next other s.0 b s.1, s.2, s.3)
-stays_from rules calls (Stay.Left sends m) next other more b s = record {
-  each = λ k send is. let l = s.each k send is in record { item = l.item; sent_before = sent_from rules calls send next other l.item b l.sent_before; untaken = l.untaken };
+stays_from rules calls (Stay.Taken send take closed) next other more b s = (s.0, sent_from rules calls send next other closed s.0 b s.1, s.2, s.3)
+stays_from rules calls (Stay.Left sends m closed) next other more b s = record {
+  each = λ k send is. let l = s.each k send is in record { item = l.item; sent_before = sent_from rules calls send next other closed l.item b l.sent_before; untaken = l.untaken };
   apart = s.apart;
   fewer = s.fewer;
 }
@@ -77,8 +74,8 @@ covers_from rules calls call next other (x ∷ rest) b covers = stays_from rules
 
 -- ---- as it is checked
 
-pub left_until : (rules : Rules) (calls : List Call) (sends : List ℕ) (from next : ℕ) → IsRising sends → ((k send : ℕ) → slice_get sends k ≡ Some send → IsLeft rules calls from send) → Fewer calls (length sends) (BeginsFrom calls (Some next)) → Left rules calls sends from (Until calls (Leave.By next))
-left_until rules calls sends from next rising each fewer = record {
+pub left_until : (rules : Rules) (calls : List Call) (sends : List ℕ) (from next : ℕ) (closed : Option ℕ) → IsRising sends → ((k send : ℕ) → slice_get sends k ≡ Some send → IsLeft rules calls from closed send) → Fewer calls (length sends) (BeginsFrom calls (Some next)) → Left rules calls sends from closed (Until calls (Leave.By next))
+left_until rules calls sends from next closed rising each fewer = record {
   each = each;
   apart = rising;
   fewer = record {
@@ -120,13 +117,14 @@ module _ (rules : Rules) (calls : List Call) (call from i : ℕ) (stays : List S
       covers_at rules calls call from i stays x within is (stays_by rules calls x from take leave (λ t. Covers rules calls call t (drop (i + 1) stays)) by covers (λ k taking begins. covers_from rules calls call take k (drop (i + 1) stays) begins covers) s)
 
 -- the same of a later item that was taken before
-module _ (rules : Rules) (calls : List Call) (stay : Stay) (send take : ℕ) (leave : Leave) (later : Passed calls send take) (s : Stays rules calls stay send (Until calls leave)) where
+module _ (rules : Rules) (calls : List Call) (stay : Stay) (send take : ℕ) (leave : Leave) (later : Passed calls send take) (timely : closed_by stay ≡ None) (s : Stays rules calls stay send (Until calls leave)) where
   pub overtaken_never : leave ≡ Leave.Never → Overtaken rules calls stay send take
-  overtaken_never never = record { later = later; stays = stays_never rules calls stay send leave (Follows calls take) never s }
+  overtaken_never never = record { later = later; timely = timely; stays = stays_never rules calls stay send leave (Follows calls take) never s }
 
   pub overtaken_by : (by : ℕ) → leave ≡ Leave.By by → by ≢ take → EndsBefore calls take by → Overtaken rules calls stay send take
   overtaken_by by is other after = record {
     later = later;
+    timely = timely;
     stays = stays_by rules calls stay send by leave (Follows calls take) is (record { apart = λ same. other (sym same); after = after }) (λ i taking begins. follows_from calls take later.item by i later.took taking begins after) s;
   }
 
@@ -146,13 +144,13 @@ pub record TakenLate (order : List Step) (P : Step → Type 0) (More : ℕ → T
   pub more : More by.step.place
 
 -- the call at a place took the item that was left of a send
-record Took (rules : Rules) (calls : List Call) (order : List Step) (P : Step → Type 0) (from send place : ℕ) : Type 0 where
-  left : IsLeft rules calls from send
+record Took (rules : Rules) (calls : List Call) (order : List Step) (P : Step → Type 0) (from : ℕ) (closed : Option ℕ) (send place : ℕ) : Type 0 where
+  left : IsLeft rules calls from closed send
   by : TakenBy order P left.item
   place_is : by.step.place ≡ place
 
-took_one : (rules : Rules) (calls : List Call) (order : List Step) (P : Step → Type 0) (from : ℕ) → IsOrder rules calls order → Differ calls → (s t place : ℕ) → Took rules calls order P from s place → Took rules calls order P from t place → s ≡ t
-took_one rules calls order P from o differ s t place a b =
+took_one : (rules : Rules) (calls : List Call) (order : List Step) (P : Step → Type 0) (from : ℕ) (closed : Option ℕ) → IsOrder rules calls order → Differ calls → (s t place : ℕ) → Took rules calls order P from closed s place → Took rules calls order P from closed t place → s ≡ t
+took_one rules calls order P from closed o differ s t place a b =
     let places : a.by.step.place ≡ b.by.step.place = a.place_is ∙ sym b.place_is in
     elim (in_order a.by.step b.by.step order a.by.within b.by.within) [
       | inl same ↦
@@ -166,24 +164,24 @@ took_one rules calls order P from o differ s t place a b =
     ]
 
 -- if each item that was sent before a call was taken by a step of which P holds, one of a stay was, of whose call more is known
-pub taken_late : (rules : Rules) (calls : List Call) (order : List Step) → IsOrder rules calls order → Differ calls → (stay : Stay) (from : ℕ) (more : ℕ → Type 0) (P : Step → Type 0) → ((send item : ℕ) → SentBefore rules calls send from item → TakenBy order P item) → Stays rules calls stay from more → TakenLate order P more
-taken_late rules calls order o differ (Stay.Taken send take) from more P each s =
-    let t = each send s.0 s.1 in
+pub taken_late : (rules : Rules) (calls : List Call) (order : List Step) → IsOrder rules calls order → Differ calls → (stay : Stay) (from : ℕ) (more : ℕ → Type 0) (P : Step → Type 0) → ((send : ℕ) (closed : Option ℕ) (item : ℕ) → SentBefore rules calls send from closed item → TakenBy order P item) → Stays rules calls stay from more → TakenLate order P more
+taken_late rules calls order o differ (Stay.Taken send take closed) from more P each s =
+    let t = each send closed s.0 s.1 in
     let r = returned_step rules calls order o take (Act.Took s.0) (λ is. cc) s.2 in
     let same = one_take rules calls order o differ s.0 r.step t.step r.within t.within r.act_is t.act_is in
     record { item = s.0; by = t; more = subst more (sym r.place_is ∙ ap (λ (x : Step). x.place) same) s.3 }
-taken_late rules calls order o differ (Stay.Left sends next) from more P each s =
-    let a = another (Took rules calls order P from) more sends.items s.fewer.may s.apart s.fewer.fewer took (took_one rules calls order P from o differ) others in
+taken_late rules calls order o differ (Stay.Left sends next closed) from more P each s =
+    let a = another (Took rules calls order P from closed) more sends.items s.fewer.may s.apart s.fewer.fewer took (took_one rules calls order P from closed o differ) others in
     record { item = a.took.left.item; by = a.took.by; more = subst more (sym a.took.place_is) a.more }
   where
-    took : (send : ℕ) → In send sends.items → (place : ℕ) × Took rules calls order P from send place
+    took : (send : ℕ) → In send sends.items → (place : ℕ) × Took rules calls order P from closed send place
     took send within =
         let at = at_in send sends.items within in
         let l = s.each at.0 send at.1 in
-        let t = each send l.item l.sent_before in
+        let t = each send closed l.item l.sent_before in
         (t.step.place, record { left = l; by = t; place_is = refl })
 
-    others : (send place : ℕ) → In send sends.items → Took rules calls order P from send place → In place s.fewer.may ⊎ more place
+    others : (send place : ℕ) → In send sends.items → Took rules calls order P from closed send place → In place s.fewer.may ⊎ more place
     others send place within t = elim (took_in_log rules calls order o t.by.step t.left.item t.by.within t.by.act_is) [
       | inl said ↦ absurd (t.left.untaken t.by.step.place said)
       | inr taking ↦ elim (s.fewer.others place (subst (λ (p : ℕ). Did calls p Act.Taking) t.place_is taking)) [

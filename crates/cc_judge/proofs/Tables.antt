@@ -96,5 +96,5 @@ absent calls kind table item is none place did = let both : Some (Some place) �
 pub never_sent_so : (calls : List Call) (table : List (Option ℕ)) (take item : ℕ) → IsTable calls Kind.Send table → Returned calls take (Act.Took item) → slice_get table item ≡ Some None → NeverSent calls take
 never_sent_so calls table take item is took none = record { item = item; took = took; none = absent calls Kind.Send table item is none }
 
-pub left_so : (rules : Rules) (calls : List Call) (table : List (Option ℕ)) (from send item : ℕ) → IsTable calls Kind.Take table → SentBefore rules calls send from item → slice_get table item ≡ Some None → IsLeft rules calls from send
-left_so rules calls table from send item is sent none = record { item = item; sent_before = sent; untaken = absent calls Kind.Take table item is none }
+pub left_so : (rules : Rules) (calls : List Call) (table : List (Option ℕ)) (from : ℕ) (closed : Option ℕ) (send item : ℕ) → IsTable calls Kind.Take table → SentBefore rules calls send from closed item → slice_get table item ≡ Some None → IsLeft rules calls from closed send
+left_so rules calls table from closed send item is sent none = record { item = item; sent_before = sent; untaken = absent calls Kind.Take table item is none }

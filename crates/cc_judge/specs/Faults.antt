@@ -1,6 +1,6 @@
 -- The faults of a log: patterns, each of which leaves it without a legal order. Five are those of Henzinger, Sezgin and
 -- Vafeiadis (CONCUR 2013), and three are of closes and of a capacity.
-use Rattle.std.specs.Prelude.{◌≡◌, ◌≢◌, ℕ, ◌<◌, ◌≤◌, ◌⊎◌, List, [], ◌∷◌, true, length, Some, IsSome, slice_get}
+use Rattle.std.specs.Prelude.{◌≡◌, ◌≢◌, ℕ, ◌<◌, ◌≤◌, ◌⊎◌, List, [], ◌∷◌, true, length, Option, Some, None, IsSome, slice_get}
 use Rattle.cc_judge.specs.Names.{Act, Call, Rules, Stay}
 use Rattle.cc_judge.specs.Order.{EndsBefore}
 
@@ -59,24 +59,29 @@ pub record WasClosed (calls : List Call) (place : ℕ) : Type 0 where
 abbrev pub WasAccepted : List Call → (send item : ℕ) → Type 0
 WasAccepted calls send item = Returned calls send (Act.Send item) ⊎ ((take : ℕ) × Passed calls send take)
 
--- a send that was accepted comes before the call `from`, since the queue was closed by the end of that call, or of one that
--- had ended before it began
-pub record SentWhileOpen (rules : Rules) (calls : List Call) (send from item : ℕ) : Type 0 where
+-- a send that was accepted comes before the call `from`, since the queue was closed by the end of the call `closed`, which is that
+-- call, or had ended before that began
+pub record SentWhileOpen (rules : Rules) (calls : List Call) (send from closed item : ℕ) : Type 0 where
   pub judged : rules.closes ≡ true
   pub accepted : WasAccepted calls send item
-  pub closed : ℕ
   pub was_closed : WasClosed calls closed
   pub by : (closed ≡ from) ⊎ EndsBefore calls closed from
 
--- the call at one place sent the item before the call `from`: it had ended before that began, or the queue was closed since
-pub record SentBefore (rules : Rules) (calls : List Call) (send from item : ℕ) : Type 0 where
+-- a send comes before the call `from`: it had ended before that began; or, if a call is named by which the queue was closed, since
+-- the queue was closed
+abbrev pub ComesBefore : Rules → List Call → (send from : ℕ) → (closed : Option ℕ) → (item : ℕ) → Type 0
+ComesBefore rules calls send from None item = EndsBefore calls send from
+ComesBefore rules calls send from (Some closed) item = SentWhileOpen rules calls send from closed item
+
+-- the call at one place sent the item, and comes before the call `from`
+pub record SentBefore (rules : Rules) (calls : List Call) (send from : ℕ) (closed : Option ℕ) (item : ℕ) : Type 0 where
   pub sent : Did calls send (Act.Send item)
-  pub before : EndsBefore calls send from ⊎ SentWhileOpen rules calls send from item
+  pub before : ComesBefore rules calls send from closed item
 
 -- the call at one place sent an item before the call `from`, and no call took it that returned
-pub record IsLeft (rules : Rules) (calls : List Call) (from send : ℕ) : Type 0 where
+pub record IsLeft (rules : Rules) (calls : List Call) (from : ℕ) (closed : Option ℕ) (send : ℕ) : Type 0 where
   pub item : ℕ
-  pub sent_before : SentBefore rules calls send from item
+  pub sent_before : SentBefore rules calls send from closed item
   pub untaken : (i : ℕ) → Did calls i (Act.Took item) → ⊥
 
 -- the element is in the list
@@ -94,24 +99,30 @@ abbrev pub IsRising : List ℕ → Type 0
 IsRising xs = (j k x y : ℕ) → j < k → slice_get xs j ≡ Some x → slice_get xs k ≡ Some y → x < y
 
 -- no call took these items, and too few takes may have; of each other take that may have more is known
-pub record Left (rules : Rules) (calls : List Call) (sends : List ℕ) (from : ℕ) (more : ℕ → Type 0) : Type 0 where
-  pub each : (k send : ℕ) → slice_get sends k ≡ Some send → IsLeft rules calls from send
+pub record Left (rules : Rules) (calls : List Call) (sends : List ℕ) (from : ℕ) (closed : Option ℕ) (more : ℕ → Type 0) : Type 0 where
+  pub each : (k send : ℕ) → slice_get sends k ≡ Some send → IsLeft rules calls from closed send
   pub apart : IsRising sends
   pub fewer : Fewer calls (length sends) more
 
 -- an item was sent before the call `from`; one of which more is known took it, or none did
 abbrev pub Stays : Rules → List Call → Stay → (from : ℕ) → (more : ℕ → Type 0) → Type 0
-Stays rules calls (Stay.Taken send take) from more = (item : ℕ) × SentBefore rules calls send from item × Returned calls take (Act.Took item) × more take
-Stays rules calls (Stay.Left sends next) from more = Left rules calls sends.items from more
+Stays rules calls (Stay.Taken send take closed) from more = (item : ℕ) × SentBefore rules calls send from closed item × Returned calls take (Act.Took item) × more take
+Stays rules calls (Stay.Left sends next closed) from more = Left rules calls sends.items from closed more
+
+-- the call by which the queue was closed, if a stay rests on that
+abbrev pub closed_by : Stay → Option ℕ
+closed_by (Stay.Taken send take closed) = closed
+closed_by (Stay.Left sends next closed) = closed
 
 -- the call at one place is another, and began after the first had ended
 pub record Follows (calls : List Call) (first second : ℕ) : Type 0 where
   pub apart : first ≢ second
   pub after : EndsBefore calls first second
 
--- two items were sent one after the other; the later one was taken, and the earlier one after that, or never
+-- two items were sent one after the other, by the times of the sends; the later one was taken, and the earlier one after that, or never
 pub record Overtaken (rules : Rules) (calls : List Call) (stay : Stay) (later_send later_take : ℕ) : Type 0 where
   pub later : Passed calls later_send later_take
+  pub timely : closed_by stay ≡ None
   pub stays : Stays rules calls stay later_send (Follows calls later_take)
 
 -- Items were in the queue at all times of a call: the first was sent before the call `from`; each further one was sent before

@@ -1,8 +1,8 @@
 -- Refused claims: for each kind of mistake a small log, and a claim about it that the clause doesn't admit.
 use Rattle.std.specs.Prelude.{◌≡◌, ℕ, List, [], ◌∷◌, Option, Some, None, true, false, slice_get}
-use Rattle.cc_judge.specs.Names.{Act, Call, Rules}
+use Rattle.cc_judge.specs.Names.{Act, Call, Rules, Stay}
 use Rattle.cc_judge.specs.Order.{Does, Allows, IsOrder}
-use Rattle.cc_judge.specs.Faults.{Passed, TakenBeforeSent, TakenTwice, SentBefore, Fewer, Covers, ClosedEarly}
+use Rattle.cc_judge.specs.Faults.{Passed, TakenBeforeSent, TakenTwice, SentBefore, Fewer, Overtaken, Covers, ClosedEarly}
 use Rattle.cc_judge.specs.Late.{judged_capacity, padded}
 use Rattle.cc_judge.specs.Checks.{GoesOn, IsKept, IsSurelyOut, BeginsFrom}
 
@@ -53,7 +53,9 @@ pub record RefusedClaims : Type 0 where
   pub lines_turned_round : Refused (IsKept turned record { earlier = 0; later = 1 })
   pub never_sent_of_a_sent_item : Refused (slice_get placed 0 ≡ Some None)
   pub none_beside_an_item : Refused (Does None (7 ∷ []) Act.FoundNone (7 ∷ []))
-  pub overtaken_in_one_go : (rules : Rules) → rules.closes ≡ false → Refused (SentBefore rules beside 0 1 0)
+  pub overtaken_in_one_go : (rules : Rules) (closed : Option ℕ) → rules.closes ≡ false → Refused (SentBefore rules beside 0 1 closed 0)
+  pub overtaken_since_a_close : (rules : Rules) → Refused (Overtaken rules handed (Stay.Taken 0 1 (Some 0)) 0 1)
   pub overtakes_an_ended_call : (next : ℕ) → Refused (GoesOn (call 0 1 Act.Close ∷ []) 0 2 next)
+  pub shut_by_a_send : (rules : Rules) → Refused (SentBefore rules handed 0 1 (Some 0) 0)
   pub taken_after_sent : Refused (TakenBeforeSent handed 0 1)
   pub taken_twice_by_one_call : Refused (TakenTwice handed 1 1)

@@ -1,9 +1,9 @@
 -- The verdict on a log.
 use Rattle.std.specs.Prelude.{List}
-use Rattle.cc_judge.specs.Names.{Call, Kind, Rules, Fault, Verdict, Indexed}
+use Rattle.cc_judge.specs.Names.{Call, Rules, Fault, Verdict, Indexed}
 use Rattle.cc_judge.specs.Order.{IsOrder, IsLinearizable, of_any_capacity}
 use Rattle.cc_judge.specs.Faults.{Differ, NeverSent, TakenBeforeSent, TakenTwice, Overtaken, NotEmpty, Reopened, ClosedEarly, NotFull}
-use Rattle.cc_judge.specs.Table.{Twice, IsIndex}
+use Rattle.cc_judge.specs.Table.{IsIndex}
 
 -- the log has the fault: the calls that it names did so
 abbrev pub Stands : Rules → List Call → Fault → Type 0
@@ -21,8 +21,6 @@ Stands rules calls (Fault.NotFull call) = NotFull rules calls call
 abbrev pub IsVerdict : Rules → List Call → Verdict → Type 0
 IsVerdict rules calls (Verdict.Clean order) = IsOrder (of_any_capacity rules) calls order.items
 IsVerdict rules calls (Verdict.Fault fault) = Stands rules calls fault × (IsLinearizable rules calls → ⊥)
-IsVerdict rules calls (Verdict.SentTwice first second) = Twice calls Kind.Send first second
-IsVerdict rules calls (Verdict.Stray place) = Unit {0}
 IsVerdict rules calls Verdict.Undecided = Unit {0}
 
 -- an index of the log, or its verdict

@@ -76,11 +76,8 @@ pub enum Verdict {
     Clean(Vec<Step>),
     /// The log isn't linearizable: it has no legal order.
     Fault(Fault),
-    /// Two calls sent one item, so the log can't be judged.
-    SentTwice(usize, usize),
-    /// A call has an item past the number of items, so the log can't be judged.
-    Stray(usize),
-    /// Neither an order nor a fault was found.
+    /// Neither an order nor a fault was found. That is also the verdict if two calls sent one item, or an item isn't below the number
+    /// of items.
     Undecided,
 }
 
@@ -116,13 +113,12 @@ fn index_of(
 {
     let sends = match find(alloc, calls, items, Kind::Send)? {
         Found::Each(sends) => sends,
-        Found::Twice(first, second) => return Ok(Indexed::Due(Verdict::SentTwice(first, second))),
-        Found::Stray(place) => return Ok(Indexed::Due(Verdict::Stray(place))),
+        Found::Twice(..) | Found::Stray(_) => return Ok(Indexed::Due(Verdict::Undecided)),
     };
     let takes = match find(alloc, calls, items, Kind::Take)? {
         Found::Each(takes) => takes,
         Found::Twice(first, second) => return Ok(Indexed::Due(twice(rules, calls, first, second))),
-        Found::Stray(place) => return Ok(Indexed::Due(Verdict::Stray(place))),
+        Found::Stray(_) => return Ok(Indexed::Due(Verdict::Undecided)),
     };
     Ok(Indexed::Index(Index {
         sends,

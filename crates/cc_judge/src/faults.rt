@@ -173,80 +173,85 @@ pub fn was_accepted(calls: &[Call], index: &Index, send: usize) -> Option<u32>
     }
 }
 
-/// The call that shows that the queue was closed by the end of the call `from`, or before it began: that itself, or the first
-/// that shows it.
-fn closed_by(calls: &[Call], index: &Index, from: usize) -> Option<usize>
-    ensures shows { IfSome result (WasClosed calls.now) }
-    ensures before { IfSome result (λ closed. (closed ≡ from) ⊎ EndsBefore calls.now closed from) }
+/// Whether the queue was closed by the end of one call, which is the call `from`, or had ended before that began.
+fn is_closed_by(calls: &[Call], closed: usize, from: usize) -> bool
+    ensures shows { IsTrue result → WasClosed calls.now closed }
+    ensures before { IsTrue result → (closed ≡ from) ⊎ EndsBefore calls.now closed from }
 {
-    if was_closed(calls, from) {
-        return Some(from);
-    }
-    let closed = index.closed?;
-    if was_closed(calls, closed) && ends_before(calls, closed, from) {
-        Some(closed)
-    } else {
-        None
-    }
+    was_closed(calls, closed) && (closed == from || ends_before(calls, closed, from))
 }
 
-/// The item that the call at one place sent and that was accepted, if the queue was closed by the end of the call `from`, or
-/// before it began.
+/// The item that the call at one place sent and that was accepted, if the queue was closed by the end of the call `closed`, which is
+/// the call `from`, or had ended before that began.
 fn sent_while_open(
     rules: &Rules,
     calls: &[Call],
     index: &Index,
     send: usize,
     from: usize,
+    closed: usize,
 ) -> Option<u32>
     ensures sent { IfSome result (λ item. Did calls.now send (Act.Send item)) }
-    ensures open { IfSome result (SentWhileOpen rules.now calls.now send from) }
+    ensures open { IfSome result (SentWhileOpen rules.now calls.now send from closed) }
 {
-    if !rules.closes {
+    if !rules.closes || !is_closed_by(calls, closed, from) {
         return None;
     }
-    let item = was_accepted(calls, index, send)?;
-    match closed_by(calls, index, from) {
-        Some(_) => Some(item),
-        None => None,
-    }
+    was_accepted(calls, index, send)
 }
 
-/// The item that the call at one place sent, if that had ended before the call `from` began, or the queue was closed since.
+/// The item that the call at one place sent, if that had ended before the call `from` began; or, if a call is named by which the
+/// queue was closed, if that shows it.
 fn sent_before(
     rules: &Rules,
     calls: &[Call],
     index: &Index,
     send: usize,
     from: usize,
+    closed: Option<usize>,
 ) -> Option<u32>
-    ensures { IfSome result (SentBefore rules.now calls.now send from) }
+    ensures { IfSome result (SentBefore rules.now calls.now send from closed) }
 {
-    if ends_before(calls, send, from) {
-        return sent(calls, send);
+    match closed {
+        Some(closed) => sent_while_open(rules, calls, index, send, from, closed),
+        None if ends_before(calls, send, from) => sent(calls, send),
+        None => None,
     }
-    sent_while_open(rules, calls, index, send, from)
 }
 
 /// Whether the call at one place sent an item that no call took, before the call `from`.
 #[tactic(auto, using(crate::proofs::Tables::left_so))]
-fn is_left(rules: &Rules, calls: &[Call], index: &Index, send: usize, from: usize) -> bool
+fn is_left(
+    rules: &Rules,
+    calls: &[Call],
+    index: &Index,
+    send: usize,
+    from: usize,
+    closed: Option<usize>,
+) -> bool
     requires { IsIndex calls.now index.now }
-    ensures { IsTrue result → IsLeft rules.now calls.now from send }
+    ensures { IsTrue result → IsLeft rules.now calls.now from closed send }
 {
-    match sent_before(rules, calls, index, send, from) {
+    match sent_before(rules, calls, index, send, from, closed) {
         Some(item) => is_absent(&index.takes, item),
         None => false,
     }
 }
 
 /// Whether each of these calls sent an item that no call took, before the call `from`.
-fn are_left(rules: &Rules, calls: &[Call], index: &Index, sends: &[usize], from: usize) -> bool
+fn are_left(
+    rules: &Rules,
+    calls: &[Call],
+    index: &Index,
+    sends: &[usize],
+    from: usize,
+    closed: Option<usize>,
+) -> bool
     requires { IsIndex calls.now index.now }
-    ensures { IsTrue result → (k send : ℕ) → slice_get sends.now k ≡ Some send → IsLeft rules.now calls.now from send }
+    ensures { IsTrue result → (k send : ℕ) → slice_get sends.now k ≡ Some send → IsLeft rules.now calls.now from closed send }
 {
     for send in sends {
-        if !is_left(rules, calls, index, *send, from) {
+        if !is_left(rules, calls, index, *send, from, closed) {
             return false;
         }
     }
@@ -326,17 +331,21 @@ fn leave_of(rules: &Rules, calls: &[Call], index: &Index, stay: &Stay, from: usi
     ensures { IfSome result (λ l. Stays rules.now calls.now stay.now from (Until calls.now l)) }
 {
     match stay {
-        Stay::Taken { send, take } => {
-            let item = sent_before(rules, calls, index, *send, from)?;
+        Stay::Taken { send, take, closed } => {
+            let item = sent_before(rules, calls, index, *send, from, *closed)?;
             if taken(calls, *take) != Some(item) {
                 return None;
             }
             Some(Leave::By(*take))
         }
-        Stay::Left { sends, next } => {
+        Stay::Left {
+            sends,
+            next,
+            closed,
+        } => {
             let sends = sends.as_slice();
             if !is_rising(sends)
-                || !are_left(rules, calls, index, sends, from)
+                || !are_left(rules, calls, index, sends, from, *closed)
                 || !are_fewer(calls, *next, sends.len())
             {
                 return None;
@@ -349,7 +358,7 @@ fn leave_of(rules: &Rules, calls: &[Call], index: &Index, stay: &Stay, from: usi
     }
 }
 
-/// Whether of two items that were sent one after the other the later one was taken, and the earlier one after that, or
+/// Whether of two items that were sent one after the other, by the times of the sends, the later one was taken, and the earlier one after that, or
 /// never.
 #[tactic(auto, using(crate::proofs::Stays::overtaken_by, crate::proofs::Stays::overtaken_never))]
 pub fn is_overtaken(
@@ -363,7 +372,7 @@ pub fn is_overtaken(
     requires { IsIndex calls.now index.now }
     ensures { IsTrue result → Overtaken rules.now calls.now stay.now later_send later_take }
 {
-    if !passed(calls, later_send, later_take) {
+    if stay.closed().is_some() || !passed(calls, later_send, later_take) {
         return false;
     }
     match leave_of(rules, calls, index, stay, later_send) {

@@ -1,4 +1,6 @@
 //! The calls of a log, and what else is known of it.
+ghost use Rattle.std.specs.Prelude.{◌≡◌};
+ghost use Rattle.cc_judge.specs.Faults.{closed_by};
 
 /// The act of a call. Items are numbered.
 #[derive(Clone, Copy, PartialEq, Eq, Drop)]
@@ -61,6 +63,8 @@ pub enum Stay {
         send: usize,
         /// The place of the take.
         take: usize,
+        /// The place of a call by which the queue was closed, if the send comes before other calls only for that.
+        closed: Option<usize>,
     },
     /// No call is known to have taken these items, which are more than the takes that haven't returned and began before
     /// `next`: so one is left until `next`, or for ever.
@@ -69,7 +73,20 @@ pub enum Stay {
         sends: Vec<usize>,
         /// The place of the first of the other takes that haven't returned, if there is one.
         next: Option<usize>,
+        /// The place of a call by which the queue was closed, if one of the sends comes before other calls only for that.
+        closed: Option<usize>,
     },
+}
+
+impl Stay {
+    /// The place of the call by which the queue was closed, if the stay rests on that.
+    pub fn closed(&self) -> Option<usize>
+        ensures { result ≡ closed_by self.now }
+    {
+        match self {
+            Stay::Taken { closed, .. } | Stay::Left { closed, .. } => *closed,
+        }
+    }
 }
 
 /// One entry of an order of the calls.

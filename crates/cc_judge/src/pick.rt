@@ -110,7 +110,7 @@ pub fn overtaken(
                 break;
             };
             return Ok(Some(Pair {
-                stay: stay_of(alloc, view.index, shares, send, item)?,
+                stay: stay_of(alloc, view, shares, send, item, later_send)?,
                 later_send,
                 later_take,
             }));
@@ -130,6 +130,14 @@ fn size(stay: &Stay) -> usize {
     }
 }
 
+/// The call by which the item of a stay left, if there is one.
+fn left_by(stay: &Stay) -> Option<usize> {
+    match stay {
+        Stay::Taken { take, .. } => Some(*take),
+        Stay::Left { next, .. } => *next,
+    }
+}
+
 /// Items that may have been in the queue at all times of a call, one after another. They end when they name more items than
 /// the log has calls, and more than 2^20, so that they take memory in proportion to the log.
 pub fn stays(
@@ -145,7 +153,7 @@ pub fn stays(
         best: None,
     };
     let (begin, end) = view.span(Some(call));
-    let (mut from, mut named) = (begin, 0usize);
+    let (mut from, mut from_call, mut named) = (begin, call, 0usize);
     for _ in 0..view.calls.len() {
         advance(&mut latest, view, shares, from);
         let Some((begin, send)) = latest.best else {
@@ -157,8 +165,9 @@ pub fn stays(
         if begin <= from {
             break;
         }
-        let stay = stay_of(alloc, view.index, shares, send, item)?;
+        let stay = stay_of(alloc, view, shares, send, item, from_call)?;
         named = named.saturating_add(size(&stay));
+        from_call = left_by(&stay).unwrap_or(from_call);
         found.push(stay)?;
         from = begin;
         if end < from || MOST.max(view.calls.len()) < named {

@@ -1,5 +1,5 @@
 -- The keys of an object, and the words of an array.
-use Rattle.std.proofs.Common.{◌≡◌, ◌≤◌, ◌&&◌, ℕ, Bool, String, string_bytes, List, [], ◌∷◌, length, Option, Some, None, option_and_then, option_map, refl, ap, arith}
+use Rattle.std.proofs.Common.{◌≡◌, ◌≤◌, ◌&&◌, ℕ, suc, Bool, String, string_bytes, List, [], ◌∷◌, length, Option, Some, None, option_and_then, option_map, refl, ap, arith}
 use Rattle.std.specs.List.{list_all}
 use Rattle.std.specs.Map.{keys_of}
 use Rattle.std.specs.declared.alloc.Global.{Global}
@@ -12,6 +12,11 @@ use Rattle.cc_log.specs.Line.{body_of}
 pub all_keys : (test : List ℕ → Bool) (ms : List (String Global × Value)) → list_all test (keys (members_view ms)) ≡ list_all (λ key. test (string_bytes key)) (keys_of ms)
 all_keys test [] = refl
 all_keys test (m ∷ ms) = ap (λ rest. test (string_bytes m.0) && rest) (all_keys test ms)
+
+-- it has as many keys as its map
+pub key_count : (ms : List (String Global × Value)) → length (keys (members_view ms)) ≡ length (keys_of ms)
+key_count [] = refl
+key_count (m ∷ ms) = ap suc (key_count ms)
 
 -- one more word
 more : Option ℕ → Option (List ℕ) → Option (List ℕ)

@@ -73,6 +73,8 @@ long_line left_first left l known number options (LogFault.Line line fault) long
     let t = long.2 in
     refused_line left_first left l known number options t.line t.rest (LogFault.Line line fault) t.has_lines leads
     (long_refused known number t.line t.long ∙ ap (λ n. Err (bad_line n LineFault.TooLong)) (sym long.0) ∙ ap (λ f. Err (bad_line line f)) (sym long.1))
+long_line left_first left l known number options (LogFault.Key line key) long leads = absurd long
+long_line left_first left l known number options (LogFault.Clash line fault last) long leads = absurd long
 long_line left_first left l known number options (LogFault.SentTwice first second item) long leads = absurd long
 long_line left_first left l known number options LogFault.Empty long leads = absurd long
 long_line left_first left l known number options LogFault.Read long leads = let i = some_input left_first in (i.0, i.1, tt)

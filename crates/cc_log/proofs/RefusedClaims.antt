@@ -6,5 +6,7 @@ pub claims_refused : RefusedClaims
 claims_refused = record {
   end_before_begin = λ claim. absurd (cc claim);
   item_numbered_anew = λ claim. absurd (cc claim);
+  key_twice = λ claim. absurd (cc claim);
+  colon_in_a_text = λ claim. absurd (cc claim);
   tie_lost = λ claim. absurd (cc claim);
 }

@@ -9,19 +9,21 @@ use Rattle.cc_plan.proofs.Trees.{json_of_text, no_tree}
 use Rattle.cc_log.specs.Names.{Last, Line, LineFault, LogFault, Options, Said, State, Window}
 use Rattle.cc_log.specs.Answers.{Refuses}
 use Rattle.cc_log.specs.Line.{Body, begins_late, or_fault}
-use Rattle.cc_log.specs.Log.{Entry, Known, Refusal, ◌>>=◌, after_last, allowed, bad_line, call_of, calls_of, bodies_of, differs, entry_of, has_close, is_close, is_first, item_in, last_of, or_refusal, sender_of, sends, tie_with, ties_of, tree_of, with_cut, with_entry, with_item, with_tree}
+use Rattle.cc_log.specs.Log.{Entry, Known, Refusal, ◌>>=◌, after_last, allowed, bad_line, call_of, calls_of, bodies_of, differs, entry_of, has_close, is_close, is_first, item_in, last_of, or_refusal, sender_of, sends, tie_with, ties_of, json_in, with_cut, with_entry, with_item, with_tree}
 use Rattle.cc_log.specs.Window.{cut}
 use Rattle.cc_log.specs.State.{Added, Adds, IsStep, Shows, last_in, sender_in}
 
-pub tree_given : (number : ℕ) (bytes : List ℕ) (d : Data) → IsUtf8 bytes × (read bytes ≡ Some d) → tree_of number bytes ≡ Ok d
-tree_given number bytes d h = ap (λ o. or_refusal number (or_fault LineFault.NoObject o)) (json_of_text bytes d h)
+pub json_given : (number : ℕ) (bytes : List ℕ) (d : Data) → IsUtf8 bytes × (read bytes ≡ Some d) → json_in number bytes ≡ Ok d
+json_given number bytes d h = ap (λ o. or_refusal number (or_fault LineFault.NoObject o)) (json_of_text bytes d h)
 
-pub no_tree_given : (number : ℕ) (bytes : List ℕ) → (IsUtf8 bytes → read bytes ≡ None) → tree_of number bytes ≡ Err (bad_line number LineFault.NoObject)
-no_tree_given number bytes h = ap (λ o. or_refusal number (or_fault LineFault.NoObject o)) (no_tree bytes h)
+pub no_json_given : (number : ℕ) (bytes : List ℕ) → (IsUtf8 bytes → read bytes ≡ None) → json_in number bytes ≡ Err (bad_line number LineFault.NoObject)
+no_json_given number bytes h = ap (λ o. or_refusal number (or_fault LineFault.NoObject o)) (no_tree bytes h)
 
 -- a refusal stays one, whatever was to come after it
 pub refused_first : {A B : Type 0} (fault : LogFault) (due : Result A Refusal) (next : A → Result B Refusal) → Refuses fault due → Refuses fault (due >>= next)
 refused_first (LogFault.Line line fault) due next h = ap (λ r. r >>= next) h
+refused_first (LogFault.Key line key) due next h = ap (λ r. r >>= next) h
+refused_first (LogFault.Clash line fault last) due next h = ap (λ r. r >>= next) h
 refused_first (LogFault.SentTwice first second item) due next h = ap (λ r. r >>= next) h
 refused_first LogFault.Empty due next h = ap (λ r. r >>= next) h
 refused_first LogFault.Read due next h = tt

@@ -6,6 +6,8 @@ use Rattle.cc_log.specs.Log.{Refusal, bad_line, sent_twice, no_calls}
 -- the refusal is the one that is due; of lack of memory and of a failed read nothing is said
 abbrev pub Refuses : {V : Type 0} → LogFault → Result V Refusal → Type 0
 Refuses (LogFault.Line line fault) due = due ≡ Err (bad_line line fault)
+Refuses (LogFault.Key line key) due = due ≡ Err (bad_line line LineFault.Key)
+Refuses (LogFault.Clash line fault last) due = due ≡ Err (bad_line line fault)
 Refuses (LogFault.SentTwice first second item) due = due ≡ Err (sent_twice first second)
 Refuses LogFault.Empty due = due ≡ Err no_calls
 Refuses LogFault.Read due = ⊤
@@ -19,6 +21,8 @@ Gives value (Err fault) due = Refuses fault due
 -- the line with this number is too long, if it is said to be; memory or a read may have failed
 abbrev pub IsLongLine : (number : ℕ) → Type 0 → LogFault → Type 0
 IsLongLine number long (LogFault.Line line fault) = (line ≡ number) × (fault ≡ LineFault.TooLong) × long
+IsLongLine number long (LogFault.Key line key) = ⊥
+IsLongLine number long (LogFault.Clash line fault last) = ⊥
 IsLongLine number long (LogFault.SentTwice first second item) = ⊥
 IsLongLine number long LogFault.Empty = ⊥
 IsLongLine number long LogFault.Read = ⊤

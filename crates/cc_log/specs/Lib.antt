@@ -1,5 +1,6 @@
 pub mod Names
 pub mod Line
+pub mod Form
 pub mod Lines
 pub mod Log
 pub mod Answers

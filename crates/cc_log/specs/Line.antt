@@ -22,6 +22,11 @@ abbrev pub unless : LineFault → Bool → Result (Unit {0}) LineFault
 unless fault true = Ok tt
 unless fault false = Err fault
 
+-- nothing, or the fault that there is
+abbrev pub unless_fault : Option LineFault → Result (Unit {0}) LineFault
+unless_fault None = Ok tt
+unless_fault (Some fault) = Err fault
+
 -- ---- bodies
 
 -- how many words, and the words; those after the last are 0

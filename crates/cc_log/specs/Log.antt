@@ -7,7 +7,9 @@ use Rattle.std.specs.Str.{bytes_eq}
 use Rattle.cc_plan.specs.Json.{json_of}
 use Rattle.cc_judge.specs.Late.{padded}
 use Rattle.cc_log.specs.Names.{Act, Call, Last, Line, LineFault, Options, Said, Tie, Window}
-use Rattle.cc_log.specs.Line.{Body, begins_late, line_of, or_fault, thread_of}
+use Rattle.serde_json.specs.Find.{as_object}
+use Rattle.cc_log.specs.Form.{form_fault, has_keys_once}
+use Rattle.cc_log.specs.Line.{Body, begins_late, line_of, or_fault, thread_of, unless, unless_fault}
 use Rattle.cc_log.specs.Lines.{is_blank, line_limit, lines_of}
 use Rattle.cc_log.specs.Window.{cut}
 
@@ -186,9 +188,25 @@ is_first known = (length known.before == 0) && not known.late
 abbrev pub with_tree : Known → (number : ℕ) → Data → Result Known Refusal
 with_tree known number d = if is_first known && begins_late d then Ok (record known { late = true }) else entry_of number d >>= (λ e. with_cut known e (cut known.window e.line))
 
+-- the line doesn't begin as one that is no object of JSON in UTF-8
+abbrev pub form_of : (number : ℕ) → List ℕ → Result (Unit {0}) Refusal
+form_of number line = or_refusal number (unless_fault (form_fault line))
+
+-- it is JSON
+abbrev pub json_in : (number : ℕ) → List ℕ → Result Data Refusal
+json_in number line = or_refusal number (or_fault LineFault.NoObject (json_of line))
+
+-- its object has no key twice
+abbrev pub once_of : (number : ℕ) → List ℕ → Data → Result (Unit {0}) Refusal
+once_of number line d = or_refusal number (unless LineFault.Twice (has_keys_once line (as_object d)))
+
 -- the tree of a line
 abbrev pub tree_of : (number : ℕ) → List ℕ → Result Data Refusal
-tree_of number line = or_refusal number (or_fault LineFault.NoObject (json_of line))
+tree_of number line = do
+  form ← form_of number line
+  d ← json_in number line
+  once ← once_of number line d
+  Ok d
 
 -- a line: it isn't too long, and it is blank or JSON
 abbrev pub with_line : Known → (number : ℕ) → List ℕ → Result Known Refusal

@@ -1,6 +1,7 @@
 -- Refused claims: for each kind of mistake a small case, and a claim about it that doesn't hold.
-use Rattle.std.specs.Prelude.{◌≡◌, ℕ, List, [], ◌∷◌, Some, Ok}
+use Rattle.std.specs.Prelude.{◌≡◌, ℕ, List, [], ◌∷◌, codes, Some, Ok}
 use Rattle.cc_log.specs.Names.{Last}
+use Rattle.cc_log.specs.Form.{members_in}
 use Rattle.cc_log.specs.Line.{Body, end_from}
 use Rattle.cc_log.specs.Log.{item_of, tie_with}
 
@@ -21,5 +22,9 @@ pub record RefusedClaims : Type 0 where
   pub end_before_begin : Refused (end_from 2 (Some 1) ≡ Ok (Some 1))
   -- a body that is there has a new number
   pub item_numbered_anew : Refused (item_of (word 7 ∷ []) (word 7) ≡ 1)
+  -- an object with a key twice has one member: {"a":1,"a":2}
+  pub key_twice : Refused (members_in (codes "{\"a\":1,\"a\":2}") ≡ 1)
+  -- a colon in a text is that of a member: {"a":":\":"}
+  pub colon_in_a_text : Refused (members_in (codes "{\"a\":\":\\\":\"}") ≡ 2)
   -- two calls that touch have no tie
   pub tie_lost : Refused (tie_with 0 1 5 (Some until_five) ≡ [])

@@ -11,6 +11,21 @@ pub enum LineFault {
     /// The line is no JSON object.
     #[error("no JSON object")]
     NoObject,
+    /// It begins with a byte-order mark of UTF-8.
+    #[error("a byte-order mark: write the log without one")]
+    Mark,
+    /// It begins as a file that gzip has made.
+    #[error("gzip: unpack the log first")]
+    Gzip,
+    /// It begins as a text in UTF-16.
+    #[error("UTF-16: write the log as UTF-8")]
+    Wide,
+    /// It begins with an array.
+    #[error("a JSON array: write one object a line")]
+    Array,
+    /// Its object has a key twice.
+    #[error("a duplicate key")]
+    Twice,
     /// The line has more than 65,536 bytes.
     #[error("more than 65536 bytes")]
     TooLong,
@@ -56,6 +71,24 @@ pub enum LogFault {
         line: usize,
         /// Its fault.
         fault: LineFault,
+    },
+    /// The line with this number, from 1, has a key that no call has.
+    #[error("line {line}: a key that no call has: {key:?}")]
+    Key {
+        /// The number.
+        line: usize,
+        /// The key.
+        key: String,
+    },
+    /// The line with this number, from 1, can't come after the last line of its thread.
+    #[error("line {line}: {fault} (line {last})")]
+    Clash {
+        /// The number.
+        line: usize,
+        /// Its fault.
+        fault: LineFault,
+        /// The number of the last line of its thread.
+        last: usize,
     },
     /// Two lines sent one item.
     #[error("lines {first} and {second} sent one item, {item}")]

@@ -1,11 +1,12 @@
 //! Logs of calls as texts, one JSON object a line, and how a log is read.
 //!
-//! `lines` has the lines of an input, `line` what one of them says, and `parse` the log of all. `state` adds the calls one by
+//! `lines` has the lines of an input, `form` what the bytes of one show, `line` what its tree says, and `parse` the log of all. `state` adds the calls one by
 //! one, with `items` and `threads`; `window` cuts them, and `late` has the calls that a log which begins late may lack.
 #![tactic(auto)]
 
 mod clauses;
 mod fault;
+mod form;
 mod items;
 mod late;
 mod line;

@@ -91,6 +91,14 @@ fn check_keys(tree: &Value) -> Result<(), LineFault>
     }
 }
 
+/// The first key of an object that isn't one of a call.
+pub fn unknown_key(alloc: Global, tree: &Value) -> Result<String, AllocError> {
+    let key = tree.as_object().and_then(|object| object
+        .keys()
+        .find(|key| !is_call_key(key.as_str())));
+    String::from_str(alloc, key.map_or("", |key| key.as_str()))
+}
+
 /// The body of the words in an array.
 #[tactic(auto, using(crate::proofs::Keys::too_many))]
 fn body_of(list: &[Value]) -> Option<Body>

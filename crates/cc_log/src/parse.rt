@@ -1,5 +1,5 @@
 //! The log that the lines of an input spell.
-ghost use Rattle.std.specs.Prelude.{◌≡◌, ◌<◌, ◌-◌, ◌^◌, ℕ, List, [], false, IfOk};
+ghost use Rattle.std.specs.Prelude.{◌≡◌, ◌<◌, ◌-◌, ◌^◌, ℕ, List, [], false, IfOk, slice_get};
 ghost use Rattle.cc_judge.specs.Late.{judged_capacity};
 ghost use Rattle.cc_log.specs.Answers.{Gives};
 ghost use Rattle.cc_log.specs.Lines.{HasInput};
@@ -117,11 +117,13 @@ impl Log {
         }
     }
 
-    /// The number of the line of the call at a place, from 1, or 0 if it has none.
-    pub fn line_of(&self, place: usize) -> usize {
+    /// The number of the line of the call at a place, from 1, if the log has a line of that call.
+    pub fn line_of(&self, place: usize) -> Option<usize>
+        ensures { result ≡ slice_get self.now.notes.lines.items place }
+    {
         match self.notes.lines.get(place) {
-            Some(line) => *line as usize,
-            None => 0,
+            Some(line) => Some(*line as usize),
+            None => None,
         }
     }
 }

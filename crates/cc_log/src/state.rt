@@ -5,11 +5,12 @@ ghost use Rattle.serde_json.specs.View.{view};
 ghost use Rattle.cc_log.specs.Answers.{Gives};
 ghost use Rattle.cc_log.specs.Line.{begins_late};
 ghost use Rattle.cc_log.specs.Lines.{is_blank, line_limit};
-ghost use Rattle.cc_log.specs.Log.{Known, is_close, tree_of, with_line, with_tree};
+ghost use Rattle.cc_log.specs.Log.{Known, is_close, json_in, tree_of, with_line, with_tree};
 ghost use Rattle.cc_log.specs.State.{Adds, IsStep, Shows, entry_in};
 ghost use Rattle.cc_log.specs.Names.{LogFault, Options};
 
 use crate::fault::{LineFault, LogFault};
+use crate::form::{check_form, check_once};
 use crate::items::{Items, act_of};
 use crate::line::{Line, Said, begins_late};
 use crate::narrow::narrow;
@@ -38,10 +39,10 @@ fn is_blank(text: &[u8]) -> bool
     text.iter().all(|byte| byte.is_ascii_whitespace())
 }
 
-/// The tree of a line.
-#[tactic(auto, using(crate::proofs::Steps::tree_given, crate::proofs::Steps::no_tree_given))]
-fn tree_of(alloc: Global, text: &[u8], number: usize) -> Result<Value, LogFault>
-    ensures { Gives view result (tree_of number text.now) }
+/// The JSON tree of a line.
+#[tactic(auto, using(crate::proofs::Steps::json_given, crate::proofs::Steps::no_json_given))]
+fn json_in(alloc: Global, text: &[u8], number: usize) -> Result<Value, LogFault>
+    ensures { Gives view result (json_in number text.now) }
 {
     match Value::from_slice(alloc, text) {
         Ok(value) => Ok(value),
@@ -50,6 +51,16 @@ fn tree_of(alloc: Global, text: &[u8], number: usize) -> Result<Value, LogFault>
             _ => Err(fault_of(number, LineFault::NoObject)),
         },
     }
+}
+
+/// The tree of a line, whose keys differ.
+fn tree_of(alloc: Global, text: &[u8], number: usize) -> Result<Value, LogFault>
+    ensures { Gives view result (tree_of number text.now) }
+{
+    check_form(text, number)?;
+    let tree = json_in(alloc, text, number)?;
+    check_once(text, &tree, number)?;
+    Ok(tree)
 }
 
 /// The call of a line, which may have begun earlier and ended later by the skew.
@@ -99,6 +110,11 @@ fn note(
     Ok(())
 }
 
+/// The number of the line of the last call of a thread, if there is one.
+fn last_line(log: &Log, last: Option<Last>) -> Option<usize> {
+    log.line_of(last?.place as usize)
+}
+
 /// Adds a call, if it may come next.
 fn add(alloc: Global, state: &mut State, parsed: Parsed, number: usize) -> Result<(), LogFault>
     ensures { Adds state.old state.new (entry_in number parsed) result }
@@ -107,7 +123,14 @@ fn add(alloc: Global, state: &mut State, parsed: Parsed, number: usize) -> Resul
     let place = narrow(state.log.calls.len())?;
     let last = state.log.threads.get(thread.as_str()).copied();
     if let Err(fault) = after_last(line.begin, last) {
-        return Err(fault_of(number, fault));
+        let Some(last) = last_line(&state.log, last) else {
+            return Err(fault_of(number, fault));
+        };
+        return Err(LogFault::Clash {
+            line: number,
+            fault,
+            last,
+        });
     }
     let act = act_of(alloc, &mut state.items, line.said, number)?;
     let skew = state.log.options.skew;

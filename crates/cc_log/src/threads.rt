@@ -8,7 +8,7 @@ ghost use Rattle.cc_log.specs.State.{entry_in};
 ghost use Rattle.cc_log.specs.Names.{LogFault};
 
 use crate::fault::{LineFault, LogFault};
-use crate::line::{Line, read_line};
+use crate::line::{Line, read_line, unknown_key};
 use cc_judge::Tie;
 use itoa::Buffer;
 use serde_json::Value;
@@ -64,6 +64,12 @@ pub fn read_call(alloc: Global, tree: &Value, number: usize) -> Result<Parsed, L
 {
     let line = match read_line(tree) {
         Ok(line) => line,
+        Err(LineFault::Key) => {
+            return Err(LogFault::Key {
+                line: number,
+                key: unknown_key(alloc, tree)?,
+            });
+        }
         Err(fault) => return Err(fault_of(number, fault)),
     };
     let thread = thread_of(alloc, tree, number)?;

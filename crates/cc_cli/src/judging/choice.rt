@@ -1,11 +1,9 @@
 //! Which calls the page of a judged log shows: those that the fault names, those of the same items, and some at the same times.
 
-use crate::judging::closed::{closed_by, next_call};
 use cc_judge::{Fault, Stay};
 use cc_log::{Body, Log, Said};
 use indexmap::IndexSet;
 use std::alloc::{AllocError, Global};
-use std::slice::from_ref;
 
 /// How many calls are shown at most only because they overlap one that the fault names.
 const BESIDE_LIMIT: usize = 300;
@@ -45,11 +43,11 @@ fn is_marked(marks: &[bool], place: usize) -> bool {
 /// Marks the calls of a stay.
 fn mark_stay(marks: &mut Vec<bool>, stay: &Stay) {
     match stay {
-        Stay::Taken { send, take } => {
+        Stay::Taken { send, take, .. } => {
             mark(marks, *send);
             mark(marks, *take);
         }
-        Stay::Left { sends, next } => {
+        Stay::Left { sends, next, .. } => {
             for send in sends {
                 mark(marks, *send);
             }
@@ -58,22 +56,13 @@ fn mark_stay(marks: &mut Vec<bool>, stay: &Stay) {
             }
         }
     }
-}
-
-/// Marks the calls of stays, the first of which counts from this call on, and those that show the queue closed.
-fn mark_stays(marks: &mut Vec<bool>, log: &Log, call: usize, stays: &[Stay]) {
-    let mut from = call;
-    for stay in stays {
-        mark_stay(marks, stay);
-        if let Some(closed) = closed_by(log, stay, from) {
-            mark(marks, closed);
-        }
-        from = next_call(stay, from);
+    if let Some(closed) = stay.closed() {
+        mark(marks, closed);
     }
 }
 
 /// Marks the calls that a fault names.
-fn mark_named(marks: &mut Vec<bool>, log: &Log, fault: &Fault) {
+fn mark_named(marks: &mut Vec<bool>, fault: &Fault) {
     match fault {
         Fault::NeverSent { take } => mark(marks, *take),
         Fault::TakenBeforeSent { send, take } => {
@@ -89,13 +78,15 @@ fn mark_named(marks: &mut Vec<bool>, log: &Log, fault: &Fault) {
             later_send,
             later_take,
         } => {
-            mark_stays(marks, log, *later_send, from_ref(stay));
+            mark_stay(marks, stay);
             mark(marks, *later_send);
             mark(marks, *later_take);
         }
         Fault::NotEmpty { call, stays } => {
             mark(marks, *call);
-            mark_stays(marks, log, *call, stays.as_slice());
+            for stay in stays {
+                mark_stay(marks, stay);
+            }
         }
         Fault::Reopened { closed, send } => {
             mark(marks, *closed);
@@ -196,7 +187,7 @@ fn mark_beside(log: &Log, bodies: &IndexSet<Body>, spans: &[Span], marks: &mut V
 /// one of those that it names the first 300 in the log's order.
 pub fn beside_fault(alloc: Global, log: &Log, fault: &Fault) -> Result<Choice, AllocError> {
     let mut marks = vec![in alloc; false; log.calls.len()]?;
-    mark_named(&mut marks, log, fault);
+    mark_named(&mut marks, fault);
     let bodies = bodies(alloc, log, marks.as_slice())?;
     let spans = spans(alloc, log, marks.as_slice())?;
     let left_out = mark_beside(log, &bodies, spans.as_slice(), &mut marks);

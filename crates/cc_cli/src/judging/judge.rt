@@ -21,14 +21,13 @@ struct Found {
     line: String,
 }
 
-/// The exit status of a verdict: 0 if it is clean, 1 for a fault, 2 if the log can't be judged, 5 if it is undecided.
+/// The exit status of a verdict: 0 if it is clean, 1 for a fault, 5 if it is undecided.
 fn status_of(verdict: &Verdict) -> u8
     ensures { result ≡ verdict_status verdict.now }
 {
     match verdict {
         Verdict::Clean(_) => 0,
         Verdict::Fault(_) => 1,
-        Verdict::SentTwice(..) | Verdict::Stray(_) => 2,
         Verdict::Undecided => 5,
     }
 }
@@ -110,9 +109,6 @@ fn judge_log<W: Sink, E: Sink>(alloc: Global, log: &Log, sink: &mut W, errors: &
         return out_of_memory(errors);
     };
     let status = status_of(&found.verdict);
-    if status == 2 {
-        return told(errors, found.line.as_bytes(), status);
-    }
     let outcome = write_found(alloc, log, &found, sink);
     tell_written(errors, status, outcome)
 }

@@ -3,7 +3,6 @@
 ghost use Rattle.std.specs.Prelude.{◌≡◌, ◌<◌, ◌-◌, ◌^◌, OnOk};
 
 use crate::judging::choice::{Choice, beside_fault, first_calls};
-use crate::judging::closed::{closed_by, next_call};
 use crate::judging::fault_page::{BACK, FRONT, MIDDLE};
 use cc_io::{Sink, WriteFault, write_bytes};
 use cc_judge::{Fault, Stay, Verdict};
@@ -55,7 +54,7 @@ fn quoted(alloc: Global, plain: &str) -> Result<String, AllocError> {
     Ok(text)
 }
 
-/// Appends a key and the number of the line of the call at a place.
+/// Appends a key and the number of the line of the call at a place, if the log has a line of that call.
 fn push_line(
     alloc: Global,
     text: &mut String,
@@ -63,42 +62,48 @@ fn push_line(
     key: &str,
     place: usize,
 ) -> Result<(), AllocError> {
-    let one = format!(in alloc; ",\"{key}\":{}", log.line_of(place))?;
+    let Some(line) = log.line_of(place) else {
+        return Ok(());
+    };
+    let one = format!(in alloc; ",\"{key}\":{line}")?;
     text.push_str(one.as_str())
 }
 
-/// Appends a stay that counts from this call on. A send that the log lacks has no line.
-fn push_stay(
+/// Appends the numbers of the lines of sends, as an array. A send that the log lacks has no line.
+fn push_sends(
     alloc: Global,
     text: &mut String,
     log: &Log,
-    call: usize,
-    stay: &Stay,
+    sends: &[usize],
 ) -> Result<(), AllocError> {
-    text.push_str("{\"sends\":[")?;
+    text.push_str("\"sends\":[")?;
+    let mut mark = "";
+    for send in sends {
+        if let Some(line) = log.line_of(*send) {
+            let line = format!(in alloc; "{mark}{line}")?;
+            text.push_str(line.as_str())?;
+            mark = ",";
+        }
+    }
+    text.push_str("]")
+}
+
+/// Appends a stay.
+fn push_stay(alloc: Global, text: &mut String, log: &Log, stay: &Stay) -> Result<(), AllocError> {
+    text.push_str("{")?;
     match stay {
-        Stay::Taken { send, take } => {
-            let line = log.line_of(*send);
-            if line > 0 {
-                let send = format!(in alloc; "{line}")?;
-                text.push_str(send.as_str())?;
-            }
-            text.push_str("]")?;
+        Stay::Taken { send, take, .. } => {
+            push_sends(alloc, text, log, from_ref(send))?;
             push_line(alloc, text, log, "take", *take)?;
         }
-        Stay::Left { sends, next } => {
-            for (at, send) in sends.iter().enumerate() {
-                text.push_str(if at == 0 { "" } else { "," })?;
-                let send = format!(in alloc; "{}", log.line_of(*send))?;
-                text.push_str(send.as_str())?;
-            }
-            text.push_str("]")?;
+        Stay::Left { sends, next, .. } => {
+            push_sends(alloc, text, log, sends.as_slice())?;
             if let Some(next) = next {
                 push_line(alloc, text, log, "next", *next)?;
             }
         }
     }
-    if let Some(closed) = closed_by(log, stay, call) {
+    if let Some(closed) = stay.closed() {
         push_line(alloc, text, log, "closed", closed)?;
     }
     text.push_str("}")
@@ -116,20 +121,17 @@ fn push_two(
     push_line(alloc, text, log, second.0, second.1)
 }
 
-/// Appends stays, the first of which counts from this call on.
+/// Appends stays.
 fn push_stays(
     alloc: Global,
     text: &mut String,
     log: &Log,
-    call: usize,
     stays: &[Stay],
 ) -> Result<(), AllocError> {
     text.push_str(",\"stays\":[")?;
-    let mut from = call;
     for (at, stay) in stays.iter().enumerate() {
         text.push_str(if at == 0 { "" } else { "," })?;
-        push_stay(alloc, text, log, from, stay)?;
-        from = next_call(stay, from);
+        push_stay(alloc, text, log, stay)?;
     }
     text.push_str("]")
 }
@@ -167,12 +169,12 @@ fn push_fault(
                 ("send", *later_send),
                 ("take", *later_take),
             )?;
-            push_stays(alloc, text, log, *later_send, from_ref(stay))
+            push_stays(alloc, text, log, from_ref(stay))
         }
         Fault::NotEmpty { call, stays } => {
             text.push_str(",\"kind\":\"not empty\"")?;
             push_line(alloc, text, log, "take", *call)?;
-            push_stays(alloc, text, log, *call, stays.as_slice())
+            push_stays(alloc, text, log, stays.as_slice())
         }
         Fault::Reopened { closed, send } => {
             text.push_str(",\"kind\":\"open after closed\"")?;
@@ -287,8 +289,8 @@ fn write_calls<W: Sink>(
     ensures { OnOk result (W.write_failures sink.new ≡ W.write_failures sink.old) }
 {
     for (place, (shown, marked)) in log.notes.shown.iter().zip(marks.iter()).enumerate() {
-        if *marked {
-            write_call(alloc, sink, log, log.line_of(place), *shown)?;
+        if let (true, Some(line)) = (*marked, log.line_of(place)) {
+            write_call(alloc, sink, log, line, *shown)?;
         }
     }
     Ok(())

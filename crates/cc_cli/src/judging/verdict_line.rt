@@ -1,75 +1,96 @@
 //! The line of a verdict.
 
-use crate::judging::closed::{closed_by, next_call};
 use cc_judge::{Fault, Stay, Verdict};
 use cc_log::Log;
 use std::alloc::{AllocError, Global};
+
+/// The line of the call at a place, or these words if the log lacks the call, as one that begins late may.
+fn line_or(
+    alloc: Global,
+    log: &Log,
+    place: usize,
+    lacking: &'static str,
+) -> Result<String, AllocError> {
+    match log.line_of(place) {
+        Some(line) => format!(in alloc; "line {line}"),
+        None => String::from_str(alloc, lacking),
+    }
+}
+
+/// The line of the call at a place.
+fn line(alloc: Global, log: &Log, place: usize) -> Result<String, AllocError> {
+    line_or(alloc, log, place, "a call before the log")
+}
+
+/// The lines of two calls.
+fn two_lines(alloc: Global, log: &Log, first: usize, second: usize) -> Result<String, AllocError> {
+    match (log.line_of(first), log.line_of(second)) {
+        (Some(first), Some(second)) => format!(in alloc; "lines {first} and {second}"),
+        _ => format!(in alloc;
+            "{} and {}",
+            line(alloc, log, first)?,
+            line(alloc, log, second)?
+        ),
+    }
+}
 
 /// The numbers of the lines of the calls at these places.
 fn lines_at(alloc: Global, log: &Log, places: &[usize]) -> Result<String, AllocError> {
     let mut text = String::from_str(alloc, if places.len() == 1 { "line" } else { "lines" })?;
     for (at, place) in places.iter().enumerate() {
         text.push_str(if at == 0 { " " } else { ", " })?;
-        let line = format!(in alloc; "{}", log.line_of(*place))?;
-        text.push_str(line.as_str())?;
+        match log.line_of(*place) {
+            Some(line) => text.push_str(format!(in alloc; "{line}")?.as_str())?,
+            None => text.push_str("before the log")?,
+        }
     }
     Ok(text)
 }
 
-/// The lines of the sends of a stay. A log that begins late may lack the send of an item that it took.
+/// The lines of the sends of a stay.
 fn sends(alloc: Global, log: &Log, stay: &Stay) -> Result<String, AllocError> {
     match stay {
-        Stay::Taken { send, take: _ } => match log.line_of(*send) {
-            0 => String::from_str(alloc, "a send before the log"),
-            line => format!(in alloc; "line {line}"),
-        },
-        Stay::Left { sends, next: _ } => lines_at(alloc, log, sends.as_slice()),
+        Stay::Taken { send, .. } => line_or(alloc, log, *send, "a send before the log"),
+        Stay::Left { sends, .. } => lines_at(alloc, log, sends.as_slice()),
     }
 }
 
 /// When the item of a stay left the queue.
 fn leaves(alloc: Global, log: &Log, stay: &Stay) -> Result<String, AllocError> {
     match stay {
-        Stay::Taken { send: _, take } => {
-            format!(in alloc; "taken by line {}", log.line_of(*take))
-        }
+        Stay::Taken { take, .. } => format!(in alloc; "taken by {}", line(alloc, log, *take)?),
         Stay::Left {
-            sends: _,
             next: Some(next),
-        } => format!(in alloc; "not taken before line {} began", log.line_of(*next)),
-        Stay::Left {
-            sends: _,
-            next: None,
-        } => String::from_str(alloc, "never taken"),
+            ..
+        } => format!(in alloc; "not taken before {} began", line(alloc, log, *next)?),
+        Stay::Left { next: None, .. } => String::from_str(alloc, "never taken"),
     }
 }
 
 /// The noun for the item of a stay, or for the one of several that left last.
 fn item(stay: &Stay) -> &'static str {
     match stay {
-        Stay::Left { sends, next: _ } if sends.len() > 1 => "one of the items",
+        Stay::Left { sends, .. } if sends.len() > 1 => "one of the items",
         _ => "the item",
     }
 }
 
 /// Items one after another, by the lines of their sends and takes, and by the line that shows the queue closed if an item
-/// counts for that. The first was in the queue when this call began, and each other one when the take before it began.
-fn items(alloc: Global, log: &Log, call: usize, stays: &[Stay]) -> Result<String, AllocError> {
+/// counts for that.
+fn items(alloc: Global, log: &Log, stays: &[Stay]) -> Result<String, AllocError> {
     let mut text = String::new(alloc);
-    let mut from = call;
     for stay in stays {
         let (sends, leaves) = (sends(alloc, log, stay)?, leaves(alloc, log, stay)?);
         let one = format!(in alloc; "; {} of {sends}, ", item(stay))?;
         text.push_str(one.as_str())?;
-        if let Some(closed) = closed_by(log, stay, from) {
+        if let Some(closed) = stay.closed() {
             let closed = format!(in alloc;
-                "sent before the queue was closed (line {}), ",
-                log.line_of(closed)
+                "sent before the queue was closed ({}), ",
+                line(alloc, log, closed)?
             )?;
             text.push_str(closed.as_str())?;
         }
         text.push_str(leaves.as_str())?;
-        from = next_call(stay, from);
     }
     Ok(text)
 }
@@ -79,21 +100,19 @@ fn fault_text(alloc: Global, log: &Log, fault: &Fault) -> Result<String, AllocEr
     match fault {
         Fault::NeverSent { take } => {
             format!(in alloc;
-                "judge fault: never sent: line {} took an item that no line sent\n",
-                log.line_of(*take)
+                "judge fault: never sent: {} took an item that no line sent\n",
+                line(alloc, log, *take)?
             )
         }
         Fault::TakenBeforeSent { send, take } => {
-            let (take, send) = (log.line_of(*take), log.line_of(*send));
+            let (take, send) = (line(alloc, log, *take)?, line(alloc, log, *send)?);
             format!(in alloc;
-                "judge fault: taken before sent: line {take} had ended before line {send} began\n"
+                "judge fault: taken before sent: {take} had ended before {send} began\n"
             )
         }
         Fault::TakenTwice { first, second } => {
-            let (first, second) = (log.line_of(*first), log.line_of(*second));
-            format!(in alloc;
-                "judge fault: taken twice: lines {first} and {second} took one item\n"
-            )
+            let two = two_lines(alloc, log, *first, *second)?;
+            format!(in alloc; "judge fault: taken twice: {two} took one item\n")
         }
         Fault::Overtaken {
             stay,
@@ -101,34 +120,37 @@ fn fault_text(alloc: Global, log: &Log, fault: &Fault) -> Result<String, AllocEr
             later_take,
         } => {
             let (sends, leaves) = (sends(alloc, log, stay)?, leaves(alloc, log, stay)?);
-            let (second, later) = (log.line_of(*later_send), log.line_of(*later_take));
+            let (second, later) = (
+                line(alloc, log, *later_send)?,
+                line(alloc, log, *later_take)?,
+            );
             format!(in alloc;
-                "judge fault: overtaken: {sends} had ended before line {second} began; {} of {sends} is {leaves}, after line {later} took the other\n",
+                "judge fault: overtaken: {sends} had ended before {second} began; {} of {sends} is {leaves}, after {later} took the other\n",
                 item(stay)
             )
         }
         Fault::Reopened { closed, send } => {
-            let (closed, send) = (log.line_of(*closed), log.line_of(*send));
+            let (closed, send) = (line(alloc, log, *closed)?, line(alloc, log, *send)?);
             format!(in alloc;
-                "judge fault: open after closed: line {closed} closed the queue or found it closed, and had ended before line {send} began, which found it open\n"
+                "judge fault: open after closed: {closed} closed the queue or found it closed, and had ended before {send} began, which found it open\n"
             )
         }
         Fault::ClosedEarly { call } => format!(in alloc;
-            "judge fault: closed early: line {} found the queue closed, and had ended before a close began\n",
-            log.line_of(*call)
+            "judge fault: closed early: {} found the queue closed, and had ended before a close began\n",
+            line(alloc, log, *call)?
         ),
         Fault::NotFull { call } => {
             let capacity = log.rules.capacity.unwrap_or(0);
             format!(in alloc;
-                "judge fault: not full: line {} found the queue full, and at none of its times can it have held {capacity}\n",
-                log.line_of(*call)
+                "judge fault: not full: {} found the queue full, and at none of its times can it have held {capacity}\n",
+                line(alloc, log, *call)?
             )
         }
         Fault::NotEmpty { call, stays } => {
-            let items = items(alloc, log, *call, stays.as_slice())?;
+            let items = items(alloc, log, stays.as_slice())?;
             format!(in alloc;
-                "judge fault: not empty: line {} found none, and at all its times the queue held an item{items}\n",
-                log.line_of(*call)
+                "judge fault: not empty: {} found none, and at all its times the queue held an item{items}\n",
+                line(alloc, log, *call)?
             )
         }
     }
@@ -194,14 +216,6 @@ pub fn text_of(alloc: Global, log: &Log, verdict: &Verdict) -> Result<String, Al
             )
         }
         Verdict::Fault(fault) => fault_text(alloc, log, fault),
-        Verdict::SentTwice(first, second) => {
-            let (first, second) = (log.line_of(*first), log.line_of(*second));
-            format!(in alloc; "ccq: log refused: lines {first} and {second} sent one item\n")
-        }
-        Verdict::Stray(place) => format!(in alloc;
-            "ccq: log refused: line {}\n",
-            log.line_of(*place)
-        ),
         Verdict::Undecided => String::from_str(alloc, "judge undecided\n"),
     }
 }

@@ -1,0 +1,13 @@
+-- The definitions refuse these claims.
+use Rattle.std.proofs.Common.{◌≡◌, arith}
+use Rattle.cc_judge.specs.declared.decide.Verdict.{Verdict}
+use Rattle.cc_cli.specs.Judged.{verdict_status}
+use Rattle.cc_cli.specs.Refused.{RefusedClaims}
+
+no_refusal : (verdict : Verdict) → 2 ≡ verdict_status verdict → ⊥
+no_refusal (Verdict.Clean order) is = absurd (omega (arith, is))
+no_refusal (Verdict.Fault fault) is = absurd (omega (arith, is))
+no_refusal Verdict.Undecided is = absurd (omega (arith, is))
+
+pub claims_refused : RefusedClaims
+claims_refused = record { log_refused = λ options log due. no_refusal due.1 due.4 }
