@@ -5,7 +5,10 @@ mod Posted
 mod Quiet
 mod Driven
 mod Early
+mod Marks
 mod Crews
 mod Litmus
 mod Threads
 mod InTime
+mod Follows
+mod Labelled

@@ -9,4 +9,7 @@ pub mod Litmus
 pub mod Threads
 pub mod OnX86
 pub mod Early
+pub mod Marks
 pub mod Crews
+pub mod Rows
+pub mod Graphs
