@@ -32,9 +32,11 @@ IN_RUST = {
 # The pairs of the program in C: by handles, as the Rust crate makes them, and by one pointer. The pointer's has 106 more: each call
 # looks for a free place, takes it by an exchange and gives it back by a store, and an item has room for four words. The turns
 # are the same.
+# The last number is how many of these may be locked: two exchanges of a tail, a mark, and an addition; and for each of the pointer's
+# calls two more, by which it takes a place and gives it back.
 IN_C = {
-    "vahepito_try_send and vahepito_try_take": ("handles", 550),
-    "vahepito_call_send and vahepito_call_take": ("pointer", 657),
+    "vahepito_try_send and vahepito_try_take": ("handles", 550, 4),
+    "vahepito_call_send and vahepito_call_take": ("pointer", 657, 8),
 }
 RUST = """use vahepito::{channel, groups};
 
@@ -112,15 +114,25 @@ def build_c(room):
     source, program = os.path.join(room, "pair.c"), os.path.join(room, "pair")
     with open(source, "w") as file:
         file.write(C)
-    subprocess.run(["cc", "-O2", "-I", f"{TOP}/bindings/c", source, *archives(), "-pthread", "-o", program], check=True)
+    subprocess.run(["cc", "-O2", "-no-pie", "-I", f"{TOP}/bindings/c", source, *archives(), "-pthread", "-o", program], check=True)
     return program
 
 
-def instructions(command):
-    """Of a run of this program."""
-    counted = ["valgrind", "--tool=callgrind", "--callgrind-out-file=/dev/null", *command]
+def locked_in(program):
+    """The addresses of its locked instructions."""
+    told = subprocess.run(["objdump", "-d", "-M", "intel", "--no-show-raw-insn", program], capture_output=True, text=True, check=True).stdout
+    return {int(at, 16) for at, _ in re.findall(r"^ *([0-9a-f]+):\t(lock |mfence|xchg [^\n]*\[)", told, re.M)}
+
+
+def instructions(command, room):
+    """How many instructions a run of this program executes, and how many locked ones of its own, if it has fixed addresses."""
+    out, addresses = os.path.join(room, "counts"), locked_in(command[0])
+    counted = ["valgrind", "--tool=callgrind", "--dump-instr=yes", "--compress-pos=no", f"--callgrind-out-file={out}", *command]
     done = subprocess.run(counted, capture_output=True, text=True, check=True)
-    return int(re.search(r"Collected : (\d+)", done.stderr)[1])
+    with open(out) as file:
+        # A line behind `calls=` has what was called, and no cost of its own.
+        costs = re.findall(r"^0x([0-9a-f]+) \d+ (\d+)$", re.sub(r"^calls=.*\n.*\n", "", file.read(), flags=re.M), re.M)
+    return int(re.search(r"Collected : (\d+)", done.stderr)[1]), sum(int(cost) for at, cost in costs if int(at, 16) in addresses)
 
 
 def main():
@@ -130,9 +142,13 @@ def main():
         return 77
     with tempfile.TemporaryDirectory() as room:
         rust, c = build_rust(room), build_c(room)
-        rows = [(name, [rust, name], limit) for name, (_, _, limit) in IN_RUST.items()]
-        rows += [(name, [c, mode], limit) for name, (mode, limit) in IN_C.items()]
-        counts = [(name, (instructions([*run, str(2 * CALLS)]) - instructions([*run, str(CALLS)])) / CALLS, limit) for name, run, limit in rows]
+        rows = [(name, [rust, name], [limit]) for name, (_, _, limit) in IN_RUST.items()]
+        rows += [(name, [c, mode], limits) for name, (mode, *limits) in IN_C.items()]
+        counts = []
+        for name, run, limits in rows:
+            twice, once = (instructions([*run, str(calls)], room) for calls in (2 * CALLS, CALLS))
+            differences = [(more - less) / CALLS for more, less in zip(twice, once)]
+            counts += zip([name, f"locked in {name}"], differences, limits)
     for name, count, limit in counts:
         above = "" if count <= limit or "--print" in sys.argv else f": ABOVE ITS LIMIT OF {limit}"
         print(f"instructions: {name}: {count:.0f}{above}")

@@ -9,7 +9,7 @@ default archive, in which each further store is plain whose old value nothing re
 handles and by the pointer; so the test would see such an archive.
 
 ROUNDS is the number for each archive, 100,000 if it isn't given. The exit status is 0 if all is as it should be, and 77 if nothing was
-done: a processor other than x86-64, one processor alone, no C compiler, or no python3-capstone, by which the control is made.
+done: a processor other than x86-64, one processor alone, or no C compiler.
 """
 import os
 import pathlib
@@ -73,10 +73,7 @@ def main(rounds: int) -> int:
     with tempfile.TemporaryDirectory() as name:
         room = pathlib.Path(name)
         wrong = room / "libcontrol.a"
-        try:
-            wrong.write_bytes(control())
-        except SystemExit:
-            skip("python3-capstone is not on this machine")
+        wrong.write_bytes(control())
         for form in FORMS:
             for archive in ("libvahepito.a", "libvahepito_strict.a"):
                 done, empty, missed = run(room, ARCHIVES / archive, form, rounds, 1)

@@ -11,6 +11,7 @@ Which words are shared is found in two ways. A place that a function accesses by
 pointers are followed from the arguments (aarch64/flow.py). And in the functions that do the steps of calls the shared words are what
 is behind the path of TABLES. In those functions, and in those that make the calls of a shared queue, an access by a pointer of which it isn't
 known where it comes from is refused. Functions that open queues or drop handles may lose sight of a pointer: no thread shares the queue yet, or any more.
+An access that is weaker than the four, and not plain, is refused wherever it is, also of a word of the own stack.
 
 With MODULE, the compiler's own module behind the optimizer as text, each function has at least as many loads, stores and
 read-modify-writes as the module marks as atomic, all of these are `seq_cst`, and there are no others. (The compiler may write a block twice.)
@@ -58,6 +59,9 @@ def is_known(i) -> bool:
 def check(function: Function) -> collections.Counter:
     """How many accesses of each kind a function has; refuses the function if one isn't known to be right."""
     function.follow()
+    for i in function.instructions:
+        if i.memory and not is_known(i) and not PLAIN.match(i.name):
+            raise Refused(f"{function.where(i)}: {i.text}: is no access that is known")
     accesses = function.accesses()
     shared = {place for i, at in accesses if is_known(i) for place in at if place[0] != "?"}
     table = next((path for name, path in TABLES.items() if function.name.startswith(name)), None)
@@ -67,8 +71,6 @@ def check(function: Function) -> collections.Counter:
             raise Refused(f"{here}: by a pointer of which nothing is known")
         if is_known(i):
             continue
-        if not PLAIN.match(i.name):
-            raise Refused(f"{here}: is no access that is known")
         same = [place for place in at for other in shared if are_alike(place[0], other[0]) and touch(place[1], i.span, other[1])]
         if same or table in paths(at):
             raise Refused(f"{here}: a plain access of a shared word, by {sorted(paths(at))}")

@@ -1,4 +1,4 @@
-#!/usr/bin/python3
+#!/usr/bin/env python3
 """Turns stores of the proved library from locked exchanges into plain moves, and checks that this can't be seen on x86-TSO.
 
     tools/stores.py relax STRICT OUT          writes the archive STRICT with each such store turned that may be, and says how many
@@ -8,38 +8,34 @@
 The argument. All of the library's atomic steps are sequentially consistent, so that each store is an `xchg [word], reg`, which
 is locked. `mov [word], reg` has the same length: one byte differs, 0x87 and 0x89. On x86-TSO a plain store differs from a
 locked one in two ways. It doesn't load the old value into `reg`, so no instruction may use that. And the store waits in its
-thread's buffer. The laws of crates/cc_x86 say that this can't be seen, if the thread executes a locked instruction before it
-loads a shared word or returns: a locked instruction waits until the buffer is empty.
+thread's buffer. The laws of crates/cc_x86 say that the queue's calls can't be told apart by that, under two conditions. A store that
+is a mark of the senders' chain is locked: it writes 2, by which a combiner says that it has answered a send or a close. And if one thread
+drives several passes, its buffer is empty when it takes up a pass that waits.
 
-Both are shown for each change, on every path through the function. To know which loads are of shared words, the checker follows
-where each pointer comes from (x86/flow.py). It is given the path by which a function reaches the shared words
-(x86/discipline.py). The checker refuses all that it doesn't know to be right: an unknown instruction or jump, a pointer to the
-words that it loses sight of, a call, a load by a pointer that isn't the thread's own. Functions that open queues or drop
-handles have the same bytes in both. How many stores may be plain isn't written down anywhere, since another compiler decides
-otherwise.
+The checker shows for each change, on every path through the function, that nobody uses the old value, and that the store may not be a
+mark. For each call it shows that a locked instruction, which waits until the buffer is empty, comes before the first load of a
+shared word. To know which words are meant, and which numbers are stored, it follows where each value comes from (x86/flow.py).
+It is given the path by which a function reaches the shared words (x86/discipline.py). The checker refuses all that it doesn't
+know to be right: an unknown instruction or jump, a pointer to the words that it loses sight of, a call of another function.
+Functions that open queues or drop passes have the same bytes in both. How many stores may be plain isn't written down
+anywhere, since another compiler decides otherwise.
 
 `compare` comes to it in another way (x86/module.py): by the compiler's own module, in which loads and stores of shared words are
-marked as atomic. In each function as many loads, and as many stores that may be plain, have to be found there as here.
+marked as atomic. In each function as many loads, stores, and stores of 2 have to be found there as here.
 
-It reads an archive of one object, or an object. The decoder is Debian's python3-capstone, for Debian's python3; without it the
-exit status is 69. The exit status is 0 if all is well, and 1 if something is refused.
+It reads an archive of one object, or an object. The decoder is objdump (x86/decode.py). The exit status is 0 if all is well, and
+1 if something is refused.
 """
 import pathlib
 import sys
 
 sys.dont_write_bytecode = True
-try:
-    from x86.decode import decode
-    from x86.discipline import Checked, is_shared, may_call_turns
-    from x86.flow import Function
-    from x86.module import counts as module_counts
-    from x86.module import functions as module_functions
-    from x86.objects import Object, Refused, object_in
-except ModuleNotFoundError as missing:
-    if missing.name != "capstone":
-        raise
-    print("stores: python3-capstone is not on this machine", file=sys.stderr)
-    sys.exit(69)
+from x86.decode import decode
+from x86.discipline import MARK, Checked, is_shared
+from x86.flow import Function, constant
+from x86.module import counts as module_counts
+from x86.module import functions as module_functions
+from x86.objects import Object, Refused, object_in
 
 EXCHANGE, MOVE = 0x87, 0x89
 
@@ -51,14 +47,17 @@ class Library:
         self.whole = whole
         self.begin, self.end = object_in(whole)
         self.object = whole[self.begin : self.end]
-        functions = [Function(code) for code in Object(self.object).functions()]
+        read = Object(self.object)
+        functions = [Function(code) for code in read.functions()]
         self.others = {function.name: function for function in functions}
         self.shared = [Checked(function, self.others) for function in functions if is_shared(function.name)]
         for function in functions:
             called = {reference.name for reference in function.code.references.values()}
-            known = is_shared(function.name) or may_call_turns(function.name)
-            if not known and any(name in self.others and is_shared(name) for name in called):
+            if not is_shared(function.name) and any(name in self.others and is_shared(name) for name in called):
                 raise Refused(f"{function.name}: refers to a function that does the steps of calls")
+
+        for name in filter(is_shared, read.pointed() & self.others.keys()):
+            raise Refused(f"{name}: data refers to a function that does the steps of calls")
 
     def exchanges(self) -> int:
         return sum(len(checked.exchanges()) for checked in self.shared)
@@ -73,17 +72,17 @@ def place_of(checked: Checked, i) -> int:
 
 
 def may_be_plain(checked: Checked) -> tuple:
-    """The addresses of exchanges that may be plain stores together, taken in their order, and why the others may not."""
-    relaxed, kept = set(), []
+    """The addresses of the exchanges that may be plain stores, and why the others may not."""
+    plain, kept = set(), []
     for k in checked.exchanges():
-        more = relaxed | {checked.function.instructions[k].address}
         try:
-            for address in sorted(more):
-                checked.check_plain(checked.function.numbers[address], more)
-            relaxed = more
+            checked.check_plain(k)
+            plain.add(checked.function.instructions[k].address)
         except Refused as why:
             kept.append(str(why))
-    return relaxed, kept
+    checked.check_begin(plain)
+    checked.check_end(plain)
+    return plain, kept
 
 
 def relaxed(library: Library) -> tuple:
@@ -131,23 +130,26 @@ def check(library: Library, other: bytes) -> int:
         raise Refused("something was changed outside of the functions that do the steps of calls")
     for checked, stores in zip(library.shared, plain):
         for k in stores.values():
-            checked.check_plain(k, set(stores))
+            checked.check_plain(k)
+        checked.check_begin(set(stores))
+        checked.check_end(set(stores))
     return differences
 
 
 def compare(library: Library, module: str) -> tuple:
-    """The loads of shared words and the stores that may be plain, if each function has as many in the module as here."""
-    told = {name: module_counts(blocks) for name, blocks in module_functions(module).items()}
-    loads = stores = 0
+    """The loads of shared words, the stores and those of 2, if each function has as many in the module as here."""
+    told = {name: module_counts(name, lines) for name, lines in module_functions(module).items()}
+    all_found = [0, 0, 0]
     for checked in library.shared:
         name = checked.function.name
-        found = len(checked.shared_loads()), len(may_be_plain(checked)[0])
+        stored = [checked.stored(k) for k in checked.stores()]
+        found = len(checked.loads()), len(stored), sum(value == constant(MARK) for value in stored)
         if told.get(name) != found:
-            raise Refused(f"{name}: {found} loads of shared words and plain stores here, {told.get(name)} in the compiler's module")
-        loads, stores = loads + found[0], stores + found[1]
-    if not loads or not stores:
-        raise Refused("no load of a shared word was found, or no store that may be plain")
-    return loads, stores
+            raise Refused(f"{name}: {found} loads of shared words, stores, and stores of 2 here, {told.get(name)} in the compiler's module")
+        all_found = [one + other for one, other in zip(all_found, found)]
+    if not all(all_found):
+        raise Refused("no load of a shared word was found, no store, or no mark")
+    return tuple(all_found)
 
 
 def main() -> int:
@@ -167,8 +169,8 @@ def main() -> int:
         elif task == "check":
             count = check(library, second.read_bytes())
         else:
-            loads, plain = compare(library, second.read_text())
-            print(f"stores: {loads} loads of shared words, {plain} plain stores, in each function as in the compiler's module")
+            loads, stores, twos = compare(library, second.read_text())
+            print(f"stores: {loads} loads of shared words, {stores} stores, {twos} of them of 2, in each function as in the compiler's module")
             return 0
     except Refused as why:
         print(f"stores: refused: {why}", file=sys.stderr)

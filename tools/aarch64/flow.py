@@ -1,7 +1,7 @@
 """Where the pointers in a function for AArch64 come from: before each instruction, what each register and each slot of the stack
 may hold.
 
-A value is a set of origins, each a path with a distance, as x86/flow.py has them: `x0` is the argument in that register, and
+A value is a set of origins, each a path with a distance: `x0` is the argument in that register, and
 `x0[0][8]` what was loaded 8 bytes behind what was loaded from where `x0` points. A number has no origin, and `?` is the path of a
 value of which nothing is known. A distance is a number of bytes; ("*", n), n bytes behind where some index leads; or None, unknown. In
 a path these are the steps `[8]`, `[*+8]` and `[?]`.
@@ -11,8 +11,10 @@ What an instruction isn't known to do leaves a value of which nothing is known; 
 import re
 
 from aarch64.decode import Code, Instruction, Memory, decode
-from x86.flow import NUMBER, UNKNOWN, joined, paths
+from x86.flow import paths
 from x86.objects import Refused
+
+UNKNOWN, NUMBER = frozenset({("?", None)}), frozenset()
 
 ARGUMENTS = [f"x{n}" for n in range(9)]
 KEPT_BY_A_CALL = {f"x{n}" for n in range(19, 30)} | {"sp"}
@@ -27,6 +29,15 @@ SUMS = set("add sub adds subs and ands orr eor bic neg negs".split())
 MAKES_NUMBERS = set("movz movn lsl lsr asr ror mul msub mneg umulh smulh udiv sdiv clz rbit rev cset csetm ubfx ubfiz sbfx sbfiz sxtw sxtb sxth uxtb uxth uxtw mvn".split())
 ENDS = {"ret", "brk"}
 CHOICES = {"cbz", "cbnz", "tbz", "tbnz"}
+OWN = {"sp", "x29"}
+
+
+def joined(one: frozenset, other: frozenset) -> frozenset:
+    """Both; a path at two distances is at an unknown one, so that there are few."""
+    distances: dict = {}
+    for path, distance in one | other:
+        distances.setdefault(path, set()).add(distance)
+    return frozenset((path, distance if len(distances[path]) == 1 else None) for path, distance in one | other)
 
 
 def moved(value: frozenset, distance: int | None) -> frozenset:
@@ -76,8 +87,7 @@ class Function:
         self.instructions = decode(code.name, code.bytes)
         self.numbers = {each.address: k for k, each in enumerate(self.instructions)}
         self.before: dict = {}
-        own = {"sp", "x29"}
-        self.lends = any(i.memory is None and i.operands and i.operands[0] not in own and own & set(i.operands[1:]) for i in self.instructions)
+        self.lends = True
 
     def where(self, i: Instruction) -> str:
         return f"{self.name}+{i.address:x}"
@@ -98,6 +108,38 @@ class Function:
         if not set(targets) <= self.numbers.keys():
             raise Refused(f"{self.where(i)}: leads out of the function")
         return [self.numbers[target] for target in targets]
+
+    # ---- which calls may see the stack
+
+    def is_lent(self, k: int) -> bool:
+        """Whether an address of the own stack, which this instruction leaves in a register, may reach a call or be kept. It isn't
+        if each way writes the register again, and until then uses it for nothing but to reach memory."""
+        register = self.instructions[k].operands[0]
+        if self.instructions[k].name not in ("add", "sub", "mov"):
+            return True
+        todo, seen = self.successors(k), set()
+        while todo:
+            j = todo.pop()
+            if j in seen:
+                continue
+            seen.add(j)
+            i = self.instructions[j]
+            if i.name in ENDS or i.name in ("bl", "blr") or i.address in self.code.references:
+                return True
+            if i.memory and (i.memory.index == register or (i.memory.base == register and (i.memory.before or i.memory.behind))):
+                return True
+            if register not in i.operands:
+                todo += self.successors(j)
+            elif not self.writes(i, register):
+                return True
+        return False
+
+    @staticmethod
+    def writes(i: Instruction, register: str) -> bool:
+        """Whether it writes this register, and reads it for nothing but to reach memory."""
+        if i.memory:
+            return i.name in (LOAD, TAKES) or (i.name.startswith("ld") and bool(PLAIN.match(i.name))) or (i.name == PUTS and register not in i.operands[1:])
+        return i.name in SUMS | MAKES_NUMBERS | {"mov"} and register == i.operands[0] and register not in i.operands[1:]
 
     # ---- values
 
@@ -180,6 +222,8 @@ class Function:
 
     def follow(self) -> None:
         """Finds `before`, from the arguments on, until nothing is added."""
+        made = [k for k, i in enumerate(self.instructions) if i.memory is None and i.operands and i.operands[0] not in OWN and OWN & set(i.operands[1:])]
+        self.lends = any(self.is_lent(k) for k in made)
         start = {r: frozenset({(r, 0)}) for r in ARGUMENTS} | {r: frozenset({(f"kept {r}", 0)}) for r in KEPT_BY_A_CALL}
         self.before = {0: start | {"sp": frozenset({("stack", 0)}), "zero": NUMBER}}
         todo = [0]

@@ -1,27 +1,37 @@
-"""The discipline of plain stores, on machine code: what cc_x86 calls `IsFenced`.
+"""The discipline of plain stores, on machine code: what cc_x86 calls `early` in specs/Early.antt, and `MayTakeUp` in specs/Driven.antt.
 
-A locked exchange whose finding nobody uses may become a plain store if on each path from it a locked instruction comes before
-any look: a load that may be of a shared word, a call, a return, or anything that isn't understood.
+A locked exchange with a word of the table may become a plain store, if nobody uses what it found, unless it is a mark of the senders'
+chain: a store of 2, by which a combiner says that it has answered a send or a close. A thread that begins a call, or takes up
+one that waits, executes a locked instruction before it loads a word of the table.
 """
 import re
 
 from x86.decode import Instruction, Operand
-from x86.flow import ARGUMENTS, LOST_BY_A_CALL, SETS, Function, paths
+from x86.flow import ARGUMENTS, LOST_BY_A_CALL, SETS, Function, may_be, may_be_at, paths
 from x86.objects import Refused
 
-# What is told, and not found: by which path a function of each kind reaches the words of the table. Before it come the handle and
-# the description of the queue, which stay as they are while threads run. `rdi[0][8]` is what [[rdi]+8] holds.
-TABLES = {"vahepito_": "rdi[0][0][8]", "cc_queue::turns::": "rdi[0][8]"}
-# These aren't looked at: all of their bytes are the same in both archives, so each of their stores is locked. They open queues
-# and drop handles, or make the calls of a shared queue (`pool` of cc_passes); no function that is looked at calls one.
+# A mark stores this number into the state of a node, the second word of a row of 128 bytes.
+MARK, STATE = 2, (8, 128)
+TURNS = "cc_queue::turns::"
+# What is told, and not found: by which path a function of each kind reaches the words of the table, and the flags of the places in
+# which a shared queue keeps its passes. Before the table come the description of the queue and what has the pass, which stay as they
+# are while threads run. `rdi[0][8]` is what [[rdi]+8] holds, and [8/64] the second field of some row of 64 bytes.
+SENDERS, RECEIVERS = "rdi[0][168]", "rdi[0][192][0/8]"
+ROADS = [
+    (re.compile(TURNS), "rdi[0][8]", None),
+    (re.compile(r"vahepito_call_turn_\w+$"), "rdi[8][0][8]", None),
+    (re.compile(r"vahepito_call_(send|close)$"), f"{SENDERS}[8/64][8][0][8]", f"{SENDERS}[0/64]"),
+    (re.compile(r"vahepito_call_take$"), f"{RECEIVERS}[8/64][8][0][8]", f"{RECEIVERS}[0/64]"),
+    (re.compile(r"vahepito_\w+$"), "rdi[0][0][8]", None),
+]
+# These aren't looked at: all of their bytes are the same in both archives, so each of their stores is locked. They open queues, drop
+# passes and put them back into their places, and call no function that is looked at.
 UNCHANGED = re.compile(
-    r"vahepito_(open\w*|drop|sizes|version|new|free|call_\w+)$|cc_capi::\w+_exports::vahepito_\w+$"
+    r"vahepito_(open\w*|drop|sizes|version|new|free|call_size)$|cc_capi::\w+_exports::vahepito_\w+$"
     r"|cc_passes::|cc_queue::queue::|cc_steps::layout::|std_alloc::|core::"
 )
-TURNS = "cc_queue::turns::"
-# Of those, these call turns: with the queue and the seat of a pass by their types, as the calls of a handle do. No store of a turn
-# is pending when it returns.
-CALLS_TURNS = re.compile(r"vahepito_call_\w+$|cc_passes::pool::|cc_passes::handles::handle_inner::HandleInner::turn_\w+$")
+# These turn receivers' calls alone.
+TAKES = re.compile(rf"{TURNS}await_item$|vahepito_(begin|try|turn|call|call_turn)_take(_words)?$")
 KEPT_BY_A_RETURN = {"rax", "rdx", "rbx", "rbp", "rsp", "r12", "r13", "r14", "r15"}
 
 
@@ -30,28 +40,19 @@ def is_shared(name: str) -> bool:
     return not UNCHANGED.match(name)
 
 
-def may_call_turns(name: str) -> bool:
-    """Whether this function isn't looked at, and may call one that is."""
-    return CALLS_TURNS.match(name) is not None
-
-
-def table_of(name: str) -> str | None:
-    return next((path for front, path in TABLES.items() if name.startswith(front)), None)
-
-
 class Checked:
     """A function that is looked at. `others` are all of the object, by their names."""
 
     def __init__(self, function: Function, others: dict):
         self.function, self.others = function, others
-        self.table = table_of(function.name)
+        self.table, self.flags = next(((table, flags) for kind, table, flags in ROADS if kind.match(function.name)), (None, None))
         if self.table is None:
             raise Refused(f"{function.name}: nothing is known of its arguments")
-        function.follow()
-        steps = [k for k, letter in enumerate(self.table) if letter == "["]
-        # What no other thread writes meanwhile: what arguments point to, and what is on the way to the table.
-        self.own = set(ARGUMENTS) | {self.table[:k] for k in steps}
-        self.description = self.table[: steps[-1]]
+        function.follow(self.table)
+        steps = [self.table[:k] for k, letter in enumerate(self.table) if letter == "["]
+        self.queue, self.description = steps[-2:]
+        # What no other thread writes meanwhile: what arguments point to, what has the pass, and the place that the call has.
+        self.own = {*ARGUMENTS, self.queue} | ({steps[-3]} if self.flags else set())
         self.check_pointers()
 
     def reached(self) -> list:
@@ -61,19 +62,21 @@ class Checked:
     # ---- pointers
 
     def check_pointers(self) -> None:
-        """Only locked instructions write to the table, and they write to nothing else; no pointer to it goes where it is lost
-        sight of; and each call passes the queue on, and the seat, unless the compiler found that the callee doesn't need it."""
+        """Only locked instructions write to the table and to flags, and they write to nothing else but the thread's own stack; no
+        pointer to the table goes where it is lost sight of; and each call passes the queue on."""
         for i, state in self.reached():
             here = self.function.where(i)
             if i.name == "call":
                 self.check_call(here, i, state)
+            if i.name != "ret" and self.function.successors(self.function.numbers[i.address]) is None:
+                raise Refused(f"{here}: leaves the function")
             if i.operands and (i.operands[0].register or "").startswith(("xmm", "ymm")):
                 if any(self.points(state.register(each.register)) for each in i.operands[1:] if each.register in state.registers):
                     raise Refused(f"{here}: a pointer in {i.text}")
             if i.memory is None or i.memory.base == "rsp" or i.name in ("lea", "nop"):
                 continue
             to = paths(self.function.address(state, i.memory))
-            if i.is_locked and to != {self.table}:
+            if i.is_locked and to not in ({self.table}, {self.flags}):
                 raise Refused(f"{here}: a locked instruction outside of the table, by {sorted(to)}")
             if i.stores and not i.is_locked:
                 self.check_store(here, i, state, to)
@@ -83,23 +86,28 @@ class Checked:
         return bool(paths(value) & {self.table, self.description})
 
     def check_store(self, here: str, i: Instruction, state, to: set) -> None:
-        if not to or not to <= self.own - {self.description}:
+        if not to or not to <= self.own:
             raise Refused(f"{here}: a plain store by {sorted(to)}")
         if any(self.points(state.register(each.register)) for each in i.operands[1:] if each.register):
             raise Refused(f"{here}: stores a pointer to the table")
 
     def check_call(self, here: str, i: Instruction, state) -> None:
+        """A function that is called gets the queue, and the table by it alone; or it is one that isn't looked at."""
         reference = self.function.reference(i)
-        if reference is None or not reference.is_exact or not reference.name.startswith(TURNS):
+        name = reference.name if reference is not None and reference.is_exact else None
+        callee = self.others.get(name)
+        if callee is None or not (name.startswith(TURNS) or UNCHANGED.match(name)):
             raise Refused(f"{here}: calls {reference.name if reference else i.text}")
-        passes_seat = paths(state.register("rsi")) == {"rdi[0]"} or not reads_by(self.others[reference.name], "rsi")
-        if state.register("rdi") != {("rdi[0]", 0)} or not passes_seat:
-            raise Refused(f"{here}: passes {state.register('rdi')}, {state.register('rsi')}")
+        given = [each for each in ARGUMENTS if self.points(state.register(each)) and not is_dead(callee, -1, each, self.others)]
+        if given:
+            raise Refused(f"{here}: passes a pointer to the table in {given[0]}")
+        if name.startswith(TURNS) and state.register("rdi") != {(self.queue, (0, 0))}:
+            raise Refused(f"{here}: passes {state.register('rdi')} as the queue")
 
-    # ---- looks
+    # ---- loads
 
     def look(self, k: int) -> str | None:
-        """Why this load may be of a shared word; None if it isn't."""
+        """Why this load may be of a word of the table; None if it isn't."""
         i, state = self.function.instructions[k], self.function.before[k]
         if not i.loads or i.memory.base == "rsp":
             return None
@@ -107,23 +115,81 @@ class Checked:
         if i.memory.base == "rip" and reference is not None and reference.is_fixed:
             return None
         to = paths(self.function.address(state, i.memory))
-        if to and (to <= self.own or to == {"stack"} or all(path.startswith("table ") for path in to)):
+        if to and (to == {self.flags} or to == {"stack"} or all(self.table.startswith(path + "[") or path in ARGUMENTS for path in to)):
             return None
-        return f"a load by {sorted(to)} that may be shared"
+        if to and all(path.startswith("table ") for path in to):
+            return None
+        return f"a load by {sorted(to)} that may be of a word of the table"
 
-    def shared_loads(self) -> list:
-        """The addresses of the loads that may be of shared words."""
-        loads = [k for k in sorted(self.function.before) if not self.function.instructions[k].is_locked and self.look(k)]
-        return [self.function.instructions[k].address for k in loads]
+    def loads(self) -> list:
+        """The addresses of the loads that may be of words of the table, or of flags."""
+        reached = [k for k in sorted(self.function.before) if not self.function.instructions[k].is_locked]
+        return [self.function.instructions[k].address for k in reached if self.look(k) or self.is_of_flags(k)]
 
-    # ---- plain stores
+    def is_of_flags(self, k: int) -> bool:
+        i = self.function.instructions[k]
+        return self.flags is not None and i.loads and paths(self.function.address(self.function.before[k], i.memory)) == {self.flags}
+
+    def unfenced(self, start: list, plain: set) -> list:
+        """The instructions from these on, to each of which some path leads without a locked one. Those at the addresses of `plain` aren't
+        locked."""
+        seen, todo = set(start), list(start)
+        while todo:
+            k = todo.pop()
+            i = self.function.instructions[k]
+            if not i.is_locked or i.address in plain:
+                then = set(self.function.successors(k) or []) - seen
+                seen |= then
+                todo += then
+        return sorted(seen)
+
+    def check_begin(self, plain: set) -> None:
+        """On each path from its entry a locked instruction comes before a load of a word of the table, and before a turn."""
+        if self.function.name.startswith(TURNS):
+            return
+        for k in self.unfenced([0], plain):
+            i = self.function.instructions[k]
+            why = "a call" if i.name == "call" else None if i.is_locked else self.look(k)
+            if why:
+                raise Refused(f"{self.function.where(i)}: {why} comes before a locked instruction")
+
+    def check_end(self, plain: set) -> None:
+        """A call of a shared queue returns with an empty buffer: a locked instruction comes behind each plain store, and behind each
+        turn."""
+        if self.flags is None:
+            return
+        for k, i in enumerate(self.function.instructions):
+            if i.address in plain or (i.name == "call" and k in self.function.before):
+                for n in self.unfenced(self.function.successors(k) or [], plain):
+                    if self.function.instructions[n].name == "ret":
+                        raise Refused(f"{self.function.where(i)}: the call returns before a locked instruction")
+
+    # ---- stores
 
     def exchanges(self) -> list:
-        """The numbers of the locked exchanges."""
-        return [k for k, i in enumerate(self.function.instructions) if i.name == "xchg" and i.memory]
+        """The numbers of the locked exchanges with memory that isn't the thread's own stack."""
+        found = enumerate(self.function.instructions)
+        return [k for k, i in found if i.name == "xchg" and i.memory and i.memory.base != "rsp"]
 
-    def check_plain(self, k: int, relaxed: set) -> None:
-        """Refuses this plain store, beside those at the other addresses of `relaxed`, unless it shows no difference."""
+    def is_store(self, k: int) -> bool:
+        """Whether nobody uses what this exchange found."""
+        return is_dead(self.function, k, self.function.instructions[k].operands[1].register, self.others)
+
+    def stored(self, k: int) -> frozenset:
+        return self.function.before[k].register(self.function.instructions[k].operands[1].register)
+
+    def stores(self) -> list:
+        """The numbers of the exchanges that are stores: to flags, or such that nobody uses what they found."""
+        return [k for k in self.exchanges() if self.is_of_flags(k) or self.is_store(k)]
+
+    def is_mark(self, k: int) -> bool:
+        """Whether it may be a mark: it may store a 2 that the function makes of its own numbers, and doesn't copy from another word,
+        into the state of a node."""
+        address = self.function.address(self.function.before[k], self.function.instructions[k].memory)
+        return may_be(self.stored(k), MARK) and any(may_be_at(distance, *STATE) for _, distance in address)
+
+    def check_plain(self, k: int) -> None:
+        """Refuses this exchange as a plain store, unless it is a store to the table that may be plain."""
         function = self.function
         i = function.instructions[k]
         here = function.where(i)
@@ -134,45 +200,10 @@ class Checked:
             raise Refused(f"{here}: is never reached")
         if paths(function.address(function.before[k], place.memory)) != {self.table}:
             raise Refused(f"{here}: no word of the table")
-        if not is_dead(function, k, source.register, self.others):
+        if not self.is_store(k):
             raise Refused(f"{here}: what it found in {source.register} is used")
-        self.check_fence(k, relaxed)
-
-    def check_fence(self, k: int, relaxed: set) -> None:
-        """On each path from it a locked instruction comes before any look."""
-        function = self.function
-        here = function.where(function.instructions[k])
-        seen, todo = set(), [k]
-        while todo:
-            j = todo.pop()
-            then = function.successors(j)
-            if then is None:
-                raise Refused(f"{here}: the function is left at {function.instructions[j].address:x} before a locked instruction")
-            for n in set(then) - seen:
-                seen.add(n)
-                next_one = function.instructions[n]
-                is_plain = next_one.address in relaxed
-                if next_one.is_locked and not is_plain:
-                    continue
-                if next_one.name in ("call", "ret"):
-                    raise Refused(f"{here}: {next_one.name} at {next_one.address:x} comes before a locked instruction")
-                why = None if is_plain else self.look(n)
-                if why:
-                    raise Refused(f"{here}: {why}, at {next_one.address:x}, comes before a locked instruction")
-                todo.append(n)
-
-
-def reads_by(function: Function, argument: str) -> bool:
-    """Whether it may read or write where this argument points, or hand the argument on."""
-    if not function.before:
-        function.follow()
-    for k, state in function.before.items():
-        i = function.instructions[k]
-        if i.name == "call":
-            return True
-        if i.memory and i.name not in ("lea", "nop") and any(path.startswith(argument) for path in paths(function.address(state, i.memory))):
-            return True
-    return False
+        if self.is_mark(k) and not TAKES.match(function.name):
+            raise Refused(f"{here}: may be a mark of the senders' chain")
 
 
 def is_dead(function: Function, k: int, register: str, others: dict) -> bool:
@@ -215,7 +246,7 @@ def keeps(function: Function, register: str) -> bool:
     """Whether a function does no more with a register that a call keeps than to push it and to pop it again: what was in it at the
     entry is not read otherwise, nor is the slot in which it was saved."""
     if not function.before:
-        function.follow()
+        function.follow("no table")
     slots, seen, todo = set(), set(), [(0, "kept")]
     while todo:
         j, now = todo.pop()
@@ -265,5 +296,5 @@ def uses(i: Instruction, register: str) -> bool:
     operands = i.operands
     if i.name == "xor" and operands[0].register and operands[0].register == operands[1].register and operands[0].size >= 4:
         return False
-    is_whole = any(each.register == register and each.size >= 4 for each in operands[:1]) and not i.name.startswith("cmov")
+    is_whole = any(each.register == register and each.size >= 4 for each in operands[:1]) and not i.name.startswith(("cmov", "bsr", "bsf"))
     return register in i.reads or (register in i.writes and not is_whole and i.name not in ("mul", "div", "pop"))

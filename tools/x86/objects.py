@@ -128,15 +128,23 @@ class Object:
 
     def check_entries(self) -> None:
         """Outside of code and of jump tables, what refers to a function names its beginning, as the tables of unwinding do."""
+        for section, relocation in self.entries():
+            if relocation.addend + relocation.value:
+                raise Refused(f"{section.name}+{relocation.at:x}: refers into {relocation.name}")
+
+    def entries(self) -> list:
+        """What refers to a function outside of code, of jump tables and of what is there for a debugger."""
         tables = {".rodata." + section.name[6:] for section in self.sections if section.is_code}
-        for k, relocations in self.relocations.items():
-            section = self.sections[k]
-            if section.is_code or section.name.startswith(".debug") or section.name in tables:
-                continue
-            for relocation in relocations:
-                held = self.holds(relocation)
-                if held and held.is_code and relocation.addend + relocation.value:
-                    raise Refused(f"{section.name}+{relocation.at:x}: refers into {relocation.name}")
+        others = [s for s in self.sections if not (s.is_code or s.name.startswith(".debug") or s.name in tables)]
+        return [(s, each) for s in others for each in self.relocations.get(self.sections.index(s), []) if self.is_of_code(each)]
+
+    def is_of_code(self, relocation: Relocation) -> bool:
+        held = self.holds(relocation)
+        return held is not None and held.is_code
+
+    def pointed(self) -> set:
+        """The functions to which data refers, other than the tables of unwinding."""
+        return {each.name for section, each in self.entries() if section.name != ".eh_frame"}
 
     def function(self, k: int) -> Code:
         section = self.sections[k]
