@@ -13,6 +13,7 @@ pub mod Held
 pub mod Rounds
 pub mod WordByWord
 pub mod Service
+pub mod Scan
 pub mod Waiting
 pub mod Lasts
 pub mod RefusedClaims

@@ -1,17 +1,14 @@
 -- A step within a call, as its seat sees it, after the earlier steps of its pass.
-use Rattle.std.proofs.Common.{◌≡◌, ◌≢◌, ℕ, ◌+◌, ◌<◌, ◌==◌, Bool, true, false, cond, List, ◌∷◌, None, refl, sym, ap, ◌∙◌, subst, arith}
-use Rattle.std.proofs.lemmas.Bool.{ne_eqb}
-use Rattle.cc_queue.specs.Names.{Answer, Config, Event, Job, Kind, Parcel, Phase, SendAnswer, Sending, Setting, Stand}
+use Rattle.std.proofs.Common.{◌≡◌, ℕ, ◌+◌, ◌≤◌, List, ◌∷◌, None, sym, ap, ◌∙◌, subst, arith}
+use Rattle.cc_queue.specs.Names.{Chain, Config, Event, Kind, Phase, Setting, Stand}
 use Rattle.cc_runs.specs.Lines.{event_at, operation}
 use Rattle.cc_runs.specs.Passes.{then_did}
-use Rattle.cc_runs.specs.SendLines.{after, by_passed}
-use Rattle.cc_runs.specs.ServiceLine.{On, Decides, phase_of}
 use Rattle.cc_runs.specs.State.{Operation, chain_of}
 use Rattle.cc_runs.specs.Step.{advanced}
 use Rattle.cc_steps.specs.Seen.{Onward, settled}
 use Rattle.cc_steps.specs.Topic.{Topic}
 use Rattle.cc_steps.specs.Walk.{IsOf, Steps, Walk, walked_to}
-use Rattle.cc_queue.specs.Work.{Serves, scan_phase, worked_to, tally, reads, marks, hands, scans}
+use Rattle.cc_queue.specs.Work.{IsOnList, Serves, worked_to, tally, reads, marks, hands, scans}
 
 -- a step that reads no state, marks nothing and hands nothing over
 abbrev pub IsWithin : Kind → Type 0
@@ -44,50 +41,35 @@ module _ (v s r : Walk) (k : Kind) (here on : Phase) (most found : ℕ) (at : Se
     later = λ first before. later first (at.later first before);
   }
 
--- the places after a look at a list node
-abbrev looks_to : Config → Job → Parcel → (at nodes passed : ℕ) → Phase
-looks_to c job parcel at nodes passed = phase_of Phase.Sending job (by_passed c parcel at nodes passed)
+-- what follows a part of the call, both together
+pub then_serves : (v s w : Walk) (here on : Phase) (some more most : ℕ) → Serves v here some s → Serves s on more w → some + more ≤ most → Serves v on most w
+then_serves v s w here on some more most first next within = record {
+  worked = next.worked ∙ ap (λ (z : Walk). worked_to z on w) first.worked;
+  reads = omega (arith, first.reads, next.reads);
+  marks = omega (arith, first.marks, next.marks);
+  hands = omega (arith, first.hands, next.hands);
+  scans = omega (arith, first.scans, next.scans, within);
+  later = λ from before. next.later from (first.later from before);
+}
 
--- to the next one or, after the last one, to the answer, if it isn't free
-looks_on : (c : Config) (job : Job) (parcel : Parcel) (at nodes passed : ℕ) → passed ≢ c.groups → looks_to c job parcel at nodes passed ≡ scan_phase c job parcel (after c at) nodes
-looks_on c job parcel at nodes passed used =
-    ap (λ (b : Bool). phase_of Phase.Sending job (cond b (On (Sending.ResetPassed parcel at)) (cond (nodes == c.capacity + 1) (Decides (Answer.Send SendAnswer.Full)) (On (Sending.ReadPassed parcel (after c at) (nodes + 1)))))) (ne_eqb passed c.groups used)
-    ∙ either (nodes == c.capacity + 1)
-  where
-    either : (b : Bool) → phase_of Phase.Sending job (cond b (Decides (Answer.Send SendAnswer.Full)) (On (Sending.ReadPassed parcel (after c at) (nodes + 1)))) ≡ cond b (Phase.WriteAnswer job (Answer.Send SendAnswer.Full)) (Phase.Sending job (Sending.ReadPassed parcel (after c at) (nodes + 1)))
-    either true = refl
-    either false = refl
+-- nothing is done yet
+pub serves_none : (v : Walk) (at : Phase) → v.stand.phase ≡ at → Serves v at 0 v
+serves_none v at is = record {
+  worked = λ i. record v { stand = record v.stand { phase = is i } };
+  reads = omega arith;
+  marks = omega arith;
+  hands = omega arith;
+  scans = omega arith;
+  later = λ from before. before;
+}
 
--- neither of which ends the call
-scan_stays : (c : Config) (job : Job) (parcel : Parcel) (at looked : ℕ) (z : Stand) → settled (record z { phase = scan_phase c job parcel at looked }) ≡ record z { phase = scan_phase c job parcel at looked }
-scan_stays c job parcel at looked z = either (looked == c.capacity + 1)
-  where
-    either : (b : Bool) → settled (record z { phase = cond b (Phase.WriteAnswer job (Answer.Send SendAnswer.Full)) (Phase.Sending job (Sending.ReadPassed parcel at (looked + 1))) }) ≡ record z { phase = cond b (Phase.WriteAnswer job (Answer.Send SendAnswer.Full)) (Phase.Sending job (Sending.ReadPassed parcel at (looked + 1))) }
-    either true = refl
-    either false = refl
+-- with a greater bound
+pub serves_most : (v w : Walk) (at : Phase) (some most : ℕ) → Serves v at some w → some ≤ most → Serves v at most w
+serves_most v w at some most part less = record { worked = part.worked; reads = part.reads; marks = part.marks; hands = part.hands; scans = omega (arith, part.scans, less); later = part.later }
 
--- a look at a list node that isn't free, after this number of others
-module _ (v s r : Walk) (job : Job) (parcel : Parcel) (at looked passed next : ℕ) (below : looked < v.setting.config.capacity + 1) (before : Serves v (scan_phase v.setting.config job parcel at looked) looked s) (step : r ≡ walked_to s None passed r.seen)
-    (later : Onward s.seen r.seen) (used : passed ≢ v.setting.config.groups) (is : next ≡ after v.setting.config at) where
-  abbrev c : Config
-  c = v.setting.config
-
-  abbrev on : Phase
-  on = scan_phase c job parcel (after c at) (looked + 1)
-
-  unless_all : Serves v (Phase.Sending job (Sending.ReadPassed parcel at (looked + 1))) looked s
-  unless_all = subst (λ (b : Bool). Serves v (cond b (Phase.WriteAnswer job (Answer.Send SendAnswer.Full)) (Phase.Sending job (Sending.ReadPassed parcel at (looked + 1)))) looked s) (ne_eqb looked (c.capacity + 1) (λ e. omega (arith, e, below))) before
-
-  look : Serves v on (1 + looked) r
-  look =
-      one_step v s r Kind.ReadPassed (Phase.Sending job (Sending.ReadPassed parcel at (looked + 1))) on looked passed unless_all step later refl (refl, refl, refl)
-      (λ z. ap (λ (p : Phase). settled (record z { phase = p })) (looks_on c job parcel at (looked + 1) passed used) ∙ scan_stays c job parcel (after c at) (looked + 1) z)
-
-  pub looks_further : Serves v (scan_phase c job parcel next (looked + 1)) (looked + 1) r
-  looks_further = subst (λ (n : ℕ × ℕ). Serves v (scan_phase c job parcel n.0 (looked + 1)) n.1 r) (λ i. (sym is i, count i)) look
-    where
-      count : 1 + looked ≡ looked + 1
-      count = omega arith
+-- the pass is still on its chain
+pub still_here : (t : Topic) (x : Chain) (v s : Walk) (at : Phase) (some : ℕ) → IsOnList t x v → Serves v at some s → IsOnList t x s
+still_here t x v s at some is part = subst (IsOnList t x) (sym part.worked) record { here = is.here; list = is.list; chain = is.chain }
 
 -- it can do the step of its place
 pub can_step : (v s : Walk) (here : Phase) (k : Kind) (op : Operation) → s ≡ worked_to v here s → event_at here ≡ Event.Did k → operation v.setting (chain_of v.setting.config v.number) v.stand.node here ≡ op → Steps s k op

@@ -1,5 +1,5 @@
 -- A part of a call, as its seat sees it: the phase that its pass has come to, and the steps that it did.
-use Rattle.std.specs.Prelude.{◌≡◌, ℕ, ◌≤◌, ◌+◌, ◌==◌, if◌then◌else◌, ◌*◌, List, [], ◌∷◌, ◌++◌, None}
+use Rattle.std.specs.Prelude.{◌≡◌, ℕ, ◌≤◌, ◌+◌, ◌%◌, ◌==◌, if◌then◌else◌, ◌*◌, List, [], ◌∷◌, ◌++◌, None}
 use Rattle.cc_queue.specs.Names.{Answer, Call, Config, Served, Chain, Job, Kind, Parcel, Phase, SendAnswer, Sending, Stand}
 use Rattle.cc_runs.specs.State.{chain_of}
 use Rattle.cc_steps.specs.Seen.{Onward}
@@ -55,11 +55,12 @@ worked_to v at w = record v { seen = w.seen; did = w.did; stand = record v.stand
 abbrev pub round_phase : ℕ → ℕ → ℕ → Phase
 round_phase bound at served = if served == bound then Phase.HandOver at else Phase.ReadNext record { at = at; served = served }
 
--- the phase of the senders' combiner that has found this number of list nodes in use: unless these are all, it looks at this one next
+-- the phase of the senders' combiner that has found this number of list nodes in use: unless these are all, it looks at this one next,
+-- counted on round the end
 abbrev pub scan_phase : Config → Job → Parcel → (node looked : ℕ) → Phase
 scan_phase c job parcel node looked =
     if looked == c.capacity + 1 then Phase.WriteAnswer job (Answer.Send SendAnswer.Full)
-    else Phase.Sending job (Sending.ReadPassed parcel node (looked + 1))
+    else Phase.Sending job (Sending.ReadPassed parcel (node % (c.capacity + 1)) (looked + 1))
 
 -- Of the steps that are counted: how many states a pass read, requests it marked, hand-overs it made, and at most how often it
 -- looked whether a list node is free.

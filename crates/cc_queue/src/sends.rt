@@ -1,8 +1,8 @@
 //! The service of a sender's request: CC-Queue's enqueue, by the combiner of the senders' chain.
-ghost use Rattle.std.specs.Prelude.{◌≡◌, ◌+◌, ◌<◌, ◌≤◌, ◌^◌, ◌==◌, if◌then◌else◌, Some, None};
+ghost use Rattle.std.specs.Prelude.{◌≡◌, ◌+◌, ◌<◌, ◌≤◌, ◌^◌, ◌==◌, if◌then◌else◌, IfSome, OnSome, IfNone, Some, None};
 ghost use Rattle.cc_queue.specs.Names.{Answer, SendAnswer, Chain, Phase, Sending};
 ghost use Rattle.cc_steps.specs.Walk.{IsReadyToStep};
-ghost use Rattle.cc_queue.specs.Work.{IsOnList, Serves};
+ghost use Rattle.cc_queue.specs.Work.{IsOnList, Serves, scan_phase};
 
 use crate::bodies;
 use crate::tell::tell;
@@ -90,19 +90,129 @@ fn scan(words: &ChainWords<'_>, seat: &mut PassSeat, job: Job, parcel: Parcel)
     requires at { seat.old.stand.phase ≡ Phase.Sending job (Sending.ReadCursor parcel) }
     ensures { Serves seat.old (Phase.MarkDone job) (seat.old.setting.config.capacity + 1) seat.new }
 {
-    let config = words.config();
-    let nodes = config.capacity as u64 + 1;
-    let groups = config.groups as u64;
-    let mut node = steps::read_object(words, seat, Object::Cursor);
-    for _looked in 0..nodes {
-        if steps::read_passed(words, seat, node) == groups {
-            prepare(words, seat, job, parcel, node);
-            return;
-        }
-        node = node_after(node, nodes);
+    let cursor = steps::read_object(words, seat, Object::Cursor);
+    if let Some(node) = find_free(words, seat, job, parcel, cursor) {
+        prepare(words, seat, job, parcel, node);
+        return;
     }
     let answer = Answer::Send(SendAnswer::Full);
     tell(words, seat, job, answer);
+}
+
+/// The first free node from the cursor on, if any of the nodes is free. Most sends find the node at the cursor free, so this look
+/// comes first. The next looks go from there to the end of the row, and then from node 0 to the cursor: none of them computes a
+/// remainder.
+#[inline(always)]
+fn find_free(
+    words: &ChainWords<'_>,
+    seat: &mut PassSeat,
+    job: Job,
+    parcel: Parcel,
+    cursor: u64,
+) -> Option<u64>
+    requires here { IsOnList words.now.topic words.now.chain seat.old }
+    requires cursor { cursor ≤ seat.old.setting.config.capacity }
+    requires at { seat.old.stand.phase ≡ scan_phase seat.old.setting.config job parcel cursor 0 }
+    requires ready { IsReadyToStep seat.old }
+    ensures free { IfSome result (λ n. Serves seat.old (Phase.Sending job (Sending.ResetPassed parcel n)) (seat.old.setting.config.capacity + 1) seat.new) }
+    ensures full { IfNone result (Serves seat.old (Phase.WriteAnswer job (Answer.Send SendAnswer.Full)) (seat.old.setting.config.capacity + 1) seat.new) }
+    ensures ready { IsReadyToStep seat.new }
+{
+    let ahead = words.config().capacity as u64 - cursor;
+    let here = look(words, seat, job, parcel, cursor, 1, 0);
+    if here == 0 {
+        return Some(cursor);
+    }
+    let used = look_by_four(words, seat, job, parcel, cursor + 1, ahead, 1);
+    if used < ahead {
+        return Some(cursor + 1 + used);
+    }
+    let behind = look_by_four(words, seat, job, parcel, 0, cursor, ahead + 1);
+    if behind < cursor {
+        return Some(behind);
+    }
+    None
+}
+
+/// The same as `look`, with four nodes in a round. The compiler writes these four looks one after another, since their number
+/// is a constant. Fewer nodes than four need no round.
+#[inline(always)]
+fn look_by_four(
+    words: &ChainWords<'_>,
+    seat: &mut PassSeat,
+    _job: Job,
+    _parcel: Parcel,
+    first: u64,
+    count: u64,
+    _looked: u64,
+) -> u64
+    requires here { IsOnList words.now.topic words.now.chain seat.old }
+    requires within { first + count ≤ seat.old.setting.config.capacity + 1 }
+    requires few { _looked + count ≤ seat.old.setting.config.capacity + 1 }
+    requires fits { (first + count < 2 ^ 64) × (_looked + count < 2 ^ 64) }
+    requires at { seat.old.stand.phase ≡ scan_phase seat.old.setting.config _job _parcel first _looked }
+    requires ready { IsReadyToStep seat.old }
+    ensures most { result ≤ count }
+    ensures free { result < count → Serves seat.old (Phase.Sending _job (Sending.ResetPassed _parcel (first + result))) count seat.new }
+    ensures none { result ≡ count → Serves seat.old (scan_phase seat.old.setting.config _job _parcel (first + count) (_looked + count)) count seat.new }
+    ensures ready { IsReadyToStep seat.new }
+{
+    if count < 4 {
+        return look(words, seat, _job, _parcel, first, count, _looked);
+    }
+    let rounds = count / 4;
+    for round in 0..rounds {
+        let done = 4 * round;
+        let used = look(words, seat, _job, _parcel, first + done, 4, _looked + done);
+        if used < 4 {
+            return done + used;
+        }
+    }
+    let done = 4 * rounds;
+    let rest = count - done;
+    let last = look(
+        words,
+        seat,
+        _job,
+        _parcel,
+        first + done,
+        rest,
+        _looked + done,
+    );
+    done + last
+}
+
+/// Looks at `count` nodes from the first one on, up to one that is free. The result is how many nodes are in use before the
+/// free one, and `count` if none of them is free. `_looked` other nodes were looked at before. `_looked`, `_job` and `_parcel` are
+/// here for the clauses alone.
+#[inline(always)]
+fn look(
+    words: &ChainWords<'_>,
+    seat: &mut PassSeat,
+    _job: Job,
+    _parcel: Parcel,
+    first: u64,
+    count: u64,
+    _looked: u64,
+) -> u64
+    requires here { IsOnList words.now.topic words.now.chain seat.old }
+    requires within { first + count ≤ seat.old.setting.config.capacity + 1 }
+    requires few { _looked + count ≤ seat.old.setting.config.capacity + 1 }
+    requires fits { first + count < 2 ^ 64 }
+    requires at { seat.old.stand.phase ≡ scan_phase seat.old.setting.config _job _parcel first _looked }
+    requires ready { IsReadyToStep seat.old }
+    ensures most { result ≤ count }
+    ensures free { result < count → Serves seat.old (Phase.Sending _job (Sending.ResetPassed _parcel (first + result))) count seat.new }
+    ensures none { result ≡ count → Serves seat.old (scan_phase seat.old.setting.config _job _parcel (first + count) (_looked + count)) count seat.new }
+    ensures ready { IsReadyToStep seat.new }
+{
+    let groups = words.config().groups as u64;
+    for passed in 0..count {
+        if steps::read_passed(words, seat, first + passed) == groups {
+            return passed;
+        }
+    }
+    count
 }
 
 /// Resets a free node, writes the item into it, and appends it.
