@@ -72,7 +72,7 @@ pub extern "C" fn vahepito_call_size() -> usize
 #[unsafe(no_mangle)]
 pub extern "C" fn vahepito_call_send(call: &mut Call, words: &[u64], place: &mut u64) -> u32
     requires { IsReady call.old }
-    ensures sends { IfSome call.old.queue.value (λ p. SendsBy p.queue (fitting p.words words.now) (pass_of call.old.waiting) (pass_of call.new.waiting) (record { code = result; number = place.new; served = call.new.served })) }
+    ensures sends { IfSome call.old.queue.value (λ p. SendsBy p (fitting p.words words.now) (pass_of call.old.waiting) (pass_of call.new.waiting) (record { code = result; number = place.new; served = call.new.served })) }
     ensures same { IsSame call.old.queue call.new.queue }
     ensures ready { IsReady call.new }
 {
@@ -85,7 +85,7 @@ pub extern "C" fn vahepito_call_send(call: &mut Call, words: &[u64], place: &mut
 #[unsafe(no_mangle)]
 pub extern "C" fn vahepito_call_turn_send(alloc: Global, call: &mut Call, place: &mut u64) -> u32
     requires { IsReady call.old }
-    ensures turns { TurnsBy TurnsSend (pass_of call.old.waiting) (pass_of call.new.waiting) (record { code = result; number = place.new; served = call.new.served }) }
+    ensures turns { IfSome call.old.queue.value (λ p. TurnsBy p call.old.place TurnsSend (pass_of call.old.waiting) (pass_of call.new.waiting) (record { code = result; number = place.new; served = call.new.served })) }
     ensures same { IsSame call.old.queue call.new.queue }
     ensures ready { IsReady call.new }
 {
@@ -98,7 +98,7 @@ pub extern "C" fn vahepito_call_turn_send(alloc: Global, call: &mut Call, place:
 #[unsafe(no_mangle)]
 pub extern "C" fn vahepito_call_close(call: &mut Call, total: &mut u64) -> u32
     requires { IsReady call.old }
-    ensures closes { IfSome call.old.queue.value (λ p. ClosesBy p.queue (pass_of call.old.waiting) (pass_of call.new.waiting) (record { code = result; number = total.new; served = call.new.served })) }
+    ensures closes { IfSome call.old.queue.value (λ p. ClosesBy p (pass_of call.old.waiting) (pass_of call.new.waiting) (record { code = result; number = total.new; served = call.new.served })) }
     ensures same { IsSame call.old.queue call.new.queue }
     ensures ready { IsReady call.new }
 {
@@ -111,7 +111,7 @@ pub extern "C" fn vahepito_call_close(call: &mut Call, total: &mut u64) -> u32
 #[unsafe(no_mangle)]
 pub extern "C" fn vahepito_call_turn_close(alloc: Global, call: &mut Call, total: &mut u64) -> u32
     requires { IsReady call.old }
-    ensures turns { TurnsBy TurnsClose (pass_of call.old.waiting) (pass_of call.new.waiting) (record { code = result; number = total.new; served = call.new.served }) }
+    ensures turns { IfSome call.old.queue.value (λ p. TurnsBy p call.old.place TurnsClose (pass_of call.old.waiting) (pass_of call.new.waiting) (record { code = result; number = total.new; served = call.new.served })) }
     ensures same { IsSame call.old.queue call.new.queue }
     ensures ready { IsReady call.new }
 {
@@ -129,7 +129,7 @@ pub extern "C" fn vahepito_call_take(
     total: &mut u64,
 ) -> u32
     requires { IsReady call.old }
-    ensures takes { IfSome call.old.queue.value (λ p. TakesBy p.queue all_words p.rows group (pass_of call.old.waiting) (pass_of call.new.waiting) (record { code = result; item = item.new; total = total.new; served = call.new.served })) }
+    ensures takes { IfSome call.old.queue.value (λ p. TakesBy p all_words group (pass_of call.old.waiting) (pass_of call.new.waiting) (record { code = result; item = item.new; total = total.new; served = call.new.served })) }
     ensures same { IsSame call.old.queue call.new.queue }
     ensures ready { IsReady call.new }
 {
@@ -147,7 +147,7 @@ pub extern "C" fn vahepito_call_turn_take(
     total: &mut u64,
 ) -> u32
     requires { IsReady call.old }
-    ensures turns { TurnsBy (TurnsTake all_words) (pass_of call.old.waiting) (pass_of call.new.waiting) (record { code = result; item = item.new; total = total.new; served = call.new.served }) }
+    ensures turns { IfSome call.old.queue.value (λ p. TurnsBy p call.old.place (TurnsTake all_words) (pass_of call.old.waiting) (pass_of call.new.waiting) (record { code = result; item = item.new; total = total.new; served = call.new.served })) }
     ensures same { IsSame call.old.queue call.new.queue }
     ensures ready { IsReady call.new }
 {

@@ -6,7 +6,12 @@ use Rattle.cc_model.specs.Body.{body_of}
 use Rattle.cc_model.specs.declared.body.Body.{Body}
 use Rattle.cc_passes.specs.declared.handles.results.SendResult.{SendResult}
 use Rattle.cc_passes.specs.declared.handles.return_codes.TheConstants.{BEGUN, LONG, WORN}
-use Rattle.cc_passes.specs.Calls.{single, fitting, BeginsSend, TurnsSend, TriesSend, BeginsTake, TurnsTake, TriesTake}
+use Rattle.cc_queue.specs.Group.{IsGroupOf}
+use Rattle.cc_passes.specs.declared.pool.pooled.Tried.{Tried}
+use Rattle.cc_passes.specs.Tried.{GaveOf}
+use Rattle.cc_passes.specs.Pooled.{Pool}
+use Rattle.cc_queue.specs.Names as queue_names
+use Rattle.cc_passes.specs.Calls.{IsExhausted, single, fitting, BeginsSend, TurnsSend, TriesSend, BeginsTake, TurnsTake, TriesTake}
 use Rattle.cc_passes.specs.Results.{only, none_taken, sent_as}
 use Rattle.cc_passes.specs.Items.{Form}
 use Rattle.cc_passes.specs.declared.handles.results.TakeResult.{TakeResult}
@@ -153,6 +158,37 @@ module _ {I : Type 0} (form : Form I) where
       (λ is. take_turns t.between new told (t.turns is) e)
       (λ not. let less = take_begins old t.between t.code t.begins in let same = taken_code told t.code (t.ends not).1 in absurd (omega (arith, less, same, e)))
 
+-- a begin that finds the sender exhausted
+begins_exhausted : (body : Body) (old mid : Option Pass) (code : ℕ) → BeginsSend (Ok body) old mid code → code ≡ WORN → IsExhausted old
+begins_exhausted body None mid code b e = absurd (omega (arith, b.1, e))
+begins_exhausted body (Some (Pass.Sender v)) None code b e = elim b [ ]
+begins_exhausted body (Some (Pass.Sender v)) (Some (Pass.Sending w)) code b e = absurd (omega (arith, b.0, e))
+begins_exhausted body (Some (Pass.Sender v)) (Some (Pass.Sender w)) code b e = b.2
+begins_exhausted body (Some (Pass.Sender v)) (Some (Pass.Closing w)) code b e = elim b [ ]
+begins_exhausted body (Some (Pass.Sender v)) (Some (Pass.Receiver w)) code b e = elim b [ ]
+begins_exhausted body (Some (Pass.Sender v)) (Some (Pass.Taking w)) code b e = elim b [ ]
+begins_exhausted body (Some (Pass.Sending v)) mid code b e = absurd (omega (arith, b.1, e))
+begins_exhausted body (Some (Pass.Closing v)) mid code b e = absurd (omega (arith, b.1, e))
+begins_exhausted body (Some (Pass.Receiver v)) mid code b e = absurd (omega (arith, b.1, e))
+begins_exhausted body (Some (Pass.Taking v)) mid code b e = absurd (omega (arith, b.1, e))
+
+-- a try of a send that says so found it so
+pub send_is_exhausted : (body : Body) (old new : Option Pass) (told : SendResult) → TriesSend (Ok body) old new told → told.code ≡ WORN → IsExhausted old
+send_is_exhausted body old new told t e = dite (ℕ_discrete t.code BEGUN)
+    (λ is. absurd (not_worn t.between new told (t.turns is) e))
+    (λ not. begins_exhausted body old t.between t.code t.begins (sym (code_of told t.code (t.ends not).1) ∙ e))
+
+-- a pass is in one group
+pub one_group : (c : queue_names.Config) (p : queue_names.Pass) (g h : ℕ) → IsGroupOf c p g → IsGroupOf c p h → g ≡ h
+one_group c (queue_names.Pass.Receiver n) g h is is' = is ∙ sym is'
+one_group c (queue_names.Pass.Sender n) g h is is' = absurd is
+
+-- a try of a place that a call has finds the place
+pub there : {T : Type 0} (InUse : Type 0) (z : Topic) (Skips : Option Pass → Type 0) (tried : Tried T) → GaveOf ⊥ z Skips tried → GaveOf InUse z Skips tried
+there InUse z Skips Tried.NotFree gave = absurd gave
+there InUse z Skips Tried.PassedOver gave = gave
+there InUse z Skips (Tried.Made told waits) gave = tt
+
 abbrev IsNone : Option Pass → Type 0
 IsNone None = Unit {0}
 IsNone (Some p) = ⊥
@@ -184,7 +220,7 @@ pub with_out : {T U : Type 0} (z : Topic) (Tells : Option Pass → Option Pass �
 with_out z Tells whole told waits m = record { before = m.before; after = m.after; here = m.here; still = m.still; tells = m.tells; kept = m.kept }
 
 -- a body of one word fits
-pub one_fits : (z : Topic) (most : ℕ) (words : List ℕ) (old new : Option Pass) (told : SendResult) → nat_le 1 most ≡ true → 1 ≤ length words → length words < 2
+pub one_fits : (z : Pool) (most : ℕ) (words : List ℕ) (old new : Option Pass) (told : SendResult) → nat_le 1 most ≡ true → 1 ≤ length words → length words < 2
     → SendsBy z (single (get_or words 0 0)) old new told → SendsBy z (fitting most words) old new told
 one_fits z most [] old new told room some few sends = absurd (omega (arith, some))
 one_fits z most (w ∷ []) old new told room some few sends = subst (λ (b : Bool). SendsBy z (if b then Ok (body_of (w ∷ [])) else Err LONG) old new told) (sym room) sends

@@ -7,9 +7,11 @@ pub mod Staying
 pub mod Trying
 pub mod Places
 pub mod Asked
+pub mod Placed
 pub mod Fresh
 pub mod Crossing
 pub mod Loan
 pub mod Pairs
 pub mod RootValues
 pub mod Searched
+pub mod RefusedClaims

@@ -86,6 +86,11 @@ TurnsSend None new told = (new ≡ None) × (told ≡ only NO_PASS)
 abbrev pub TriesSend : Result Body ℕ → Option Pass → Option Pass → SendResult → Type 0
 TriesSend body = Tries only (BeginsSend body) TurnsSend
 
+-- a sender that has no call has begun as many sends as it may
+abbrev pub IsExhausted : Option Pass → Type 0
+IsExhausted (Some (Pass.Sender w)) = w.setting.config.per_sender ≤ w.stand.begun
+IsExhausted _ = ⊥
+
 -- whether a sender is exhausted; nothing changes
 abbrev pub worn_code : Pass → ℕ
 worn_code (Pass.Sender w) = if nat_le w.setting.config.per_sender w.stand.begun then WORN else FRESH

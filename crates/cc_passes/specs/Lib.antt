@@ -20,3 +20,4 @@ pub mod Lent
 pub mod Cut
 pub mod Call
 pub mod New
+pub mod Refused

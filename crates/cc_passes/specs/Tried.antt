@@ -1,5 +1,5 @@
 -- The result of a try of a place, or of a row of places.
-use Rattle.std.specs.Prelude.{ℕ, ◌⊎◌, Bool, true, false, Option, Some, None, Box}
+use Rattle.std.specs.Prelude.{ℕ, ◌⊎◌, Bool, true, false, List, All, Option, Some, None, Box}
 use Rattle.std.specs.declared.alloc.Global.{Global}
 use Rattle.cc_steps.specs.Topic.{Topic}
 use Rattle.cc_passes.specs.declared.handles.handle_inner.Pass.{Pass}
@@ -7,6 +7,9 @@ use Rattle.cc_passes.specs.Passes.{HasPassOf}
 use Rattle.cc_passes.specs.declared.handles.handle_inner.HandleInner.{HandleInner}
 use Rattle.cc_passes.specs.declared.pool.pooled.Tried.{Tried}
 use Rattle.cc_passes.specs.declared.pool.pooled.Made.{Made}
+use Rattle.cc_passes.specs.declared.pool.kept.Kept.{Kept}
+use Rattle.cc_passes.specs.Kept.{WasOther}
+use Rattle.cc_passes.specs.Loans.{queue_of}
 use Rattle.cc_passes.specs.Made.{IsMade}
 use Rattle.cc_passes.specs.declared.pool.kept.TheConstants.{FREE, OUT}
 
@@ -37,7 +40,17 @@ word_after _ = FREE
 abbrev pub IsRowMade : {T : Type 0} → Topic → (Option Pass → Option Pass → T → Type 0) → Made T → Type 0
 IsRowMade z Tells m = IsMade z Tells m.told (inside m.waits) × IsKeptOf z m.waits
 
+-- A try gave no call for its reason: this, if the place was not free; or its pass is one of this queue that such calls skip.
+abbrev pub GaveOf : {T : Type 0} → Type 0 → Topic → (Option Pass → Type 0) → Tried T → Type 0
+GaveOf InUse z Skips Tried.NotFree = InUse
+GaveOf InUse z Skips Tried.PassedOver = (o : Option Pass) × HasPassOf z o × Skips o
+GaveOf InUse z Skips (Tried.Made told waits) = Unit {0}
+
 -- a try of the place gave no call: its pass was passed over, or, unless each pass was there, it was not free
 abbrev pub GaveNone : {K T : Type 0} → (K → Tried T → Type 0) → Bool → K → Type 0
 GaveNone gave true k = gave k Tried.PassedOver
 GaveNone gave false k = gave k Tried.PassedOver ⊎ gave k Tried.NotFree
+
+-- each place of the row was tried, and its pass was skipped; or, unless each pass was there, the place had another word than FREE
+abbrev pub WereTried : (T : Type 0) → (Option Pass → Type 0) → Bool → List Kept → Type 0
+WereTried T Skips all_there row = All (λ k. GaveNone (λ (kept : Kept) (tried : Tried T). GaveOf (WasOther (queue_of kept) FREE) (queue_of kept) Skips tried) all_there k) row

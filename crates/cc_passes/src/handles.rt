@@ -14,4 +14,5 @@ mod refusals;
 pub mod results;
 pub mod return_codes;
 pub mod sends;
+mod store_buffer;
 pub mod takes;

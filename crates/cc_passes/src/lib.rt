@@ -4,5 +4,8 @@
 //! that its caller gives.
 #![tactic(auto)]
 
+mod clauses;
 pub mod handles;
 pub mod pool;
+
+pub use clauses::clauses_refuse;

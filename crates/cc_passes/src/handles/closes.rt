@@ -8,6 +8,7 @@ use crate::handles::handle_inner::{HandleInner, Pass, try_pass, with_pass};
 use crate::handles::refusals::{no_idle_sender, no_pending_sender};
 use crate::handles::results::closed_as;
 use crate::handles::return_codes::{BEGUN, WAITING};
+use crate::handles::store_buffer::drain_stores;
 use cc_queue::{Queue, Turn, begin_close, turn_close};
 
 /// Begins a close, if the pass can.
@@ -68,6 +69,7 @@ impl HandleInner {
         ensures same { self.new.words ≡ self.old.words }
         ensures stays { StaysOf self.old.pass self.new.pass }
     {
+        drain_stores();
         with_pass!(self, |queue, pass| turned(queue, pass, total, served))
     }
 

@@ -1,5 +1,5 @@
 //! A take, by the pass of a handle.
-ghost use Rattle.std.specs.Prelude.{◌≡◌, true, nat_le, Some};
+ghost use Rattle.std.specs.Prelude.{◌≡◌, true, false, nat_le, Some};
 ghost use Rattle.cc_steps.specs.Walk.{IsOf};
 ghost use Rattle.cc_passes.specs.Passes.{walk_of, StaysOf};
 ghost use Rattle.cc_passes.specs.Calls.{BeginsTake, TurnsTake, TriesTake, IfRoom, TellsGroup, IsIn};
@@ -9,6 +9,7 @@ use crate::handles::items::ItemForm;
 use crate::handles::refusals::{no_idle_receiver, no_pending_take};
 use crate::handles::results::taken_as;
 use crate::handles::return_codes::{BEGUN, DONE, NO_PASS, WAITING, WIDE};
+use crate::handles::store_buffer::drain_stores;
 use cc_queue::{Queue, Turn, begin_take, turn_take};
 
 /// Begins a take, if the pass can.
@@ -90,6 +91,7 @@ impl HandleInner {
         ensures same { self.new.words ≡ self.old.words }
         ensures stays { StaysOf self.old.pass self.new.pass }
     {
+        drain_stores();
         with_pass!(self, |queue, pass| turned(queue, pass, item, total, served))
     }
 
@@ -123,9 +125,11 @@ impl HandleInner {
     }
 
     /// Whether it holds a receiver of this group that has no call.
+    #[tactic(auto, using(crate::proofs::Asked::one_group))]
     #[inline(always)]
     pub fn is_in(&self, group: u32) -> bool
-        ensures { result ≡ true → IsIn group self.now.pass }
+        ensures inside { result ≡ true → IsIn group self.now.pass }
+        ensures outside { result ≡ false → IsIn group self.now.pass → ⊥ }
     {
         match &self.pass {
             Some(Pass::Receiver(receiver)) => receiver.group() == group,

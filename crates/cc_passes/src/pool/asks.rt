@@ -6,9 +6,10 @@ ghost use Rattle.cc_passes.specs.declared.handles.handle_inner.Pass.{Pass};
 ghost use Rattle.cc_passes.specs.declared.handles.results.SendResult.{SendResult};
 ghost use Rattle.cc_passes.specs.declared.handles.results.TakeNumbers.{TakeNumbers};
 ghost use Rattle.cc_passes.specs.Passes.{StaysOf, has_call};
-ghost use Rattle.cc_passes.specs.Calls.{TriesSend, TriesClose};
+ghost use Rattle.cc_passes.specs.Calls.{TriesSend, TriesClose, IsExhausted};
 ghost use Rattle.cc_passes.specs.Results.{with_item};
 ghost use Rattle.cc_passes.specs.Made.{TakesIn};
+ghost use Rattle.cc_passes.specs.Caller.{SkipsNone, IsOutside};
 
 use crate::handles::handle_inner::HandleInner;
 use crate::handles::items::ItemForm;
@@ -30,12 +31,16 @@ pub trait Ask<T, O> {
 
     ghost is_new: { Self → Type 0 };
 
+    // The passes that are none for the call.
+    ghost skips: { Self → Option Pass → Type 0 };
+
     /// Makes the call by this pass, and writes its item to `out`; or none, if the pass is not one for the call.
     fn ask(&mut self, held: &mut HandleInner, out: &mut O) -> Option<Asked<T>>
         requires { is_new self.old }
         ensures tells { IfSome result (λ a. tells self.old held.old.pass held.new.pass a.told out.new) }
         ensures waits { IfSome result (λ a. a.waits ≡ has_call held.new.pass) }
         ensures passed { IfNone result ((self.new ≡ self.old) × (held.new.pass ≡ held.old.pass)) }
+        ensures skips { IfNone result (skips self.old held.old.pass) }
         ensures stays { StaysOf held.old.pass held.new.pass };
 }
 
@@ -78,8 +83,10 @@ impl<C: Content> Ask<SendResult, ()> for Sending<C> {
 
     ghost is_new = { λ s. s.new ≡ true };
 
+    ghost skips = { λ _ old. IsExhausted old };
+
     #[inline(always)]
-    #[tactic(auto, using(crate::proofs::Asked::send_is_over, crate::proofs::Asked::send_is_worn))]
+    #[tactic(auto, using(crate::proofs::Asked::send_is_over, crate::proofs::Asked::send_is_worn, crate::proofs::Asked::send_is_exhausted))]
     fn ask(&mut self, held: &mut HandleInner, _out: &mut ()) -> Option<Asked<SendResult>> {
         let mut told = SendResult::only(WORN);
         let body = Ok(self.content.body());
@@ -104,6 +111,8 @@ impl Ask<SendResult, ()> for Closing {
 
     ghost is_new = { λ s. s.new ≡ true };
 
+    ghost skips = { λ _ old. SkipsNone old };
+
     #[inline(always)]
     fn ask(&mut self, held: &mut HandleInner, _out: &mut ()) -> Option<Asked<SendResult>> {
         self.new = false;
@@ -125,6 +134,8 @@ impl<I: ItemForm> Ask<TakeNumbers, I> for Taking {
     ghost tells = { λ s old new told item. TakesIn I.form s.group old new (with_item item told) };
 
     ghost is_new = { λ s. s.new ≡ true };
+
+    ghost skips = { λ s old. IsOutside s.group old };
 
     #[inline(always)]
     #[tactic(auto, using(crate::proofs::Asked::take_is_over))]

@@ -7,7 +7,7 @@ ghost use Rattle.cc_passes.specs.Calls.{fitting, TurnsSend, TurnsClose, TurnsTak
 ghost use Rattle.cc_passes.specs.Results.{with_item};
 ghost use Rattle.cc_passes.specs.Made.{kept_of};
 ghost use Rattle.cc_passes.specs.Tried.{inside, IsKeptOf};
-ghost use Rattle.cc_passes.specs.Caller.{is_group, IsWaitingOf, SendsBy, ClosesBy, TakesBy, TurnsBy};
+ghost use Rattle.cc_passes.specs.Caller.{is_group, IsWaitingOf, SendsBy, ClosesBy, TakesBy, IsSettled, TurnsBy};
 
 use crate::handles::handle::Handle;
 use crate::handles::handle_inner::HandleInner;
@@ -41,7 +41,7 @@ impl Pooled {
     #[inline(always)]
     pub fn send(&self, waiting: &mut Handle, place: &mut u32, words: &[u64]) -> SendResult
         requires { IsWaitingOf self.now.queue waiting.old }
-        ensures sends { SendsBy self.now.queue (fitting self.now.words words.now) (pass_of waiting.old) (pass_of waiting.new) result }
+        ensures sends { SendsBy self.now (fitting self.now.words words.now) (pass_of waiting.old) (pass_of waiting.new) result }
         ensures kept { IsWaitingOf self.now.queue waiting.new }
     {
         self.is_sound();
@@ -59,7 +59,7 @@ impl Pooled {
     #[inline(always)]
     fn send_body<C: Content>(&self, waiting: &mut Handle, place: &mut u32, content: C) -> SendResult
         requires { IsWaitingOf self.now.queue waiting.old }
-        ensures sends { SendsBy self.now.queue (Ok (C.holds content)) (pass_of waiting.old) (pass_of waiting.new) result }
+        ensures sends { SendsBy self.now (Ok (C.holds content)) (pass_of waiting.old) (pass_of waiting.new) result }
         ensures kept { IsWaitingOf self.now.queue waiting.new }
     {
         if waiting.live {
@@ -75,7 +75,7 @@ impl Pooled {
     /// Closes the queue.
     pub fn close(&self, waiting: &mut Handle, place: &mut u32) -> SendResult
         requires { IsWaitingOf self.now.queue waiting.old }
-        ensures closes { ClosesBy self.now.queue (pass_of waiting.old) (pass_of waiting.new) result }
+        ensures closes { ClosesBy self.now (pass_of waiting.old) (pass_of waiting.new) result }
         ensures kept { IsWaitingOf self.now.queue waiting.new }
     {
         if waiting.live {
@@ -98,7 +98,7 @@ impl Pooled {
         item: &mut I,
     ) -> TakeNumbers
         requires { IsWaitingOf self.now.queue waiting.old }
-        ensures takes { TakesBy self.now.queue I.form self.now.rows group (pass_of waiting.old) (pass_of waiting.new) (with_item item.new result) }
+        ensures takes { TakesBy self.now I.form group (pass_of waiting.old) (pass_of waiting.new) (with_item item.new result) }
         ensures kept { IsWaitingOf self.now.queue waiting.new }
     {
         if !self.is_group(group) {
@@ -120,6 +120,7 @@ impl Pooled {
         requires held { HasPassOf self.now.queue held.value.pass }
         ensures waits { pass_of waiting.new ≡ kept_of held.value.pass }
         ensures kept { IsWaitingOf self.now.queue waiting.new }
+        ensures settled { IsSettled self.now place held.value.pass }
     {
         if held.has_call() {
             waiting.hold(held);
@@ -130,9 +131,10 @@ impl Pooled {
     }
 
     /// One turn of a send that waits.
+    #[tactic(auto, using(crate::proofs::Placed::turned))]
     pub fn turn_send(&self, alloc: Global, waiting: &mut Handle, place: u32) -> SendResult
         requires { IsWaitingOf self.now.queue waiting.old }
-        ensures turns { TurnsBy TurnsSend (pass_of waiting.old) (pass_of waiting.new) result }
+        ensures turns { TurnsBy self.now place TurnsSend (pass_of waiting.old) (pass_of waiting.new) result }
         ensures kept { IsWaitingOf self.now.queue waiting.new }
     {
         let mut told = SendResult::only(NO_PASS);
@@ -144,9 +146,10 @@ impl Pooled {
     }
 
     /// One turn of a close that waits.
+    #[tactic(auto, using(crate::proofs::Placed::turned))]
     pub fn turn_close(&self, alloc: Global, waiting: &mut Handle, place: u32) -> SendResult
         requires { IsWaitingOf self.now.queue waiting.old }
-        ensures turns { TurnsBy TurnsClose (pass_of waiting.old) (pass_of waiting.new) result }
+        ensures turns { TurnsBy self.now place TurnsClose (pass_of waiting.old) (pass_of waiting.new) result }
         ensures kept { IsWaitingOf self.now.queue waiting.new }
     {
         let mut told = SendResult::only(NO_PASS);
@@ -158,6 +161,7 @@ impl Pooled {
     }
 
     /// One turn of a take that waits.
+    #[tactic(auto, using(crate::proofs::Placed::turned))]
     pub fn turn_take<I: ItemForm>(
         &self,
         alloc: Global,
@@ -165,7 +169,7 @@ impl Pooled {
         place: u32,
     ) -> TakeResult<I>
         requires { IsWaitingOf self.now.queue waiting.old }
-        ensures turns { TurnsBy (TurnsTake I.form) (pass_of waiting.old) (pass_of waiting.new) result }
+        ensures turns { TurnsBy self.now place (TurnsTake I.form) (pass_of waiting.old) (pass_of waiting.new) result }
         ensures kept { IsWaitingOf self.now.queue waiting.new }
     {
         let mut told = TakeResult::only(NO_PASS);

@@ -28,7 +28,7 @@ impl Call {
     #[inline(always)]
     pub fn send(&mut self, words: &[u64]) -> SendResult
         requires { IsReady self.old }
-        ensures sends { IfSome self.old.queue.value (λ p. SendsBy p.queue (fitting p.words words.now) (pass_of self.old.waiting) (pass_of self.new.waiting) result) }
+        ensures sends { IfSome self.old.queue.value (λ p. SendsBy p (fitting p.words words.now) (pass_of self.old.waiting) (pass_of self.new.waiting) result) }
         ensures same { IsSame self.old.queue self.new.queue }
         ensures ready { IsReady self.new }
         ensures served { self.new.served ≡ result.served }
@@ -42,7 +42,7 @@ impl Call {
     /// One turn of a send that waits.
     pub fn turn_send(&mut self, alloc: Global) -> SendResult
         requires { IsReady self.old }
-        ensures turns { TurnsBy TurnsSend (pass_of self.old.waiting) (pass_of self.new.waiting) result }
+        ensures turns { IfSome self.old.queue.value (λ p. TurnsBy p self.old.place TurnsSend (pass_of self.old.waiting) (pass_of self.new.waiting) result) }
         ensures same { IsSame self.old.queue self.new.queue }
         ensures ready { IsReady self.new }
         ensures served { self.new.served ≡ result.served }
@@ -56,7 +56,7 @@ impl Call {
     /// Closes the queue.
     pub fn close(&mut self) -> SendResult
         requires { IsReady self.old }
-        ensures closes { IfSome self.old.queue.value (λ p. ClosesBy p.queue (pass_of self.old.waiting) (pass_of self.new.waiting) result) }
+        ensures closes { IfSome self.old.queue.value (λ p. ClosesBy p (pass_of self.old.waiting) (pass_of self.new.waiting) result) }
         ensures same { IsSame self.old.queue self.new.queue }
         ensures ready { IsReady self.new }
         ensures served { self.new.served ≡ result.served }
@@ -70,7 +70,7 @@ impl Call {
     /// One turn of a close that waits.
     pub fn turn_close(&mut self, alloc: Global) -> SendResult
         requires { IsReady self.old }
-        ensures turns { TurnsBy TurnsClose (pass_of self.old.waiting) (pass_of self.new.waiting) result }
+        ensures turns { IfSome self.old.queue.value (λ p. TurnsBy p self.old.place TurnsClose (pass_of self.old.waiting) (pass_of self.new.waiting) result) }
         ensures same { IsSame self.old.queue self.new.queue }
         ensures ready { IsReady self.new }
         ensures served { self.new.served ≡ result.served }
@@ -85,7 +85,7 @@ impl Call {
     #[inline(always)]
     pub fn take<I: ItemForm>(&mut self, group: u32, item: &mut I) -> TakeNumbers
         requires { IsReady self.old }
-        ensures takes { IfSome self.old.queue.value (λ p. TakesBy p.queue I.form p.rows group (pass_of self.old.waiting) (pass_of self.new.waiting) (with_item item.new result)) }
+        ensures takes { IfSome self.old.queue.value (λ p. TakesBy p I.form group (pass_of self.old.waiting) (pass_of self.new.waiting) (with_item item.new result)) }
         ensures same { IsSame self.old.queue self.new.queue }
         ensures ready { IsReady self.new }
         ensures served { self.new.served ≡ result.served }
@@ -99,7 +99,7 @@ impl Call {
     /// One turn of a take that waits.
     pub fn turn_take<I: ItemForm>(&mut self, alloc: Global) -> TakeResult<I>
         requires { IsReady self.old }
-        ensures turns { TurnsBy (TurnsTake I.form) (pass_of self.old.waiting) (pass_of self.new.waiting) result }
+        ensures turns { IfSome self.old.queue.value (λ p. TurnsBy p self.old.place (TurnsTake I.form) (pass_of self.old.waiting) (pass_of self.new.waiting) result) }
         ensures same { IsSame self.old.queue self.new.queue }
         ensures ready { IsReady self.new }
         ensures served { self.new.served ≡ result.served }

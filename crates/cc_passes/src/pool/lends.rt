@@ -1,8 +1,8 @@
 //! How a place is taken, and given back.
-ghost use Rattle.std.specs.Prelude.{◌≡◌, ◌≢◌, IfOk, IfSome};
+ghost use Rattle.std.specs.Prelude.{◌≡◌, ◌≢◌, IfOk, IfSome, IfNone};
 ghost use Rattle.cc_passes.specs.Passes.{HasPassOf};
-ghost use Rattle.cc_passes.specs.Kept.{Seized};
-ghost use Rattle.cc_passes.specs.Loans.{IsLoan, IsLent};
+ghost use Rattle.cc_passes.specs.Kept.{Seized, HasBox, WasOther, IsHome, IsHomeWith};
+ghost use Rattle.cc_passes.specs.Loans.{IsLoan, IsLent, queue_of};
 ghost use Rattle.cc_passes.specs.declared.pool.kept.TheConstants.{TAKEN, FREE, OUT};
 
 use crate::handles::handle_inner::HandleInner;
@@ -29,10 +29,12 @@ impl Kept {
     }
 
     /// Takes the place, if its word is this one.
+    #[tactic(auto, using(crate::proofs::Places::was_other))]
     #[inline(always)]
     pub(crate) fn take(&self, from: u64) -> Option<Loan>
         requires { from ≢ TAKEN }
-        ensures { IfSome result (λ l. IsLoan self.now from l) }
+        ensures loan { IfSome result (λ l. IsLoan self.now from l) }
+        ensures other { IfNone result (WasOther (queue_of self.now) from) }
     {
         let shared = &self.table.shared;
         let (found, mut seat) = shared.load_new_seat::<Look>(0);
@@ -49,6 +51,7 @@ impl Kept {
     #[inline(always)]
     pub(crate) fn put_back(&self, loan: Loan, to: u64)
         requires { IsLoan self.now to loan }
+        ensures { IsHomeWith to loan.seat.me }
     {
         let Loan { mut seat } = loan;
         self.table.shared.store::<Release>(&mut seat, 0, to);
@@ -62,15 +65,18 @@ impl Kept {
         requires held { HasPassOf self.now.table.shared.key held.value.pass }
         ensures here { seat.new.table_id ≡ seat.old.table_id }
         ensures seized { Seized self.now.table.shared.key FREE seat.new.me }
+        ensures full { HasBox held seat.new.me }
     {
         let place = seat.slot_mut(&self.table.shared, 0);
         place.put(held);
     }
 
     /// Gives the place back with its pass.
+    #[tactic(auto, using(crate::proofs::Places::is_home))]
     #[inline(always)]
     pub fn give_back(&self, loan: Loan, held: Box<HandleInner>)
         requires { IsLent self.now loan held.value.pass }
+        ensures { IsHome FREE held.value.pass }
     {
         let Loan { mut seat } = loan;
         self.fill(&mut seat, held);

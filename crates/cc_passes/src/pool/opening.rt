@@ -6,7 +6,7 @@ ghost use Rattle.cc_passes.specs.Passes.{walk_of};
 ghost use Rattle.cc_passes.specs.declared.handles.return_codes.TheConstants.{DONE};
 ghost use Rattle.cc_passes.specs.Loans.{IsPlaceOf, queue_of};
 ghost use Rattle.cc_passes.specs.Pooled.{IsRowOf};
-ghost use Rattle.cc_passes.specs.Opened.{refusal, HasPool, IsRefusedAs};
+ghost use Rattle.cc_passes.specs.Opened.{refusal, HasPlaces, HasPool, IsRefusedAs};
 
 use crate::handles::handle_inner::Pass;
 use crate::handles::open_handles::{are_few, field_code, held};
@@ -53,7 +53,8 @@ fn row_of_senders(
     mut senders: Vec<Sender>,
 ) -> Result<Vec<Kept>, AllocError>
     requires { All (IsOf queue.now) senders.items }
-    ensures { IfOk result (λ row. IsRowOf queue.now row) }
+    ensures row { IfOk result (λ row. IsRowOf queue.now row) }
+    ensures count { IfOk result (HasPlaces (length senders.items)) }
 {
     let mut row = Vec::new(alloc);
     for _ in 0..senders.len() {
@@ -72,8 +73,11 @@ fn row_of_receivers(
     receivers: &mut Vec<Receiver>,
     count: u32,
 ) -> Result<Vec<Kept>, AllocError>
-    requires { All (IsOf queue.now) receivers.old.items }
-    ensures { IfOk result (λ row. IsRowOf queue.now row × All (IsOf queue.now) receivers.new.items) }
+    requires receivers { All (IsOf queue.now) receivers.old.items }
+    requires count { count ≤ length receivers.old.items }
+    ensures row { IfOk result (λ row. IsRowOf queue.now row × All (IsOf queue.now) receivers.new.items) }
+    ensures count { IfOk result (HasPlaces count) }
+    ensures rest { OnOk result (length receivers.new.items + count ≡ length receivers.old.items) }
 {
     let mut row = Vec::new(alloc);
     for _ in 0..count {
@@ -85,7 +89,7 @@ fn row_of_receivers(
 }
 
 /// The places of the passes of a queue that was opened: a row of senders, and then a row for each group.
-#[tactic(auto, using(crate::proofs::Fresh::all_of, crate::proofs::Fresh::all_back))]
+#[tactic(auto, using(crate::proofs::Fresh::all_of, crate::proofs::Fresh::all_back, crate::proofs::Fresh::all_there, crate::proofs::Fresh::room))]
 fn all_rows(
     alloc: Global,
     config: &Config,

@@ -36,5 +36,7 @@ impl Play<Place, Queue> for Grab {
 pub struct Release;
 
 impl Play<Place, Queue> for Release {
-    ghost then = { λ st m r n. Unit {0} };
+    ghost use Rattle.cc_passes.specs.Kept.{released};
+
+    ghost then = { released };
 }

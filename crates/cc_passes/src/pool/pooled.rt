@@ -4,11 +4,11 @@ ghost use Rattle.cc_steps.specs.Walk.{IsOf};
 ghost use Rattle.cc_steps.specs.Topic.{Topic};
 ghost use Rattle.cc_passes.specs.Passes.{HasPassOf};
 ghost use Rattle.cc_passes.specs.declared.pool.pooled.Tried.{Tried};
-ghost use Rattle.cc_passes.specs.Caller.{is_group};
-ghost use Rattle.cc_passes.specs.Kept.{Seized};
+ghost use Rattle.cc_passes.specs.Caller.{is_group, IsGivenBack};
+ghost use Rattle.cc_passes.specs.Kept.{Seized, WasOther};
 ghost use Rattle.cc_passes.specs.Loans.{IsPlaceOf, queue_of};
-ghost use Rattle.cc_passes.specs.Pooled.{IsRowOf};
-ghost use Rattle.cc_passes.specs.Tried.{IsTriedOf, IsUnmade, IsRowMade, GaveNone, word_after};
+ghost use Rattle.cc_passes.specs.Pooled.{IsRowOf, places_of};
+ghost use Rattle.cc_passes.specs.Tried.{GaveOf, IsTriedOf, IsUnmade, IsRowMade, GaveNone, word_after};
 ghost use Rattle.cc_passes.specs.declared.pool.kept.TheConstants.{FREE};
 
 use crate::handles::handle_inner::{HandleInner, Pass};
@@ -37,7 +37,7 @@ impl Model for Pooled {
 
     ghost Value = { Pool };
 
-    ghost view = { λ p. record { queue = p.queue; words = p.longest; rows = 1 + length p.groups.items } };
+    ghost view = { λ p. record { queue = p.queue; words = p.longest; rows = 1 + length p.groups.items; senders = p.senders.items; groups = p.groups.items } };
 
     ghost invariant = { λ p. (1 ≤ p.longest) × IsRowOf p.queue p.senders × All (IsRowOf p.queue) p.groups.items };
 }
@@ -77,6 +77,7 @@ impl Kept {
         ensures tried { IsTriedOf (queue_of self.now) (λ old new told. A.tells ask.old old new told out.new) result }
         ensures seized { Seized (queue_of self.now) (word_after result) seat.new.me }
         ensures same { IsUnmade result (ask.new ≡ ask.old) }
+        ensures gave { GaveOf ⊥ (queue_of self.now) (A.skips ask.old) result }
     {
         let place = seat.slot_mut(&self.table.shared, 0);
         let Some(held) = &mut place.held else {
@@ -97,12 +98,12 @@ impl Kept {
 pub trait Spot<T, O, A: Ask<T, O>> {
     ghost of: { Self → Topic };
 
-    ghost gave: { Self → Tried T → Type 0 };
+    ghost gave: { A → Self → Tried T → Type 0 };
 
     /// Makes a call by the pass of this place, if the place is free.
     fn ask(&self, ask: &mut A, out: &mut O) -> Tried<T>
         requires { A.is_new ask.old }
-        ensures gave { gave self.now result }
+        ensures gave { gave ask.old self.now result }
         ensures tried { IsTriedOf (of self.now) (λ old new told. A.tells ask.old old new told out.new) result }
         ensures same { IsUnmade result (ask.new ≡ ask.old) };
 }
@@ -110,8 +111,9 @@ pub trait Spot<T, O, A: Ask<T, O>> {
 impl<T, O, A: Ask<T, O>> Spot<T, O, A> for Kept {
     ghost of = { λ k. queue_of k };
 
-    ghost gave = { λ _ _. Unit {0} };
+    ghost gave = { λ ask k tried. GaveOf (WasOther (queue_of k) FREE) (queue_of k) (A.skips ask) tried };
 
+    #[tactic(auto, using(crate::proofs::Asked::there))]
     #[inline(always)]
     fn ask(&self, ask: &mut A, out: &mut O) -> Tried<T> {
         let Some(loan) = self.take(FREE) else {
@@ -146,9 +148,11 @@ impl Pooled {
 
     /// The places of a group's receivers.
     #[inline(always)]
+    #[tactic(auto, using(crate::proofs::Placed::row_is))]
     pub(crate) fn group(&self, group: u32) -> &[Kept]
         requires { is_group self.now.rows group ≡ true }
-        ensures { All (IsPlaceOf self.now.queue) result.now }
+        ensures of { All (IsPlaceOf self.now.queue) result.now }
+        ensures row { result.now ≡ places_of self.now group }
     {
         &self.groups[group as usize - 1]
     }
@@ -156,7 +160,8 @@ impl Pooled {
     /// The places of the senders.
     #[inline(always)]
     pub(crate) fn senders(&self) -> &[Kept]
-        ensures { All (IsPlaceOf self.now.queue) result.now }
+        ensures of { All (IsPlaceOf self.now.queue) result.now }
+        ensures row { result.now ≡ self.now.senders }
     {
         &self.senders
     }
@@ -174,7 +179,7 @@ impl Pooled {
         requires row { All (λ k. K.of k ≡ self.now.queue) row.now }
         requires new { A.is_new ask.old }
         ensures made { IfOk result (λ m. IsRowMade self.now.queue (λ old new told. A.tells ask.old old new told out.new) m) }
-        ensures tried { IfErr result (λ all_there. All (λ k. GaveNone K.gave all_there k) row.now) }
+        ensures tried { IfErr result (λ all_there. All (λ k. GaveNone (K.gave ask.old) all_there k) row.now) }
     {
         let count = row.len();
         if count == 0 {
@@ -211,6 +216,7 @@ impl Pooled {
     /// the pass is given up.
     pub(crate) fn give_back(&self, group: u32, at: u32, held: Box<HandleInner>)
         requires { HasPassOf self.now.queue held.value.pass }
+        ensures { IsGivenBack self.now group at held.value.pass }
     {
         let row = if self.is_group(group) {
             self.group(group)

@@ -1,4 +1,4 @@
-use Rattle.std.proofs.Common.{All, sym, subst}
+use Rattle.std.proofs.Common.{rules, All, sym, subst}
 use Rattle.std.proofs.lemmas.List.Elements.{All-push, All-pop}
 use Rattle.cc_steps.specs.Walk.{IsOf}
 use Rattle.cc_passes.specs.Loans.{IsPlaceOf}
@@ -14,5 +14,13 @@ loop-preserved c =
         | in-Some+in_ok-place+in_ok-push w ↦ subst (IsRowOf z) (sym w.row-is)
             (subst (λ places. All (IsPlaceOf z) places) (sym w.in_ok-push.ensures.items) (All-push (IsPlaceOf z) c.loop.row.items w.in_ok-place.field-0 before.1 w.in_ok-place.ensures))
         | in_default w ↦ subst (IsRowOf z) (sym w.row-is) before.1
+      ],
+      elim c.match-pop.branch [
+        | in-Some+in_ok-place+in_ok-push w ↦ search rules
+        | in_default w ↦ search rules
+      ],
+      elim c.match-pop.branch [
+        | in-Some+in_ok-place+in_ok-push w ↦ search rules
+        | in_default w ↦ search rules
       ],
     )
