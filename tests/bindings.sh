@@ -47,6 +47,7 @@ limit=600 step 'Rust: tests' cargo "${options[@]}" test
 limit=600 step 'Rust: tests with the feature strict' env "VAHEPITO_ROUNDS=${VAHEPITO_ROUNDS:-25}" cargo "${options[@]}" test --tests --features strict
 limit=600 step 'Rust: tests with the feature unproved' env VAHEPITO_ROUNDS=5 cargo "${options[@]}" test --features unproved
 step 'Rust: the recorder' cargo "${options[@]}" test --manifest-path record/Cargo.toml
+step 'Rust: the recorder with stops' cargo "${options[@]}" test --manifest-path record/Cargo.toml --all-features --lib
 step 'Rust: the feature unproved is warned of' bash -c "cargo check --locked --offline --features unproved 2>&1 | grep 'warning: .* nothing is proved'"
 step 'Rust: the thread pool' bash -c "prints '9592 primes below 100000' cargo ${options[*]} run --example thread_pool"
 step 'Rust: the pipeline' bash -c "prints '77031 takes 350 steps' cargo ${options[*]} run --example pipeline"
@@ -65,7 +66,7 @@ step 'The instructions of calls' "$top/tests/instructions.py"
 
 if cargo clippy --version >/dev/null 2>&1; then
     step 'Rust: clippy' cargo "${options[@]}" clippy --all-targets -- -D warnings
-    step 'Rust: clippy on the recorder' cargo "${options[@]}" clippy --manifest-path record/Cargo.toml --all-targets -- -D warnings
+    step 'Rust: clippy on the recorder' cargo "${options[@]}" clippy --manifest-path record/Cargo.toml --all-features --all-targets -- -D warnings
 else
     skip 'Rust: clippy' 'it is not on this machine'
 fi

@@ -8,12 +8,14 @@
 
 #include <pthread.h>
 #include <sched.h>
+#include <stdatomic.h>
 #include <stdio.h>
 #include <string.h>
+#include <time.h>
 
 /* The most calls of a worker, and the most turns of a call that isn't about to be given up. A call after one that was given up
- * may wait for ever. */
-enum { WORKERS = 4, ROUNDS = 200, MOST_ROUNDS = 20000, CALLS = 500, MOST_TURNS = 2000, PLACES = WORKERS * CALLS };
+ * may wait for ever. After LONG turns it has waited long. */
+enum { WORKERS = 4, ROUNDS = 200, MOST_ROUNDS = 20000, CALLS = 500, LONG = 64, MOST_TURNS = 2000, PLACES = WORKERS * CALLS };
 
 static const uint64_t LIFE = (uint64_t)1 << 48;
 
@@ -231,6 +233,7 @@ static void the_judgement_finds_faults(void) {
 struct worker {
     vahepito_pass *pass;
     uint32_t sender, count, served_by_others;
+    bool waits;
     uint64_t dice;
     /* the number of the call that it gave up, from 1; 0 where it gave up none */
     uint32_t given_up;
@@ -241,10 +244,15 @@ struct worker {
     } items[CALLS];
 };
 
+/* How many workers of the round neither have ended nor have waited long. It puts no threads in order. */
+static atomic_int moving;
+
+/* On a busy machine a yield may take longer than a sleep, and so there are few yields. */
+static void sleep_briefly(void) { nanosleep(&(struct timespec){0, 50000}, NULL); }
+
 /* One call of four lets others go first, so that calls wait behind it and are given up there. */
 static void pause_at_random(struct worker *mine) {
-    if (roll(&mine->dice, 4) == 0)
-        for (int k = 0; k < 8; k++) sched_yield();
+    if (roll(&mine->dice, 4) == 0) sleep_briefly();
 }
 
 /* After how many turns a call is given up. In one of fifty they are few; in one of two thousand there is none, and so a call
@@ -254,8 +262,24 @@ static uint32_t roll_turns(struct worker *mine) {
     return number == 0 ? 0 : number <= 40 ? roll(&mine->dice, 3) + 1 : MOST_TURNS;
 }
 
-static void rest(uint32_t turn) {
-    if (turn > 6) sched_yield();
+/* Whether a call has a turn of this number. If all workers that are left have waited long, they may wait for ever behind a call that
+ * was given up, and give up theirs. */
+static bool has_turn(struct worker *mine, uint32_t turn, uint32_t most) {
+    if (turn > 16) {
+        sleep_briefly();
+    } else if (turn > 6) {
+        sched_yield();
+    }
+    if (turn == LONG) {
+        mine->waits = true;
+        atomic_fetch_sub_explicit(&moving, 1, memory_order_relaxed);
+    }
+    return turn < most && !(mine->waits && atomic_load_explicit(&moving, memory_order_relaxed) == 0);
+}
+
+static void waits_no_more(struct worker *mine) {
+    if (mine->waits) atomic_fetch_add_explicit(&moving, 1, memory_order_relaxed);
+    mine->waits = false;
 }
 
 static void add_item(struct worker *mine, uint64_t place, uint32_t sender, uint32_t number) {
@@ -271,10 +295,9 @@ static uint32_t turn_send(struct worker *mine, uint32_t number) {
     uint64_t place;
     uint32_t served, code = VAHEPITO_WAITING;
     pause_at_random(mine);
-    for (uint32_t turn = 0, most = roll_turns(mine); turn < most; turn++) {
+    for (uint32_t turn = 0, most = roll_turns(mine); has_turn(mine, turn, most); turn++)
         if ((code = vahepito_turn_send(mine->pass, &place, &served)) != VAHEPITO_WAITING) break;
-        rest(turn);
-    }
+    waits_no_more(mine);
     if (code == VAHEPITO_ACCEPTED) add_item(mine, place, mine->sender, number);
     if (code != VAHEPITO_WAITING) count_served(mine, served);
     return code;
@@ -285,10 +308,9 @@ static uint32_t turn_take(struct worker *mine) {
     uint64_t total;
     uint32_t served, code = VAHEPITO_WAITING;
     pause_at_random(mine);
-    for (uint32_t turn = 0, most = roll_turns(mine); turn < most; turn++) {
+    for (uint32_t turn = 0, most = roll_turns(mine); has_turn(mine, turn, most); turn++)
         if ((code = vahepito_turn_take_words(mine->pass, &item, &total, &served)) != VAHEPITO_WAITING) break;
-        rest(turn);
-    }
+    waits_no_more(mine);
     if (code == VAHEPITO_GOT) {
         check(has_its_words(&item), "an item has the words that its sender sends under that number");
         add_item(mine, item.place, item.sender, item.number);
@@ -310,6 +332,7 @@ static void *send_some(void *at) {
         }
         check(code == VAHEPITO_ACCEPTED || code == VAHEPITO_FULL, "a send is accepted, or finds the queue full");
     }
+    atomic_fetch_sub_explicit(&moving, 1, memory_order_relaxed);
     return NULL;
 }
 
@@ -326,6 +349,7 @@ static void *take_some(void *at) {
         }
         check(code == VAHEPITO_GOT || code == VAHEPITO_EMPTY, "a take gets an item, or finds none");
     }
+    atomic_fetch_sub_explicit(&moving, 1, memory_order_relaxed);
     return NULL;
 }
 
@@ -351,6 +375,7 @@ static void play(uint64_t seed) {
     open_queue(&queue, WORKERS + 1, WORKERS, 3);
     memset(senders, 0, sizeof senders);
     memset(receivers, 0, sizeof receivers);
+    moving = 2 * WORKERS;
     for (uint32_t k = 0; k < WORKERS; k++) {
         senders[k].pass = &queue.senders[k + 1];
         senders[k].sender = k + 2;

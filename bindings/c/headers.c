@@ -1,5 +1,5 @@
 /* The headers in C99 to C23 and in C++11 to C++23: compiled by each compiler that is there, with all warnings. Run, it
- * makes each call that waits, on one thread, records five, and ends with status 0 if each returned what it has to. */
+ * makes each call that waits, on one thread, records some, and ends with status 0 if each returned what it has to. */
 #ifndef _POSIX_C_SOURCE
 #define _POSIX_C_SOURCE 200809L
 #endif
@@ -61,7 +61,7 @@ static int has_line(FILE *file, const char *due) {
     return *at == *due;
 }
 
-/* Five calls, of which one is given up, and their log. */
+/* Seven calls, of which two are given up, and their log, which says how it ends. */
 static int recorded(void) {
     static vahepito_recorder mine;
     vahepito_log log;
@@ -70,6 +70,7 @@ static int recorded(void) {
     FILE *file = place < 0 ? NULL : fdopen(place, "r");
     int same;
     if (!file || vahepito_log_open(&log, name) != 0) return 26;
+    log.says_end = 1;
     vahepito_recorder_open(&mine, &log);
     vahepito_begin_recorded_send(&mine, 7);
     vahepito_end_recorded_send(&mine, VAHEPITO_SENT);
@@ -82,16 +83,64 @@ static int recorded(void) {
     vahepito_end_recorded_send(&mine, VAHEPITO_WAS_FULL);
     vahepito_begin_recorded_take(&mine);
     vahepito_end_recorded_take(&mine, VAHEPITO_FOUND_END, 0);
+    vahepito_begin_recorded_close(&mine);
+    vahepito_end_recorded_close(&mine);
+    vahepito_begin_recorded_close(&mine);
+    vahepito_give_up(&mine);
     if (vahepito_log_close(&log) != 0) return 27;
     same = has_line(file, "{\"thread\":\"0\",\"begin\":,\"end\":,\"send\":[7]}\n")
         && has_line(file, "{\"thread\":\"0\",\"begin\":,\"end\":,\"take\":[7]}\n")
         && has_line(file, "{\"thread\":\"0\",\"begin\":,\"take\":null}\n")
         && has_line(file, "{\"thread\":\"1\",\"begin\":,\"end\":,\"send\":[8],\"answer\":\"full\"}\n")
         && has_line(file, "{\"thread\":\"1\",\"begin\":,\"end\":,\"take\":null,\"answer\":\"ended\"}\n")
+        && has_line(file, "{\"thread\":\"1\",\"begin\":,\"end\":,\"close\":true}\n")
+        && has_line(file, "{\"thread\":\"1\",\"begin\":,\"close\":true}\n")
+        && has_line(file, "{\"ends\":\"whole\"}\n")
         && !has_line(file, "");
     fclose(file);
     remove(name);
     return same ? 0 : 28;
+}
+
+/* More calls than a recorder holds, in a log of this many bytes at most: how it closes, an errno. */
+static int many_calls(const char *path, uint64_t limit, int says_end) {
+    static vahepito_recorder mine;
+    vahepito_log log;
+    uint64_t item, before;
+    int closes;
+    if (vahepito_log_open(&log, path) != 0) return -1;
+    log.says_end = says_end;
+    log.limit = limit;
+    vahepito_recorder_open(&mine, &log);
+    for (item = 0; item < 1000; item++) {
+        before = vahepito_log_now(&log);
+        vahepito_begin_recorded_send(&mine, item);
+        vahepito_end_recorded_send(&mine, VAHEPITO_SENT);
+        if (mine.last < before || mine.last > vahepito_log_now(&log)) return -1;
+    }
+    if (vahepito_log_close(&log) == 0) return 0;
+    closes = errno;
+    /* It has been closed, so this writes nothing, and doesn't wait. */
+    for (item = 0; item < 1000; item++) {
+        vahepito_begin_recorded_send(&mine, item);
+        vahepito_end_recorded_send(&mine, VAHEPITO_SENT);
+    }
+    return closes;
+}
+
+/* Logs that end early, by a limit and by a disk that is full. */
+static int ends_early(void) {
+    char name[] = "/tmp/vahepito.XXXXXX", text[20001];
+    const int place = mkstemp(name);
+    FILE *file = place < 0 ? NULL : fdopen(place, "r");
+    const char *const last = "\n{\"ends\":\"early\"}\n";
+    size_t size;
+    if (!file || many_calls(name, 20000, 1) != EFBIG) return 29;
+    size = fread(text, 1, sizeof text, file);
+    if (size > 20000 || size < 10000 || strncmp(text + size - strlen(last), last, strlen(last)) != 0) return 30;
+    fclose(file);
+    remove(name);
+    return many_calls("/dev/full", UINT64_MAX, 1) == ENOSPC && many_calls("/dev/full", UINT64_MAX, 0) == ENOSPC ? 0 : 31;
 }
 
 int main(void) {
@@ -107,5 +156,6 @@ int main(void) {
     if (vahepito_new(&config, 1, 2, &queue) != VAHEPITO_DONE) return 22;
     if (!failed) failed = two_words(queue);
     vahepito_free(queue);
-    return failed ? failed : recorded();
+    if (!failed) failed = recorded();
+    return failed ? failed : ends_early();
 }

@@ -29,9 +29,12 @@
 #define __atomic_fetch_add(place, by, order) model_add(place, by)
 #define __atomic_compare_exchange_n(place, old, new, weak, order, other) model_exchange(place, old, new)
 #define syscall model_futex
+/* Calls that wait for their answer or for a place don't park here. They look again after a millisecond, so that none waits in vain. */
+#define __atomic_fetch_sub(place, by, order) model_add(place, 0)
+#define VAHEPITO_SERVED_ROUNDS 1000000
 #define VAHEPITO_ROUNDS 1
-static uint64_t model_load(const uint64_t *place);
-static uint64_t model_add(const uint64_t *place, uint64_t by);
+static uint64_t model_load(const void *place);
+static uint64_t model_add(const void *place, uint64_t by);
 static bool model_exchange(const uint64_t *place, uint64_t *old, uint64_t new);
 #include HEADER
 
@@ -86,18 +89,20 @@ static uint64_t result_of(struct step step) {
     longjmp(at_next_step, 1);
 }
 
+/* LINES if it is none of a model's lines. */
 static int line_of(const void *place) {
     const vahepito_line *line = place;
-    return line == &waits.senders ? 0 : 1 + (int)(line - waits.groups);
+    if (line == &waits.senders) return 0;
+    return line >= waits.groups && line < waits.groups + GROUPS ? 1 + (int)(line - waits.groups) : LINES;
 }
 
-/* Only the first two groups have processes: the lines of the others are empty. */
-static uint64_t model_load(const uint64_t *place) {
+/* Only the first two groups have processes: the lines of the others are empty, and so are those of calls that wait to be served. */
+static uint64_t model_load(const void *place) {
     const int line = line_of(place);
     return line >= LINES ? 0 : result_of((struct step){LOAD, line, 0, 0, false});
 }
 
-static uint64_t model_add(const uint64_t *place, uint64_t by) {
+static uint64_t model_add(const void *place, uint64_t by) {
     return result_of((struct step){ADD, line_of(place), by, 0, false});
 }
 

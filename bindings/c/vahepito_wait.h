@@ -18,11 +18,12 @@
  * A call tries for about 10 microseconds, in which it spins and yields the processor, and then parks. A parked call takes no
  * processor time and occupies no place. It is woken by the call that makes room or an item, if that is a call of this header. A
  * call of vahepito.h wakes nobody: after a send by it is accepted call vahepito_notify_item, after a take by it gets an item
- * vahepito_notify_room, and after a close by it vahepito_notify_all. A call that has a place never parks until it is answered,
- * since others may wait for it.
+ * vahepito_notify_room, and after a close by it vahepito_notify_all.
  *
- * If all places are taken, each call here waits for a free one, and yields the processor meanwhile; so do the calls whose names end
- * in _now. It waits for this, and for its answer, also after its moment. So BUSY means that the vahepito_call has a ticket: no call
+ * Each call also waits for its answer while another thread serves its side, and for a free place if all are taken; so do the calls
+ * whose names end in _now, and each call after its moment. It spins and yields for about 20 microseconds, and then parks. It is
+ * woken by the next call of this header on its side that ends, and looks again after a millisecond, since a call of vahepito.h wakes
+ * nobody. So a thread of high priority lets the thread that it waits for run. BUSY means that the vahepito_call has a ticket: no call
  * here returns while it has one, so it comes from a call of vahepito.h.
  *
  * Each try of a send is a send that was begun, and uses up one of the `per_sender` of its place. A send that
@@ -84,9 +85,12 @@ extern long syscall(long number, ...);
 
 struct timespec;
 
-/* How many rounds a call spins or yields until it parks. */
+/* How many rounds a call spins or yields until it parks: in a line for room or an item, and until it is answered or has a place. */
 #ifndef VAHEPITO_ROUNDS
 #define VAHEPITO_ROUNDS 12
+#endif
+#ifndef VAHEPITO_SERVED_ROUNDS
+#define VAHEPITO_SERVED_ROUNDS 16
 #endif
 
 /* A line of calls that wait: `notified` in the lower half of the word, and `waiting` in the upper half. */
@@ -96,19 +100,24 @@ typedef struct {
 
 #define VAHEPITO_ONE_WAITING ((uint64_t)1 << 32)
 
+/* The calls of a side that are parked until they are answered or have a place, and how many calls of the side ended while there were any. */
+typedef struct {
+    uint32_t waiting, ended;
+} vahepito_served;
+
 /* The lines of a queue: that of its senders, and those of the groups of its receivers. */
 typedef struct {
     vahepito_line senders;
     uint64_t apart[7]; /* in another line of the cache */
     vahepito_line groups[8];
+    vahepito_served sends, takes[8];
 } vahepito_waits;
 
-#define VAHEPITO_WAITS {{0}, {0}, {{0}}}
+#define VAHEPITO_WAITS {{0}, {0}, {{0}}, {0, 0}, {{0, 0}}}
 
-static inline long vahepito_futex(vahepito_line *line, int operation, int value, const struct timespec *moment) {
+static inline long vahepito_futex(const void *word, int operation, uint32_t value, const struct timespec *time) {
     const int errno_before = errno;
-    const long done =
-        syscall(SYS_futex, &line->counts, operation | FUTEX_PRIVATE_FLAG, value, moment, NULL, FUTEX_BITSET_MATCH_ANY);
+    const long done = syscall(SYS_futex, word, operation | FUTEX_PRIVATE_FLAG, value, time, NULL, FUTEX_BITSET_MATCH_ANY);
     const long answer = done < 0 ? -errno : done;
     errno = errno_before;
     return answer;
@@ -136,7 +145,7 @@ static inline void vahepito_notify(vahepito_line *line, bool all) {
     while (counts >= VAHEPITO_ONE_WAITING) {
         const uint64_t next = all ? (counts >> 32) + (uint32_t)counts : counts - VAHEPITO_ONE_WAITING + 1;
         if (!vahepito_change(line, &counts, next)) continue;
-        (void)vahepito_futex(line, FUTEX_WAKE, all ? INT_MAX : 1, NULL);
+        (void)vahepito_futex(&line->counts, FUTEX_WAKE, all ? INT_MAX : 1, NULL);
         return;
     }
 }
@@ -158,20 +167,21 @@ static inline bool vahepito_park(vahepito_line *line, const struct timespec *mom
             const uint64_t next = is_notified ? counts - 1 : counts - VAHEPITO_ONE_WAITING;
             if (vahepito_change(line, &counts, next)) return is_notified;
         } else {
-            const long answer = vahepito_futex(line, FUTEX_WAIT_BITSET, 0, moment);
+            const long answer = vahepito_futex(&line->counts, FUTEX_WAIT_BITSET, 0, moment);
             is_over = answer == -ETIMEDOUT || answer == -EINVAL;
             counts = __atomic_load_n(&line->counts, __ATOMIC_SEQ_CST);
         }
     }
 }
 
-/* Hints to the processor that this thread spins, or gives the processor to another thread. A call passes the time until
- * its next turn in this way, or until it looks for a free place again. */
+/* How a call passes the time until its next turn, or until it looks for a free place again: it spins, gives the processor to another
+ * thread, and then parks, with those of its side if their line is given. */
 typedef struct {
     uint32_t round;
+    vahepito_served *line;
 } vahepito_backoff;
 
-#define VAHEPITO_BACKOFF {0}
+#define VAHEPITO_BACKOFF(line) {0, line}
 
 /* The hint of a thread that spins: on aarch64 as Rust's std has it. */
 static inline void vahepito_pause(void) {
@@ -184,21 +194,83 @@ static inline void vahepito_pause(void) {
 #endif
 }
 
-static inline void vahepito_between_turns(vahepito_backoff *backoff) {
+/* Before a look: a call that is about to park counts itself, and a call that ends after this changes `ended`. */
+static inline uint32_t vahepito_stand(vahepito_backoff *backoff) {
+    if (!backoff->line || backoff->round < VAHEPITO_SERVED_ROUNDS) return 0;
+    if (backoff->round++ == VAHEPITO_SERVED_ROUNDS) {
+        (void)__atomic_fetch_add(&backoff->line->waiting, 1, __ATOMIC_SEQ_CST);
+        vahepito_in_order();
+    }
+    return __atomic_load_n(&backoff->line->ended, __ATOMIC_SEQ_CST);
+}
+
+/* After a look that found nothing; true. */
+static inline bool vahepito_rest(vahepito_backoff *backoff, uint32_t ended) {
+    const struct timespec time = {0, 1000000};
+    const uint32_t never_changed = 0;
     if (backoff->round < 7) {
         for (uint32_t spin = (uint32_t)1 << backoff->round++; spin > 0; spin--) vahepito_pause();
-    } else {
+    } else if (backoff->round < VAHEPITO_SERVED_ROUNDS) {
+        backoff->round++;
         (void)sched_yield();
+    } else if (!backoff->line) {
+        (void)vahepito_futex(&never_changed, FUTEX_WAIT, 0, &time);
+    } else if (backoff->round > VAHEPITO_SERVED_ROUNDS) {
+        (void)vahepito_futex(&backoff->line->ended, FUTEX_WAIT, ended, &time);
     }
+    return true;
+}
+
+/* After the last look. */
+static inline void vahepito_go_on(const vahepito_backoff *backoff) {
+    if (backoff->line && backoff->round > VAHEPITO_SERVED_ROUNDS)
+        (void)__atomic_fetch_sub(&backoff->line->waiting, 1, __ATOMIC_SEQ_CST);
+}
+
+/* Wakes the parked calls of a side, after a call of that side. */
+static inline void vahepito_notify_served(vahepito_served *line) {
+    if (!line) return;
+    vahepito_in_order();
+    if (__atomic_load_n(&line->waiting, __ATOMIC_SEQ_CST) == 0) return;
+    (void)__atomic_fetch_add(&line->ended, 1, __ATOMIC_SEQ_CST);
+    (void)vahepito_futex(&line->ended, FUTEX_WAKE, INT_MAX, NULL);
+}
+
+/* Makes a call, whose code is `code`, until `again` doesn't hold, and passes the time in between. The line may be NULL. This header
+ * alone uses it. */
+#define VAHEPITO_UNTIL(line, code, call, again)                \
+    do {                                                       \
+        vahepito_backoff backoff = VAHEPITO_BACKOFF(line);     \
+        uint32_t ended;                                        \
+        do ended = vahepito_stand(&backoff), code = call;      \
+        while ((again) && vahepito_rest(&backoff, ended));     \
+        vahepito_go_on(&backoff);                              \
+    } while (0)
+
+/* Turns of a call that waits, until it is answered. */
+static inline uint32_t vahepito_turns_of_send(vahepito_served *line, vahepito_call *call, uint64_t *place) {
+    uint32_t code;
+    VAHEPITO_UNTIL(line, code, vahepito_call_turn_send(call, place), code == VAHEPITO_WAITING);
+    return code;
+}
+
+static inline uint32_t vahepito_turns_of_close(vahepito_served *line, vahepito_call *call, uint64_t *total) {
+    uint32_t code;
+    VAHEPITO_UNTIL(line, code, vahepito_call_turn_close(call, total), code == VAHEPITO_WAITING);
+    return code;
+}
+
+static inline uint32_t vahepito_turns_of_take(vahepito_served *line, vahepito_call *call, vahepito_item *item, uint64_t *total) {
+    uint32_t code;
+    VAHEPITO_UNTIL(line, code, vahepito_call_turn_take(call, item, total), code == VAHEPITO_WAITING);
+    return code;
 }
 
 /* Turns a send that waits until it is answered: ACCEPTED with the place, FULL, CLOSED, SPENT. NO_PASS, NOT_BEGUN, WRONG_SIDE:
  * nothing has changed. */
 static inline uint32_t vahepito_finish_send(vahepito_call *call, uint64_t *place) {
-    vahepito_backoff backoff = VAHEPITO_BACKOFF;
     uint64_t number = 0;
-    uint32_t code;
-    while ((code = vahepito_call_turn_send(call, &number)) == VAHEPITO_WAITING) vahepito_between_turns(&backoff);
+    const uint32_t code = vahepito_turns_of_send(NULL, call, &number);
     if (place) *place = number;
     return code;
 }
@@ -206,10 +278,8 @@ static inline uint32_t vahepito_finish_send(vahepito_call *call, uint64_t *place
 /* Turns a close that waits until it is answered: SHUT, ALREADY with the total. NO_PASS, NOT_BEGUN, WRONG_SIDE: nothing has
  * changed. */
 static inline uint32_t vahepito_finish_close(vahepito_call *call, uint64_t *total) {
-    vahepito_backoff backoff = VAHEPITO_BACKOFF;
     uint64_t number = 0;
-    uint32_t code;
-    while ((code = vahepito_call_turn_close(call, &number)) == VAHEPITO_WAITING) vahepito_between_turns(&backoff);
+    const uint32_t code = vahepito_turns_of_close(NULL, call, &number);
     if (total) *total = number;
     return code;
 }
@@ -217,11 +287,9 @@ static inline uint32_t vahepito_finish_close(vahepito_call *call, uint64_t *tota
 /* Turns a take that waits until it is answered: GOT with the item, EMPTY, ENDED with the total. NO_PASS, WRONG_SIDE:
  * nothing has changed. */
 static inline uint32_t vahepito_finish_take(vahepito_call *call, vahepito_item *item, uint64_t *total) {
-    vahepito_backoff backoff = VAHEPITO_BACKOFF;
     vahepito_item got = {0, 0, 0, 0, {0}};
     uint64_t number = 0;
-    uint32_t code;
-    while ((code = vahepito_call_turn_take(call, &got, &number)) == VAHEPITO_WAITING) vahepito_between_turns(&backoff);
+    const uint32_t code = vahepito_turns_of_take(NULL, call, &got, &number);
     if (item) *item = got;
     if (total) *total = number;
     return code;
@@ -240,10 +308,10 @@ typedef uint32_t vahepito_attempt(void *request);
  * number is a power of two begin with a try. */
 __attribute__((noinline, unused)) static uint32_t vahepito_wait(vahepito_line *line, vahepito_attempt *attempt, void *request,
                                                                 uint32_t nothing, const struct timespec *moment) {
-    vahepito_backoff backoff = VAHEPITO_BACKOFF;
+    vahepito_backoff backoff = VAHEPITO_BACKOFF(NULL);
     uint32_t code;
     for (uint32_t round = 1; round < VAHEPITO_ROUNDS; round++) {
-        vahepito_between_turns(&backoff);
+        (void)vahepito_rest(&backoff, 0);
         if (nothing == VAHEPITO_FULL && (round & (round - 1)) != 0) continue;
         if ((code = attempt(request)) != nothing) return code;
     }
@@ -276,8 +344,9 @@ static inline void vahepito_notify_all(vahepito_waits *waits) {
     for (int group = 0; group < 8; group++) vahepito_notify(&waits->groups[group], true);
 }
 
-/* A send: of these words, whether it may wait for room, and until when; and the place that it gets. */
+/* A send: the line of its side, its words, whether it may wait for room, and until when; and the place that it gets. */
 typedef struct {
+    vahepito_served *line;
     vahepito_call *call;
     const uint64_t *words;
     size_t count;
@@ -288,11 +357,11 @@ typedef struct {
 
 static inline uint32_t vahepito_attempt_send(void *at) {
     vahepito_send_request *const it = (vahepito_send_request *)at;
-    vahepito_backoff backoff = VAHEPITO_BACKOFF;
     uint32_t code;
-    while (vahepito_has_no_place(it->call, code = vahepito_call_send(it->call, it->words, it->count, &it->place)))
-        vahepito_between_turns(&backoff);
-    return code == VAHEPITO_WAITING ? vahepito_finish_send(it->call, &it->place) : code;
+    VAHEPITO_UNTIL(it->line, code, vahepito_call_send(it->call, it->words, it->count, &it->place), vahepito_has_no_place(it->call, code));
+    if (code == VAHEPITO_WAITING) code = vahepito_turns_of_send(it->line, it->call, &it->place);
+    vahepito_notify_served(it->line);
+    return code;
 }
 
 static inline uint32_t vahepito_make_send(vahepito_waits *waits, vahepito_send_request *it, uint64_t *place) {
@@ -307,44 +376,45 @@ static inline uint32_t vahepito_make_send(vahepito_waits *waits, vahepito_send_r
 /* Sends an item of one word, and waits for room. ACCEPTED with the place; CLOSED, SPENT: not accepted, and nothing will be.
  * WORN, BUSY: not accepted. */
 static inline uint32_t vahepito_send(vahepito_waits *waits, vahepito_call *call, uint64_t word, uint64_t *place) {
-    vahepito_send_request request = {call, &word, 1, true, NULL, 0};
+    vahepito_send_request request = {&waits->sends, call, &word, 1, true, NULL, 0};
     return vahepito_make_send(waits, &request, place);
 }
 
 /* The same until this moment. FULL: the moment has come, and at the last try there was no room. */
 static inline uint32_t vahepito_send_until(vahepito_waits *waits, vahepito_call *call, uint64_t word,
                                            const struct timespec *moment, uint64_t *place) {
-    vahepito_send_request request = {call, &word, 1, true, moment, 0};
+    vahepito_send_request request = {&waits->sends, call, &word, 1, true, moment, 0};
     return vahepito_make_send(waits, &request, place);
 }
 
 /* The same without a wait for room. FULL: there is none. */
 static inline uint32_t vahepito_send_now(vahepito_waits *waits, vahepito_call *call, uint64_t word, uint64_t *place) {
-    vahepito_send_request request = {call, &word, 1, false, NULL, 0};
+    vahepito_send_request request = {&waits->sends, call, &word, 1, false, NULL, 0};
     return vahepito_make_send(waits, &request, place);
 }
 
 /* The same three of an item of `count` words. BAD_WORDS, LONG: no such item is sent. */
 static inline uint32_t vahepito_send_words(vahepito_waits *waits, vahepito_call *call, const uint64_t *words, size_t count,
                                            uint64_t *place) {
-    vahepito_send_request request = {call, words, count, true, NULL, 0};
+    vahepito_send_request request = {&waits->sends, call, words, count, true, NULL, 0};
     return vahepito_make_send(waits, &request, place);
 }
 
 static inline uint32_t vahepito_send_words_until(vahepito_waits *waits, vahepito_call *call, const uint64_t *words,
                                                  size_t count, const struct timespec *moment, uint64_t *place) {
-    vahepito_send_request request = {call, words, count, true, moment, 0};
+    vahepito_send_request request = {&waits->sends, call, words, count, true, moment, 0};
     return vahepito_make_send(waits, &request, place);
 }
 
 static inline uint32_t vahepito_send_words_now(vahepito_waits *waits, vahepito_call *call, const uint64_t *words,
                                                size_t count, uint64_t *place) {
-    vahepito_send_request request = {call, words, count, false, NULL, 0};
+    vahepito_send_request request = {&waits->sends, call, words, count, false, NULL, 0};
     return vahepito_make_send(waits, &request, place);
 }
 
-/* A take: for this group, whether it may wait for an item, and until when; and the item and the total that it gets. */
+/* A take: the line of its side, its group, whether it may wait for an item, and until when; and the item and the total that it gets. */
 typedef struct {
+    vahepito_served *line;
     vahepito_call *call;
     uint32_t group;
     bool may_wait;
@@ -355,11 +425,11 @@ typedef struct {
 
 static inline uint32_t vahepito_attempt_take(void *at) {
     vahepito_take_request *const it = (vahepito_take_request *)at;
-    vahepito_backoff backoff = VAHEPITO_BACKOFF;
     uint32_t code;
-    while (vahepito_has_no_place(it->call, code = vahepito_call_take(it->call, it->group, &it->item, &it->total)))
-        vahepito_between_turns(&backoff);
-    return code == VAHEPITO_WAITING ? vahepito_finish_take(it->call, &it->item, &it->total) : code;
+    VAHEPITO_UNTIL(it->line, code, vahepito_call_take(it->call, it->group, &it->item, &it->total), vahepito_has_no_place(it->call, code));
+    if (code == VAHEPITO_WAITING) code = vahepito_turns_of_take(it->line, it->call, &it->item, &it->total);
+    vahepito_notify_served(it->line);
+    return code;
 }
 
 static inline uint32_t vahepito_make_take(vahepito_waits *waits, vahepito_take_request *it, vahepito_item *item, uint64_t *total) {
@@ -372,25 +442,30 @@ static inline uint32_t vahepito_make_take(vahepito_waits *waits, vahepito_take_r
     return code;
 }
 
+/* The line of a group, if there is such a group. */
+static inline vahepito_served *vahepito_takes_of(vahepito_waits *waits, uint32_t group) {
+    return group - 1 < 8 ? &waits->takes[group - 1] : NULL;
+}
+
 /* Takes an item for this group, from 1, and waits until there is one. GOT with the item; ENDED with the total: there will be
  * none any more. BAD_GROUPS: there is no such group. BUSY: nothing has changed. */
 static inline uint32_t vahepito_take(vahepito_waits *waits, vahepito_call *call, uint32_t group, vahepito_item *item,
                                      uint64_t *total) {
-    vahepito_take_request request = {call, group, true, NULL, {0, 0, 0, 0, {0}}, 0};
+    vahepito_take_request request = {vahepito_takes_of(waits, group), call, group, true, NULL, {0, 0, 0, 0, {0}}, 0};
     return vahepito_make_take(waits, &request, item, total);
 }
 
 /* The same until this moment. EMPTY: the moment has come, and at the last try there was no item. */
 static inline uint32_t vahepito_take_until(vahepito_waits *waits, vahepito_call *call, uint32_t group, vahepito_item *item,
                                            const struct timespec *moment, uint64_t *total) {
-    vahepito_take_request request = {call, group, true, moment, {0, 0, 0, 0, {0}}, 0};
+    vahepito_take_request request = {vahepito_takes_of(waits, group), call, group, true, moment, {0, 0, 0, 0, {0}}, 0};
     return vahepito_make_take(waits, &request, item, total);
 }
 
 /* The same without a wait for an item. EMPTY: there is none. */
 static inline uint32_t vahepito_take_now(vahepito_waits *waits, vahepito_call *call, uint32_t group, vahepito_item *item,
                                          uint64_t *total) {
-    vahepito_take_request request = {call, group, false, NULL, {0, 0, 0, 0, {0}}, 0};
+    vahepito_take_request request = {vahepito_takes_of(waits, group), call, group, false, NULL, {0, 0, 0, 0, {0}}, 0};
     return vahepito_make_take(waits, &request, item, total);
 }
 
@@ -398,11 +473,11 @@ static inline uint32_t vahepito_take_now(vahepito_waits *waits, vahepito_call *c
  * wait are woken.
  * SHUT, ALREADY with the total. BUSY: nothing has changed. A close is made also when all sends are WORN. */
 static inline uint32_t vahepito_close(vahepito_waits *waits, vahepito_call *call, uint64_t *total) {
-    vahepito_backoff backoff = VAHEPITO_BACKOFF;
     uint64_t number = 0;
     uint32_t code;
-    while (vahepito_has_no_place(call, code = vahepito_call_close(call, &number))) vahepito_between_turns(&backoff);
-    if (code == VAHEPITO_WAITING) code = vahepito_finish_close(call, &number);
+    VAHEPITO_UNTIL(&waits->sends, code, vahepito_call_close(call, &number), vahepito_has_no_place(call, code));
+    if (code == VAHEPITO_WAITING) code = vahepito_turns_of_close(&waits->sends, call, &number);
+    vahepito_notify_served(&waits->sends);
     vahepito_notify_all(waits);
     if (total) *total = number;
     return code;
@@ -419,6 +494,9 @@ static inline struct timespec vahepito_after(uint64_t nanoseconds) {
     return moment;
 }
 #endif
+
+#undef VAHEPITO_UNTIL
+#undef VAHEPITO_BACKOFF
 
 #ifdef __cplusplus
 }

@@ -18,8 +18,10 @@
 //!
 //! **What is used of the queue.** A try that begins after *make* was answered finds what it made,
 //! unless another try took it first. The accesses to `waiting` and the queue's steps are sequentially
-//! consistent, so that all of them have one order that every thread agrees on. On x86-64 some of the queue's
-//! stores are plain moves; when a call returns, none of them is pending. On aarch64 the last store of a call may
+//! consistent, so that all of them have one order that every thread agrees on. On x86-64 most of the queue's stores
+//! are plain moves. When a call returns, its last store may be pending: that by which it hands over to the next call of its side, or
+//! links a call that waits. The item, the room or the close that the call made is never pending then: a mark comes behind a send's item
+//! and behind a close, a take makes room by an addition, and these are locked instructions. On aarch64 the last store of a call may
 //! be pending when the call returns, but a load of `waiting` behind it is later in that order (`stlr`, `ldar`).
 //! The other accesses, of the counts of items and of a seat's flag, need no more than acquire and release: a look at counts
 //! that finds nothing takes each seat once, so that it comes before or after each holder of the seat.
@@ -48,8 +50,10 @@
 //! stands in line for the item: the two kinds of lines don't hold each other up.
 //!
 //! **Calls that another one serves** wait in a line of their side. *Make* is a store by which a call serves another one,
-//! or hands over to it. At its end each call checks this line, and wakes all of it. An answer may be there before that:
-//! its server may serve others first, or be preempted. So the waiter looks again after a millisecond.
+//! or hands over to it. At its end each call checks this line, and wakes all of it. Once anybody has stood in the line, each call gives
+//! its seat back by an exchange, which comes between *make* and *check*. The first waiter of all may be missed. And an
+//! answer may be there before that: its server may serve others first, or be preempted. So the waiter looks again after a
+//! millisecond.
 //!
 //! **Who is taken out and doesn't try any more** notifies the next in line instead
 //! ([`Event::pass_on`]): a waiter whose *look* took something while it was taken out (its try may have
@@ -198,6 +202,7 @@ pub struct Ticket {
 #[derive(Default)]
 #[repr(align(64))]
 pub struct Event {
+    /// Twice the length of the line, and 1; or 0 if no waiter was ever in it.
     waiting: AtomicUsize,
     line: Mutex<Line>,
 }
@@ -209,8 +214,9 @@ impl Event {
         let mut line = lock(&self.line);
         let changed = change(&mut line);
         // It is written under the lock alone.
-        if self.waiting.load(Ordering::Relaxed) != line.wakers.len() {
-            self.waiting.store(line.wakers.len(), Ordering::SeqCst);
+        let waiting = 2 * line.wakers.len() + 1;
+        if self.waiting.load(Ordering::Relaxed) != waiting {
+            self.waiting.store(waiting, Ordering::SeqCst);
         }
         changed
     }
@@ -275,9 +281,15 @@ impl Event {
         }
     }
 
+    /// Whether a waiter was ever in line.
+    #[inline]
+    pub fn was_used(&self) -> bool {
+        self.waiting.load(Ordering::SeqCst) != 0
+    }
+
     #[inline]
     pub fn has_waiters(&self) -> bool {
-        self.waiting.load(Ordering::SeqCst) != 0
+        self.waiting.load(Ordering::SeqCst) > 1
     }
 
     /// Wakes the first in line, if there is one. It never panics.

@@ -90,12 +90,23 @@ impl<'a> SeatGuard<'a> {
     }
 }
 
+/// Gives a seat back by an exchange, which waits until the stores of its call are in memory: one of them may have served a waiter of
+/// this line. Then it wakes all waiters.
+#[cold]
+fn give_back_and_wake(seat: &Seat, served: &Event) {
+    seat.taken.swap(false, Ordering::SeqCst);
+    if served.has_waiters() {
+        served.notify_all(&mut Panics::default());
+    }
+}
+
 impl Drop for SeatGuard<'_> {
     #[inline]
     fn drop(&mut self) {
-        self.seat.taken.store(false, Ordering::Release);
-        if self.pool.served.has_waiters() {
-            self.pool.served.notify_all(&mut Panics::default());
+        if self.pool.served.was_used() {
+            give_back_and_wake(self.seat, &self.pool.served);
+        } else {
+            self.seat.taken.store(false, Ordering::Release);
         }
         self.pool.free.notify_one();
     }

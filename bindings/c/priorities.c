@@ -1,0 +1,73 @@
+/* A thread of high priority doesn't hold up the thread that it waits for. A thread under SCHED_FIFO sends and takes in an endless loop,
+ * on the same processor as an ordinary thread that does the same. It interrupts the ordinary thread in the middle of calls, and has
+ * to wait for the answers of its own calls until that thread goes on. If it only yielded, the kernel would let it have the
+ * processor for about a second each time.
+ *
+ * It ends with status 0 if no send with its take took 50 milliseconds of the clock, and with 77 if it may not set the class or if there
+ * is none. Only calls that wait for neither room nor an item are made. */
+#define _GNU_SOURCE
+#include "checks.h"
+#include "vahepito_wait.h"
+
+#include <pthread.h>
+#include <stdio.h>
+#include <stdlib.h>
+
+static const vahepito_config config = {4, 4, 64, 64, (uint64_t)1 << 48, UINT32_MAX};
+static const long LONGEST = 50000000, ALL = 1500000000; /* nanoseconds */
+
+static vahepito_queue *queue;
+static int is_over;
+
+static long now(void) {
+    struct timespec time;
+    clock_gettime(CLOCK_MONOTONIC, &time);
+    return time.tv_sec * 1000000000L + time.tv_nsec;
+}
+
+static void send_and_take(vahepito_call *call) {
+    vahepito_item item;
+    const uint32_t sent = vahepito_send_now(&waits, call, 1, NULL);
+    check(sent == VAHEPITO_ACCEPTED || sent == VAHEPITO_FULL, "a send is accepted, or finds the queue full");
+    const uint32_t taken = vahepito_take_now(&waits, call, 1, &item, NULL);
+    check(taken == VAHEPITO_GOT || taken == VAHEPITO_EMPTY, "a take gets an item, or finds none");
+}
+
+static void *ordinary(void *unused) {
+    vahepito_call call = VAHEPITO_CALL(queue);
+    while (!__atomic_load_n(&is_over, __ATOMIC_RELAXED)) send_and_take(&call);
+    return unused;
+}
+
+int main(void) {
+    cpu_set_t one;
+    CPU_ZERO(&one);
+    CPU_SET(sched_getcpu(), &one);
+    check(sched_setaffinity(0, sizeof one, &one) == 0, "the threads stay on one processor");
+    check(vahepito_new(&config, 1, 1, &queue) == VAHEPITO_DONE, "a queue is opened");
+    pthread_t thread;
+    check(pthread_create(&thread, NULL, ordinary, NULL) == 0, "a thread starts");
+    const struct sched_param first = {1}, last = {0};
+    if (pthread_setschedparam(pthread_self(), SCHED_FIFO, &first) != 0) {
+        puts("SKIPPED: this process may not use SCHED_FIFO");
+        return 77;
+    }
+    vahepito_call call = VAHEPITO_CALL(queue);
+    long longest = 0, pairs = 0;
+    for (const long end = now() + ALL; now() < end; pairs++) {
+        const struct timespec pause = {0, 300000};
+        nanosleep(&pause, NULL);
+        const long begin = now();
+        send_and_take(&call);
+        const long took = now() - begin;
+        if (took > longest) longest = took;
+    }
+    pthread_setschedparam(pthread_self(), SCHED_OTHER, &last);
+    __atomic_store_n(&is_over, 1, __ATOMIC_RELAXED);
+    pthread_join(thread, NULL);
+    vahepito_free(queue);
+    fprintf(stderr, "C: priorities: %ld pairs, the longest took %.1f ms\n", pairs, (double)longest / 1e6);
+    if (longest >= LONGEST) return 1;
+    puts("no pair took 50 ms");
+    return 0;
+}
