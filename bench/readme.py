@@ -53,8 +53,8 @@ def section(text):
     _, tails = rows_after(text, "<!-- busy_tail -->" if is_busy else "<!-- tail -->")
     tail = next(row for row in tails if row["part"] == "p99.99" and row["senders"] == "16")
     columns = ["one thread", "4/4", "32/32", "Full"] + ["p99.99"] * is_busy
-    lines = ["Nanoseconds on four idle processors: an item on one thread, at 4/4 and 32/32 senders/receivers; a send to a full",
-             "queue (capacity 1,024)" + ("; p99.99 of a send by 16 threads beside four busy processes." if is_busy else "."),
+    lines = ["In nanoseconds, on four idle processors: a send and its take on one thread; an item at 4 and at 32",
+             "senders and receivers; a send to a full queue of 1,024" + ("; a send's p99.99 by 16 threads beside busy processes." if is_busy else "."),
              "", f"| | {' | '.join(columns)} |", "|---" * (len(columns) + 1) + "|"]
     for row in ROWS:
         cells = [clock[row][column] for column in columns[:3]] + [full[row]["1024"]]
