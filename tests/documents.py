@@ -8,10 +8,12 @@
   parameter, a type, a field, a variant, a clause, a definition or a file; elsewhere it has to be a word of some source. A
   clause in brackets after a function has to be one of that function. Files that links name have to be there too. What is
   fenced isn't read, and a word in capitals, as in crates/NAME, stands for others.
-- Pointers: a section that a text names as `docs/NAME.md, "Heading"`, and each heading behind the # of a link, is one of that document.
+- Pointers: a section that a text names as `docs/NAME.md, "Heading"`, a document as `above, "Heading"` or `below`, and each heading
+  behind the # of a link, is one of that document.
   In the texts of STRANGERS, which a reader of a clone has, no program is one that a build leaves, and a line of a block of code
   that begins with a path begins with that of a file of the tree.
-- Numbers: a size behind the name of a file, as `NAME` (12 KB), is its size, and no size stands where no file is named. The line of
+- Numbers: a size behind the name of a file, as `NAME` (12 KB), is its size, and no size stands where no file is named. The number of
+  stores in which the archives differ is that of the library's PROOF. The line of
   the proof that docs/TRUST.md quotes is that of the library, and it explains each word of the lines of each PROOF.
 - Merges: no document has a line that a merge leaves, as `<<<<<<< ` and a branch.
 - The map: docs/MAP.md names each source and spec file of the crates, each file of FOLDERS and each one at the top. A name in
@@ -43,8 +45,8 @@ TEXTS = [*DOCUMENTS, "CHANGELOG.md", "examples/*.md", "crates/*/src/**/*.rt", "b
 STRANGERS = ["README.md", "examples/*.md", "bindings/*/*.md", "docs/FORMATS.md", "docs/JUDGE.md", "docs/USING.md", "docs/BENCH.md", "docs/TEACHING.md", "play", "show", "Makefile"]
 PROOFS = ["bin/x86_64-unknown-linux-gnu/PROOF", "bindings/rust/lib/x86_64-unknown-linux-gnu/PROOF", "bindings/rust/lib/aarch64-unknown-linux-gnu/PROOF"]
 # Lines that strangers' texts may not have: a section that isn't there, a program that a build leaves or that nothing leaves, a
-# size that no file has, and one of no file.
-WRONG = ['(README.md, "Nowhere")', "[here](docs/MODEL.md#nowhere)", "    crates/ccq/out/ccq play", "    ./nowhere PLAN", "```sh\n./nowhere PLAN\n```", "`libvahepito.a` (1 KB)", "an archive of 45 KB"]
+# size that no file has, one of no file, and numbers of stores that PROOF doesn't have.
+WRONG = ['(README.md, "Nowhere")', '(`docs/MODEL.md`, "Nowhere")', 'docs/MODEL.md,\n"Nowhere"', 'above, "Nowhere"', "[here](docs/MODEL.md#nowhere)", "    crates/ccq/out/ccq play", "    ./nowhere PLAN", "```sh\n./nowhere PLAN\n```", "`libvahepito.a` (1 KB)", "an archive of 45 KB", "which differs in 7 stores", "plain moves of 7\nlocked stores"]
 # Names that the tree doesn't have, and whose they are.
 OUTSIDE = {
     **dict.fromkeys(["std", "core", "None", "write"], "Rust's"),
@@ -240,10 +242,14 @@ def named_document(path, name):
 
 def wrong_pointers(path, text):
     """Sections that texts and links name and documents lack, with their lines."""
-    for found in re.finditer(r'([\w./-]+\.md), "([^"\n]+)"', text):
-        document = named_document(path, found[1])
-        if "NAME" not in found[1] and (document is None or found[2] not in headings(document.read_text())):
-            yield text.count("\n", 0, found.start()) + 1, f"{found[1]}, \"{found[2]}\": there is no such section"
+    for found in re.finditer(r'(?:`?([\w./-]+\.md)`?|\b(?:above|below)),\s(?:[#/*]+ +)?"([A-Z][^"\n]+)"', text):
+        if found[1] is None and path.suffix != ".md" or "NAME" in (found[1] or ""):
+            continue
+        document = named_document(path, found[1] or path.name)
+        known = headings(document.read_text()) if document else []
+        # A heading may be named without the definitions in brackets at its end.
+        if found[2] not in [*known, *(re.sub(r" \([^()]*\)$", "", heading) for heading in known)]:
+            yield text.count("\n", 0, found.start()) + 1, f"{found[1] or 'this document'}, \"{found[2]}\": there is no such section"
     for found in re.finditer(r"\]\(([^)#:\s]*)#([^)\s]+)\)", text):
         document = named_document(path, found[1] or path.name)
         if document is not None and document.suffix == ".md" and found[2] not in map(anchor, headings(document.read_text())):
@@ -293,8 +299,16 @@ def wrong_proofs():
                 yield f"docs/TRUST.md doesn't explain `{word}=` of {path}"
 
 
+def wrong_stores(text):
+    """Numbers of the stores in which the archives differ that aren't the library's PROOF's, with their lines."""
+    due = re.search(r"^stores: (\d+) of", (TOP / PROOFS[1]).read_text(), re.M)[1]
+    for found in re.finditer(r"\b(?:differs in|plain moves of)\s(\d+)\s(?:locked )?stores\b", text):
+        if found[1] != due:
+            yield text.count("\n", 0, found.start()) + 1, f"{found[0]}: PROOF has {due} plain stores"
+
+
 def wrong_for_strangers(tree, path, text):
-    return [*wrong_pointers(path, text), *wrong_programs(tree, path, text), *wrong_sizes(tree, text)]
+    return [*wrong_pointers(path, text), *wrong_programs(tree, path, text), *wrong_sizes(tree, text), *wrong_stores(text)]
 
 
 def blocks(text):
@@ -356,6 +370,7 @@ def main():
         found += [f"{path.relative_to(TOP)}:{line}: `{name}` is nowhere in the tree" for line, name in sorted(wrong)]
         marks = [line for line, words in enumerate(text.splitlines(), 1) if words.startswith(("<<<<<<< ", ">>>>>>> "))]
         found += [f"{path.relative_to(TOP)}:{line}: a merge left this line" for line in marks]
+        found += [f"{path.relative_to(TOP)}:{line}: {said}" for line, said in wrong_stores(text)]
     for path in sorted({path for pattern in TEXTS for path in TOP.glob(pattern) if path.is_file() and path.name != "documents.py"}):
         found += [f"{path.relative_to(TOP)}:{line}: {said}" for line, said in wrong_pointers(path, path.read_text())]
     for path in [path for pattern in STRANGERS for path in sorted(TOP.glob(pattern))]:

@@ -6,7 +6,7 @@
 Five checks, in about two seconds:
 
 - Words: README.md has at most 900, and README.md with docs/*.md at most 36,000, as `wc -w` counts them, without
-  docs/STATEMENTS*, which a script writes. --words prints the number of words of each document, and checks nothing.
+  docs/STATEMENTS* and tables between marks, which scripts write. --words prints the number of words of each document, and checks nothing.
 - Patterns: none of PATTERNS is found in a document, or in a comment of the code, of definitions and of the bindings, in
   letters of either case. Each names the words to use, and has a sentence in which it is found.
 - Names: none of the words of NAMES is a part of a name in the code, in definitions or in the bindings.
@@ -33,6 +33,8 @@ COUNTED = ["README.md", "docs/*.md"]
 READ = [*COUNTED, "CONTRIBUTING.md", "CHANGELOG.md", "bindings/*/*.md", "examples/README.md"]
 C_CODE = ["bindings/c/*.[ch]", "bindings/c/*.hpp"]
 CODE = ["crates/*/src/**/*.rt", "crates/*/specs/**/*.antt", "bindings/rust/**/*.rs", "bench/**/*.rs"]
+# Tables that a script writes, between its marks.
+TABLES = re.compile(r"<!-- \S+ writes from here -->\n.*?<!-- to here -->", re.S)
 WRITTEN_BY_SCRIPTS = re.compile(r"docs/STATEMENTS|crates/cc_show/src/page.rt")
 
 # What a reader stumbles over, what to write instead, and a sentence that had it.
@@ -83,7 +85,8 @@ def read(path):
 
 
 def count(text):
-    return len(text.split())
+    """The number of its words, without tables that a script writes."""
+    return len(TABLES.sub("", text).split())
 
 
 def check_words():
