@@ -1,27 +1,31 @@
 #!/usr/bin/env python3
 """Whether the gate stays within its price: the processor seconds of its parts, and the limit of docs/GATE.md.
 
-Usage: tests/budget.py --yard          prints the processor seconds of a fixed piece of work on this machine, now
-       tests/budget.py PARTS YARD..    compares: PARTS has a line `SECONDS NAME` for each part, and each YARD is such a number
+Usage: tests/budget.py --yard           prints the processor seconds of a fixed piece of work on this machine, now
+       tests/budget.py --yards          prints them now, and again every ten minutes until it is killed
+       tests/budget.py PARTS YARDS      compares: PARTS has a line `SECONDS NAME` for each part, YARDS a line for each such number
 
 The piece of work is the proof of the toolchain's own template of a library, twice from nothing. docs/GATE.md has the limit, in
 processor minutes, and the seconds that this work takes on the host of its table. On a slower host the limit is higher by as much as
-the work takes longer there, by the mean of what was measured before the gate and after it. The exit status is 0 if the sum of all
-parts is within the limit.
+the work takes longer there, by the mean of what was measured before the gate, while it ran, and after it: a host that is idle is
+faster than the same host under the gate's load. The exit status is 0 if the sum of all parts is within the limit.
 """
 
 import os
 import re
 import resource
+import signal
 import subprocess
 import sys
 import tempfile
+import time
 from pathlib import Path
 
 sys.dont_write_bytecode = True
 TOP = Path(__file__).resolve().parent.parent
 LIMIT = re.compile(r"\*\*The limit is (\d+) processor minutes\*\*, on a host on which `tests/budget\.py --yard` prints (\d+\.\d)")
 SHOWN = 12  # the costliest parts, each on a line of its own
+PAUSE = 600  # seconds between two measurements of --yards
 
 
 def yard() -> float:
@@ -45,6 +49,14 @@ def yard() -> float:
     return total
 
 
+def print_yards() -> None:
+    """Prints what the work takes, again and again; when it is killed, its folder goes first."""
+    signal.signal(signal.SIGTERM, lambda *_: sys.exit(0))
+    while True:
+        print(f"{yard():.1f}", flush=True)
+        time.sleep(PAUSE)
+
+
 def verdict(parts: list[tuple[float, str]], yards: list[float], text: str) -> tuple[list[str], bool]:
     """What is said of these parts, and whether they are within the limit that this text has."""
     found = LIMIT.search(text)
@@ -54,7 +66,9 @@ def verdict(parts: list[tuple[float, str]], yards: list[float], text: str) -> tu
     scale = sum(yards) / len(yards) / there
     spent = sum(seconds for seconds, _ in parts) / 60
     said = [f"budget: {seconds:8.1f} s  {name}" for seconds, name in sorted(parts, reverse=True)[:SHOWN]]
-    said.append(f"budget: {spent:.1f} processor minutes; the limit is {minutes * scale:.1f} here, {minutes} on a host {scale:.2f} times as fast")
+    seen = ", ".join(f"{seconds:.1f}" for seconds in yards)
+    said.append(f"budget: the yardstick took {seen} s, and {there} s on the host of docs/GATE.md")
+    said.append(f"budget: {spent:.1f} processor minutes; the limit is {minutes * scale:.1f} here, where the work takes {scale:.2f} times as long")
     return said, spent <= minutes * scale
 
 
@@ -63,11 +77,14 @@ def main() -> int:
     if words == ["--yard"]:
         print(f"{yard():.1f}")
         return 0
-    if len(words) < 2:
+    if words == ["--yards"]:
+        print_yards()
+    if len(words) != 2:
         print(__doc__, file=sys.stderr)
         return 64
     lines = [line.split(" ", 1) for line in Path(words[0]).read_text().splitlines()]
-    said, within = verdict([(float(seconds), name) for seconds, name in lines], [float(word) for word in words[1:]], (TOP / "docs/GATE.md").read_text())
+    yards = [float(word) for word in Path(words[1]).read_text().split()]
+    said, within = verdict([(float(seconds), name) for seconds, name in lines], yards, (TOP / "docs/GATE.md").read_text())
     print("\n".join(said))
     return int(not within)
 
