@@ -27,7 +27,8 @@ else
     done=1
     make -k -s -C bindings/c "$([ -n "$quick" ] && echo check || echo check-all)" OUT="$room/c" </dev/null || failed=$((failed + 1))
     strict=(check)
-    [ -n "$quick" ] || strict+=(check-valgrind check-address check-thread check-boxes-gcc check-boxes-clang)
+    # The address sanitizer sees the program alone, which is the same.
+    [ -n "$quick" ] || strict+=(check-valgrind check-thread check-boxes-gcc check-boxes-clang)
     echo "$tests: C: the same over the strict archive"
     make -k -s -C bindings/c "${strict[@]}" STRICT=yes OUT="$room/strict" </dev/null || failed=$((failed + 1))
 fi
@@ -82,22 +83,20 @@ if compgen -G "$registry/futures-core-*" >/dev/null && compgen -G "$registry/fut
 else
     skip 'Rust: streams and sinks' "librust-futures-core-dev or librust-futures-sink-dev is not on this machine"
 fi
+# What the strict archive does the relaxed one may do too. So the memory of the crate's own code is checked over the relaxed one
+# alone; the strict archive itself runs under valgrind with the programs in C, above.
 host=$(rustc -vV | sed -n 's/^host: //p')
 if has valgrind; then
     lost='definite,indirect'
     valgrind="valgrind -q --fair-sched=yes --error-exitcode=99 --leak-check=full --show-leak-kinds=$lost --errors-for-leak-kinds=$lost"
-    for strict in '' strict; do
-        limit=600 step "Rust: under valgrind${strict:+, strict}" env "CARGO_TARGET_$(tr 'a-z-' 'A-Z_' <<<"$host")_RUNNER=$valgrind" \
-            VAHEPITO_ROUNDS=2 cargo "${options[@]}" test --features "$strict" --tests -- "${fewer[@]}"
-    done
+    limit=600 step 'Rust: under valgrind' env "CARGO_TARGET_$(tr 'a-z-' 'A-Z_' <<<"$host")_RUNNER=$valgrind" \
+        VAHEPITO_ROUNDS=2 cargo "${options[@]}" test --tests -- "${fewer[@]}"
 else
     skip 'Rust: under valgrind' 'valgrind is not on this machine'
 fi
 if cargo +nightly --version >/dev/null 2>&1; then
-    for strict in '' strict; do
-        limit=600 step "Rust: sanitizer address${strict:+, strict}" env RUSTFLAGS=-Zsanitizer=address VAHEPITO_ROUNDS=5 \
-            cargo +nightly "${options[@]}" test --features "$strict" --target "$host" --tests -- "${fewer[@]}"
-    done
+    limit=600 step 'Rust: sanitizer address' env RUSTFLAGS=-Zsanitizer=address VAHEPITO_ROUNDS=5 \
+        cargo +nightly "${options[@]}" test --target "$host" --tests -- "${fewer[@]}"
     # Its std isn't built for this sanitizer, which so reports the test runner's own channel.
     thread='-Zsanitizer=thread -Cunsafe-allow-abi-mismatch=sanitizer --cfg vahepito_tsan'
     echo 'race:std::sync::mpmc::list::Channel<test::event::CompletedTest>' >"$room/of_the_runner"
