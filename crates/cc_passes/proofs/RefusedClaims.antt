@@ -1,11 +1,15 @@
 -- The clauses refuse these claims.
-use Rattle.std.proofs.Common.{◌≡◌, ℕ, ◌<◌, List, [], ◌∷◌, length, Some, ap, subst, arith}
+use Rattle.std.proofs.Common.{◌≡◌, ◌≢◌, ℕ, ◌<◌, List, [], ◌∷◌, length, Option, Some, None, Err, sym, ap, subst, arith}
 use Rattle.std.specs.List.{All}
 use Rattle.std.specs.declared.alloc.Global.{Global}
 use Rattle.std.specs.declared.vec.Vec.{Vec}
 use Rattle.cc_steps.specs.Walk.{Walk}
-use Rattle.cc_passes.specs.Names.{Config, Pass}
-use Rattle.cc_passes.specs.Calls.{IsExhausted}
+use Rattle.cc_passes.specs.Names.{Config, Pass, SendAnswer, SendResult}
+use Rattle.cc_passes.specs.declared.handles.return_codes.TheConstants.{BUSY, WAITING}
+use Rattle.cc_passes.specs.Results.{only, sent_as}
+use Rattle.cc_passes.specs.Calls.{IsExhausted, SendTurns, TurnsSend}
+use Rattle.cc_passes.specs.Made.{kept_of}
+use Rattle.cc_passes.specs.Caller.{SendsBy, TurnsBy}
 use Rattle.cc_passes.specs.Opened.{HasPlaces, HasPool}
 use Rattle.cc_passes.specs.Pooled.{Pool}
 use Rattle.cc_passes.specs.declared.pool.kept.Kept.{Kept}
@@ -21,10 +25,41 @@ without_receivers c words p row some none is has =
 too_early : (w : Walk) → w.stand.begun < w.setting.config.per_sender → IsExhausted (Some (Pass.Sender w)) → ⊥
 too_early w less is = omega (arith, less, is)
 
+bad_body : (p : Pool) (why : ℕ) (old new : Option Pass) → why ≢ BUSY → SendsBy p (Err why) old new (only BUSY) → ⊥
+bad_body p why old new other (same, told) = other (sym (ap (λ (s : SendResult). s.code) told))
+
+kept_answered : (after : Pass) (w : Walk) → Some (Pass.Sender w) ≡ kept_of (Some after) → ⊥
+kept_answered (Pass.Sender v) w is = cc is
+kept_answered (Pass.Sending v) w is = cc is
+kept_answered (Pass.Closing v) w is = cc is
+kept_answered (Pass.Receiver v) w is = cc is
+kept_answered (Pass.Taking v) w is = cc is
+
+no_answer_waits : (given : SendAnswer) (served : ℕ) → only WAITING ≡ sent_as given served → ⊥
+no_answer_waits (SendAnswer.Accepted place) served is = let e = ap (λ (s : SendResult). s.code) is in omega (arith, e)
+no_answer_waits SendAnswer.Full served is = let e = ap (λ (s : SendResult). s.code) is in omega (arith, e)
+no_answer_waits SendAnswer.Closed served is = let e = ap (λ (s : SendResult). s.code) is in omega (arith, e)
+no_answer_waits SendAnswer.Spent served is = let e = ap (λ (s : SendResult). s.code) is in omega (arith, e)
+
+waits_without : (v : Walk) (after : Option Pass) → SendTurns v after (only WAITING) → None ≡ kept_of after → ⊥
+waits_without v (Some (Pass.Sending w)) turns is = cc is
+waits_without v (Some (Pass.Sender w)) turns is = no_answer_waits turns.given (only WAITING).served turns.told_is
+waits_without v None turns is = absurd turns
+waits_without v (Some (Pass.Closing w)) turns is = absurd turns
+waits_without v (Some (Pass.Receiver w)) turns is = absurd turns
+waits_without v (Some (Pass.Taking w)) turns is = absurd turns
+
+drops : (p : Pool) (place : ℕ) (v : Walk) → TurnsBy p place TurnsSend (Some (Pass.Sending v)) None (only WAITING) → ⊥
+drops p place v (after, turns, is, settles) = waits_without v after turns is
+
 pub claims_refused : RefusedClaims
 claims_refused = record {
   opened_without_senders = without_senders;
   opened_without_receivers = without_receivers;
   worn_too_early = too_early;
   receiver_is_skipped = λ w group ranked outside. outside ranked;
+  taken_for_another_group = λ form group w new told other takes. other takes.0;
+  bad_body_is_busy = bad_body;
+  answered_pass_is_kept = λ z body told w made. kept_answered made.after w made.kept;
+  turn_drops_the_call = drops;
 }

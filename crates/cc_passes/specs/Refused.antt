@@ -1,12 +1,18 @@
 -- Refused claims: for each kind of mistake a small case, and a claim about it that the clause doesn't admit.
-use Rattle.std.specs.Prelude.{◌≡◌, ℕ, ◌<◌, [], ◌∷◌, Some}
+use Rattle.std.specs.Prelude.{◌≡◌, ◌≢◌, ℕ, ◌<◌, [], ◌∷◌, Option, Some, None, Err}
 use Rattle.std.specs.declared.alloc.Global.{Global}
+use Rattle.std.specs.declared.result.Result.{Result}
 use Rattle.std.specs.declared.vec.Vec.{Vec}
 use Rattle.cc_queue.specs.Group.{Ranked}
+use Rattle.cc_steps.specs.Topic.{Topic}
 use Rattle.cc_steps.specs.Walk.{Walk}
-use Rattle.cc_passes.specs.Names.{Config, Pass}
-use Rattle.cc_passes.specs.Calls.{IsExhausted}
-use Rattle.cc_passes.specs.Caller.{IsOutside}
+use Rattle.cc_passes.specs.Names.{Body, Config, Pass, SendResult, TakeResult, TakenItem}
+use Rattle.cc_passes.specs.declared.handles.return_codes.TheConstants.{BUSY, WAITING}
+use Rattle.cc_passes.specs.Items.{Form}
+use Rattle.cc_passes.specs.Results.{only}
+use Rattle.cc_passes.specs.Calls.{IsExhausted, TriesSend, TurnsSend}
+use Rattle.cc_passes.specs.Made.{IsMade, TakesIn}
+use Rattle.cc_passes.specs.Caller.{IsOutside, SendsBy, TurnsBy}
 use Rattle.cc_passes.specs.Opened.{HasPool}
 use Rattle.cc_passes.specs.Pooled.{Pool}
 use Rattle.cc_passes.specs.declared.pool.kept.Kept.{Kept}
@@ -24,3 +30,11 @@ pub record RefusedClaims : Type 0 where
   pub worn_too_early : (w : Walk) → w.stand.begun < w.setting.config.per_sender → Refused (IsExhausted (Some (Pass.Sender w)))
   -- a receiver of the group is skipped
   pub receiver_is_skipped : (w : Walk) (group : ℕ) → Ranked w group → Refused (IsOutside group (Some (Pass.Receiver w)))
+  -- a take for a group is made by a receiver of another group
+  pub taken_for_another_group : (form : Form TakenItem) (group : ℕ) (w : Walk) (new : Option Pass) (told : TakeResult TakenItem) → Refused (Ranked w group) → Refused (TakesIn form group (Some (Pass.Receiver w)) new told)
+  -- a body is refused as too long, and the code says that all senders are in use
+  pub bad_body_is_busy : (p : Pool) (why : ℕ) (old new : Option Pass) → why ≢ BUSY → Refused (SendsBy p (Err why) old new (only BUSY))
+  -- a call was answered, and the caller keeps the pass
+  pub answered_pass_is_kept : (z : Topic) (body : Result Body ℕ) (told : SendResult) (w : Walk) → Refused (IsMade z (TriesSend body) told (Some (Pass.Sender w)))
+  -- a send waits on, and the caller has no pass any more
+  pub turn_drops_the_call : (p : Pool) (place : ℕ) (v : Walk) → Refused (TurnsBy p place TurnsSend (Some (Pass.Sending v)) None (only WAITING))
