@@ -1,8 +1,11 @@
 -- The clauses refuse these claims.
-use Rattle.std.proofs.Common.{◌≡◌, [], ◌∷◌, codes, arith}
-use Rattle.serde_json.specs.Data.{Data, Members}
+use Rattle.std.proofs.Common.{◌≡◌, [], ◌∷◌, true, Some, Err, codes, arith}
+use Rattle.serde_json.specs.Data.{Data, Members, put}
+use Rattle.serde_json.specs.Find.{get}
 use Rattle.cc_plan.specs.Names.{Kind}
+use Rattle.cc_plan.specs.PlanOf.{plan_of_values}
 use Rattle.cc_plan.specs.Position.{column_after}
+use Rattle.cc_plan.specs.Refusal.{Refusal}
 use Rattle.cc_plan.specs.Why.{kind_in}
 use Rattle.cc_plan.specs.Refused.{RefusedClaims}
 
@@ -12,8 +15,17 @@ of_bytes is = absurd (omega (arith, is))
 of_both : (rows : Data) → kind_in (Data.object (Members.member (codes "accepted") rows Members.no_members)) ≡ Kind.Plan → ⊥
 of_both rows is = absurd (cc is)
 
+first_counts : get (codes "life") (Data.object (put (codes "life") Data.null (put (codes "life") (Data.boolean true) Members.no_members))) ≡ Some (Data.boolean true) → ⊥
+first_counts is = absurd (cc is)
+
+bound_first : plan_of_values (Data.object (Members.member (codes "bound") Data.null (Members.member (codes "capacity") Data.null Members.no_members))) ≡ Err (Refusal.out_of_range (codes "bound")) → ⊥
+unfolding plan_of_values
+bound_first is = absurd (cc is)
+
 pub claims_refused : RefusedClaims
 claims_refused = record {
   columns_of_bytes = of_bytes;
   receipts_of_both_lists = of_both;
+  first_member_counts = first_counts;
+  bound_is_reported_first = bound_first;
 }
