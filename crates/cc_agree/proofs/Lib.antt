@@ -4,5 +4,7 @@ pub mod Exact
 pub mod Lists
 pub mod Log
 pub mod Placed
+pub mod RealTime
 pub mod LogOrder
 pub mod Small
+pub mod SmallCalls

@@ -57,12 +57,12 @@ threads_grow (Move.Take p ∷ later) seen = threads_grow later seen
 
 -- ---- the calls of a pass
 
-made_here : (c : Setting) (q : ℕ) (call : Call) (known : ℕ) (earlier : List Move) (p : ℕ) → q ≡ p → length (made c (Move.Begin q call known ∷ earlier) p) ≡ length (made c earlier p) + 1
+pub made_here : (c : Setting) (q : ℕ) (call : Call) (known : ℕ) (earlier : List Move) (p : ℕ) → q ≡ p → length (made c (Move.Begin q call known ∷ earlier) p) ≡ length (made c earlier p) + 1
 made_here c q call known earlier p is =
     ap (λ (b : Bool). length (cond b (made c earlier p ++ record { pass = pass_at c.config q; call = call; number = number_of call ((reached c earlier).stand q).begun; known = known } ∷ []) (made c earlier p))) (eq-eqb q p is)
     ∙ length-append (made c earlier p) _
 
-made_away : (c : Setting) (q : ℕ) (call : Call) (known : ℕ) (earlier : List Move) (p : ℕ) → q ≢ p → made c (Move.Begin q call known ∷ earlier) p ≡ made c earlier p
+pub made_away : (c : Setting) (q : ℕ) (call : Call) (known : ℕ) (earlier : List Move) (p : ℕ) → q ≢ p → made c (Move.Begin q call known ∷ earlier) p ≡ made c earlier p
 made_away c q call known earlier p ne =
     ap (λ (b : Bool). cond b (made c earlier p ++ record { pass = pass_at c.config q; call = call; number = number_of call ((reached c earlier).stand q).begun; known = known } ∷ []) (made c earlier p)) (ne_eqb q p ne)
 
@@ -197,6 +197,31 @@ made_nth c (Move.Begin q call' known' ∷ later) before p call known = elim (cas
 made_nth c (Move.Step q ∷ later) before p call known = made_nth c later before p call known
 made_nth c (Move.Take q ∷ later) before p call known = made_nth c later before p call known
 
+-- a pass whose answer was read has begun a call, and its last is answered so
+pub record IsLast (c : Setting) (moves : List Move) (p : ℕ) (told : Answer) : Type 0 where
+  pub before : List (Entry × Option Answer)
+  pub entry : Entry
+  pub last : calls_of (pass_at c.config p) (history_of c moves) ≡ before ++ (entry, Some told) ∷ []
+  pub many : length (made c moves p) ≡ length before + 1
+
+pub is_last : (c : Setting) → c.served ≡ Served.List → config_fault c.config ≡ Ok tt → (moves : List Move) → IsRun c moves → (p : ℕ) → p < passes c → (told : Answer) → ((reached c moves).stand p).phase ≡ Phase.Finished told → IsLast c moves p told
+is_last c serves checked moves run p less told finished =
+    let a : IsLastAnswer (pass_at c.config p) (history_of c moves) told = list_answers_told c moves serves checked run p told less finished in
+    let calls : made c moves p ≡ calls_made_by (pass_at c.config p) (history_of c moves) ++ [] = calls_made c checked moves run p less ∙ ap (λ (z : Phase). calls_made_by (pass_at c.config p) (history_of c moves) ++ to_exchange z) finished in
+    record {
+      before = a.before;
+      entry = a.entry;
+      last = a.last;
+      many = omega (
+        arith,
+        ap length calls,
+        length-append (calls_made_by (pass_at c.config p) (history_of c moves)) [],
+        length-map (calls_of (pass_at c.config p) (history_of c moves)) (λ (z : Entry × Option Answer). z.0),
+        ap length a.last,
+        length-append a.before ((a.entry, Some told) ∷ []),
+      );
+    }
+
 -- ---- what each line says
 
 module _ (c : Setting) (number : Body → ℕ) (clock : ℕ → ℕ) where
@@ -287,31 +312,6 @@ module _ (c : Setting) (number : Body → ℕ) (clock : ℕ → ℕ) where
   Has moves k p n = (line : Line) × (slice_get (log_of c number clock moves) k ≡ Some line) × Logged moves k p n line
 
   module _ (serves : c.served ≡ Served.List) (checked : config_fault c.config ≡ Ok tt) where
-    -- a pass whose answer was read has begun a call, and its last is answered so
-    pub record IsLast (moves : List Move) (p : ℕ) (told : Answer) : Type 0 where
-      pub before : List (Entry × Option Answer)
-      pub entry : Entry
-      pub last : calls_of (pass_at c.config p) (history_of c moves) ≡ before ++ (entry, Some told) ∷ []
-      pub many : length (made c moves p) ≡ length before + 1
-
-    pub is_last : (moves : List Move) → IsRun c moves → (p : ℕ) → p < passes c → (told : Answer) → ((reached c moves).stand p).phase ≡ Phase.Finished told → IsLast moves p told
-    is_last moves run p less told finished =
-        let a : IsLastAnswer (pass_at c.config p) (history_of c moves) told = list_answers_told c moves serves checked run p told less finished in
-        let calls : made c moves p ≡ calls_made_by (pass_at c.config p) (history_of c moves) ++ [] = calls_made c checked moves run p less ∙ ap (λ (z : Phase). calls_made_by (pass_at c.config p) (history_of c moves) ++ to_exchange z) finished in
-        record {
-          before = a.before;
-          entry = a.entry;
-          last = a.last;
-          many = omega (
-            arith,
-            ap length calls,
-            length-append (calls_made_by (pass_at c.config p) (history_of c moves)) [],
-            length-map (calls_of (pass_at c.config p) (history_of c moves)) (λ (z : Entry × Option Answer). z.0),
-            ap length a.last,
-            length-append a.before ((a.entry, Some told) ∷ []),
-          );
-        }
-
     module _ (q : ℕ) (earlier : List Move) (run : IsRun c (Move.Take q ∷ earlier)) where
       abbrev log : List Line
       log = log_of c number clock earlier
@@ -377,7 +377,7 @@ module _ (c : Setting) (number : Body → ℕ) (clock : ℕ → ℕ) where
       taken k p n is h = elim (cases_eq k at) [
         | inl same ↦
             let f : (told : Answer) × (((reached c earlier).stand q).phase ≡ Phase.Finished told) = finished ((reached c earlier).stand q).phase run.1.1 in
-            let l : IsLast earlier q f.0 = is_last earlier run.0 q run.1.0 f.0 f.1 in
+            let l : IsLast c earlier q f.0 = is_last c serves checked earlier run.0 q run.1.0 f.0 f.1 in
             let both : slice_get (who c earlier) at ≡ Some (q, length l.before) = last_is c earlier q (length l.before) l.many in
             let equal : ◌≡◌ {A = Option (ℕ × ℕ)} (Some (q, length l.before)) (Some (p, n)) = sym both ∙ ap (slice_get (who c earlier)) (sym same) ∙ is in
             let pass_is : q ≡ p = first_same q p (length l.before) n equal in
@@ -480,7 +480,7 @@ module _ (c : Setting) (number : Body → ℕ) (clock : ℕ → ℕ) where
     line_taken : (q : ℕ) (earlier : List Move) → IsRun c (Move.Take q ∷ earlier) → Line_at q earlier
     line_taken q earlier run =
         let f : (told : Answer) × (((reached c earlier).stand q).phase ≡ Phase.Finished told) = finished q earlier run ((reached c earlier).stand q).phase run.1.1 in
-        let l : IsLast earlier q f.0 = is_last earlier run.0 q run.1.0 f.0 f.1 in
+        let l : IsLast c earlier q f.0 = is_last c serves checked earlier run.0 q run.1.0 f.0 f.1 in
         let who_is : slice_get (who c earlier) (last_of q earlier) ≡ Some (q, length l.before) = last_is c earlier q (length l.before) l.many in
         let h : Has earlier (last_of q earlier) q (length l.before) = all_logged earlier run.0 (last_of q earlier) q (length l.before) who_is in
         let still : Open h.2.call h.0 = open_line q earlier run (length l.before) f.0 f.1 l.many h in

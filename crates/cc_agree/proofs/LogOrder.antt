@@ -1,35 +1,24 @@
 -- The log of each run has a legal order: the steps of the run's linearization.
 use Rattle.std.proofs.Common.{◌≡◌, ◌⊎◌, ℕ, zero, suc, ◌+◌, ◌<◌, ◌≤◌, Bool, true, false, cond, List, [], ◌∷◌, ◌++◌, length, get_or, Option, Some, None, Ok, IsSome, inl, inr, refl, sym, ap, ◌∙◌, subst, arith, append_assoc, append-nil, slice_index_or, length-append}
-use Rattle.std.proofs.lemmas.Bool.{cases_eq, cases_lt}
+use Rattle.std.proofs.lemmas.Bool.{cases_lt}
 use Rattle.std.proofs.lemmas.Option.{slice_get_within, slice_get-get_or, get_or_from_slice_get}
 use Rattle.std.specs.List.{slice_get}
 use Rattle.cc_model.specs.Config.{config_fault}
-use Rattle.cc_model.specs.Record.{Side, Record}
-use Rattle.cc_model.specs.Items.{IsPrefix, Begins}
+use Rattle.cc_model.specs.Record.{Record}
 use Rattle.cc_model.proofs.Grows.{get_front, get_last}
-use Rattle.cc_runs.specs.State.{chain_of, noted}
-use Rattle.cc_runs.specs.Words.{groups}
-use Rattle.cc_runs.specs.OnChain.{IsThere, calls_on, answers_on}
-use Rattle.cc_runs.specs.Run.{IsRun, passes, history_of}
+use Rattle.cc_runs.specs.Run.{IsRun}
 use Rattle.cc_runs.specs.CallsMade.{made}
-use Rattle.cc_runs.specs.Linearizable.{Effect, replay, AnswersAfter, IsExact, in_order, IsLinearization, IsLinearizable, Precedes}
-use Rattle.cc_runs.proofs.RunPrefixes.{prefixes_begin}
-use Rattle.cc_runs.proofs.Chains.Opening.{no_calls}
-use Rattle.cc_runs.proofs.Chains.Registers.{IsChain}
-use Rattle.cc_runs.proofs.Chains.Others.{group_in}
-use Rattle.cc_runs.proofs.Chains.Serving.{chain_is}
-use Rattle.cc_runs.proofs.ListRuns.Decided.{group_other}
-use Rattle.cc_runs.proofs.Linear.Orders.{linearizable, order_is_real_time}
-use Rattle.cc_runs.proofs.Linear.Replay.{prefix_length, replay_groups}
+use Rattle.cc_runs.specs.Linearizable.{Effect, replay, AnswersAfter, in_order, IsLinearization, IsLinearizable}
+use Rattle.cc_runs.proofs.Linear.Orders.{linearizable}
 use Rattle.cc_judge.specs.Order as judge
 use Rattle.cc_judge.specs.Order.{MayHaveDone, EndsBefore, IsCall, HasStepOf, IsOfLog, IsOnce, IsWhole, RespectsRealTime, RespectsLines, IsOrder}
-use Rattle.cc_agree.specs.Names.{Body, Call, Entry, Answer, SendAnswer, CloseAnswer, TakeAnswer, Config, Setting, Served, Chain, Move, Act, Line, Step, Rules, Tie}
+use Rattle.cc_agree.specs.Names.{Body, Call, Answer, SendAnswer, CloseAnswer, TakeAnswer, Config, Setting, Served, Chain, Move, Act, Line, Step, Rules, Tie}
 use Rattle.cc_agree.specs.OneQueue.{begun, returned, ChangesNothing, Adds, ReportAll, IsAnswered}
 use Rattle.cc_agree.specs.LogOfRun.{IsClock, threads, no_line, log_of, IsTie, AreRules, LogsOfRunsAreLinearizable, LogsOfRunsHaveNoFault}
 use Rattle.cc_agree.proofs.Answered.{exact_orders_are_answered}
-use Rattle.cc_agree.proofs.Lists.{two_ends, get_append, same_split, first_same, second_same, count, count_append, count_middle, not_yet, its_answer, get_middle, Nth, chosen_nth}
-use Rattle.cc_agree.proofs.Log.{who, places, length-who, length-log, made_grows, has_place, place_of, of_thread, call_of, threads_grow, Open, Ended, Logged, Has, IsLast, is_last, all_logged}
-use Rattle.cc_agree.proofs.Placed.{pass_no, its, its_own, its_pass, calls_here, few_of, nth_made, calls_snoc, even_on, begins_calls, begins_answers, calls_grow, answers_grow, Placed, placed}
+use Rattle.cc_agree.proofs.Lists.{two_ends, get_append, first_same, second_same}
+use Rattle.cc_agree.proofs.Log.{who, places, length-who, length-log, made_grows, has_place, place_of, of_thread, call_of, threads_grow, Open, Ended, Logged, Has, all_logged}
+use Rattle.cc_agree.proofs.RealTime as real
 
 -- ---- the step of a call
 
@@ -132,39 +121,6 @@ may_open number c h x call (Answer.Close (CloseAnswer.Already total)) act answer
 may_open number c h x call (Answer.Take TakeAnswer.Empty) act answers changing is = let e : false ≡ true = changing in absurd (cc)
 may_open number c h x call (Answer.Take (TakeAnswer.Ended total)) act answers changing is = let e : false ≡ true = changing in absurd (cc)
 
--- ---- the call with this number of a chain
-
-there_is : (c : Setting) → c.served ≡ Served.List → (x : Chain) → IsChain c x → IsThere c.config x
-there_is c serves Chain.Send ok = tt
-there_is c serves (Chain.Take g) ok = group_in c.served (groups c.config) g ok
-
-calls_by : (x y : Chain) (h : Record) (e : Entry) (a : Answer) → (x ≡ y) ⊎ (calls_on x (noted y h (Some e) (Some a)) ≡ calls_on x h)
-calls_by Chain.Send Chain.Send h e a = inl refl
-calls_by Chain.Send (Chain.Take g) h e a = inr refl
-calls_by (Chain.Take g) Chain.Send h e a = inr refl
-calls_by (Chain.Take g) (Chain.Take k) h e a = elim (cases_eq g k) [ inl is ↦ inl (ap Chain.Take is) | inr ne ↦ inr (ap (λ (s : Side). s.calls) (group_other h k g _ ne)) ]
-
-record On (order : List Effect) (n : ℕ) (x : Chain) (i : ℕ) : Type 0 where
-  after : List Effect
-  effect : Effect
-  before : List Effect
-  split : order ≡ after ++ effect ∷ before
-  chain_is : effect.chain ≡ x
-  at : length (calls_on x (replay n before)) ≡ i
-
-on : (cfg : Config) (order : List Effect) → IsExact cfg order → (x : Chain) (i : ℕ) → i < length (calls_on x (replay cfg.groups order)) → On order cfg.groups x i
-on cfg [] exact x i less = absurd (omega (arith, less, ap (λ (s : Side). length s.calls) (no_calls cfg.groups x)))
-on cfg (e ∷ earlier) exact x i less = elim (cases_lt i (length (calls_on x (replay cfg.groups earlier)))) [
-  | inl old ↦ let w : On earlier cfg.groups x i = on cfg earlier exact.0 x i old in record { after = e ∷ w.after; effect = w.effect; before = w.before; split = ap (λ (l : List Effect). e ∷ l) w.split; chain_is = w.chain_is; at = w.at }
-  | inr new ↦ elim (calls_by x e.chain (replay cfg.groups earlier) e.entry e.answer) [
-    | inl is ↦
-        let more : calls_on x (replay cfg.groups (e ∷ earlier)) ≡ calls_on x (replay cfg.groups earlier) ++ e.entry ∷ [] =
-        subst (λ (y : Chain). calls_on y (replay cfg.groups (e ∷ earlier)) ≡ calls_on y (replay cfg.groups earlier) ++ e.entry ∷ []) (sym is) (calls_snoc e.chain (replay cfg.groups earlier) e.entry e.answer cfg (replay_groups cfg.groups earlier) exact.1) in
-        record { after = []; effect = e; before = earlier; split = refl; chain_is = sym is; at = omega (arith, less, new, ap length more, length-append (calls_on x (replay cfg.groups earlier)) (e.entry ∷ [])) }
-    | inr same ↦ absurd (omega (arith, less, new, ap length same))
-  ]
-]
-
 -- ---- the order of a run's log
 
 module _ (c : Setting) (number : Body → ℕ) (clock : ℕ → ℕ) (serves : c.served ≡ Served.List) (checked : config_fault c.config ≡ Ok tt) (moves : List Move) (run : IsRun c moves) (effects : List (List Effect)) (l : IsLinearization c moves effects) where
@@ -175,14 +131,10 @@ module _ (c : Setting) (number : Body → ℕ) (clock : ℕ → ℕ) (serves : c
   log = log_of c number clock moves
 
   abbrev pass : Effect → ℕ
-  pass e = pass_no c.config e.entry.pass
-
-  -- the calls before it on its chain
-  abbrev front : Effect → List Effect → List Entry
-  front e before = calls_on e.chain (replay c.config.groups before)
+  pass e = real.pass c serves checked moves run effects l e
 
   abbrev nth : Effect → List Effect → ℕ
-  nth e before = count (its c (pass e)) (front e before)
+  nth e before = real.nth c serves checked moves run effects l e before
 
   abbrev place : Effect → List Effect → ℕ
   place e before = get_or (places moves (pass e)) (nth e before) 0
@@ -212,81 +164,34 @@ module _ (c : Setting) (number : Body → ℕ) (clock : ℕ → ℕ) (serves : c
   -- ---- a call of the order, in the log
 
   record Found (e : Effect) (before : List Effect) : Type 0 where
-    here : Placed c moves e before
-    rest : List Entry
-    split : calls_on (chain_of c.config (pass e)) (history_of c moves) ≡ front e before ++ e.entry ∷ rest
+    call : real.Found c serves checked moves run effects l e before
     named : slice_get (who c moves) (place e before) ≡ Some (pass e, nth e before)
     line : Line
     line_is : slice_get log (place e before) ≡ Some line
     logged : Logged c number clock moves (place e before) (pass e) (nth e before) line
-    made_is : slice_get (made c moves (pass e)) (nth e before) ≡ Some e.entry
 
   found : (after : List Effect) (e : Effect) (before : List Effect) → in_order effects ≡ after ++ e ∷ before → Found e before
-  found after e before is = record { here = here; rest = here.rest; split = split; named = named; line = has.0; line_is = has.1; logged = has.2; made_is = made_is }
+  found after e before is = record { call = call; named = named; line = has.0; line_is = has.1; logged = has.2 }
     where
-      here : Placed c moves e before
-      here = placed c serves moves effects l after e before is
-
-      split : calls_on (chain_of c.config (pass e)) (history_of c moves) ≡ front e before ++ e.entry ∷ here.rest
-      split = ap (λ (y : Chain). calls_on y (history_of c moves)) here.of.chain_is ∙ here.split
-
-      made_is : slice_get (made c moves (pass e)) (nth e before) ≡ Some e.entry
-      made_is = nth_made c checked moves run (pass e) here.of.less (front e before) here.rest e.entry split (its_own c e.chain e.entry here.of)
+      call : real.Found c serves checked moves run effects l e before
+      call = real.found c serves checked moves run effects l after e before is
 
       named : slice_get (who c moves) (place e before) ≡ Some (pass e, nth e before)
-      named = has_place c moves (pass e) (nth e before) (slice_get_within (made c moves (pass e)) (nth e before) e.entry made_is)
+      named = has_place c moves (pass e) (nth e before) (slice_get_within (made c moves (pass e)) (nth e before) e.entry call.made_is)
 
       has : Has c number clock moves (place e before) (pass e) (nth e before)
       has = all_logged c number clock serves checked moves run (place e before) (pass e) (nth e before) named
 
   call_is : (e : Effect) (before : List Effect) (f : Found e before) → f.logged.call ≡ e.entry.call
-  call_is e before f = call_of c number clock moves (place e before) (pass e) (nth e before) f.line f.logged e.entry f.made_is
+  call_is e before f = call_of c number clock moves (place e before) (pass e) (nth e before) f.line f.logged e.entry f.call.made_is
 
   -- ---- a call that has returned, at that time
 
-  run_at : (later seen : List Move) → moves ≡ later ++ seen → IsRun c seen × Begins (history_of c seen) (history_of c moves)
-  run_at later seen is =
-      let f : IsRun c seen × Begins (history_of c seen) (history_of c (later ++ seen)) = prefixes_begin c later seen (subst (IsRun c) is run) in
-      (f.0, subst (λ (m : List Move). Begins (history_of c seen) (history_of c m)) (sym is) f.1)
+  abbrev took : (p n : ℕ) (call : Call) (line : Line) → Ended c number clock moves p n call line → real.Took c serves checked moves run effects l p n
+  took p n call line x = record { later = x.later; seen = x.seen; split = x.split; told = x.told; phase_is = x.phase_is; nth = x.nth }
 
-  record AtEnd (e : Effect) (before : List Effect) (seen : List Move) (told : Answer) : Type 0 where
-    told_is : told ≡ e.answer
-    within : length (front e before) < length (answers_on e.chain (history_of c seen))
-
-  at_end : (e : Effect) (before : List Effect) (f : Found e before) (x : Ended c number clock moves (pass e) (nth e before) f.logged.call f.line) → AtEnd e before x.seen x.told
-  at_end e before f x = record { told_is = told_is; within = within }
-    where
-      p : ℕ
-      p = pass e
-
-      r : IsRun c (Move.Take (pass e) ∷ x.seen) × Begins (history_of c (Move.Take (pass e) ∷ x.seen)) (history_of c moves)
-      r = run_at x.later (Move.Take (pass e) ∷ x.seen) x.split
-
-      last : IsLast c number clock serves checked x.seen (pass e) x.told
-      last = is_last c number clock serves checked x.seen r.0.0 (pass e) f.here.of.less x.told x.phase_is
-
-      calls : IsPrefix (calls_on (chain_of c.config (pass e)) (history_of c x.seen)) (calls_on (chain_of c.config (pass e)) (history_of c moves))
-      calls = begins_calls (chain_of c.config (pass e)) (history_of c x.seen) (history_of c moves) r.1
-
-      answers : IsPrefix (answers_on e.chain (history_of c x.seen)) (answers_on e.chain (history_of c moves))
-      answers = begins_answers e.chain (history_of c x.seen) (history_of c moves) r.1
-
-      got : slice_get (answers_on (chain_of c.config (pass e)) (history_of c x.seen)) (length (front e before)) ≡ Some x.told
-      got = its_answer (its c (pass e)) (calls_on (chain_of c.config (pass e)) (history_of c x.seen)) calls.0 (front e before) f.rest e.entry (sym calls.1 ∙ f.split) (its_own c e.chain e.entry f.here.of)
-          (answers_on (chain_of c.config (pass e)) (history_of c x.seen)) last.before last.entry x.told (sym (calls_here c checked x.seen r.0.0 (pass e) f.here.of.less) ∙ last.last) (omega (arith, last.many, x.nth))
-
-      got_on : slice_get (answers_on e.chain (history_of c x.seen)) (length (front e before)) ≡ Some x.told
-      got_on = ap (λ (y : Chain). slice_get (answers_on y (history_of c x.seen)) (length (front e before))) (sym f.here.of.chain_is) ∙ got
-
-      within : length (front e before) < length (answers_on e.chain (history_of c x.seen))
-      within = slice_get_within (answers_on e.chain (history_of c x.seen)) (length (front e before)) x.told got_on
-
-      told_is : x.told ≡ e.answer
-      told_is =
-          let later : slice_get (answers_on e.chain (history_of c moves)) (length (front e before)) ≡ Some x.told =
-          ap (λ (z : List Answer). slice_get z (length (front e before))) answers.1 ∙ get_front (answers_on e.chain (history_of c x.seen)) answers.0 (length (front e before)) x.told got_on in
-          let both : Some x.told ≡ Some e.answer = sym later ∙ f.here.answer in
-          cc
+  at_end : (e : Effect) (before : List Effect) (f : Found e before) (x : Ended c number clock moves (pass e) (nth e before) f.logged.call f.line) → x.told ≡ e.answer
+  at_end e before f x = (real.at_end c serves checked moves run effects l e before f.call (took (pass e) (nth e before) f.logged.call f.line x)).told_is
 
   -- ---- the steps by their places in the order
 
@@ -308,9 +213,8 @@ module _ (c : Setting) (number : Body → ℕ) (clock : ℕ → ℕ) (serves : c
   ]
 
   -- of two steps the call of the first comes before that of the second
-  record Earlier (e : Effect) (before before_other : List Effect) : Type 0 where
-    mid : List Effect
-    split : before_other ≡ mid ++ e ∷ before
+  abbrev Earlier : (e : Effect) (before before_other : List Effect) → Type 0
+  Earlier e before before_other = real.Earlier c serves checked moves run effects l e before before_other
 
   earlier : (j k : ℕ) (s t : Step) → j < k → (a : At order j s) (b : At order k t) → Earlier a.effect a.before b.before
   earlier j k s t less a b = elim (cases_lt (length a.before) (length b.before)) [
@@ -324,25 +228,9 @@ module _ (c : Setting) (number : Body → ℕ) (clock : ℕ → ℕ) (serves : c
         absurd (omega (arith, less, a.here, b.here, steps_grow mid.0 b.before, ap (λ (z : List Effect). length (steps_of z)) mid.1))
   ]
 
-  -- calls before a call and the call itself, in an order that continues
-  front_more : (e : Effect) (before : List Effect) → Found e before → (mid : List Effect) → IsPrefix (front e before ++ e.entry ∷ []) (calls_on e.chain (replay c.config.groups (mid ++ e ∷ before)))
-  front_more e before f mid =
-      subst (λ (z : List Entry). IsPrefix z (calls_on e.chain (replay c.config.groups (mid ++ e ∷ before)))) (calls_snoc e.chain (replay c.config.groups before) e.entry e.answer c.config (replay_groups c.config.groups before) f.here.there)
-      (calls_grow c.config.groups e.chain mid (e ∷ before))
-
   -- so of one pass's calls the later has the greater number
   later_nth : (a : Effect) (before_a : List Effect) (b : Effect) (before_b : List Effect) → Found a before_a → Found b before_b → Earlier a before_a before_b → pass a ≡ pass b → nth a before_a + 1 ≤ nth b before_b
-  later_nth a before_a b before_b fa fb w same =
-      let chains : a.chain ≡ b.chain = sym fa.here.of.chain_is ∙ ap (chain_of c.config) same ∙ fb.here.of.chain_is in
-      let more : IsPrefix (front a before_a ++ a.entry ∷ []) (calls_on a.chain (replay c.config.groups (w.mid ++ a ∷ before_a))) = front_more a before_a fa w.mid in
-      let is : front b before_b ≡ (front a before_a ++ a.entry ∷ []) ++ more.0 = ap (λ (y : Chain). calls_on y (replay c.config.groups before_b)) (sym chains) ∙ ap (λ (z : List Effect). calls_on a.chain (replay c.config.groups z)) w.split ∙ more.1 in
-      let number_is : nth b before_b ≡ count (its c (pass a)) ((front a before_a ++ a.entry ∷ []) ++ more.0) = (λ i. count (its c (sym same i)) (is i)) in
-      omega (
-        arith,
-        number_is,
-        count_append (its c (pass a)) (front a before_a ++ a.entry ∷ []) more.0,
-        count_middle (its c (pass a)) (front a before_a) a.entry [] (its_own c a.chain a.entry fa.here.of),
-      )
+  later_nth a before_a b before_b fa fb w same = real.later_nth c serves checked moves run effects l a before_a b before_b fa.call fb.call w same
 
   -- ---- the order is one of the log
 
@@ -365,11 +253,10 @@ module _ (c : Setting) (number : Body → ℕ) (clock : ℕ → ℕ) (serves : c
       may (inl still) = elim a.step.why [
         | inl ended ↦ let no : false ≡ true = subst IsSome (ap (λ (z : Line). z.end) (line_at a.effect a.before f) ∙ still.end_is) ended in absurd (cc)
         | inr changing ↦ subst (λ (z : Act). MayHaveDone z s.act) (sym (still.act_is ∙ ap (begun number) (call_is a.effect a.before f)))
-            (may_open number c.config (replay c.config.groups a.before) a.effect.chain a.effect.entry.call a.effect.answer s.act f.here.answers changing a.step.act_is)
+            (may_open number c.config (replay c.config.groups a.before) a.effect.chain a.effect.entry.call a.effect.answer s.act f.call.here.answers changing a.step.act_is)
       ]
       may (inr x) =
-          let end : AtEnd a.effect a.before x.seen x.told = at_end a.effect a.before f x in
-          let both : Some f.line.act ≡ Some s.act = sym x.act_is ∙ (λ i. returned number (begun number (call_is a.effect a.before f i)) (end.told_is i)) ∙ a.step.act_is in
+          let both : Some f.line.act ≡ Some s.act = sym x.act_is ∙ (λ i. returned number (begun number (call_is a.effect a.before f i)) (at_end a.effect a.before f x i)) ∙ a.step.act_is in
           let same : f.line.act ≡ s.act = cc in
           subst (λ (z : Act). MayHaveDone f.line.act z) same (may_same f.line.act)
 
@@ -414,81 +301,23 @@ module _ (c : Setting) (number : Body → ℕ) (clock : ℕ → ℕ) (serves : c
         place_is = place_there;
       }
         where
-          r : IsRun c (Move.Take z.0 ∷ x.seen) × Begins (history_of c (Move.Take z.0 ∷ x.seen)) (history_of c moves)
-          r = run_at x.later (Move.Take z.0 ∷ x.seen) x.split
-
-          less : z.0 < passes c
-          less = r.0.1.0
-
-          last : IsLast c number clock serves checked x.seen z.0 x.told
-          last = is_last c number clock serves checked x.seen r.0.0 z.0 less x.told x.phase_is
-
-          y : Chain
-          y = chain_of c.config z.0
-
-          its_place : length last.before ≡ z.1
-          its_place = omega (arith, last.many, x.nth)
-
-          -- the call in the history at that time
-          had : Nth (its c z.0) (calls_on y (history_of c x.seen)) (answers_on y (history_of c x.seen)) z.1 last.entry x.told
-          had = chosen_nth (its c z.0) (calls_on y (history_of c x.seen)) (answers_on y (history_of c x.seen)) z.1 last.entry x.told
-              (ap (λ (q : List (Entry × Option Answer)). slice_get q z.1) (sym (calls_here c checked x.seen r.0.0 z.0 less) ∙ last.last)
-              ∙ ap (slice_get (last.before ++ (last.entry, Some x.told) ∷ [])) (sym its_place) ∙ get_middle last.before (last.entry, Some x.told) [])
-
-          calls : IsPrefix (calls_on y (history_of c x.seen)) (calls_on y (history_of c moves))
-          calls = begins_calls y (history_of c x.seen) (history_of c moves) r.1
-
-          answers : IsPrefix (answers_on y (history_of c x.seen)) (answers_on y (history_of c moves))
-          answers = begins_answers y (history_of c x.seen) (history_of c moves) r.1
-
-          -- and in the order
-          o : On order c.config.groups y (length had.front)
-          o = on c.config order l.exact y (length had.front) (omega (
-            arith,
-            slice_get_within (answers_on y (history_of c x.seen)) (length had.front) x.told had.answer,
-            prefix_length (answers_on y (history_of c x.seen)) (answers_on y (history_of c moves)) answers,
-            ap length (l.whole y),
-            even_y,
-          ))
-            where
-              even_y : length (calls_on (chain_of c.config z.0) (replay c.config.groups (in_order effects))) ≡ length (answers_on (chain_of c.config z.0) (replay c.config.groups (in_order effects)))
-              even_y = even_on (chain_of c.config z.0) c.config (in_order effects) (there_is c serves (chain_of c.config z.0) (chain_is c z.0 less))
-
-          e : Effect
-          e = o.effect
+          o : real.InOrder c serves checked moves run effects l z.0 z.1 x.told
+          o = real.whole_order c serves checked moves run effects l z.0 z.1 (took z.0 z.1 g.call found_line x)
 
           f : Found o.effect o.before
           f = found o.after o.effect o.before o.split
 
-          two : (front o.effect o.before ≡ had.front) × (o.effect.entry ≡ last.entry)
-          two = same_split (front o.effect o.before) f.here.rest had.front (had.rest ++ calls.0) o.effect.entry last.entry
-              (sym f.here.split ∙ ap (λ (q : Chain). calls_on q (history_of c moves)) o.chain_is ∙ calls.1 ∙ ap (λ (q : List Entry). q ++ calls.0) had.split ∙ append_assoc had.front (last.entry ∷ had.rest) calls.0)
-              (ap (λ (q : Chain). length (calls_on q (replay c.config.groups o.before))) o.chain_is ∙ o.at)
-
-          pass_is : pass o.effect ≡ z.0
-          pass_is = ap (λ (q : Entry). pass_no c.config q.pass) two.1 ∙ its_pass c z.0 last.entry had.its
-
-          nth_is : nth o.effect o.before ≡ z.1
-          nth_is = (λ i. count (its c (pass_is i)) (two.0 i)) ∙ had.nth
-
           place_there : place o.effect o.before ≡ k
-          place_there = (λ i. get_or (places moves (pass_is i)) (nth_is i) 0) ∙ get_or_from_slice_get (places moves z.0) z.1 k 0 (place_of c moves z.0 z.1 k named)
+          place_there = (λ i. get_or (places moves (o.pass_is i)) (o.nth_is i) 0) ∙ get_or_from_slice_get (places moves z.0) z.1 k 0 (place_of c moves z.0 z.1 k named)
 
           line_there : f.line ≡ found_line
           line_there = let both : Some f.line ≡ Some found_line = sym f.line_is ∙ ap (slice_get log) place_there ∙ there in cc
 
-          told_there : x.told ≡ o.effect.answer
-          told_there =
-              let early : slice_get (answers_on y (history_of c moves)) (length had.front) ≡ Some x.told = ap (λ (q : List Answer). slice_get q (length had.front)) answers.1 ∙ get_front (answers_on y (history_of c x.seen)) answers.0 (length had.front) x.told had.answer in
-              let mine : slice_get (answers_on y (history_of c moves)) (length had.front) ≡ Some o.effect.answer = (λ i. slice_get (answers_on (sym o.chain_is i) (history_of c moves)) (length (sym two.0 i))) ∙ f.here.answer in
-              let both : Some x.told ≡ Some o.effect.answer = sym early ∙ mine in
-              cc
-
           call_there : g.call ≡ o.effect.entry.call
-          call_there = call_of c number clock moves k z.0 z.1 found_line g o.effect.entry ((λ i. slice_get (made c moves (sym pass_is i)) (sym nth_is i)) ∙ f.made_is)
+          call_there = call_of c number clock moves k z.0 z.1 found_line g o.effect.entry ((λ i. slice_get (made c moves (sym o.pass_is i)) (sym o.nth_is i)) ∙ f.call.made_is)
 
           said_there : said o.effect ≡ Some found_line.act
-          said_there = (λ i. returned number (begun number (sym call_there i)) (sym told_there i)) ∙ x.act_is
+          said_there = (λ i. returned number (begun number (sym call_there i)) (sym o.told_is i)) ∙ x.act_is
 
           end_there : (slice_index_or log (place o.effect o.before) no_line).end ≡ Some (clock (length x.seen))
           end_there = ap (λ (q : Line). q.end) (line_at o.effect o.before f ∙ line_there) ∙ x.end_is
@@ -504,61 +333,17 @@ module _ (c : Setting) (number : Body → ℕ) (clock : ℕ → ℕ) (serves : c
   -- a call had ended by the time at which the other began
   module _ (goes : IsClock clock) (a : Effect) (before_a : List Effect) (fa : Found a before_a) (b : Effect) (before_b : List Effect) (fb : Found b before_b) (w : Earlier a before_a before_b) (after_b : List Effect) (split_b : in_order effects ≡ after_b ++ b ∷ before_b) where
     not_before : (x : Ended c number clock moves (pass b) (nth b before_b) fb.logged.call fb.line) → clock (length x.seen) < fa.line.begin → ⊥
-    not_before x less = elim (cases_lt (length cut.before) (length before_b + 1)) [ inl short ↦ cut_short short | inr long ↦ cut_long long ]
+    not_before x less =
+        real.not_before c serves checked moves run effects l a before_a fa.call b before_b fb.call w after_b split_b (length fa.logged.before) begun_at (took (pass b) (nth b before_b) fb.logged.call fb.line x) earlier_seen
       where
+        begun_at : real.Begun c moves (pass a) (nth a before_a) (length fa.logged.before)
+        begun_at = record { call = fa.logged.call; known = fa.logged.known; later = fa.logged.later; before = fa.logged.before; split = fa.logged.split; time_is = refl; nth = fa.logged.nth }
+
         earlier_seen : length x.seen < length fa.logged.before
         earlier_seen = elim (cases_lt (length x.seen) (length fa.logged.before)) [
           | inl is ↦ is
           | inr not ↦ absurd (omega (arith, less, fa.logged.begin_is, goes (length fa.logged.before) (length x.seen) not))
         ]
-
-        mid : (mid : List Move) × (fa.logged.before ≡ mid ++ Move.Take (pass b) ∷ x.seen)
-        mid = two_ends x.later (Move.Take (pass b) ∷ x.seen) (fa.logged.later ++ Move.Begin (pass a) fa.logged.call fa.logged.known ∷ []) fa.logged.before
-            (sym x.split ∙ fa.logged.split ∙ sym (append_assoc fa.logged.later (Move.Begin (pass a) fa.logged.call fa.logged.known ∷ []) fa.logged.before)) (omega (arith, earlier_seen))
-
-        r : IsRun c (Move.Take (pass b) ∷ x.seen) × Begins (history_of c (Move.Take (pass b) ∷ x.seen)) (history_of c moves)
-        r = run_at x.later (Move.Take (pass b) ∷ x.seen) x.split
-
-        few : count (its c (pass a)) (calls_on (chain_of c.config (pass a)) (history_of c x.seen)) ≤ nth a before_a
-        few = omega (arith, few_of c checked x.seen r.0.0 (pass a) fa.here.of.less, made_grows c mid.0 (Move.Take (pass b) ∷ x.seen) (pass a), ap (λ (m : List Move). length (made c m (pass a))) mid.1, fa.logged.nth)
-
-        calls : IsPrefix (calls_on (chain_of c.config (pass a)) (history_of c x.seen)) (calls_on (chain_of c.config (pass a)) (history_of c moves))
-        calls = begins_calls (chain_of c.config (pass a)) (history_of c x.seen) (history_of c moves) r.1
-
-        waits : length (calls_on a.chain (history_of c x.seen)) ≤ length (front a before_a)
-        waits = subst (λ (y : Chain). length (calls_on y (history_of c x.seen)) ≤ length (front a before_a)) fa.here.of.chain_is
-            (not_yet (its c (pass a)) (calls_on (chain_of c.config (pass a)) (history_of c x.seen)) calls.0 (front a before_a) fa.rest a.entry (sym calls.1 ∙ fa.split) (its_own c a.chain a.entry fa.here.of) few)
-
-        end : AtEnd b before_b x.seen x.told
-        end = at_end b before_b fb x
-
-        cut : Precedes c (in_order effects) b.chain (length (front b before_b)) a.chain (length (front a before_a))
-        cut = order_is_real_time c x.later (Move.Take (pass b) ∷ x.seen) effects (subst (λ (m : List Move). IsLinearization c m effects) x.split l) b.chain a.chain (length (front b before_b)) (length (front a before_a)) end.within waits
-
-        cut_short : length cut.before < length before_b + 1 → ⊥
-        cut_short short =
-            let n : ℕ = c.config.groups in
-            let part : (part : List Effect) × (before_b ≡ part ++ cut.before) = two_ends cut.after cut.before (after_b ++ b ∷ []) before_b (sym cut.split ∙ split_b ∙ sym (append_assoc after_b (b ∷ []) before_b)) (omega (arith, short)) in
-            omega (
-              arith,
-              cut.first,
-              prefix_length (answers_on b.chain (replay c.config.groups cut.before)) (answers_on b.chain (replay c.config.groups (part.0 ++ cut.before))) (answers_grow c.config.groups b.chain part.0 cut.before),
-              ap (λ (z : List Effect). length (answers_on b.chain (replay c.config.groups z))) part.1,
-              even_on b.chain c.config before_b fb.here.there,
-            )
-
-        cut_long : length before_b + 1 ≤ length cut.before → ⊥
-        cut_long long =
-            let ends : (after_b ++ b ∷ w.mid) ++ a ∷ before_a ≡ cut.after ++ cut.before = append_assoc after_b (b ∷ w.mid) (a ∷ before_a) ∙ ap (λ (z : List Effect). after_b ++ b ∷ z) (sym w.split) ∙ sym split_b ∙ cut.split in
-            let part : (part : List Effect) × (cut.before ≡ part ++ a ∷ before_a) = two_ends (after_b ++ b ∷ w.mid) (a ∷ before_a) cut.after cut.before ends (omega (arith, long, ap length w.split, length-append w.mid (a ∷ before_a))) in
-            let more : IsPrefix (front a before_a ++ a.entry ∷ []) (calls_on a.chain (replay c.config.groups (part.0 ++ a ∷ before_a))) = front_more a before_a fa part.0 in
-            omega (
-              arith,
-              cut.second,
-              prefix_length (front a before_a ++ a.entry ∷ []) (calls_on a.chain (replay c.config.groups (part.0 ++ a ∷ before_a))) more,
-              ap (λ (z : List Effect). length (calls_on a.chain (replay c.config.groups z))) part.1,
-              length-append (front a before_a) (a.entry ∷ []),
-            )
 
   same_line : (e : Effect) (before : List Effect) (f : Found e before) (k : ℕ) (line : Line) → k ≡ place e before → slice_get log k ≡ Some line → f.line ≡ line
   same_line e before f k line at_place is = let both : Some f.line ≡ Some line = sym f.line_is ∙ ap (slice_get log) (sym at_place) ∙ is in cc
