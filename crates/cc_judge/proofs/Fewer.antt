@@ -6,7 +6,7 @@ use Rattle.cc_judge.proofs.Places.{In, at_in}
 pub use Rattle.cc_judge.specs.Complete.{Once}
 
 -- the list without an element
-abbrev without : (p : ℕ) (xs : List ℕ) → In p xs → List ℕ
+abbrev pub without : (p : ℕ) (xs : List ℕ) → In p xs → List ℕ
 without p [] h = []
 without p (x ∷ xs) (inl here) = xs
 without p (x ∷ xs) (inr later) = x ∷ without p xs later
@@ -16,7 +16,7 @@ without_length p [] h = absurd h
 without_length p (x ∷ xs) (inl here) = omega arith
 without_length p (x ∷ xs) (inr later) = omega (arith, without_length p xs later)
 
-without_in : (p q : ℕ) (xs : List ℕ) (h : In p xs) → In q xs → q ≢ p → In q (without p xs h)
+pub without_in : (p q : ℕ) (xs : List ℕ) (h : In p xs) → In q xs → q ≢ p → In q (without p xs h)
 without_in p q [] h within apart = absurd h
 without_in p q (x ∷ xs) (inl here) (inl there) apart = absurd (apart (sym there ∙ here))
 without_in p q (x ∷ xs) (inl here) (inr rest) apart = rest

@@ -10,6 +10,7 @@ pub mod Lines
 pub mod Shut
 pub mod Full
 pub mod Fullness
+pub mod Sweep
 pub mod RefusedClaims
 pub mod Weave
 pub mod Fifo

@@ -10,6 +10,7 @@ pub use Rattle.cc_judge.specs.declared.table.Found.{Found}
 pub use Rattle.cc_judge.specs.declared.table.Entry.{Entry}
 pub use Rattle.cc_judge.specs.declared.faults.Index.{Index}
 pub use Rattle.cc_judge.specs.declared.faults.Leave.{Leave}
+pub use Rattle.cc_judge.specs.declared.inside.Inside.{Inside}
 pub use Rattle.cc_judge.specs.declared.decide.Fault.{Fault}
 pub use Rattle.cc_judge.specs.declared.decide.Verdict.{Verdict}
 pub use Rattle.cc_judge.specs.declared.decide.Indexed.{Indexed}

@@ -280,11 +280,13 @@ fn full_fault(alloc: Global, rules: &Rules, view: &View<'_>) -> Result<Option<Fa
     let Some(capacity) = capacity_of(rules) else {
         return Ok(None);
     };
-    match not_full(alloc, view, capacity)? {
-        Some(call) if is_not_full(rules, view.calls, view.index, call) => {
-            Ok(Some(Fault::NotFull { call }))
-        }
-        _ => Ok(None),
+    let Some(call) = not_full(alloc, view, capacity)? else {
+        return Ok(None);
+    };
+    if is_not_full(alloc, rules, view.calls, view.index, call)? {
+        Ok(Some(Fault::NotFull { call }))
+    } else {
+        Ok(None)
     }
 }
 

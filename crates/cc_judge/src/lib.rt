@@ -11,6 +11,7 @@ mod closing;
 mod crowd;
 mod decide;
 mod faults;
+mod inside;
 mod log;
 mod order;
 mod pick;

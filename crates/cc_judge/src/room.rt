@@ -1,11 +1,13 @@
 //! Whether a send found the queue full though fewer items than it holds may have been in it: confirmed over all calls.
-ghost use Rattle.std.specs.Prelude.{◌≡◌, ◌≤◌, ℕ, IsTrue, IfSome, slice_get, Some};
+ghost use Rattle.std.specs.Prelude.{◌≡◌, ◌≤◌, ℕ, IsTrue, IfOk, IfSome, slice_get, Some};
 ghost use Rattle.cc_judge.specs.Names.{Call, Act};
 ghost use Rattle.cc_judge.specs.Faults.{Did, Returned, BeganBy, EndedBy, FewerAt, NotFull};
 ghost use Rattle.cc_judge.specs.Checks.{IsFullCall, IsSurelyOut, FewerIfSent};
 
-use crate::faults::{Index, sent, taken};
+use crate::faults::Index;
+use crate::inside::{are_fewer, nothing, sends_of, takes_of};
 use crate::{Act, Call, Rules};
+use std::alloc::{AllocError, Global};
 
 /// Whether the call at this place took this item, and ended before this time.
 fn took_before(calls: &[Call], take: usize, item: u32, time: u64) -> bool
@@ -22,7 +24,7 @@ fn took_before(calls: &[Call], take: usize, item: u32, time: u64) -> bool
 }
 
 /// Whether the item was taken by a call that ended before this time.
-fn is_gone(calls: &[Call], index: &Index, item: u32, time: u64) -> bool
+pub fn is_gone(calls: &[Call], index: &Index, item: u32, time: u64) -> bool
     ensures { IsTrue result → (take : ℕ) × Returned calls.now take (Act.Took item) × EndedBy calls.now take time }
 {
     match index.takes.get(item as usize) {
@@ -46,7 +48,7 @@ fn is_surely_out(calls: &[Call], index: &Index, place: usize, time: u64) -> bool
 
 /// Whether fewer items than this number may be in the queue at a time.
 #[tactic(auto, using(crate::proofs::Fullness::fewer_one, crate::proofs::Fullness::fewer_skip))]
-pub fn are_fewer_at(calls: &[Call], index: &Index, number: usize, time: u64) -> bool
+fn are_fewer_at(calls: &[Call], index: &Index, number: usize, time: u64) -> bool
     ensures { IsTrue result → FewerAt calls.now number time }
 {
     let mut spare = number;
@@ -84,38 +86,29 @@ pub fn full_times(calls: &[Call], place: usize) -> Option<Times>
     }
 }
 
-/// Whether the call at this place is no send that began in these times, or fewer items than this number may be in the queue
-/// when it began.
-fn are_fewer_if_sent(
+/// Whether fewer items than this number may be in the queue when any send begins that began in these times. It takes memory in
+/// proportion to the log, and O(n log n).
+fn are_fewer_in(
+    alloc: Global,
     calls: &[Call],
     index: &Index,
     number: usize,
     times: Times,
-    place: usize,
-) -> bool
-    ensures { IsTrue result → FewerIfSent calls.now number times.begin times.end place }
+) -> Result<bool, AllocError>
+    ensures { IfOk result (λ fewer. IsTrue fewer → (place : ℕ) → FewerIfSent calls.now number times.begin times.end place) }
 {
-    match calls.get(place).copied() {
-        Some(call) => match call.act {
-            Act::Send(_) if times.begin <= call.begin && call.begin <= times.end => {
-                are_fewer_at(calls, index, number, call.begin)
-            }
-            _ => true,
-        },
-        None => true,
-    }
-}
-
-/// Whether that holds of all calls.
-fn are_fewer(calls: &[Call], index: &Index, number: usize, times: Times) -> bool
-    ensures { IsTrue result → (place : ℕ) → FewerIfSent calls.now number times.begin times.end place }
-{
-    for place in 0..calls.len() {
-        if !are_fewer_if_sent(calls, index, number, times, place) {
-            return false;
-        }
-    }
-    true
+    let sends = sends_of(alloc, calls)?;
+    let takes = takes_of(alloc, calls)?;
+    let nothing = nothing(alloc, index.takes.len())?;
+    Ok(are_fewer(
+        calls,
+        index,
+        number,
+        times,
+        sends.as_slice(),
+        takes.as_slice(),
+        nothing,
+    ))
 }
 
 /// How many items the queue holds, if that is known.
@@ -131,14 +124,24 @@ pub fn capacity_of(rules: &Rules) -> Option<usize>
 
 /// Whether the call at this place found the queue full, though at each of its times fewer items than the queue holds may have
 /// been in it.
-pub fn is_not_full(rules: &Rules, calls: &[Call], index: &Index, call: usize) -> bool
-    ensures { IsTrue result → NotFull rules.now calls.now call }
+pub fn is_not_full(
+    alloc: Global,
+    rules: &Rules,
+    calls: &[Call],
+    index: &Index,
+    call: usize,
+) -> Result<bool, AllocError>
+    ensures { IfOk result (λ b. IsTrue b → NotFull rules.now calls.now call) }
 {
     let Some(number) = capacity_of(rules) else {
-        return false;
+        return Ok(false);
     };
     let Some(times) = full_times(calls, call) else {
-        return false;
+        return Ok(false);
     };
-    are_fewer_at(calls, index, number, times.begin) && are_fewer(calls, index, number, times)
+    if !are_fewer_at(calls, index, number, times.begin) {
+        return Ok(false);
+    }
+    let fewer = are_fewer_in(alloc, calls, index, number, times)?;
+    Ok(fewer)
 }

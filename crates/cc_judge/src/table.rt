@@ -38,7 +38,7 @@ pub enum Found {
 }
 
 /// The item of a call of this kind.
-fn item_of(kind: Kind, act: Act) -> Option<u32>
+pub fn item_of(kind: Kind, act: Act) -> Option<u32>
     ensures some { IfSome result (λ item. act ≡ act_of kind item) }
     ensures none { IfNone result ((item : ℕ) → act ≢ act_of kind item) }
 {
