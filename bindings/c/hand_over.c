@@ -2,18 +2,21 @@
  * which sees none of the queue's steps and learns of the hand-over from the header. Half of the threads wait by
  * vahepito_wait.h, and half make the calls of vahepito.h.
  *
+ *     hand_over [BOXES]
+ *
  * It ends with status 0 where each box came once, as it was filled. */
 #include "checks.h"
 
 #include <pthread.h>
 
-enum { EACH = 4, BOXES = 1000 };
+enum { EACH = 4 };
 
 struct box {
     uint64_t number, twice;
 };
 
 static vahepito_queue *queue;
+static uint64_t boxes = 1000; /* of each thread */
 static int numbers[EACH] = {0, 1, 2, 3};
 
 /* One send by a thread: it waits for room, or tries until there is. */
@@ -46,7 +49,7 @@ static uint32_t takes(int thread, vahepito_call *mine, vahepito_item *item) {
 
 static void *send_boxes(void *thread) {
     vahepito_call mine = VAHEPITO_CALL(queue);
-    for (uint64_t number = 1; number <= BOXES; number++) {
+    for (uint64_t number = 1; number <= boxes; number++) {
         struct box *box = malloc(sizeof *box);
         check(box != NULL, "there is memory");
         box->number = number;
@@ -72,10 +75,11 @@ static void *take_boxes(void *thread) {
     return (void *)(uintptr_t)sum;
 }
 
-int main(void) {
+int main(int count, char **words) {
     const vahepito_config config = {EACH, EACH, 3, 64, (uint64_t)1 << 48, UINT32_MAX};
     pthread_t sending[EACH], taking[EACH];
     uint64_t sum = 0;
+    if (count > 1) boxes = strtoull(words[1], NULL, 10);
     check(vahepito_new(&config, 1, 1, &queue) == VAHEPITO_DONE, "the queue is opened");
     for (int k = 0; k < EACH; k++) {
         check(!pthread_create(&taking[k], NULL, take_boxes, &numbers[k]), "a thread starts");
@@ -89,8 +93,8 @@ int main(void) {
         check(!pthread_join(taking[k], &taken), "a receiver ends");
         sum += (uintptr_t)taken;
     }
-    check(sum == EACH * (BOXES * (BOXES + 1) / 2), "each box came once");
+    check(sum == EACH * (boxes * (boxes + 1) / 2), "each box came once");
     vahepito_free(queue);
-    printf("%d boxes\n", EACH * BOXES);
+    printf("%llu boxes\n", (unsigned long long)(EACH * boxes));
     return 0;
 }

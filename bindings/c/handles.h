@@ -119,55 +119,89 @@ uint32_t vahepito_try_take_words(vahepito_pass *receiver, vahepito_item *item, u
 uint32_t vahepito_drop(vahepito_pass *pass);
 
 #if defined(VAHEPITO_TOLD)
-static inline uint32_t vahepito_got_word(uint32_t code, const vahepito_word_item *item) {
-    if (code == VAHEPITO_GOT) __tsan_acquire(vahepito_hand(item->body));
-    return code;
+/* A handle doesn't say which queue it is of: NULL is for all of them, and all groups are one. */
+static inline void vahepito_internal_begins_item(const uint64_t *words, size_t count) {
+    vahepito_internal_begins(NULL, VAHEPITO_INTERNAL_ITEM, vahepito_internal_hash(words, count));
 }
 
-static inline uint32_t vahepito_begin_send_told(vahepito_pass *sender, uint64_t body) {
-    __tsan_release(vahepito_hand(body));
+static inline uint32_t vahepito_internal_by_handle(uint32_t code) {
+    if (code == VAHEPITO_ACCEPTED) vahepito_internal_acquire(vahepito_internal_begun_at(NULL, 1, 0));
+    return code == VAHEPITO_ACCEPTED ? code : vahepito_internal_answered(NULL, code, 0);
+}
+
+static inline uint32_t vahepito_internal_took_word(uint32_t code, const vahepito_word_item *item) {
+    const vahepito_item same = {item->place, item->sender, item->number, 1, {item->body, 0, 0, 0}};
+    return vahepito_internal_took(NULL, 0, code, &same);
+}
+
+static inline uint32_t vahepito_internal_begin_send(vahepito_pass *sender, uint64_t body) {
+    vahepito_internal_begins_item(&body, 1);
     return vahepito_begin_send(sender, body);
 }
 
-static inline uint32_t vahepito_try_send_told(vahepito_pass *sender, uint64_t body, uint64_t *place, uint32_t *served) {
-    __tsan_release(vahepito_hand(body));
-    return vahepito_try_send(sender, body, place, served);
+static inline uint32_t vahepito_internal_try_send(vahepito_pass *sender, uint64_t body, uint64_t *place, uint32_t *served) {
+    vahepito_internal_begins_item(&body, 1);
+    return vahepito_internal_by_handle(vahepito_try_send(sender, body, place, served));
 }
 
-static inline uint32_t vahepito_begin_send_words_told(vahepito_pass *sender, const uint64_t *words, size_t count) {
-    vahepito_hand_words(words, count);
+static inline uint32_t vahepito_internal_begin_send_words(vahepito_pass *sender, const uint64_t *words, size_t count) {
+    vahepito_internal_begins_item(words, count);
     return vahepito_begin_send_words(sender, words, count);
 }
 
-static inline uint32_t vahepito_try_send_words_told(vahepito_pass *sender, const uint64_t *words, size_t count, uint64_t *place, uint32_t *served) {
-    vahepito_hand_words(words, count);
-    return vahepito_try_send_words(sender, words, count, place, served);
+static inline uint32_t vahepito_internal_try_send_words(vahepito_pass *sender, const uint64_t *words, size_t count, uint64_t *place, uint32_t *served) {
+    vahepito_internal_begins_item(words, count);
+    return vahepito_internal_by_handle(vahepito_try_send_words(sender, words, count, place, served));
 }
 
-static inline uint32_t vahepito_turn_take_told(vahepito_pass *receiver, vahepito_word_item *item, uint64_t *total, uint32_t *served) {
-    return vahepito_got_word(vahepito_turn_take(receiver, item, total, served), item);
+static inline uint32_t vahepito_internal_turn_send(vahepito_pass *sender, uint64_t *place, uint32_t *served) {
+    return vahepito_internal_by_handle(vahepito_turn_send(sender, place, served));
 }
 
-static inline uint32_t vahepito_try_take_told(vahepito_pass *receiver, vahepito_word_item *item, uint64_t *total, uint32_t *served) {
-    return vahepito_got_word(vahepito_try_take(receiver, item, total, served), item);
+static inline uint32_t vahepito_internal_begin_close(vahepito_pass *sender) {
+    vahepito_internal_begins(NULL, VAHEPITO_INTERNAL_END, 0);
+    return vahepito_begin_close(sender);
 }
 
-static inline uint32_t vahepito_turn_take_words_told(vahepito_pass *receiver, vahepito_item *item, uint64_t *total, uint32_t *served) {
-    return vahepito_got(vahepito_turn_take_words(receiver, item, total, served), item);
+static inline uint32_t vahepito_internal_turn_close(vahepito_pass *sender, uint64_t *total, uint32_t *served) {
+    return vahepito_internal_by_handle(vahepito_turn_close(sender, total, served));
 }
 
-static inline uint32_t vahepito_try_take_words_told(vahepito_pass *receiver, vahepito_item *item, uint64_t *total, uint32_t *served) {
-    return vahepito_got(vahepito_try_take_words(receiver, item, total, served), item);
+static inline uint32_t vahepito_internal_begin_take(vahepito_pass *receiver) {
+    vahepito_internal_begins(NULL, 1, 0);
+    return vahepito_begin_take(receiver);
 }
 
-#define vahepito_begin_send vahepito_begin_send_told
-#define vahepito_try_send vahepito_try_send_told
-#define vahepito_turn_take vahepito_turn_take_told
-#define vahepito_try_take vahepito_try_take_told
-#define vahepito_begin_send_words vahepito_begin_send_words_told
-#define vahepito_try_send_words vahepito_try_send_words_told
-#define vahepito_turn_take_words vahepito_turn_take_words_told
-#define vahepito_try_take_words vahepito_try_take_words_told
+static inline uint32_t vahepito_internal_turn_take(vahepito_pass *receiver, vahepito_word_item *item, uint64_t *total, uint32_t *served) {
+    return vahepito_internal_took_word(vahepito_turn_take(receiver, item, total, served), item);
+}
+
+static inline uint32_t vahepito_internal_try_take(vahepito_pass *receiver, vahepito_word_item *item, uint64_t *total, uint32_t *served) {
+    vahepito_internal_begins(NULL, 1, 0);
+    return vahepito_internal_took_word(vahepito_try_take(receiver, item, total, served), item);
+}
+
+static inline uint32_t vahepito_internal_turn_take_words(vahepito_pass *receiver, vahepito_item *item, uint64_t *total, uint32_t *served) {
+    return vahepito_internal_took(NULL, 0, vahepito_turn_take_words(receiver, item, total, served), item);
+}
+
+static inline uint32_t vahepito_internal_try_take_words(vahepito_pass *receiver, vahepito_item *item, uint64_t *total, uint32_t *served) {
+    vahepito_internal_begins(NULL, 1, 0);
+    return vahepito_internal_took(NULL, 0, vahepito_try_take_words(receiver, item, total, served), item);
+}
+
+#define vahepito_begin_send vahepito_internal_begin_send
+#define vahepito_try_send vahepito_internal_try_send
+#define vahepito_begin_send_words vahepito_internal_begin_send_words
+#define vahepito_try_send_words vahepito_internal_try_send_words
+#define vahepito_turn_send vahepito_internal_turn_send
+#define vahepito_begin_close vahepito_internal_begin_close
+#define vahepito_turn_close vahepito_internal_turn_close
+#define vahepito_begin_take vahepito_internal_begin_take
+#define vahepito_turn_take vahepito_internal_turn_take
+#define vahepito_try_take vahepito_internal_try_take
+#define vahepito_turn_take_words vahepito_internal_turn_take_words
+#define vahepito_try_take_words vahepito_internal_try_take_words
 #endif
 
 #ifdef __cplusplus

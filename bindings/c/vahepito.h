@@ -37,13 +37,28 @@
  * No call but vahepito_new takes memory.
  *
  * Each call takes effect at one moment between its begin and its return: this is proved of the order of the queue's atomic
- * steps. That these steps have the order of the clock, and what they do to other memory, isn't. Tests look for the following:
+ * steps. That these steps have the order of the clock isn't, nor what they do to other memory. Tests look for the following:
  * - A take that begins after a send has returned finds the item, unless another take of its group took it; and a send that
  *   begins after takes have returned finds the room that they made. "After" is by any order that the program has: on one
  *   thread, by a join, a lock, or a flag that is stored with release and loaded with acquire. On x86-64 any flag will do, and so
  *   does the clock: no step is pending when a call returns. On aarch64 the last store of a call may be pending then, and a call's first
  *   loads may come before a load without acquire that is before the call.
  * - Memory written before a send is seen after the take of its item. So a word may be a pointer.
+ * - Memory written before a close that returns SHUT is seen after a take that returns ENDED, a send that returns CLOSED, and a close
+ *   that returns ALREADY.
+ * - What a thread reads or writes before a take of the item `place`, in any group, comes before all that another thread does after
+ *   the send which is accepted as the item `place` + `capacity`. So a queue may count buffers that are in use, and a queue of
+ *   capacity 1 may be a lock: a send takes it, and a take gives it back.
+ * Of memory no clause says this. It holds because of these steps, of which each stores on the left what is loaded on the right
+ * (docs/ALGORITHM.md has them):
+ *     the caller stores the link to its request           the call that serves it loads the link
+ *     a send links its item, a close its mark             a take loads the link: it gets the item, or ENDED
+ *     a close stores `shut`                               a send or a close loads it: CLOSED, ALREADY
+ *     a take adds one to `passed` of the item before      a send loads `passed` when it uses that memory again: ACCEPTED
+ *     the call that serves stores that there is an answer the caller loads this, and returns
+ * In the strict archive all of them are sequentially consistent (on aarch64 `stlr`, `ldar`, and `ldaxr` with `stlxr`), so that a store
+ * synchronises with the load that finds it. In the relaxed archive some of the stores are plain moves of x86-64, whose stores
+ * become visible in the order of the program, and whose loads stay in order.
  * A call waits for at most one service of each call of its kind before it, and then may serve `bound` calls itself. This is proved, in steps
  * of the threads whose calls came before: no other thread can hold a call up. That the system runs these threads isn't.
  *
@@ -65,9 +80,10 @@
  *
  * Header and library must have one version: vahepito_check_version checks it, at a program's start.
  *
- * If the thread sanitizer is on, each send announces to it that its words are handed over, and each call that gets an item
- * that they were: the library isn't built for the sanitizer, which sees none of its steps. If VAHEPITO_UNTOLD is
- * defined before this header, nothing is announced.
+ * If the thread sanitizer is on, the calls announce to it what they order: the library isn't built for the sanitizer, which sees
+ * none of its steps. With VAHEPITO_VALGRIND defined before this header they announce it to valgrind's helgrind and DRD instead (the file
+ * vahepito.supp has the suppressions for these, and needs the option -g of the compiler). With VAHEPITO_UNTOLD nothing is
+ * announced.
  */
 #ifndef VAHEPITO_H
 #define VAHEPITO_H
@@ -265,53 +281,184 @@ uint32_t vahepito_call_close(vahepito_call *call, uint64_t *total);
  * NO_PASS: there is no ticket. NOT_BEGUN, WRONG_SIDE: it is that of a send, of a take. Nothing has changed by these three. */
 uint32_t vahepito_call_turn_close(vahepito_call *call, uint64_t *total);
 
-/* Announcements to the thread sanitizer. Each word of an item is handed over under a place of this table, one for all words of
- * one hash: so what was done before its send comes before what is done after its take, and hardly anything else does. */
-#if !defined(VAHEPITO_UNTOLD) && defined(__SANITIZE_THREAD__)
+/* Announcements to the thread sanitizer, or to helgrind and DRD, of what the head of this file says of memory. */
+#if defined(VAHEPITO_UNTOLD)
+#elif defined(VAHEPITO_VALGRIND) || defined(__SANITIZE_THREAD__)
 #define VAHEPITO_TOLD 1
-#elif !defined(VAHEPITO_UNTOLD) && defined(__has_feature)
+#elif defined(__has_feature)
 #if __has_feature(thread_sanitizer)
 #define VAHEPITO_TOLD 1
 #endif
 #endif
 
 #if defined(VAHEPITO_TOLD)
+#if defined(VAHEPITO_VALGRIND)
+/* A request to valgrind, which needs none of its headers. On a processor it does nothing. */
+static inline void vahepito_internal_request(uint64_t request, const void *address) {
+    volatile uint64_t words[6] = {request, (uintptr_t)address, 0, 0, 0, 0};
+#if defined(__x86_64__)
+    uint64_t answer = 0;
+    __asm__ volatile("rolq $3, %%rdi; rolq $13, %%rdi; rolq $61, %%rdi; rolq $51, %%rdi; xchgq %%rbx, %%rbx"
+                     : "+d"(answer) : "a"(&words[0]) : "cc", "memory");
+#elif defined(__aarch64__)
+    __asm__ volatile("mov x3, #0; mov x4, %0; ror x12, x12, #3; ror x12, x12, #13; ror x12, x12, #51; ror x12, x12, #61; orr x10, x10, x10"
+                     : : "r"(&words[0]) : "cc", "memory", "x3", "x4");
+#endif
+    (void)words;
+}
+static inline void vahepito_internal_release(void *address) { vahepito_internal_request(0x48470121, address); }
+static inline void vahepito_internal_acquire(void *address) { vahepito_internal_request(0x48470122, address); }
+#else
 void __tsan_acquire(void *address);
 void __tsan_release(void *address);
+static inline void vahepito_internal_release(void *address) { __tsan_release(address); }
+static inline void vahepito_internal_acquire(void *address) { __tsan_acquire(address); }
+#endif
 
-/* One table for all files of a program. */
-__attribute__((weak)) uint64_t vahepito_handed_over[4096];
+/* What calls order: an item from its send to its take, the room that a take of group 1 to 8 makes, or the end. */
+#define VAHEPITO_INTERNAL_ITEM 0
+#define VAHEPITO_INTERNAL_END 9
 
-static inline void *vahepito_hand(uint64_t word) {
-    return &vahepito_handed_over[(word * UINT64_C(0x9e3779b97f4a7c15)) >> 52];
+/* Before a call its caller doesn't know the item's place. So the call is announced twice: at its begin, under its queue, its kind
+ * and the words of a send; and once it is done, under the opening of its queue, its kind and its place, with a mark. A call that it
+ * comes before finds the mark, and learns of this one call; or if there is no mark yet, of all that were begun. Each table is
+ * one for all files of a program. */
+#define VAHEPITO_INTERNAL_SLOTS 16384
+__attribute__((weak)) uint64_t vahepito_internal_begun[VAHEPITO_INTERNAL_SLOTS], vahepito_internal_done[VAHEPITO_INTERNAL_SLOTS];
+__attribute__((weak)) uint64_t vahepito_internal_marks[VAHEPITO_INTERNAL_SLOTS];
+/* The queues that are open: the number of an opening in the upper 16 bits, below it the queue's pointer, or its capacity and groups. */
+__attribute__((weak)) uint64_t vahepito_internal_opened[VAHEPITO_INTERNAL_SLOTS], vahepito_internal_shapes[VAHEPITO_INTERNAL_SLOTS];
+__attribute__((weak)) uint64_t vahepito_internal_openings;
+
+static inline uint64_t vahepito_internal_mix(uint64_t hash, uint64_t word) {
+    hash = (hash ^ word) * UINT64_C(0x9e3779b97f4a7c15);
+    return hash ^ hash >> 32;
 }
 
-static inline void vahepito_hand_words(const uint64_t *words, size_t count) {
-    for (size_t at = 0; at < count; at++) __tsan_release(vahepito_hand(words[at]));
+static inline uint64_t vahepito_internal_key(uint64_t of, uint64_t kind, uint64_t about) {
+    return vahepito_internal_mix(vahepito_internal_mix(vahepito_internal_mix(0, of), kind), about);
 }
 
-static inline uint32_t vahepito_got(uint32_t code, const vahepito_item *item) {
-    if (code == VAHEPITO_GOT)
-        for (size_t at = 0; at < item->count; at++) __tsan_acquire(vahepito_hand(item->words[at]));
+static inline void *vahepito_internal_begun_at(const vahepito_queue *queue, uint64_t kind, uint64_t about) {
+    return &vahepito_internal_begun[vahepito_internal_key((uintptr_t)queue, kind, about) % VAHEPITO_INTERNAL_SLOTS];
+}
+
+static inline uint64_t vahepito_internal_hash(const uint64_t *words, size_t count) {
+    uint64_t hash = count;
+    for (size_t at = 0; at < count && count <= VAHEPITO_MOST_WORDS; at++) hash = vahepito_internal_mix(hash, words[at]);
+    return hash;
+}
+
+/* The opening of a queue, 0 if it isn't known; and the queue's capacity, in the upper half, and its groups. */
+static inline uint64_t vahepito_internal_opening(const vahepito_queue *queue, uint64_t *shape) {
+    const size_t at = vahepito_internal_key((uintptr_t)queue, 0, 0) % VAHEPITO_INTERNAL_SLOTS;
+    const uint64_t opened = __atomic_load_n(&vahepito_internal_opened[at], __ATOMIC_RELAXED);
+    const uint64_t found = __atomic_load_n(&vahepito_internal_shapes[at], __ATOMIC_RELAXED);
+    *shape = found << 16 >> 16;
+    return (opened ^ (uintptr_t)queue) << 16 == 0 && opened >> 48 == found >> 48 ? opened : 0;
+}
+
+static inline void vahepito_internal_open(const vahepito_queue *queue, uint64_t capacity, uint64_t groups) {
+    const size_t at = vahepito_internal_key((uintptr_t)queue, 0, 0) % VAHEPITO_INTERNAL_SLOTS;
+    const uint64_t number = __atomic_fetch_add(&vahepito_internal_openings, 1, __ATOMIC_RELAXED) % 65535 + 1;
+    __atomic_store_n(&vahepito_internal_shapes[at], number << 48 | capacity << 32 | groups, __ATOMIC_RELAXED);
+    __atomic_store_n(&vahepito_internal_opened[at], number << 48 | (uint64_t)(uintptr_t)queue << 16 >> 16, __ATOMIC_RELAXED);
+}
+
+/* Before a call. */
+static inline void vahepito_internal_begins(const vahepito_queue *queue, uint64_t kind, uint64_t about) {
+    vahepito_internal_release(vahepito_internal_begun_at(queue, kind, about));
+}
+
+/* After a call that was done at this place. */
+static inline void vahepito_internal_was_done(const vahepito_queue *queue, uint64_t kind, uint64_t place) {
+    uint64_t shape;
+    const uint64_t opening = vahepito_internal_opening(queue, &shape), key = vahepito_internal_key(opening, kind, place);
+    if (opening == 0) return;
+    vahepito_internal_release(&vahepito_internal_done[key % VAHEPITO_INTERNAL_SLOTS]);
+    __atomic_store_n(&vahepito_internal_marks[key % VAHEPITO_INTERNAL_SLOTS], key, __ATOMIC_RELAXED);
+}
+
+/* After a call that comes after the one of this kind at this place. */
+static inline void vahepito_internal_comes_after(const vahepito_queue *queue, uint64_t kind, uint64_t about, uint64_t place) {
+    uint64_t shape;
+    const uint64_t opening = vahepito_internal_opening(queue, &shape), key = vahepito_internal_key(opening, kind, place);
+    if (opening != 0 && __atomic_load_n(&vahepito_internal_marks[key % VAHEPITO_INTERNAL_SLOTS], __ATOMIC_RELAXED) == key)
+        vahepito_internal_acquire(&vahepito_internal_done[key % VAHEPITO_INTERNAL_SLOTS]);
+    else
+        vahepito_internal_acquire(vahepito_internal_begun_at(queue, kind, about));
+}
+
+/* After a send or a close. */
+static inline uint32_t vahepito_internal_answered(const vahepito_queue *queue, uint32_t code, uint64_t place) {
+    if (code == VAHEPITO_CLOSED || code == VAHEPITO_ALREADY)
+        vahepito_internal_acquire(vahepito_internal_begun_at(queue, VAHEPITO_INTERNAL_END, 0));
+    if (code == VAHEPITO_ACCEPTED) {
+        uint64_t shape;
+        const uint64_t opening = vahepito_internal_opening(queue, &shape), groups = opening ? shape & 15 : 8, capacity = shape >> 32;
+        vahepito_internal_was_done(queue, VAHEPITO_INTERNAL_ITEM, place);
+        for (uint64_t group = 1; group <= groups && (opening == 0 || place >= capacity); group++)
+            vahepito_internal_comes_after(queue, group, 0, place - capacity);
+    }
     return code;
 }
 
-static inline uint32_t vahepito_call_send_told(vahepito_call *call, const uint64_t *words, size_t count, uint64_t *place) {
-    vahepito_hand_words(words, count);
-    return vahepito_call_send(call, words, count, place);
+/* After a take; its group is 0 if it isn't known. */
+static inline uint32_t vahepito_internal_took(const vahepito_queue *queue, uint32_t group, uint32_t code, const vahepito_item *item) {
+    if (code == VAHEPITO_ENDED) vahepito_internal_acquire(vahepito_internal_begun_at(queue, VAHEPITO_INTERNAL_END, 0));
+    if (code == VAHEPITO_GOT) {
+        vahepito_internal_comes_after(queue, VAHEPITO_INTERNAL_ITEM, vahepito_internal_hash(item->words, item->count), item->place);
+        if (group != 0) vahepito_internal_was_done(queue, group, item->place);
+    }
+    return code;
 }
 
-static inline uint32_t vahepito_call_take_told(vahepito_call *call, uint32_t group, vahepito_item *item, uint64_t *total) {
-    return vahepito_got(vahepito_call_take(call, group, item, total), item);
+static inline uint32_t vahepito_internal_new(const vahepito_config *config, uint32_t groups, uint32_t words, vahepito_queue **queue) {
+    const uint32_t code = vahepito_new(config, groups, words, queue);
+    if (code == VAHEPITO_DONE) vahepito_internal_open(*queue, config->capacity, groups);
+    return code;
 }
 
-static inline uint32_t vahepito_call_turn_take_told(vahepito_call *call, vahepito_item *item, uint64_t *total) {
-    return vahepito_got(vahepito_call_turn_take(call, item, total), item);
+static inline uint32_t vahepito_internal_call_send(vahepito_call *call, const uint64_t *words, size_t count, uint64_t *place) {
+    vahepito_internal_begins(call->queue, VAHEPITO_INTERNAL_ITEM, vahepito_internal_hash(words, count));
+    const uint32_t code = vahepito_call_send(call, words, count, place);
+    return vahepito_internal_answered(call->queue, code, *place);
 }
 
-#define vahepito_call_send vahepito_call_send_told
-#define vahepito_call_take vahepito_call_take_told
-#define vahepito_call_turn_take vahepito_call_turn_take_told
+static inline uint32_t vahepito_internal_call_turn_send(vahepito_call *call, uint64_t *place) {
+    const uint32_t code = vahepito_call_turn_send(call, place);
+    return vahepito_internal_answered(call->queue, code, *place);
+}
+
+static inline uint32_t vahepito_internal_call_take(vahepito_call *call, uint32_t group, vahepito_item *item, uint64_t *total) {
+    vahepito_internal_begins(call->queue, group, 0);
+    const uint32_t code = vahepito_call_take(call, group, item, total);
+    return vahepito_internal_took(call->queue, group, code, item);
+}
+
+static inline uint32_t vahepito_internal_call_turn_take(vahepito_call *call, vahepito_item *item, uint64_t *total) {
+    const uint32_t code = vahepito_call_turn_take(call, item, total);
+    return vahepito_internal_took(call->queue, 0, code, item);
+}
+
+static inline uint32_t vahepito_internal_call_close(vahepito_call *call, uint64_t *total) {
+    vahepito_internal_begins(call->queue, VAHEPITO_INTERNAL_END, 0);
+    const uint32_t code = vahepito_call_close(call, total);
+    return vahepito_internal_answered(call->queue, code, 0);
+}
+
+static inline uint32_t vahepito_internal_call_turn_close(vahepito_call *call, uint64_t *total) {
+    const uint32_t code = vahepito_call_turn_close(call, total);
+    return vahepito_internal_answered(call->queue, code, 0);
+}
+
+#define vahepito_new vahepito_internal_new
+#define vahepito_call_send vahepito_internal_call_send
+#define vahepito_call_turn_send vahepito_internal_call_turn_send
+#define vahepito_call_take vahepito_internal_call_take
+#define vahepito_call_turn_take vahepito_internal_call_turn_take
+#define vahepito_call_close vahepito_internal_call_close
+#define vahepito_call_turn_close vahepito_internal_call_turn_close
 #endif
 
 #ifdef __cplusplus

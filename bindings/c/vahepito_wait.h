@@ -428,6 +428,9 @@ static inline uint32_t vahepito_attempt_take(void *at) {
     uint32_t code;
     VAHEPITO_UNTIL(it->line, code, vahepito_call_take(it->call, it->group, &it->item, &it->total), vahepito_has_no_place(it->call, code));
     if (code == VAHEPITO_WAITING) code = vahepito_turns_of_take(it->line, it->call, &it->item, &it->total);
+#if defined(VAHEPITO_TOLD)
+    if (code == VAHEPITO_GOT) vahepito_internal_was_done(it->call->queue, it->group, it->item.place);
+#endif
     vahepito_notify_served(it->line);
     return code;
 }
