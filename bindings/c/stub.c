@@ -1,10 +1,13 @@
 /* An archive that replaces the proved library in a test, with another version or with other sizes. Its calls return VERSION,
- * ITEM_SIZE and CALL_SIZE, and any other call of it ends the process. */
+ * ITEM_SIZE and CALL_SIZE, and any other call of it ends the process. Without ITEM_SIZE it has the version alone, for a library that
+ * is the proved one but for its version. */
 #include <stddef.h>
 #include <stdint.h>
 #include <stdlib.h>
 
 uint32_t vahepito_version(void) { return VERSION; }
+
+#if defined(ITEM_SIZE)
 
 void vahepito_sizes(size_t *config, size_t *pass, size_t *item, size_t *words_item) {
     *config = 32;
@@ -37,3 +40,4 @@ CALL(vahepito_turn_take)
 CALL(vahepito_turn_take_words)
 CALL(vahepito_try_take)
 CALL(vahepito_try_take_words)
+#endif

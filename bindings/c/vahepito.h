@@ -78,7 +78,7 @@
  *
  * Every call writes its out-parameters, with 0 in each field that its code gives no meaning.
  *
- * Header and library must have one version: vahepito_check_version checks it, at a program's start.
+ * The library must serve this header: vahepito_check_version checks it, at a program's start.
  *
  * If the thread sanitizer is on, the calls announce to it what they order: the library isn't built for the sanitizer, which sees
  * none of its steps. With VAHEPITO_VALGRIND defined before this header they announce it to valgrind's helgrind and DRD instead (the file
@@ -198,7 +198,7 @@ enum {
     /* vahepito_new: the number of groups is not from 1 to 8; a take: there is no such group */
     VAHEPITO_BAD_GROUPS = 26,
 
-    /* vahepito_check_version: the library isn't of this header's version */
+    /* vahepito_check_version: the library doesn't serve this header */
     VAHEPITO_BAD_VERSION = 27,
 
     /* the number of words is not from 1 to 4: of vahepito_new, or of a send */
@@ -225,18 +225,20 @@ static inline const char *vahepito_text(uint32_t code) {
 uint32_t vahepito_version(void);
 
 /* How many bytes a vahepito_config, a vahepito_pass, an item of one word (of the Rust crate alone) and a vahepito_item have for
- * the library. Only a library of this header's version may be asked. Any thread may call. */
+ * the library. Only a library with this header's first two numbers may be asked. Any thread may call. */
 void vahepito_sizes(size_t *config, size_t *pass, size_t *item, size_t *words_item);
 
 /* How many bytes a vahepito_call has for the library. Otherwise as vahepito_sizes. */
 size_t vahepito_call_size(void);
 
-/* Whether the library that is linked is the one of this header, by its version and by these sizes. A program asks once,
- * before its first opening; if they differ, it makes no other call but these above. Any thread may call.
+/* Whether the library that is linked serves this header. A library serves the headers of its own version, and of those with the same
+ * first two numbers and an earlier third one: so a later patch may come in its place. The sizes above have to be the same. A program asks once,
+ * before its first opening; if this is BAD_VERSION, it makes no other call but these above. Any thread may call.
  * DONE, BAD_VERSION. */
 static inline uint32_t vahepito_check_version(void) {
     size_t config = 0, pass = 0, item = 0, words_item = 0;
-    if (vahepito_version() != VAHEPITO_VERSION) return VAHEPITO_BAD_VERSION;
+    const uint32_t version = vahepito_version();
+    if (version / 1000 != VAHEPITO_VERSION / 1000 || version < VAHEPITO_VERSION) return VAHEPITO_BAD_VERSION;
     vahepito_sizes(&config, &pass, &item, &words_item);
     return config == sizeof(vahepito_config) && pass == sizeof(vahepito_pass) && words_item == sizeof(vahepito_item) &&
                    vahepito_call_size() == sizeof(vahepito_call)

@@ -1,6 +1,6 @@
 # Gives the target vahepito::vahepito: headers and archives of the folder in which this file lies, wherever that is. The target
 # vahepito::strict has the library with no plain store in its place, as it was proved and built, and vahepito::shared the shared
-# library.
+# library. A shared object in which an archive is linked exports none of its functions.
 if(NOT CMAKE_SYSTEM_NAME STREQUAL "Linux" OR NOT CMAKE_SYSTEM_PROCESSOR MATCHES "^(@PROCESSORS@)$" OR NOT CMAKE_SIZEOF_VOID_P EQUAL 8)
   set(vahepito_FOUND FALSE)
   set(vahepito_NOT_FOUND_MESSAGE "its archives are for Linux on the processor @PROCESSORS@ with 64 bits")
@@ -23,11 +23,12 @@ if(NOT TARGET vahepito::vahepito)
   set_target_properties(vahepito::vahepito vahepito::strict PROPERTIES
     IMPORTED_LINK_INTERFACE_LANGUAGES C
     INTERFACE_INCLUDE_DIRECTORIES "${vahepito_prefix}/include"
+    INTERFACE_LINK_OPTIONS "LINKER:--exclude-libs,libvahepito.a:libvahepito_strict.a:libvahepito_heap.a"
     INTERFACE_LINK_LIBRARIES "vahepito::heap;Threads::Threads")
   add_library(vahepito::shared SHARED IMPORTED)
   set_target_properties(vahepito::shared PROPERTIES
-    IMPORTED_LOCATION "${vahepito_prefix}/lib/libvahepito.so.0"
-    IMPORTED_SONAME libvahepito.so.0
+    IMPORTED_LOCATION "${vahepito_prefix}/lib/@SONAME@"
+    IMPORTED_SONAME @SONAME@
     INTERFACE_INCLUDE_DIRECTORIES "${vahepito_prefix}/include"
     INTERFACE_LINK_LIBRARIES Threads::Threads)
 endif()
