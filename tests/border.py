@@ -88,7 +88,7 @@ def of_the_library():
 
 
 def of_the_headers():
-    """The same of the headers, and the names in vahepito_text."""
+    """The same of the headers; and the codes of vahepito.h, with the names in vahepito_name, and those that vahepito_text has."""
     headers = [(TOP / "bindings/c" / name).read_text() for name in ("vahepito.h", "handles.h")]
     text = re.sub(r"/\*.*?\*/", "", "\n".join(headers), flags=re.S)
     defined = dict(re.findall(r"^#define VAHEPITO_(\w+) (\d+)$", text, re.M))
@@ -101,8 +101,9 @@ def of_the_headers():
     for fields, name in re.findall(r"typedef struct \{(.*?)\} (\w+);", text, re.S):
         fields = re.sub(r"\[VAHEPITO_(\w+)\]", lambda found: f"[{defined[found[1]]}]", fields)
         structs[name] = [" ".join(field.split()) for field in fields.split(";") if field.strip()]
-    names = re.findall(r'"(\w+)"', re.search(r"const names\[\] = \{(.*?)\};", text, re.S)[1])
-    return codes, int(defined["VERSION"]), exports, {name: structs[name] for name, _, _ in STRUCTS}, names
+    said = [re.findall(r'case VAHEPITO_(\w+): return "(.*)";', text.split(f"*vahepito_{name}(")[1].split("default:")[0]) for name in ("name", "text")]
+    own = re.findall(r"^ *VAHEPITO_(\w+) = \d+", text.split("enum vahepito_code {")[1].split("}")[0], re.M)
+    return codes, int(defined["VERSION"]), exports, {name: structs[name] for name, _, _ in STRUCTS}, own, *said
 
 
 def number_of(pattern, path):
@@ -141,8 +142,11 @@ def differences():
         "the crate": of_rust(sorted((TOP / "bindings/rust/src").rglob("*.rs")), STRUCTS),
         "the bench": of_rust([TOP / "bench/peers/src/exports.rs"], OF_THE_BENCH),
     }
-    if header[4] != sorted(header[0], key=header[0].get) or set(header[0].values()) != set(range(len(header[4]))):
-        yield "the names in vahepito_text aren't those of the header's codes, in the order of their numbers"
+    _, _, _, _, codes_of_calls, names, texts = header
+    if names != [(name, name) for name in codes_of_calls] or set(header[0].values()) != set(range(len(header[0]))):
+        yield "the names in vahepito_name aren't those of the codes of vahepito.h"
+    if [name for name, _ in texts] != codes_of_calls or len({text for _, text in texts}) != len(texts):
+        yield "vahepito_text doesn't have a sentence of its own for each code of vahepito.h"
     for name in OF_THE_HEADER:
         if name in library[0]:
             yield f"{name} is a code of the header alone, and the library has it too"

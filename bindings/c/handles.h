@@ -27,6 +27,16 @@
 extern "C" {
 #endif
 
+/* The codes that these calls have beside those of vahepito.h. */
+enum {
+    /* an opening: not one handle for each pass, or one that is not empty */
+    VAHEPITO_BAD_HANDLES = 8,
+    VAHEPITO_BEGUN = 14, /* the call was begun */
+    VAHEPITO_FRESH = 16, /* the sender may begin a further send */
+    /* a take of an item of one word, in a queue whose items may have more */
+    VAHEPITO_WIDE = 30
+};
+
 /* An item of one word that was taken. */
 typedef struct {
     uint64_t place;  /* which of the accepted items it is, from 0 */

@@ -51,6 +51,20 @@ static int two_words(vahepito_queue *queue) {
     return item.count == 2 && item.words[0] == 7 && item.words[1] == 8 && item.words[2] == 0 ? 0 : 18;
 }
 
+/* Each code has a name and a sentence, and no other number has. */
+static int texts(void) {
+    uint32_t code, count = 0;
+    for (code = 0; code < 100; code++) {
+        const int has_name = strcmp(vahepito_name(code), "no code") != 0;
+        if (has_name != (strcmp(vahepito_text(code), "there is no such code") != 0)) return 32;
+        count += (uint32_t)has_name;
+    }
+    switch ((enum vahepito_code)VAHEPITO_ENDED) {
+    case VAHEPITO_ENDED: return count == 27 && strcmp(vahepito_name(VAHEPITO_ENDED), "ENDED") == 0 ? 0 : 33;
+    default: return 34;
+    }
+}
+
 /* Whether the file's next line is this one, but for the times. */
 static int has_line(FILE *file, const char *due) {
     char line[200];
@@ -156,6 +170,7 @@ int main(void) {
     if (vahepito_new(&config, 1, 2, &queue) != VAHEPITO_DONE) return 22;
     if (!failed) failed = two_words(queue);
     vahepito_free(queue);
+    if (!failed) failed = texts();
     if (!failed) failed = recorded();
     return failed ? failed : ends_early();
 }

@@ -91,7 +91,7 @@ static uint64_t result_of(struct step step) {
 
 /* LINES if it is none of a model's lines. */
 static int line_of(const void *place) {
-    const vahepito_line *line = place;
+    const vahepito_internal_line *line = place;
     if (line == &waits.senders) return 0;
     return line >= waits.groups && line < waits.groups + GROUPS ? 1 + (int)(line - waits.groups) : LINES;
 }
@@ -411,7 +411,7 @@ static bool is_wrong(const struct state *state) {
             continue;
         }
         if (state->sleeps[process] != ASLEEP) return false;
-        sleeping[step->line] += VAHEPITO_ONE_WAITING;
+        sleeping[step->line] += VAHEPITO_INTERNAL_ONE_WAITING;
         is_missed |= state->closed || (step->line == 0 ? room(state) > 0 : state->taken[step->line - 1] < state->sent);
     }
     return is_missed || memcmp(sleeping, state->counts, sizeof sleeping) != 0;

@@ -104,7 +104,7 @@ static void refused_calls(vahepito_call *call, enum state state) {
         case 't': code = vahepito_call_take(call, calls[at].count, &item, &number); break;
         default: code = vahepito_call_turn_take(call, &item, &number); break;
         }
-        if (code != calls[at].codes[state]) fprintf(stderr, "%c %u in state %d: %s\n", calls[at].name, calls[at].count, state, vahepito_text(code));
+        if (code != calls[at].codes[state]) fprintf(stderr, "%c %u in state %d: %s\n", calls[at].name, calls[at].count, state, vahepito_name(code));
         check(code == calls[at].codes[state], "a call returns its code in each state");
         check(number == 0, "with no number");
         if (calls[at].name == 't' || calls[at].name == 'T') check(memcmp(&item, &none, sizeof item) == 0, "and no item");

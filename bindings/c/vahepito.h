@@ -151,8 +151,9 @@ typedef struct {
     uint64_t words[VAHEPITO_MOST_WORDS]; /* the words that were sent, and 0 after them */
 } vahepito_item;
 
-/* The codes that calls return. Each call lists its own. */
-enum {
+/* The codes that calls return. Each call lists its own, and returns it as uint32_t, which has one size for every compiler; the size
+ * of an enum depends on the compiler and its options. `switch ((enum vahepito_code)code)` lets the compiler say which codes are missing. */
+enum vahepito_code {
     /* it was done */
     VAHEPITO_DONE = 0,
 
@@ -165,8 +166,6 @@ enum {
     VAHEPITO_BAD_PER_SENDER = 6,
     /* an opening: memory was refused */
     VAHEPITO_NO_MEMORY = 7,
-    /* of the handles that the Rust crate uses: not one for each pass, or one that is not empty */
-    VAHEPITO_BAD_HANDLES = 8,
 
     /* the call could not be made, and nothing has changed */
     VAHEPITO_NO_PASS = 9,     /* a turn: there is no ticket */
@@ -176,9 +175,7 @@ enum {
     VAHEPITO_WORN = 13,       /* each sender's place that was free has begun as many sends as it may */
 
     /* on the way */
-    VAHEPITO_BEGUN = 14,   /* of the handles: the call was begun */
     VAHEPITO_WAITING = 15, /* its answer is not there yet: turn again */
-    VAHEPITO_FRESH = 16,   /* of the handles: the sender may begin a further send */
 
     /* the answer of a send */
     VAHEPITO_ACCEPTED = 17, /* the item is the place-th that was accepted, from 0 */
@@ -204,20 +201,75 @@ enum {
     /* the number of words is not from 1 to 4: of vahepito_new, or of a send */
     VAHEPITO_BAD_WORDS = 28,
     /* a send: an item of this queue has fewer words; nothing has changed */
-    VAHEPITO_LONG = 29,
-    /* of the handles: a take of an item of one word, in a queue whose items may have more */
-    VAHEPITO_WIDE = 30
+    VAHEPITO_LONG = 29
 };
 
 /* The name of a code, without VAHEPITO_ before it. */
+static inline const char *vahepito_name(uint32_t code) {
+    switch (code) {
+    case VAHEPITO_DONE: return "DONE";
+    case VAHEPITO_BAD_SENDERS: return "BAD_SENDERS";
+    case VAHEPITO_BAD_RECEIVERS: return "BAD_RECEIVERS";
+    case VAHEPITO_BAD_CAPACITY: return "BAD_CAPACITY";
+    case VAHEPITO_BAD_BOUND: return "BAD_BOUND";
+    case VAHEPITO_BAD_LIFE: return "BAD_LIFE";
+    case VAHEPITO_BAD_PER_SENDER: return "BAD_PER_SENDER";
+    case VAHEPITO_NO_MEMORY: return "NO_MEMORY";
+    case VAHEPITO_NO_PASS: return "NO_PASS";
+    case VAHEPITO_WRONG_SIDE: return "WRONG_SIDE";
+    case VAHEPITO_BUSY: return "BUSY";
+    case VAHEPITO_NOT_BEGUN: return "NOT_BEGUN";
+    case VAHEPITO_WORN: return "WORN";
+    case VAHEPITO_WAITING: return "WAITING";
+    case VAHEPITO_ACCEPTED: return "ACCEPTED";
+    case VAHEPITO_FULL: return "FULL";
+    case VAHEPITO_CLOSED: return "CLOSED";
+    case VAHEPITO_SPENT: return "SPENT";
+    case VAHEPITO_SHUT: return "SHUT";
+    case VAHEPITO_ALREADY: return "ALREADY";
+    case VAHEPITO_GOT: return "GOT";
+    case VAHEPITO_EMPTY: return "EMPTY";
+    case VAHEPITO_ENDED: return "ENDED";
+    case VAHEPITO_BAD_GROUPS: return "BAD_GROUPS";
+    case VAHEPITO_BAD_VERSION: return "BAD_VERSION";
+    case VAHEPITO_BAD_WORDS: return "BAD_WORDS";
+    case VAHEPITO_LONG: return "LONG";
+    default: return "no code";
+    }
+}
+
+/* What a code says, in a sentence without its full stop. */
 static inline const char *vahepito_text(uint32_t code) {
-    static const char *const names[] = {
-        "DONE", "BAD_SENDERS", "BAD_RECEIVERS", "BAD_CAPACITY", "BAD_BOUND", "BAD_LIFE", "BAD_PER_SENDER", "NO_MEMORY",
-        "BAD_HANDLES", "NO_PASS", "WRONG_SIDE", "BUSY", "NOT_BEGUN", "WORN", "BEGUN", "WAITING", "FRESH", "ACCEPTED", "FULL",
-        "CLOSED", "SPENT", "SHUT", "ALREADY", "GOT", "EMPTY", "ENDED", "BAD_GROUPS", "BAD_VERSION", "BAD_WORDS", "LONG",
-        "WIDE",
-    };
-    return code < sizeof names / sizeof *names ? names[code] : "no code";
+    switch (code) {
+    case VAHEPITO_DONE: return "it was done";
+    case VAHEPITO_BAD_SENDERS: return "the number of places for sends is not from 1 to 64";
+    case VAHEPITO_BAD_RECEIVERS: return "the number of places for takes is not from 1 to 64";
+    case VAHEPITO_BAD_CAPACITY: return "the capacity is not from 1 to 4096";
+    case VAHEPITO_BAD_BOUND: return "the bound is not from 1 to 1024";
+    case VAHEPITO_BAD_LIFE: return "the life is not from 1 to 2^48";
+    case VAHEPITO_BAD_PER_SENDER: return "a place for sends may begin none";
+    case VAHEPITO_NO_MEMORY: return "memory was refused";
+    case VAHEPITO_NO_PASS: return "the vahepito_call has no ticket";
+    case VAHEPITO_WRONG_SIDE: return "the ticket is that of a call of the other side";
+    case VAHEPITO_BUSY: return "no place was free, or the vahepito_call has a ticket";
+    case VAHEPITO_NOT_BEGUN: return "the ticket is that of another call of its side";
+    case VAHEPITO_WORN: return "each place for sends that was free has begun as many as it may";
+    case VAHEPITO_WAITING: return "the answer is not there yet";
+    case VAHEPITO_ACCEPTED: return "the item was accepted";
+    case VAHEPITO_FULL: return "there was no room";
+    case VAHEPITO_CLOSED: return "the queue is closed";
+    case VAHEPITO_SPENT: return "the queue has accepted as many items as it may";
+    case VAHEPITO_SHUT: return "this call closed the queue";
+    case VAHEPITO_ALREADY: return "the queue was closed before";
+    case VAHEPITO_GOT: return "an item was taken";
+    case VAHEPITO_EMPTY: return "there was no item";
+    case VAHEPITO_ENDED: return "the queue is closed, and the group has taken all its items";
+    case VAHEPITO_BAD_GROUPS: return "there is no such group, or there are not 1 to 8";
+    case VAHEPITO_BAD_VERSION: return "the library does not serve this header";
+    case VAHEPITO_BAD_WORDS: return "the number of words is not from 1 to 4";
+    case VAHEPITO_LONG: return "an item of this queue has fewer words";
+    default: return "there is no such code";
+    }
 }
 
 /* The version of the library, as VAHEPITO_VERSION is that of the header. This call is the same in every version. Any thread
@@ -232,8 +284,8 @@ void vahepito_sizes(size_t *config, size_t *pass, size_t *item, size_t *words_it
 size_t vahepito_call_size(void);
 
 /* Whether the library that is linked serves this header. A library serves the headers of its own version, and of those with the same
- * first two numbers and an earlier third one: so a later patch may come in its place. The sizes above have to be the same. A program asks once,
- * before its first opening; if this is BAD_VERSION, it makes no other call but these above. Any thread may call.
+ * first two numbers and an earlier third one: so a later patch may come in its place. The sizes above have to be the same. A
+ * program asks once, before its first opening; if this is BAD_VERSION, it makes no other call but these above. Any thread may call.
  * DONE, BAD_VERSION. */
 static inline uint32_t vahepito_check_version(void) {
     size_t config = 0, pass = 0, item = 0, words_item = 0;
