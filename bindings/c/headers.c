@@ -170,6 +170,7 @@ int main(void) {
     if (vahepito_new(&config, 1, 2, &queue) != VAHEPITO_DONE) return 22;
     if (!failed) failed = two_words(queue);
     vahepito_free(queue);
+    vahepito_free(NULL);
     if (!failed) failed = texts();
     if (!failed) failed = recorded();
     return failed ? failed : ends_early();

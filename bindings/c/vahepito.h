@@ -68,10 +68,10 @@
  *   join, or a sequentially consistent atomic. Different ones may be used by different threads at once.
  * - While a vahepito_call has a ticket, its bytes are not changed, and no copy of it is used. It may be moved to another place, and
  *   the old place is then not used. When it has no ticket it may be copied.
- * - vahepito_free is called once, with the pointer that vahepito_new gave, and not with NULL. By then all calls have returned, each
+ * - vahepito_free is called once, with the pointer that vahepito_new gave. By then all calls have returned, each
  *   ticket was turned to its end, and no call comes later. All this comes before vahepito_free by an order that the program
  *   has: joins, a lock or a flag.
- * - No pointer is NULL, every out-parameter is an initialised variable, the pointers of one call point to different
+ * - No other pointer is NULL, every out-parameter is an initialised variable, the pointers of one call point to different
  *   variables, and of an array there are as many elements as the count says.
  * - No call is made from a signal handler, or from the forked child of a process with threads.
  * - malloc, realloc and free are one allocator's.
@@ -302,7 +302,8 @@ static inline uint32_t vahepito_check_version(void) {
  * DONE: *queue is the pointer. BAD_SENDERS to BAD_PER_SENDER, then BAD_GROUPS, then BAD_WORDS, then NO_MEMORY: *queue is NULL. */
 uint32_t vahepito_new(const vahepito_config *config, uint32_t groups, uint32_t words, vahepito_queue **queue);
 
-/* Frees a queue. Any thread may call, once all calls have returned and no ticket is left, as said above. */
+/* Frees a queue, and not what the words of items in it point to. Any thread may call, once all calls have returned and no ticket is
+ * left, as said above. Of NULL nothing is freed: the macro of this name looks for it, as the library's own function doesn't. */
 void vahepito_free(vahepito_queue *queue);
 
 /* A send of `count` words, which are copied. The thread that has the vahepito_call calls, as for all calls below.
@@ -326,7 +327,7 @@ uint32_t vahepito_call_take(vahepito_call *call, uint32_t group, vahepito_item *
  * NO_PASS: there is no ticket. WRONG_SIDE: it is that of a send or a close. Nothing has changed by these two. */
 uint32_t vahepito_call_turn_take(vahepito_call *call, vahepito_item *item, uint64_t *total);
 
-/* A close of the queue: nothing is accepted after it, and takes return ENDED once their group has taken what was accepted.
+/* A close of the queue: nothing is accepted after it, and takes come to the end once their group has taken what was accepted.
  * SHUT, ALREADY with the total. WAITING: turn. BUSY: no place was free, or `call` has a ticket; nothing has changed. */
 uint32_t vahepito_call_close(vahepito_call *call, uint64_t *total);
 
@@ -417,6 +418,12 @@ static inline void vahepito_internal_open(const vahepito_queue *queue, uint64_t 
     const uint64_t number = __atomic_fetch_add(&vahepito_internal_openings, 1, __ATOMIC_RELAXED) % 65535 + 1;
     __atomic_store_n(&vahepito_internal_shapes[at], number << 48 | capacity << 32 | groups, __ATOMIC_RELAXED);
     __atomic_store_n(&vahepito_internal_opened[at], number << 48 | (uint64_t)(uintptr_t)queue << 16 >> 16, __ATOMIC_RELAXED);
+}
+
+static inline void vahepito_internal_forget(const vahepito_queue *queue) {
+    uint64_t shape;
+    if (vahepito_internal_opening(queue, &shape))
+        __atomic_store_n(&vahepito_internal_opened[vahepito_internal_key((uintptr_t)queue, 0, 0) % VAHEPITO_INTERNAL_SLOTS], 0, __ATOMIC_RELAXED);
 }
 
 /* Before a call. */
@@ -514,6 +521,16 @@ static inline uint32_t vahepito_internal_call_turn_close(vahepito_call *call, ui
 #define vahepito_call_close vahepito_internal_call_close
 #define vahepito_call_turn_close vahepito_internal_call_turn_close
 #endif
+
+static inline void vahepito_internal_free(vahepito_queue *queue) {
+    if (!queue) return;
+#if defined(VAHEPITO_TOLD)
+    vahepito_internal_forget(queue);
+#endif
+    vahepito_free(queue);
+}
+
+#define vahepito_free vahepito_internal_free
 
 #ifdef __cplusplus
 }

@@ -42,7 +42,7 @@ struct config {
 
 namespace detail {
 struct queue {
-    ~queue() { at ? vahepito_free(at) : void(); }
+    ~queue() { vahepito_free(at); }
     vahepito_queue *at = nullptr;
     vahepito_waits waits = VAHEPITO_WAITS;
     std::atomic<std::uint32_t> senders{0};

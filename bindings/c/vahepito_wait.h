@@ -383,32 +383,35 @@ static inline uint32_t vahepito_send(vahepito_waits *waits, vahepito_call *call,
     return vahepito_internal_make_send(waits, &request, place);
 }
 
-/* The same until this moment. FULL: the moment has come, and at the last try there was no room. */
+/* The same until this moment. ACCEPTED, CLOSED, SPENT, WORN, BUSY as above. FULL: the moment has come, and at the last try there
+ * was no room. */
 static inline uint32_t vahepito_send_until(vahepito_waits *waits, vahepito_call *call, uint64_t word,
                                            const struct timespec *moment, uint64_t *place) {
     vahepito_internal_send_request request = {&waits->sends, call, &word, 1, true, moment, 0};
     return vahepito_internal_make_send(waits, &request, place);
 }
 
-/* The same without a wait for room. FULL: there is none. */
+/* The same without a wait for room. ACCEPTED, CLOSED, SPENT, WORN, BUSY as above. FULL: there is none. */
 static inline uint32_t vahepito_send_now(vahepito_waits *waits, vahepito_call *call, uint64_t word, uint64_t *place) {
     vahepito_internal_send_request request = {&waits->sends, call, &word, 1, false, NULL, 0};
     return vahepito_internal_make_send(waits, &request, place);
 }
 
-/* The same three of an item of `count` words. BAD_WORDS, LONG: no such item is sent. */
+/* The same three of an item of `count` words. ACCEPTED, CLOSED, SPENT, WORN, BUSY as above. BAD_WORDS, LONG: no such item is sent. */
 static inline uint32_t vahepito_send_words(vahepito_waits *waits, vahepito_call *call, const uint64_t *words, size_t count,
                                            uint64_t *place) {
     vahepito_internal_send_request request = {&waits->sends, call, words, count, true, NULL, 0};
     return vahepito_internal_make_send(waits, &request, place);
 }
 
+/* ACCEPTED, FULL, CLOSED, SPENT, WORN, BUSY, BAD_WORDS, LONG. */
 static inline uint32_t vahepito_send_words_until(vahepito_waits *waits, vahepito_call *call, const uint64_t *words,
                                                  size_t count, const struct timespec *moment, uint64_t *place) {
     vahepito_internal_send_request request = {&waits->sends, call, words, count, true, moment, 0};
     return vahepito_internal_make_send(waits, &request, place);
 }
 
+/* ACCEPTED, FULL, CLOSED, SPENT, WORN, BUSY, BAD_WORDS, LONG. */
 static inline uint32_t vahepito_send_words_now(vahepito_waits *waits, vahepito_call *call, const uint64_t *words,
                                                size_t count, uint64_t *place) {
     vahepito_internal_send_request request = {&waits->sends, call, words, count, false, NULL, 0};
@@ -463,23 +466,24 @@ static inline uint32_t vahepito_take(vahepito_waits *waits, vahepito_call *call,
     return vahepito_internal_make_take(waits, &request, item, total);
 }
 
-/* The same until this moment. EMPTY: the moment has come, and at the last try there was no item. */
+/* The same until this moment. GOT, ENDED, BAD_GROUPS, BUSY as above. EMPTY: the moment has come, and at the last try there was
+ * no item. */
 static inline uint32_t vahepito_take_until(vahepito_waits *waits, vahepito_call *call, uint32_t group, vahepito_item *item,
                                            const struct timespec *moment, uint64_t *total) {
     vahepito_internal_take_request request = {vahepito_internal_takes_of(waits, group), call, group, true, moment, {0, 0, 0, 0, {0}}, 0};
     return vahepito_internal_make_take(waits, &request, item, total);
 }
 
-/* The same without a wait for an item. EMPTY: there is none. */
+/* The same without a wait for an item. GOT, ENDED, BAD_GROUPS, BUSY as above. EMPTY: there is none. */
 static inline uint32_t vahepito_take_now(vahepito_waits *waits, vahepito_call *call, uint32_t group, vahepito_item *item,
                                          uint64_t *total) {
     vahepito_internal_take_request request = {vahepito_internal_takes_of(waits, group), call, group, false, NULL, {0, 0, 0, 0, {0}}, 0};
     return vahepito_internal_make_take(waits, &request, item, total);
 }
 
-/* Closes the queue: nothing is accepted after it, and takes return ENDED once they have taken what was accepted. All calls that
- * wait are woken.
- * SHUT, ALREADY with the total. BUSY: nothing has changed. A close is made also when all sends are WORN. */
+/* Closes the queue: nothing is accepted after it, and takes come to the end once they have taken what was accepted. All calls that
+ * wait are woken. A close is made also when all sends are exhausted.
+ * SHUT, ALREADY with the total. BUSY: nothing has changed. */
 static inline uint32_t vahepito_close(vahepito_waits *waits, vahepito_call *call, uint64_t *total) {
     uint64_t number = 0;
     uint32_t code;
