@@ -12,8 +12,8 @@ The head of tests/command_lines says how the rows by hand are written.
 
 After the rows: every strict prefix of two plans; inputs of 16 MiB, at the limit and one byte past it; lists of a plan at
 their limit and one item past it; a large input in little memory; a word that is no text; outputs without room, at once or
-after a prefix of the text; inputs that can't be read; what a person at a terminal is told, by a terminal of the script's own; and
-the width of each text of help. Before them, the script shows that it finds a wrong status, a
+after a prefix of the text; inputs that can't be read; what a person at a terminal is told, and in which colours, by a terminal of the
+script's own; and the width of each text of help. Before them, the script shows that it finds a wrong status, a
 wrong text, a wrong prefix, one on the other output, a word too many, and an input that was read. Exit status 0 if all did so.
 It proves and builds nothing: `rt ci` does.
 """
@@ -221,6 +221,10 @@ def unread(program):
             yield is_told(ours, [task, locked], 66, reason, stdout=subprocess.DEVNULL, stderr=subprocess.PIPE, **nobody)
 
 
+# A terminal without colours.
+DUMB = {**os.environ, "TERM": "dumb"}
+
+
 class Terminal:
     """A program some of whose streams are a terminal."""
 
@@ -229,7 +233,7 @@ class Terminal:
         modes = termios.tcgetattr(theirs)
         modes[3] &= ~termios.ECHO
         termios.tcsetattr(theirs, termios.TCSANOW, modes)
-        self.child = subprocess.Popen([program, *words], cwd=TOP, **{"stdin": subprocess.DEVNULL, **others, **dict.fromkeys(at, theirs)})
+        self.child = subprocess.Popen([program, *words], cwd=TOP, **{"stdin": subprocess.DEVNULL, "env": DUMB, **others, **dict.fromkeys(at, theirs)})
         os.close(theirs)
 
     def read_up_to(self, pattern, seconds=30):
@@ -286,7 +290,7 @@ def hints(program):
            "why": "", "judge": "ccq: log refused: line 1: no JSON object\r\n"}
     for task, text in due.items():
         ours, theirs = pty.openpty()
-        subprocess.run([program, task], input=b"x\n", stdout=subprocess.DEVNULL, stderr=theirs)
+        subprocess.run([program, task], input=b"x\n", stdout=subprocess.DEVNULL, stderr=theirs, env=DUMB)
         os.close(theirs)
         said = b""
         try:
@@ -298,6 +302,58 @@ def hints(program):
         if said.decode() != text:
             print(f"{program} {task}: {said!r} at a terminal")
         yield said.decode() == text
+
+
+def colours(program):
+    """At a terminal that has colours the head of a verdict, of a place or of a fault stands between marks, and the rest is as it is
+    elsewhere. So is the whole if the environment forbids colours, or if only the other stream is a terminal."""
+    red, green, bold = (b"\x1b[%sm" % it for it in (b"1;31", b"1;32", b"1"))
+    twice = b'{"thread":1,"begin":0,"end":1,"send":[5]}\n' + b"".join(b'{"thread":%d,"begin":2,"end":3,"take":[5]}\n' % it for it in (2, 3))
+    lines = [
+        ("judge examples/calls.jsonl", b"", "stdout", green, rb"judge clean"),
+        ("judge", twice, "stdout", red, rb"judge fault"),
+        ("why examples/one_item.json", b"", "stdout", green, rb"no fault"),
+        ("why examples/calls.jsonl", b"", "stdout", red, rb"neither a plan nor receipts"),
+        ("why", b'{"version":1,\n"life":x}', "stdout", bold, rb"2:8:"),
+        ("why", b'{"capacity":2,"bound":2,"life":"x","senders":[[7]],"receivers":[1],"schedule":[]}', "stdout", bold, rb"1:32"),
+        ("play no_such_file", b"", "stderr", red, rb"ccq"),
+        ("judge", b"x", "stderr", red, rb"ccq"),
+        ("why no_such_file", b"", "stderr", red, rb"ccq"),
+        ("judge --skew", b"", "stderr", red, rb"error"),
+        ("judge --page examples/calls.jsonl extra", b"", "stderr", red, rb"error"),
+        ("plays", b"", "stderr", red, rb"error"),
+        ("drive --senders 64", b"", "stderr", red, rb"error"),
+        ("play examples/one_item.json", b"", "stdout", b"", rb""),
+        ("show --trace examples/one_item.json", b"", "stdout", b"", rb""),
+        ("drive --items 5", b"", "stdout", b"", rb""),
+        ("judge --help", b"", "stdout", b"", rb""),
+        ("--version", b"", "stdout", b"", rb""),
+    ]
+    rest = {it: text for it, text in os.environ.items() if it not in ("TERM", "NO_COLOR")}
+    some, none = ({}, {"NO_COLOR": ""}), ({"NO_COLOR": "1"}, {"NO_COLOR": "0", "TERM": "linux"}, {"TERM": "dumb"}, {"TERM": ""}, {"TERM": None})
+    for line, input, stream, mark, pattern in lines:
+        other = "stdout" if stream == "stderr" else "stderr"
+
+        def shown(at, variables):
+            env = {it: text for it, text in {**rest, "TERM": "xterm", **variables}.items() if text is not None}
+            with tempfile.TemporaryFile() as file, tempfile.TemporaryFile() as out:
+                file.write(input)
+                file.seek(0)
+                there = Terminal(program, line.split(), at, stdin=file, env=env, **{it: out for it in (stream, other) if it not in at})
+                said = there.read_up_to(rb"(?!)")
+                there.end()
+                out.seek(0)
+                return (said if stream in at else out.read()).replace(b"\r\n", b"\n")
+
+        plain = shown([], {})
+        head = re.match(pattern, plain)
+        painted = mark + head[0] + b"\x1b[0m" + plain[head.end():] if head and mark else plain
+        seen = [*(shown([stream], it) for it in some), *(shown([stream], it) for it in none), shown([other], {}), plain]
+        due = [painted] * len(some) + [plain] * (len(none) + 2)
+        well = head is not None and bool(plain) and b"\x1b" not in plain and seen == due
+        if not well:
+            print(f"{program} {line}: {seen!r} on {stream} at terminals, and not {due!r}")
+        yield well
 
 
 def is_narrow(program):
@@ -354,7 +410,7 @@ def on_programs():
         well = finds_what_is_wrong(program)
         for row in (it for part in rows for it in part):
             well &= does(program, row)
-        well &= all([*without_room(program), *unread(program), *hints(program), *at_terminals(program)]) and is_narrow(program)
+        well &= all([*without_room(program), *unread(program), *hints(program), *at_terminals(program), *colours(program)]) and is_narrow(program)
         if not well:
             return False
         worked, corpus, lines, large = map(len, rows)

@@ -10,4 +10,9 @@ no_refusal (Verdict.Fault fault) is = absurd (omega (arith, is))
 no_refusal Verdict.Undecided is = absurd (omega (arith, is))
 
 pub claims_refused : RefusedClaims
-claims_refused = record { log_refused = λ options log due. no_refusal due.1 due.4 }
+claims_refused = record {
+  log_refused = λ options log due. no_refusal due.1 due.4;
+  marked_without_colours = λ text head is. absurd (cc is);
+  dumb_with_colours = λ is. absurd (cc is);
+  colours_forbidden = λ is. absurd (cc is);
+}

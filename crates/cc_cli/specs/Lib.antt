@@ -10,3 +10,4 @@ pub mod Run
 pub mod Drive
 pub mod Hint
 pub mod Line
+pub mod Paint

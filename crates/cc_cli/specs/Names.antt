@@ -15,3 +15,6 @@ pub use Rattle.cc_cli.specs.declared.judge_options.OptionFault.{OptionFault}
 pub use Rattle.cc_cli.specs.declared.judge_options.Reading.{Reading}
 pub use Rattle.cc_cli.specs.declared.judging.page.AnswerFault.{AnswerFault}
 pub use Rattle.cc_cli.specs.declared.input.Input.{Input}
+pub use Rattle.cc_cli.specs.declared.paint.Head.{Head}
+pub use Rattle.cc_cli.specs.declared.paint.Mark.{Mark}
+pub use Rattle.cc_cli.specs.declared.paint.Painter.{Painter}

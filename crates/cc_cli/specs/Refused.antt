@@ -1,8 +1,9 @@
 -- Refused claims: for each kind of mistake a claim that the definitions don't admit.
-use Rattle.std.specs.Prelude.{◌≡◌, Ok}
+use Rattle.std.specs.Prelude.{ℕ, ◌≡◌, true, false, List, [], codes, Some, Ok}
 use Rattle.cc_log.specs.Log.{Spelled}
 use Rattle.cc_cli.specs.Judged.{IsDue}
-use Rattle.cc_cli.specs.Names.{Options}
+use Rattle.cc_cli.specs.Names.{Head, Options}
+use Rattle.cc_cli.specs.Paint.{due_head, wants_colours}
 
 -- a claim that doesn't hold
 abbrev pub Refused : Type 0 → Type 0
@@ -11,3 +12,8 @@ Refused claim = claim → ⊥
 pub record RefusedClaims : Type 0 where
   -- a log that its input spells is refused
   pub log_refused : (options : Options) (log : Spelled) → Refused (IsDue options (Ok log) 2)
+  -- a text without colours has a head to mark
+  pub marked_without_colours : (text : List ℕ) (head : Head) → Refused (due_head false text ≡ Some head)
+  -- a terminal has colours that is dumb, or though NO_COLOR is set
+  pub dumb_with_colours : Refused (wants_colours (codes "dumb") [] ≡ true)
+  pub colours_forbidden : Refused (wants_colours (codes "xterm") (codes "1") ≡ true)

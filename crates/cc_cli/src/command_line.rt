@@ -164,6 +164,8 @@ const VERSION: &str = "0.4.0";
 const EXAMPLES_AND_STATUS: &str = "\
 `ccq help COMMAND` or `ccq COMMAND --help` says more.
 
+A verdict, a place or a fault has colours at a terminal, unless NO_COLOR is set or TERM is dumb.
+
 Examples:
   ccq play PLAN
   ccq audit < RECEIPTS

@@ -14,6 +14,7 @@ pub mod hint;
 pub mod input;
 pub mod judge_options;
 mod judging;
+pub mod paint;
 pub mod reading;
 pub mod run;
 mod why;

@@ -9,6 +9,7 @@ use cc_cli::hint::{decline_page, hint, is_explained, tell_waiting};
 use cc_cli::input::Input;
 use cc_cli::judge_options::{decline_options, without_options};
 use cc_cli::not_text;
+use cc_cli::paint::{Painter, is_painted, wants_colours};
 use cc_cli::reading::{decline, decline_file};
 use cc_cli::run::run;
 use cc_cli::words::{CommandLine, spelled, waiting_task, without_file, without_form, writes_page};
@@ -17,6 +18,7 @@ use clap::Error;
 use progress::{Counter, Meter};
 use std::alloc::AllocError;
 use std::env;
+use std::env::VarError;
 use std::fs::{File, Files};
 use std::io::{ErrorKind, IsTerminal};
 use std::process::ExitCode;
@@ -24,19 +26,45 @@ use std::sync::Wait;
 use std::thread::Threads;
 
 fn main(rt: HostRuntime) -> ExitCode {
-    let mut sink = Device::new(rt.stdout());
-    let mut errors = Device::new(rt.stderr());
+    let is_told = rt.stderr().is_terminal();
+    let mut errors = Painter::new(
+        Device::new(rt.stderr()),
+        Device::new(rt.stderr()),
+        is_told && has_colours(&rt),
+    );
     let status = match words(&rt) {
         Ok(words) => {
-            let hints = rt.stderr().is_terminal() && is_explained(&words);
+            let hints = is_told && is_explained(&words);
+            let colours = rt.stdout().is_terminal() && is_painted(&words) && has_colours(&rt);
+            let mut sink = Painter::new(
+                Device::new(rt.stdout()),
+                Device::new(rt.stdout()),
+                colours,
+            );
             match answer(&rt, &rt, words, &mut sink, &mut errors) {
                 2 if hints => hint(&mut Device::new(rt.stderr())),
                 status => status,
             }
         }
-        Err(error) => decline(rt.alloc(), &error, &mut sink, &mut errors),
+        Err(error) => decline(
+            rt.alloc(),
+            &error,
+            &mut Device::new(rt.stdout()),
+            &mut errors,
+        ),
     };
     ExitCode::from(status)
+}
+
+/// Whether the environment says that a terminal has colours.
+fn has_colours(rt: &HostRuntime) -> bool {
+    let Ok(term) = env::var(rt, "TERM") else {
+        return false;
+    };
+    match env::var(rt, "NO_COLOR") {
+        Ok(no_color) => wants_colours(term.as_str(), no_color.as_str()),
+        Err(error) => error == VarError::NotPresent && wants_colours(term.as_str(), ""),
+    }
 }
 
 /// The words of the command line, without the program's name; or why there are none: one of them is no text, or memory
