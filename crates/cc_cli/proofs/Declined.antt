@@ -7,6 +7,7 @@ use Rattle.cc_cli.specs.Names.{Form, Options, Task, PlayFault, ShowFault}
 use Rattle.cc_play.specs.Outcome.{line_of}
 use Rattle.cc_show.specs.Show.{shown_line}
 use Rattle.cc_cli.specs.Run.{Declines, Runs}
+use Rattle.cc_cli.proofs.Explained.{no_memory}
 
 kept : (bytes : Option (List ℕ)) → Keeps bytes bytes
 kept None = tt
@@ -21,7 +22,7 @@ module _ (left : Option (List ℕ)) (reads : ℕ) (old new : Option (List ℕ)) 
   declined name form options (Some Task.Judge) faults kind (inl memory) d = let out = subst (Declines old new fails fails_after errors_old errors_new before after status) memory d in inl out.0
   declined name form options (Some Task.Why) faults kind (inl memory) d =
       let out = subst (Declines old new fails fails_after errors_old errors_new before after status) memory d in
-      record { none = λ zero. absurd (omega (arith, out.0, zero)); some = λ one. absurd (omega (arith, out.0, one)) }
+      no_memory left left reads reads fails fails_after status out.0 refl out.2
   declined name form options (Some Task.Show) faults kind (inl memory) d = let out = subst (Declines old new fails fails_after errors_old errors_new before after status) memory d in (Err (ShowFault.Play PlayFault.NoMemory), out.1, omega arith, omega (arith, out.2), out.0, out.3)
   declined name form options (Some t) faults kind (inr h) d = cc
   declined name form options None faults kind (inl memory) d = (kept left, refl, (kind, inl memory, d))

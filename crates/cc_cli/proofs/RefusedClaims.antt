@@ -15,4 +15,7 @@ claims_refused = record {
   marked_without_colours = λ text head is. absurd (cc is);
   dumb_with_colours = λ is. absurd (cc is);
   colours_forbidden = λ is. absurd (cc is);
+  read_failure_hidden = λ old new reads fails e. omega (arith, e.failures.counted);
+  write_failure_hidden = λ old new reads fails e. omega (arith, e.failures.counted);
+  failure_made_up = λ old new reads fails e. omega (arith, e.failures.counted);
 }

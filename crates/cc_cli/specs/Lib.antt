@@ -2,6 +2,7 @@ pub mod Names
 pub mod CommandLine
 pub mod Words
 pub mod Input
+pub mod Failures
 pub mod JudgeOptions
 pub mod Judged
 pub mod Refused

@@ -1,5 +1,6 @@
 -- The types in specs, proofs and contracts of this crate. A variant comes after its type, as `Task.Play`.
 pub use Rattle.cc_audit.specs.declared.receipt.Verdict.{Verdict}
+pub use Rattle.cc_io.specs.declared.input.InputFault.{InputFault}
 pub use Rattle.cc_judge.specs.declared.log.Call.{Call}
 pub use Rattle.cc_judge.specs.declared.log.Rules.{Rules}
 pub use Rattle.cc_plan.specs.declared.fault.PlanFault.{PlanFault}

@@ -1,9 +1,10 @@
 -- Refused claims: for each kind of mistake a claim that the definitions don't admit.
-use Rattle.std.specs.Prelude.{ℕ, ◌≡◌, true, false, List, [], codes, Some, Ok}
+use Rattle.std.specs.Prelude.{ℕ, ◌≡◌, ◌+◌, true, false, List, [], codes, Option, Some, Ok}
 use Rattle.cc_log.specs.Log.{Spelled}
 use Rattle.cc_cli.specs.Judged.{IsDue}
 use Rattle.cc_cli.specs.Names.{Head, Options}
 use Rattle.cc_cli.specs.Paint.{due_head, wants_colours}
+use Rattle.cc_cli.specs.Why.{Explains}
 
 -- a claim that doesn't hold
 abbrev pub Refused : Type 0 → Type 0
@@ -17,3 +18,9 @@ pub record RefusedClaims : Type 0 where
   -- a terminal has colours that is dumb, or though NO_COLOR is set
   pub dumb_with_colours : Refused (wants_colours (codes "dumb") [] ≡ true)
   pub colours_forbidden : Refused (wants_colours (codes "xterm") (codes "1") ≡ true)
+  -- of an input whose read failed: memory was refused
+  pub read_failure_hidden : (old new : Option (List ℕ)) (reads fails : ℕ) → Refused (Explains old new reads (reads + 1) fails fails 3)
+  -- a line was written, and its write failed
+  pub write_failure_hidden : (old new : Option (List ℕ)) (reads fails : ℕ) → Refused (Explains old new reads reads fails (fails + 1) 0)
+  -- a device failed, and none did
+  pub failure_made_up : (old new : Option (List ℕ)) (reads fails : ℕ) → Refused (Explains old new reads reads fails fails 4)

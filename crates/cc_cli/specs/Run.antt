@@ -74,7 +74,7 @@ module _ (left_old left_new : Option (List ℕ)) (reads reads_after : ℕ) (old 
   Runs name form options (Some Task.Play) faults = Does name Plays
   Runs name form options (Some Task.Audit) faults = Does name Audits
   Runs name form options (Some Task.Judge) faults = Judges options left_old status
-  Runs name form options (Some Task.Why) faults = Explains left_old left_new status
+  Runs name form options (Some Task.Why) faults = Explains left_old left_new reads reads_after fails fails_after status
   Runs name form options (Some Task.Show) faults = DoesShow name form
   Runs name form options None faults = Keeps left_old left_new × (reads_after ≡ reads)
       × ((found : ErrorKind) × IsAmong found (ErrorKind.OutOfMemory ∷ faults) × Declines old new fails fails_after errors_old errors_new before after status found)
