@@ -11,6 +11,7 @@
 #include "checks.h"
 
 #include <pthread.h>
+#include <signal.h>
 #include <time.h>
 #include <unistd.h>
 
@@ -205,6 +206,31 @@ static void waiting_is_parking(void) {
     free_queue();
 }
 
+static void *takes_to_its_end(void *receiver) {
+    vahepito_item item;
+    check(vahepito_take(&waits, receiver, 1, &item, NULL) == VAHEPITO_GOT && item.words[0] == 7, "a take gets its item all the same");
+    (void)pthread_setcancelstate(PTHREAD_CANCEL_DISABLE, NULL);
+    return receiver;
+}
+
+static void does_nothing(int number) { (void)number; }
+
+/* A call that waits doesn't end because of a signal, nor because its thread is cancelled. */
+static void signals_and_cancellation(void) {
+    struct sigaction action = {0};
+    void *result;
+    action.sa_handler = does_nothing;
+    check(sigaction(SIGUSR1, &action, NULL) == 0, "there is a handler, after which no call begins anew");
+    open_for(1, (uint64_t)1 << 48, UINT32_MAX);
+    start(&taking[0], takes_to_its_end, &receivers[0]);
+    let_them_sleep();
+    check(!pthread_kill(taking[0], SIGUSR1) && !pthread_cancel(taking[0]), "it is disturbed");
+    let_them_sleep();
+    check(vahepito_send(&waits, &senders[0], 7, NULL) == VAHEPITO_ACCEPTED, "there is room");
+    check(!pthread_join(taking[0], &result) && result == &receivers[0], "it goes on after its call");
+    free_queue();
+}
+
 /* A call until a moment returns then, or before. An item or room that comes in time is found. */
 static void moments(void) {
     const struct timespec wrong = {0, 2000000000};
@@ -306,6 +332,7 @@ int main(int count, char **words) {
     worn_while_it_waits();
     tries_are_few();
     waiting_is_parking();
+    signals_and_cancellation();
     moments();
     close_over_senders();
     close_over_receivers();
