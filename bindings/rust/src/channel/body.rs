@@ -8,7 +8,7 @@
 use crate::event::ignore_panics;
 use crate::queue::handle::{Words, code};
 use std::marker::PhantomData;
-use std::mem::{ManuallyDrop, MaybeUninit, size_of};
+use std::mem::{ManuallyDrop, MaybeUninit, forget, size_of};
 use std::panic::{AssertUnwindSafe, catch_unwind, resume_unwind};
 use std::sync::atomic::{AtomicUsize, Ordering};
 
@@ -160,31 +160,60 @@ impl<T> Drop for Parcel<T> {
 
 /// An item that is to be sent, until the queue has it.
 ///
-/// An attempt takes the item out, to a place that no unwinding drops, and only a refusal puts it back. So no user
-/// code runs between the queue's acceptance and the moment from which on this is empty.
-pub struct Unsent<T>(Option<Parcel<T>>);
+/// It stays where it is, and an attempt marks it as sent before the queue is called; only a refusal takes the mark back. So no user
+/// code runs between the queue's acceptance and the mark, and unwinding drops no item that the queue has.
+pub struct Unsent<T> {
+    parcel: ManuallyDrop<Parcel<T>>,
+    is_sent: bool,
+}
 
 impl<T> Unsent<T> {
     #[inline]
     pub fn pack(item: T, copies: Option<Copies<T>>) -> Unsent<T> {
-        Unsent(Some(Parcel::pack(item, copies)))
+        Unsent {
+            parcel: ManuallyDrop::new(Parcel::pack(item, copies)),
+            is_sent: false,
+        }
     }
 
     /// Attempts to send to this number of groups, by this call of the queue, and returns its code.
     #[inline]
     pub fn send_by(&mut self, groups: usize, send: impl FnOnce(&Words) -> u32) -> u32 {
-        let parcel = ManuallyDrop::new(self.0.take().expect("the item isn't sent yet"));
-        parcel.set_shares(groups);
-        let code = send(&parcel.words);
+        assert!(!self.is_sent, "the item isn't sent yet");
+        self.is_sent = true;
+        self.parcel.set_shares(groups);
+        let code = send(&self.parcel.words);
         if code != code::ACCEPTED {
-            parcel.set_shares(1);
-            self.0 = Some(ManuallyDrop::into_inner(parcel));
+            self.parcel.set_shares(1);
+            self.is_sent = false;
         }
         code
     }
 
+    /// Ends it after the item was sent, without a look whether there is something to drop.
+    #[inline]
+    pub fn end(self) {
+        debug_assert!(self.is_sent);
+        forget(self);
+    }
+
     /// The item, which wasn't sent.
+    #[inline]
     pub fn into_inner(self) -> T {
-        self.0.expect("the item isn't sent yet").unpack()
+        let this = ManuallyDrop::new(self);
+        assert!(!this.is_sent, "the item isn't sent yet");
+        // SAFETY: the parcel wasn't sent, and isn't used after this, nor dropped.
+        unsafe { this.parcel.open() }.expect("an item that isn't sent has one owner")
+    }
+}
+
+/// Drops an item that wasn't sent. This runs user code.
+impl<T> Drop for Unsent<T> {
+    #[inline]
+    fn drop(&mut self) {
+        if !self.is_sent {
+            // SAFETY: the parcel wasn't sent or taken out, by the mark, and this is its end.
+            unsafe { ManuallyDrop::drop(&mut self.parcel) }
+        }
     }
 }

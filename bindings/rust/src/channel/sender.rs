@@ -63,7 +63,10 @@ impl<T> Sender<T> {
         }
         let mut item = self.pack(item);
         match self.core().try_send(&mut item) {
-            Ok(true) => Ok(()),
+            Ok(true) => {
+                item.end();
+                Ok(())
+            }
             Ok(false) => Err(TrySendError::Disconnected(item.into_inner())),
             Err(_) => Err(TrySendError::Full(item.into_inner())),
         }
