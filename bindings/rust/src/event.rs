@@ -46,7 +46,7 @@
 //! store; an exchange would mend it, and each call would pay for it. So a notification of a free seat may be missed.
 //! Therefore a waiter for a seat doesn't wait for a notification alone: it looks again after a millisecond. It gets
 //! a seat in the end, since each seat is freed: its holder makes one call of the queue, which waits until it is served
-//! and runs no user code. So a try for an item, which needs a seat, may wait for one while it
+//! and runs no user code; in a row it may go on to further queues, under a lock whose holder waits for no seat. So a try for an item, which needs a seat, may wait for one while it
 //! stands in line for the item: the two kinds of lines don't hold each other up.
 //!
 //! **Calls that another one serves** wait in a line of their side. *Make* is a store by which a call serves another one,
@@ -87,7 +87,7 @@
 //! | | a close, the drop of a last handle | the channel is closed, all wakers are out of their lines | is raised once all are woken, and what is left is dropped |
 //! | | a poll without memory for a further queue | the future is in line | is raised at the end of the poll |
 //! | an item's drop | the drop of a last handle | the item is out of the queue, the channel is closed or goes on without the group | is raised once all are dropped |
-//! | | a send that finds a lost group in the queue | a further queue is in place, the send's item is in `Unsent` | ends |
+//! | | a send that finds a lost group in the queue | a further queue is in place, the send's item is in `Unsent`, or sent | ends |
 //! | | the drop of a future or a selected operation | the future is out of the line, the pair is gone | is raised after the other drops |
 //! | | `Parcel::unpack`, of the last share | the copy is made | ends |
 //! | an item's clone | `Parcel::unpack`, in a take of a group | the item is taken, and one that waits for room is notified | is raised once the share is given up |

@@ -13,7 +13,7 @@ use std::time::{Duration, Instant};
 use vahepito::{
     OpenError, ReadyTimeoutError, Receiver, RecvError, RecvTimeoutError, SelectTimeoutError,
     SendError, SendTimeoutError, Sender, TryReadyError, TryRecvError, TrySelectError, TrySendError,
-    WeakReceiver, WeakSender, bounded, channel, groups,
+    WeakReceiver, WeakSender, bounded, channel, groups, unbounded_groups,
 };
 
 /// An item that counts how many of its kind there are.
@@ -45,12 +45,10 @@ fn alive(count: &Arc<AtomicI64>) -> i64 {
 
 #[test]
 fn openings_are_refused_out_of_their_range() {
-    for capacity in [4097, usize::MAX] {
-        let told = channel::<u8>(capacity).unwrap_err();
-        assert_eq!(told, OpenError::Capacity, "{capacity}");
-    }
     for number in [0, 9, usize::MAX] {
         let told = groups::<u8>(4, number).unwrap_err();
+        assert_eq!(told, OpenError::Groups, "{number}");
+        let told = unbounded_groups::<u8>(number).unwrap_err();
         assert_eq!(told, OpenError::Groups, "{number}");
     }
     assert!(channel::<[u64; 100]>(4096).is_ok());
@@ -315,7 +313,7 @@ fn bounded_has_a_bound() {
     let (sender, receiver) = bounded(1).unwrap();
     assert_eq!((sender.send('a'), receiver.capacity()), (Ok(()), Some(1)));
     assert!(sender.try_send('b').unwrap_err().is_full());
-    assert!(bounded::<u8>(4097).is_err());
+    assert_eq!(bounded::<u8>(4097).unwrap().0.capacity(), Some(4097));
 }
 
 #[test]

@@ -4,13 +4,15 @@
 //! The queue below accepts a limited number of items in all, and each of its senders begins a limited number
 //! of sends. When either is used up, a further queue takes its place, and so it does when a group has lost
 //! its last receiver: while all seats are taken, the remaining items are moved over. For all other calls this
-//! is one step.
+//! is one step. A channel without a bound, or with more places than one queue has, is a [`row`](super::row) of queues:
+//! no item is moved over there.
 //!
-//! **Order of locks**: the list of groups, all seats, a line. A holder of a seat makes one call of the queue, and
-//! takes no other lock. User code (an item's drop or copy, a waker) runs while none is held.
+//! **Order of locks**: the list of groups, all seats, the row, a line. A holder of a seat makes one call of the queue, and
+//! takes no other lock; that of a row takes the row's lock. User code (an item's drop or copy, a waker) runs while none is held.
 use super::body::{Copies, Parcel, Unsent, words_of};
 use super::flavor::Flavor;
 use super::pool::{Pass, Pool, SeatGuard};
+use super::row::{Row, Shape};
 use super::side::Shared;
 use crate::event::{Event, Panics, Try, WHEN_NOTIFIED, drop_each, ignore_panics, lock, soon};
 use crate::queue::handle::{self, Handle, code, hands_over, has_taken, unexpected};
@@ -31,10 +33,11 @@ pub struct Side {
 }
 
 impl Side {
-    fn new(handles: Vec<Handle>) -> Side {
+    /// With these passes of a queue of this number of groups.
+    fn new(handles: Vec<Handle>, shares: usize) -> Side {
         Side {
             line: Event::default(),
-            seats: Pool::new(handles),
+            seats: Pool::new(handles, shares),
             lost: AtomicBool::new(false),
         }
     }
@@ -46,19 +49,22 @@ impl Side {
 }
 
 pub struct Core<T> {
+    /// The configuration of its queue; of a row, that of the first one.
     pub config: Config,
     pub copies: Option<Copies<T>>,
+    /// The locks or the clock that it has in place of queues.
     pub flavor: Option<Flavor<T>>,
+    /// Its queues, if they are a row.
+    pub row: Option<Row>,
     pub senders: Side,
     pub groups: Box<[Side]>,
     /// The part that the handles of each side share, once it has a first one.
     pub handles: Box<[OnceLock<Weak<Shared<T>>>]>,
     closed: AtomicBool,
-    /// How many groups the queue has. It changes while all seats are taken.
-    pub shares: AtomicUsize,
-    /// The groups that the queue has, in its order. A further queue takes its place under this lock.
+    /// The groups that the queue has, in its order. A further queue takes its place under this lock. Of a row all groups.
     pub in_queue: Mutex<Vec<usize>>,
-    /// How much room is reserved for selected sends. It grows under the lock of the groups.
+    /// How much room is reserved for selected sends. It grows under the lock of the groups. Of a row with a limit it is
+    /// 1 for good, so that each send asks for room: see [`limit`](super::limit).
     pub reserved: AtomicUsize,
     /// The items of selected takes, by numbers, until they are handed over. By it this is `Send` and `Sync` if items are
     /// `Send`.
@@ -79,6 +85,20 @@ impl<T> Core<T> {
         Ok(Core::new(config, copies, None, sides))
     }
 
+    /// Opens a channel over a row of queues of this shape. It holds this number of items at most; if there is none, any number.
+    pub fn open_row(
+        shape: &Shape,
+        limit: Option<usize>,
+        groups: u32,
+        copies: Option<Copies<T>>,
+    ) -> Result<Self, OpenError> {
+        let (row, sides) = Row::open(shape, limit, groups, words_of(copies))?;
+        let mut core = Core::new(shape.first, copies, None, sides);
+        core.row = Some(row);
+        *core.reserved.get_mut() = limit.is_some().into();
+        Ok(core)
+    }
+
     /// A channel without a queue.
     pub fn flavor(config: Config, flavor: Flavor<T>) -> Core<T> {
         Core::new(config, None, Some(flavor), vec![vec![], vec![]])
@@ -90,17 +110,18 @@ impl<T> Core<T> {
         flavor: Option<Flavor<T>>,
         sides: Vec<Vec<Handle>>,
     ) -> Core<T> {
-        let mut sides = sides.into_iter().map(Side::new);
+        let shares = sides.len() - 1;
+        let mut sides = sides.into_iter().map(|it| Side::new(it, shares));
         let senders = sides.next().expect("a channel has senders");
         let groups: Box<[Side]> = sides.collect();
         Core {
             config,
             copies,
             flavor,
+            row: None,
             senders,
             handles: (0..=groups.len()).map(|_| OnceLock::new()).collect(),
             closed: AtomicBool::new(false),
-            shares: AtomicUsize::new(groups.len()),
             in_queue: Mutex::new((1..=groups.len()).collect()),
             groups,
             reserved: AtomicUsize::new(0),
@@ -116,12 +137,20 @@ impl<T> Core<T> {
         }
     }
 
-    pub fn capacity(&self) -> usize {
-        self.config.capacity as usize
+    /// How many items it may hold; None if any number.
+    pub fn capacity(&self) -> Option<usize> {
+        match &self.row {
+            Some(row) => row.capacity(),
+            None => Some(self.config.capacity as usize),
+        }
     }
 
     pub fn is_closed(&self) -> bool {
         self.closed.load(Ordering::SeqCst)
+    }
+
+    pub fn set_closed(&self) {
+        self.closed.store(true, Ordering::SeqCst);
     }
 
     /// The groups that have receivers.
@@ -140,7 +169,7 @@ impl<T> Core<T> {
             group => Some(self.side(group).seats.count()),
         };
         let len = sent.saturating_sub(taken.unwrap_or(sent)) as usize;
-        len.min(self.capacity())
+        self.capacity().map_or(len, |it| len.min(it))
     }
 
     /// Tries to send this item. Returns whether it is sent; if not,
@@ -150,8 +179,7 @@ impl<T> Core<T> {
     pub fn try_send(&self, item: &mut Unsent<T>) -> Try<bool> {
         let mut seat = self.senders.seats.take();
         if self.reserved.load(Ordering::Relaxed) != 0 {
-            drop(seat);
-            return self.send_beside_reserved(item);
+            return self.send_beside_reserved(item, seat);
         }
         match self.send_by(&mut seat, item) {
             code::ACCEPTED => drop(seat),
@@ -164,14 +192,17 @@ impl<T> Core<T> {
     /// Tries once more to send an item that the queue of this seat refused with this code.
     #[cold]
     pub fn send_again(&self, item: &mut Unsent<T>, code: u32, seat: SeatGuard) -> Try<bool> {
-        Ok(self.retry_after_refusal(code, seat)? && self.try_send(item)?)
+        match &self.row {
+            Some(row) => self.send_further(row, item, code, seat),
+            None => Ok(self.retry_after_refusal(code, seat)? && self.try_send(item)?),
+        }
     }
 
     /// Sends by this seat. Returns the queue's code.
     #[inline]
     pub fn send_by(&self, seat: &mut SeatGuard, item: &mut Unsent<T>) -> u32 {
-        let ((pass, line), groups) = (seat.pass(), self.shares.load(Ordering::Relaxed));
-        let code = item.send_by(groups, |words| {
+        let (pass, line) = seat.pass();
+        let code = item.send_by(pass.shares, |words| {
             hands_over(self);
             pass.handle.send(words, words_of(self.copies), line)
         });
@@ -189,12 +220,12 @@ impl<T> Core<T> {
     /// After the queue of this seat refused an item with this code. Returns whether a further try is to be made; if not,
     /// the channel is closed.
     pub fn retry_after_refusal(&self, code: u32, mut seat: SeatGuard) -> Try<bool> {
-        let queue = seat.pass().0.queue;
+        let &mut Pass { queue, shares, .. } = seat.pass().0;
         drop(seat);
         // Whether a lost group is in the queue, and holds up the others.
-        let is_stale = self.shares.load(Ordering::SeqCst) != self.alive().count();
+        let is_stale = shares != self.alive().count();
         match code {
-            code::CLOSED => self.closed.store(true, Ordering::SeqCst),
+            code::CLOSED => self.set_closed(),
             code::FULL if !is_stale => return Err(WHEN_NOTIFIED),
             code::FULL | code::SPENT | code::WORN => {}
             code => unexpected(code),
@@ -214,20 +245,26 @@ impl<T> Core<T> {
         Ok(true)
     }
 
-    /// Takes an item of the queue for a group. Gives the code if there is none, or no queue.
+    /// Takes an item of the queue for a group; of a row, of the seat's queue. Gives the code if there is none, or no queue.
     #[inline]
     pub fn take(&self, group: usize) -> Result<Parcel<T>, u32> {
         if self.flavor.is_some() {
             return Err(code::EMPTY);
         }
-        let mut seat = self.side(group).seats.take();
+        let mut seat = self.groups[group - 1].seats.take();
         let (pass, line) = seat.pass();
         let parcel = self.take_by(pass, line)?;
+        self.count_taken(seat);
+        Ok(parcel)
+    }
+
+    /// Counts an item that was taken by this seat, and notifies.
+    #[inline]
+    pub fn count_taken(&self, mut seat: SeatGuard) {
         seat.count_one();
         drop(seat);
         has_taken(self);
         self.senders.line.notify_one();
-        Ok(parcel)
     }
 
     /// Tries to take an item for a group. Gives None at the end of the channel.
@@ -238,13 +275,22 @@ impl<T> Core<T> {
         }
         match self.take(group) {
             Ok(parcel) => Ok(Some(parcel)),
-            Err(code::EMPTY) => Err(WHEN_NOTIFIED),
-            Err(code::ENDED) => {
-                self.closed.store(true, Ordering::SeqCst);
-                Ok(None)
-            }
-            Err(code) => unexpected(code),
+            Err(code) => self.recv_after(group, code),
         }
+    }
+
+    /// After a queue returned this code in place of an item: at its end tries the next queue, if they are a row. Gives None at the end
+    /// of the channel.
+    #[cold]
+    #[inline(never)]
+    fn recv_after(&self, group: usize, code: u32) -> Try<Option<Parcel<T>>> {
+        match (code, &self.row) {
+            (code::EMPTY, _) => return Err(WHEN_NOTIFIED),
+            (code::ENDED, Some(row)) => return self.take_in_row(row, group),
+            (code::ENDED, None) => self.set_closed(),
+            (code, _) => unexpected(code),
+        }
+        Ok(None)
     }
 
     /// Keeps the item of a selected take, under the number that this returns.
@@ -278,11 +324,14 @@ impl<T> Core<T> {
         if let Some(flavor) = &self.flavor {
             return flavor.close(&self.closed);
         }
+        if let Some(row) = &self.row {
+            return self.close_row(row);
+        }
         let mut seat = self.senders.seats.take();
         let (pass, line) = seat.pass();
         let closed = pass.handle.close(line);
         // While the seat is taken, so that whoever has all seats knows it.
-        self.closed.store(true, Ordering::SeqCst);
+        self.set_closed();
         closed
     }
 
@@ -303,6 +352,8 @@ impl<T> Core<T> {
         let left_by_lost = if side == 0 || self.alive().next().is_none() {
             self.close_queue();
             None
+        } else if let Some(row) = &self.row {
+            Some(self.go_on_without_lost(row))
         } else {
             self.replace_queue(&mut in_queue) // or there is no memory: a send tries again, once it finds no room
         };

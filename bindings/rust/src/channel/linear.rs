@@ -3,6 +3,7 @@
 //! sends and takes, with and without a time, closes, clones, drops, upgrades of weak handles, and selects
 //! over two channels. With capacity 0 a send and its take are one step, between the moments of both.
 use super::rounds::rounds;
+use super::row_tests::small_shape;
 use super::select::Begun;
 use super::*;
 use crate::backoff::turn_until;
@@ -489,7 +490,12 @@ struct Runs {
     capacity: fn(u64) -> usize,
     /// If there are selects, the capacity of the other channel.
     other: Option<usize>,
+    /// If the channel is a row, how many places its first queue has, and each further one.
+    row: Option<[u32; 2]>,
 }
+
+/// In place of a capacity: the channel is a row without a limit.
+const NO_LIMIT: usize = usize::MAX;
 
 /// A channel, the threads' handles, and what was recorded.
 type Run = (Clock, Vec<Own>, Vec<Call>);
@@ -497,19 +503,27 @@ type Run = (Clock, Vec<Own>, Vec<Call>);
 impl Runs {
     fn open(&self, capacity: usize) -> Run {
         let other = channel(self.other.unwrap_or(1)).unwrap();
-        // Beside those that are moved over from the queue before.
-        let config = Config {
-            life: (self.life + capacity as u64).min(1 << 48),
-            per_sender: self.per_sender.saturating_add(capacity as u32),
-            ..config(capacity)
-        };
+        let groups = self.groups as u32;
         let copies = (self.groups > 1).then_some(u32::clone as Copies<u32>);
-        let (sender, receivers) = match capacity {
-            0 => {
+        let (sender, receivers) = match (capacity, self.row) {
+            (0, _) => {
                 let (sender, receiver) = channel(0).unwrap();
                 (sender, vec![receiver])
             }
-            _ => open(config, self.groups as u32, copies).unwrap(),
+            (_, None) => {
+                // Beside those that are moved over from the queue before.
+                let config = Config {
+                    life: (self.life + capacity as u64).min(1 << 48),
+                    per_sender: self.per_sender.saturating_add(capacity as u32),
+                    ..config(capacity)
+                };
+                open(config, groups, copies).unwrap()
+            }
+            (_, Some(places)) => {
+                let shape = small_shape(places, self.life, self.per_sender);
+                let limit = (capacity != NO_LIMIT).then_some(capacity);
+                handles(Core::open_row(&shape, limit, groups, copies).unwrap())
+            }
         };
         let receivers = receivers.iter().cycle().take(THREADS);
         let handles = receivers.map(|receiver| Own::new(&sender, receiver, &other));
@@ -600,8 +614,24 @@ fn runs(count: u64, groups: usize, life: u64, per_sender: u32) {
         per_sender,
         capacity: |run| 1 + run as usize % 3,
         other: None,
+        row: None,
     };
     runs.make(count);
+}
+
+/// Rows of tiny queues that wear, without a limit and with one.
+fn row_runs(count: u64, groups: usize, other: Option<usize>, life: u64, per_sender: u32) {
+    for places in [[1, 1], [1, 2], [2, 3]] {
+        let runs = Runs {
+            groups,
+            life,
+            per_sender,
+            capacity: |run| [1, 2, 3, NO_LIMIT, NO_LIMIT][run as usize % 5],
+            other,
+            row: Some(places),
+        };
+        runs.make(count);
+    }
 }
 
 /// Selects over such a channel, of this number of groups, and another one of this capacity.
@@ -612,6 +642,7 @@ fn select_runs(count: u64, groups: usize, capacity: fn(u64) -> usize, other: usi
         per_sender: u32::MAX,
         capacity,
         other: Some(other),
+        row: None,
     };
     runs.make(count);
 }
@@ -646,6 +677,25 @@ fn calls_over_many_queues_have_an_order() {
     runs(8_000, 1, 2, u32::MAX);
     runs(6_000, 1, 1000, 1);
     runs(6_000, 2, 2, 2);
+}
+
+#[test]
+fn calls_over_rows_have_an_order() {
+    row_runs(4_000, 1, None, 1 << 48, u32::MAX);
+    row_runs(1_500, 1, None, 2, 2);
+    row_runs(1_000, 1, None, 1000, 1);
+}
+
+#[test]
+fn calls_of_groups_over_rows_have_an_order() {
+    row_runs(2_500, 2, None, 1 << 48, u32::MAX);
+    row_runs(1_000, 4, None, 3, 3);
+}
+
+#[test]
+fn selects_over_rows_have_an_order() {
+    row_runs(3_000, 1, Some(1), 1 << 48, u32::MAX);
+    row_runs(1_000, 2, Some(2), 3, 3);
 }
 
 /// The check itself: what no order gives is refused.

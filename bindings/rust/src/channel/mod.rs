@@ -7,6 +7,7 @@ mod core;
 mod error;
 mod flavor;
 mod future;
+mod limit;
 #[cfg(test)]
 mod linear;
 mod pool;
@@ -16,6 +17,9 @@ mod replace_queue;
 mod reserve;
 #[cfg(test)]
 mod rounds;
+mod row;
+#[cfg(test)]
+mod row_tests;
 mod select;
 mod select_macro;
 mod sender;
@@ -40,22 +44,64 @@ use self::body::Copies;
 use self::core::Core;
 use self::flavor::Flavor;
 use self::rendezvous::Rendezvous;
+use self::row::Shape;
 use self::side::Shared;
 use crate::queue::{Config, OpenError};
 use std::sync::Arc;
 
-/// The configuration of the queues of a channel.
+/// The configuration of a queue with this number of places.
 fn config(capacity: usize) -> Config {
     let seats = pool::seats() as u32;
-    // Numbers that are too large are refused as such.
-    Config::new(seats, seats, capacity.try_into().unwrap_or(u32::MAX))
+    Config::new(seats, seats, capacity as u32)
+}
+
+/// The most places of one queue.
+const MOST_PLACES: usize = 4096;
+
+/// The queues of a row: the first one is small, and the others are opened in some ten microseconds.
+fn shape() -> Shape {
+    Shape {
+        first: config(64),
+        further: config(512),
+    }
+}
+
+/// A channel with a queue of this capacity; or with a row of them, if one isn't enough.
+fn of_capacity<T>(
+    capacity: usize,
+    groups: u32,
+    copies: Option<Copies<T>>,
+) -> Result<Core<T>, OpenError> {
+    if capacity <= MOST_PLACES {
+        Core::open(config(capacity), groups, copies)
+    } else {
+        Core::open_row(&shape(), Some(capacity), groups, copies)
+    }
+}
+
+/// The first handles of a channel of one group.
+fn pair<T>(core: Core<T>) -> (Sender<T>, Receiver<T>) {
+    let core = Arc::new(core);
+    let sender = Sender(Shared::new(core.clone(), 0));
+    (sender, Receiver(Shared::new(core, 1)))
+}
+
+/// The first handles of a channel.
+fn handles<T>(core: Core<T>) -> (Sender<T>, Vec<Receiver<T>>) {
+    let core = Arc::new(core);
+    let receiver = |group| Receiver(Shared::new(core.clone(), group));
+    let receivers = (1..=core.groups.len()).map(receiver).collect();
+    (Sender(Shared::new(core, 0)), receivers)
 }
 
 /// Opens a channel of items of one type, and gives its first sender and its first receiver.
 ///
 /// Both can be cloned any number of times. Each item goes to one of the receivers. The channel holds at
-/// most `capacity` items, 1 to 4,096: that is the range of the proved queue below. A send allocates if an item
-/// has more than 32 bytes: it then lies in a box until it is taken. A take allocates only if it waits.
+/// most `capacity` items. A send allocates if an item has more than 32 bytes: it then lies in a box until it is taken. A
+/// take allocates only if it waits.
+///
+/// With 1 to 4,096 items the channel has one proved queue, whose memory is there from the opening on. With more it has a row of them,
+/// as [`unbounded`] says, and counts what it holds.
 ///
 /// With capacity 0 a send is over when a receiver has the item. If its time is over before, nobody has
 /// it, and it is handed back. `try_send` succeeds if a take or a select waits, of a thread or a task, and `try_recv`
@@ -80,18 +126,13 @@ fn config(capacity: usize) -> Config {
 ///
 /// # Errors
 ///
-/// The linked library is another one than this crate is for; a capacity out of its range; or lack of memory
-/// for the queue.
+/// The linked library is another one than this crate is for; or lack of memory for the queue.
 #[doc(alias("mpsc", "mpmc", "sync_channel"))]
 pub fn channel<T>(capacity: usize) -> Result<(Sender<T>, Receiver<T>), OpenError> {
-    let core = Arc::new(match capacity {
+    Ok(pair(match capacity {
         0 => Core::flavor(config(0), Flavor::Rendezvous(Rendezvous::new())),
-        _ => Core::open(config(capacity), 1, None)?,
-    });
-    Ok((
-        Sender(Shared::new(core.clone(), 0)),
-        Receiver(Shared::new(core, 1)),
-    ))
+        _ => of_capacity(capacity, 1, None)?,
+    }))
 }
 
 /// The same as [`channel`], under the name that it has in crossbeam-channel, flume and async-channel.
@@ -109,6 +150,36 @@ pub fn channel<T>(capacity: usize) -> Result<(Sender<T>, Receiver<T>), OpenError
 /// As of [`channel`].
 pub fn bounded<T>(capacity: usize) -> Result<(Sender<T>, Receiver<T>), OpenError> {
     channel(capacity)
+}
+
+/// Opens a channel that holds any number of items, and gives its first sender and its first receiver.
+///
+/// A send never waits for room, and [`try_send`](Sender::try_send) never finds the channel full; all else is as of
+/// [`channel`]. [`capacity`](Sender::capacity) is None.
+///
+/// The channel has a row of proved queues: the first one has 64 places, and each further one 512. A send that finds its queue
+/// full closes it and appends a further one. A take goes on to the next queue once its queue has ended, and a queue that is empty
+/// is freed. An item that waits takes about 77 bytes, and after a burst an empty channel keeps two queues, of 40 KB each on four
+/// processors. That a row of such queues is one queue is proved; the code of the row is tested.
+///
+/// **Without memory** for a further queue, `send` tries again each millisecond until there is some, and `try_send` returns
+/// [`Full`](TrySendError::Full). No item is lost. So a sender that is faster than its receivers for long uses up the
+/// memory: where that may be, a bound is better.
+///
+/// ```
+/// let (sender, receiver) = vahepito::unbounded()?;
+/// (0..100_000).for_each(|number| sender.send(number).unwrap());
+/// assert_eq!((sender.len(), sender.capacity()), (100_000, None));
+/// drop(sender);
+/// assert!(receiver.into_iter().eq(0..100_000));
+/// # Ok::<(), vahepito::OpenError>(())
+/// ```
+///
+/// # Errors
+///
+/// As of [`channel`].
+pub fn unbounded<T>() -> Result<(Sender<T>, Receiver<T>), OpenError> {
+    Ok(pair(Core::open_row(&shape(), None, 1, None)?))
 }
 
 /// Opens a channel each of whose groups gets every item, and gives its first sender, and the first
@@ -134,27 +205,49 @@ pub fn bounded<T>(capacity: usize) -> Result<(Sender<T>, Receiver<T>), OpenError
 ///
 /// # Errors
 ///
-/// As of [`channel`], and a number of groups out of its range.
+/// As of [`channel`]; a capacity of 0, and a number of groups out of its range.
 #[doc(alias("broadcast", "fan_out"))]
 pub fn groups<T: Clone + Sync>(
     capacity: usize,
     groups: usize,
 ) -> Result<(Sender<T>, Vec<Receiver<T>>), OpenError> {
+    // Numbers that are too large are refused as such.
     let groups = groups.try_into().unwrap_or(u32::MAX);
-    open(config(capacity), groups, Some(T::clone))
+    Ok(handles(of_capacity(capacity, groups, Some(T::clone))?))
+}
+
+/// Opens a channel of [`groups`] that holds any number of items, as [`unbounded`] does.
+///
+/// An item takes up memory until every group has it. So a slow group holds nobody up, and what it hasn't taken is kept for it.
+///
+/// ```
+/// let (sender, services) = vahepito::unbounded_groups::<u64>(2)?;
+/// (0..10_000).for_each(|number| sender.send(number).unwrap());
+/// assert!(services[0].try_iter().eq(0..10_000));
+/// assert_eq!((services[0].len(), services[1].len()), (0, 10_000));
+/// # Ok::<(), vahepito::OpenError>(())
+/// ```
+///
+/// # Errors
+///
+/// As of [`channel`], and a number of groups that isn't from 1 to 8.
+pub fn unbounded_groups<T: Clone + Sync>(
+    groups: usize,
+) -> Result<(Sender<T>, Vec<Receiver<T>>), OpenError> {
+    let groups = groups.try_into().unwrap_or(u32::MAX);
+    let core = Core::open_row(&shape(), None, groups, Some(T::clone))?;
+    Ok(handles(core))
 }
 
 /// Opens a channel with this configuration. Its groups share items if there is a function that copies
 /// them.
+#[cfg(test)]
 fn open<T>(
     config: Config,
     groups: u32,
     copies: Option<Copies<T>>,
 ) -> Result<(Sender<T>, Vec<Receiver<T>>), OpenError> {
-    let core = Arc::new(Core::open(config, groups, copies)?);
-    let receiver = |group| Receiver(Shared::new(core.clone(), group));
-    let receivers = (1..=groups as usize).map(receiver).collect();
-    Ok((Sender(Shared::new(core, 0)), receivers))
+    Ok(handles(Core::open(config, groups, copies)?))
 }
 
 /// These don't compile: a handle doesn't go to another thread if its items can't, and no group clones items

@@ -31,6 +31,8 @@ pub fn seats() -> usize {
 pub struct Pass {
     pub handle: Handle,
     pub queue: u64,
+    /// How many groups that queue has.
+    pub shares: usize,
 }
 
 /// A cache line for itself, and the one that is fetched with it.
@@ -79,6 +81,11 @@ impl<'a> SeatGuard<'a> {
         (pass, &self.pool.served)
     }
 
+    /// Its place among the seats, from 0.
+    pub fn place(&self) -> usize {
+        self.seat.number - 1
+    }
+
     /// Counts an item that went through the seat.
     #[inline]
     pub fn count_one(&mut self) {
@@ -121,15 +128,19 @@ thread_local! {
 }
 
 impl Pool {
-    /// With a seat for each of these handles, whose number is a power of two.
-    pub fn new(handles: Vec<Handle>) -> Pool {
+    /// With a seat for each of these handles, whose number is a power of two. Their queue has this number of groups.
+    pub fn new(handles: Vec<Handle>, shares: usize) -> Pool {
         debug_assert!(handles.is_empty() || handles.len().is_power_of_two());
         let seat = |(number, handle)| Seat {
             taken: AtomicBool::new(false),
             number,
             count: AtomicU64::new(0),
             asked: AtomicU64::new(0),
-            pass: UnsafeCell::new(Pass { handle, queue: 0 }),
+            pass: UnsafeCell::new(Pass {
+                handle,
+                queue: 0,
+                shares,
+            }),
         };
         Pool {
             seats: (1..).zip(handles).map(seat).collect(),
@@ -185,6 +196,11 @@ impl Pool {
             Ok(held)
         };
         wait(&self.free, FOR_OWN_SIDE, None, first_free).expect("it waits without end")
+    }
+
+    /// Takes each seat that is free.
+    pub fn take_free(&self) -> impl Iterator<Item = SeatGuard<'_>> {
+        (0..self.seats.len()).filter_map(|at| self.try_take(at))
     }
 
     /// Takes each seat once it is free.

@@ -305,7 +305,8 @@ impl<T> Receiver<T> {
         self.len() == 0
     }
 
-    /// Whether [`len`](Receiver::len) is the capacity. A channel of capacity 0 is always full.
+    /// Whether [`len`](Receiver::len) is the capacity. A channel of capacity 0 is always full, and one without a bound
+    /// never.
     ///
     /// ```
     /// let (sender, receiver) = vahepito::channel(1)?;
@@ -316,10 +317,10 @@ impl<T> Receiver<T> {
     /// ```
     #[must_use]
     pub fn is_full(&self) -> bool {
-        self.len() == self.core().capacity()
+        Some(self.len()) == self.core().capacity()
     }
 
-    /// How many items the channel may hold. The answer is never None, since every channel has a bound.
+    /// How many items the channel may hold; None if it has no bound.
     ///
     /// ```
     /// let (_sender, receiver) = vahepito::channel::<u8>(8)?;
@@ -328,7 +329,7 @@ impl<T> Receiver<T> {
     /// ```
     #[must_use]
     pub fn capacity(&self) -> Option<usize> {
-        Some(self.core().capacity())
+        self.core().capacity()
     }
 
     /// Whether both receivers are of one channel. They may be of different groups.

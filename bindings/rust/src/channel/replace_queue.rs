@@ -5,7 +5,6 @@ use super::pool::Pass;
 use crate::event::Event;
 use crate::queue::handle::{self, Handle, code, unexpected};
 use std::iter;
-use std::sync::atomic::Ordering;
 
 impl<T> Core<T> {
     /// Puts a further queue, of the groups that have receivers, in the place of this one, and moves over
@@ -15,7 +14,7 @@ impl<T> Core<T> {
     /// A queue accepts more items, and a sender begins more sends, than the capacity: so that there are some
     /// in addition to those by which items are moved over.
     pub fn replace_queue(&self, in_queue: &mut Vec<usize>) -> Option<Vec<Parcel<T>>> {
-        let (words, capacity) = (words_of(self.copies), self.capacity());
+        let (words, capacity) = (words_of(self.copies), self.config.capacity as usize);
         let is_alive = |&group: &usize| !self.side(group).is_lost();
         let (alive, lost): (Vec<_>, Vec<_>) = in_queue.iter().copied().partition(is_alive);
         let mut handles = handle::open(&self.config, alive.len() as u32, words).ok()?;
@@ -53,10 +52,13 @@ impl<T> Core<T> {
         }
         let seats = seats.iter_mut().flatten();
         for (seat, handle) in seats.zip(handles.into_iter().flatten()) {
-            let queue = seat.pass().0.queue + 1;
-            *seat.pass().0 = Pass { handle, queue };
+            let (queue, shares) = (seat.pass().0.queue + 1, alive.len());
+            *seat.pass().0 = Pass {
+                handle,
+                queue,
+                shares,
+            };
         }
-        self.shares.store(alive.len(), Ordering::SeqCst);
         *in_queue = alive;
         Some(left_by_lost)
     }

@@ -1,7 +1,7 @@
 //! Room that is reserved for selected sends, and the looks of a select: see [`select`](super::select).
 use super::body::Unsent;
 use super::core::{Core, Side};
-use super::pool::Pool;
+use super::pool::{Pool, SeatGuard};
 use crate::event::{Try, WHEN_NOTIFIED, lock};
 use crate::queue::handle::code;
 use std::sync::atomic::Ordering;
@@ -9,7 +9,7 @@ use std::thread;
 use std::time::Duration;
 
 /// Waits until whoever has a seat has counted what went through it.
-fn wait_for_holders(seats: &Pool) {
+pub fn wait_for_holders(seats: &Pool) {
     seats.take_each().for_each(drop);
 }
 
@@ -33,6 +33,9 @@ impl<T> Core<T> {
     /// Whether there seems to be room that isn't reserved, or none will come. If it says no, there was none at
     /// some moment of this call.
     pub fn seems_to_have_room(&self) -> Try<()> {
+        if let Some(row) = &self.row {
+            return self.row_seems_to_have_room(row);
+        }
         self.has_room_beside(0)?;
         let reserved = self.reserved.load(Ordering::SeqCst);
         if reserved == 0 || self.has_room_beside(reserved).is_ok() {
@@ -51,7 +54,7 @@ impl<T> Core<T> {
         let sent = self.senders.seats.count();
         let is_full = |seats: &Pool| {
             let items = sent.saturating_sub(seats.count()) as usize;
-            items + reserved >= self.capacity()
+            items + reserved >= self.config.capacity as usize
         };
         let is_full = self.alive().any(|Side { seats, .. }| {
             // The look without the seats is cheaper.
@@ -72,6 +75,9 @@ impl<T> Core<T> {
     /// It counts the place first, so that each send that begins now waits for the lock, and leaves the place free. Else
     /// other sends would take the room while this takes their seats.
     pub fn reserve(&self) -> Try<bool> {
+        if let Some(row) = &self.row {
+            return self.reserve_in_row(row);
+        }
         self.seems_to_have_room()?;
         let _in_queue = lock(&self.in_queue);
         self.reserved.fetch_add(1, Ordering::SeqCst);
@@ -87,12 +93,18 @@ impl<T> Core<T> {
 
     /// Gives back room that was reserved.
     pub fn give_back_room(&self) {
-        self.reserved.fetch_sub(1, Ordering::SeqCst);
+        match &self.row {
+            Some(row) => row.give_back_room(),
+            None => drop(self.reserved.fetch_sub(1, Ordering::SeqCst)),
+        }
         self.senders.line.notify_one();
     }
 
     /// Sends to room that was reserved. Returns whether it is sent; if not, the channel is closed.
     pub fn send_to_room(&self, item: &mut Unsent<T>) -> bool {
+        if self.row.is_some() {
+            return self.send_to_room_of_row(item);
+        }
         loop {
             let mut seat = self.senders.seats.take();
             let code = self.send_by(&mut seat, item);
@@ -115,9 +127,19 @@ impl<T> Core<T> {
         }
     }
 
-    /// Tries to send while room is reserved for others. No other send is on its way then.
+    /// Tries to send while room is reserved for others, without this seat: no other send is on its way then. In a row with a
+    /// limit it tries to send by this seat.
     #[cold]
-    pub fn send_beside_reserved(&self, item: &mut Unsent<T>) -> Try<bool> {
+    #[inline(never)]
+    pub fn send_beside_reserved<'a>(
+        &'a self,
+        item: &mut Unsent<T>,
+        seat: SeatGuard<'a>,
+    ) -> Try<bool> {
+        if let Some(row) = &self.row {
+            return self.send_within_limit(row, item, seat);
+        }
+        drop(seat);
         let in_queue = lock(&self.in_queue);
         let mut seats = self.senders.seats.take_all();
         self.has_room_beside(self.reserved.load(Ordering::SeqCst))?;

@@ -15,7 +15,8 @@
 //! as reserved, and then takes all the senders' seats: no send is on its way then. If the place isn't free it
 //! counts it down again. Each other send sees by its seat that places are reserved; it then takes all seats too,
 //! and leaves those places free. So items and reserved places together are never more than the capacity, and
-//! [`SelectedOperation::send`] finds room without waiting. A send that gives its place back notifies one that waits for room.
+//! [`SelectedOperation::send`] finds room without waiting. A send that gives its place back notifies one that waits for room. In a
+//! [`row`](super::row) of queues a place is counted, and no seat is taken for it: see [`limit`](super::limit).
 //!
 //! **Room and items are counted here**, not asked of the queue: a send and a take each count by their seat,
 //! give it back, and then look whether somebody waits. A look takes each of those seats, and gives it back. A

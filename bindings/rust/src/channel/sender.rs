@@ -45,7 +45,7 @@ impl<T> Sender<T> {
     ///
     /// # Errors
     ///
-    /// There is no room, or the channel is closed: the item is handed back.
+    /// There is no room, or no memory for a further queue, or the channel is closed: the item is handed back.
     ///
     /// ```
     /// use vahepito::TrySendError;
@@ -257,7 +257,8 @@ impl<T> Sender<T> {
         self.len() == 0
     }
 
-    /// Whether [`len`](Sender::len) is the capacity. A channel of capacity 0 is always full.
+    /// Whether [`len`](Sender::len) is the capacity. A channel of capacity 0 is always full, and one without a bound
+    /// never.
     ///
     /// ```
     /// let (sender, _receiver) = vahepito::channel(1)?;
@@ -268,10 +269,10 @@ impl<T> Sender<T> {
     /// ```
     #[must_use]
     pub fn is_full(&self) -> bool {
-        self.len() == self.core().capacity()
+        Some(self.len()) == self.core().capacity()
     }
 
-    /// How many items the channel may hold. The answer is never None, since every channel has a bound.
+    /// How many items the channel may hold; None if it has no bound.
     ///
     /// ```
     /// let (sender, _receiver) = vahepito::channel::<u8>(8)?;
@@ -280,7 +281,7 @@ impl<T> Sender<T> {
     /// ```
     #[must_use]
     pub fn capacity(&self) -> Option<usize> {
-        Some(self.core().capacity())
+        self.core().capacity()
     }
 
     /// Whether both senders are of one channel.

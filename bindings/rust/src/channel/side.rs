@@ -46,7 +46,8 @@ impl<T> Shared<T> {
     /// once, both meet at each item, and wait for the same cache line. So it lets the other side go ahead.
     pub fn wait<R>(&self, until: Option<Instant>, attempt: impl FnMut() -> Try<R>) -> Option<R> {
         let Side { line, seats, .. } = self.core.side(self.side);
-        if self.core.capacity() >= ROOM_AHEAD && seats.check_ahead() {
+        let has_room = self.core.capacity().is_none_or(|it| it >= ROOM_AHEAD);
+        if has_room && seats.check_ahead() {
             let_ahead();
         }
         wait(line, FOR_OTHERS, until, attempt)

@@ -5,14 +5,14 @@ use std::fmt::{Display, Formatter, Result};
 /// Why a channel wasn't opened.
 ///
 /// ```
-/// use vahepito::{OpenError, channel};
+/// use vahepito::{OpenError, groups};
 ///
-/// assert_eq!(channel::<u8>(5000).err(), Some(OpenError::Capacity));
+/// assert_eq!(groups::<u8>(0, 2).err(), Some(OpenError::Capacity));
 /// ```
 #[derive(Clone, Copy, Debug, PartialEq, Eq, Hash)]
 #[non_exhaustive]
 pub enum OpenError {
-    /// The capacity is more than 4,096, or that of groups is 0.
+    /// The capacity of groups is 0.
     Capacity,
     /// The number of groups isn't from 1 to 8.
     Groups,
@@ -32,7 +32,7 @@ pub enum OpenError {
 impl Display for OpenError {
     fn fmt(&self, f: &mut Formatter<'_>) -> Result {
         let said = match *self {
-            Self::Capacity => "the capacity is more than 4096, or that of groups is 0",
+            Self::Capacity => "the capacity of groups is 0",
             Self::Groups => "the number of groups isn't from 1 to 8",
             Self::NoMemory => "there is no memory for the queue",
             Self::OtherLibrary { linked, wanted } => {

@@ -55,10 +55,7 @@ fn an_opening_is_refused_by_the_first_number_out_of_its_range() {
 fn errors_say_what_is_wrong() {
     let (linked, wanted) = (1_002_003, 4_005_006);
     for (error, text) in [
-        (
-            OpenError::Capacity,
-            "the capacity is more than 4096, or that of groups is 0",
-        ),
+        (OpenError::Capacity, "the capacity of groups is 0"),
         (OpenError::Groups, "the number of groups isn't from 1 to 8"),
         (OpenError::NoMemory, "there is no memory for the queue"),
         (

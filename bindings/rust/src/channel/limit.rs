@@ -1,0 +1,184 @@
+//! The limit of a [`row`](super::row): how many items it holds at most.
+//!
+//! A send takes a seat, gets room, and sends. It gets room by one exchange, if fewer items were given room than the limit and than
+//! what every group has taken since; so there are never too many. A selected send gets its room at its selection, before
+//! it has a seat: that is its reservation. Room that isn't used is given back.
+//!
+//! **No room** is reported only if there was none at some moment of the call. The call reads how many items were given room, and
+//! then takes each of the senders' seats once: at that moment `m` each of these items is accepted, or reserved. Then it takes each
+//! seat of a group once: each item that was taken before `m` is counted by then. If the difference is the limit, and no room was
+//! given back meanwhile, the channel was full at `m`. Else the call tries again.
+//!
+//! The counts of given room alone don't say so: of two takes the later one may have counted its item, and the earlier one not yet.
+use super::body::Unsent;
+use super::core::{Core, Side};
+use super::pool::SeatGuard;
+use super::reserve::wait_for_holders;
+use super::row::Row;
+use crate::event::{Try, WHEN_NOTIFIED, lock};
+use crate::queue::handle::code;
+use std::sync::atomic::{AtomicU64, Ordering};
+use std::thread;
+use std::time::Duration;
+
+/// The limit of a row, and the counts by which it is kept.
+pub struct Limit {
+    capacity: usize,
+    /// How many items were given room.
+    given: AtomicU64,
+    /// How many of these have given it back. It grows after `given`, so a number that was read before is too small at most.
+    given_back: AtomicU64,
+    /// No more than the number of items that every group has taken that has receivers.
+    taken: AtomicU64,
+}
+
+impl Limit {
+    pub fn new(capacity: usize) -> Limit {
+        Limit {
+            capacity,
+            given: AtomicU64::new(0),
+            given_back: AtomicU64::new(0),
+            taken: AtomicU64::new(0),
+        }
+    }
+
+    pub fn capacity(&self) -> usize {
+        self.capacity
+    }
+
+    /// Whether these items are fewer than the limit, if this many were taken.
+    fn has_room(&self, items: u64, taken: u64) -> bool {
+        items.saturating_sub(taken) < self.capacity as u64
+    }
+
+    /// Gives room to an item, if there is some. This looks how many items every group has taken; None if there is no group.
+    fn give_room(&self, taken_by_all: impl Fn() -> Option<u64>) -> bool {
+        let given_back = self.given_back.load(Ordering::SeqCst);
+        let give = |given: u64| {
+            let items = given.saturating_sub(given_back);
+            let has_room = self.has_room(items, self.taken.load(Ordering::Relaxed)) || {
+                let taken = taken_by_all()?;
+                self.taken.fetch_max(taken, Ordering::Relaxed);
+                self.has_room(items, taken)
+            };
+            has_room.then_some(given + 1)
+        };
+        let (set, fetch) = (Ordering::SeqCst, Ordering::SeqCst);
+        self.given.fetch_update(set, fetch, give).is_ok()
+    }
+}
+
+impl Row {
+    /// Gives room back that was given to an item.
+    pub fn give_back_room(&self) {
+        if let Some(limit) = &self.limit {
+            limit.given_back.fetch_add(1, Ordering::SeqCst);
+        }
+    }
+}
+
+impl<T> Core<T> {
+    /// Gets room for an item, if there is some.
+    fn get_room(&self, row: &Row) -> bool {
+        let taken_by_all = || self.alive().map(|group| group.seats.count()).min();
+        row.limit
+            .as_ref()
+            .is_none_or(|it| it.give_room(taken_by_all))
+    }
+
+    /// Whether there seems to be room, or none will come. If it says no, there was none at some moment of this call.
+    pub fn row_seems_to_have_room(&self, row: &Row) -> Try<()> {
+        let Some(limit) = &row.limit else {
+            return Ok(());
+        };
+        if self.alive().next().is_none() {
+            // The channel is closed under this lock.
+            drop(lock(&self.in_queue));
+            return Ok(());
+        }
+        let given_back = limit.given_back.load(Ordering::SeqCst);
+        let items = limit
+            .given
+            .load(Ordering::SeqCst)
+            .saturating_sub(given_back);
+        let has_room = |it: &Side| limit.has_room(items, it.seats.count());
+        // The look without the seats is cheaper.
+        if self.alive().all(has_room) {
+            return Ok(());
+        }
+        wait_for_holders(&self.senders.seats);
+        let is_full = self.alive().any(|group| {
+            wait_for_holders(&group.seats);
+            !has_room(group)
+        });
+        let is_same = given_back == limit.given_back.load(Ordering::SeqCst);
+        if is_full && is_same && !self.is_closed() {
+            Err(WHEN_NOTIFIED)
+        } else {
+            Ok(())
+        }
+    }
+
+    /// Tries to send by this seat, if there is room.
+    pub fn send_within_limit<'a>(
+        &'a self,
+        row: &Row,
+        item: &mut Unsent<T>,
+        mut seat: SeatGuard<'a>,
+    ) -> Try<bool> {
+        while !self.get_room(row) {
+            drop(seat);
+            self.row_seems_to_have_room(row)?;
+            if self.is_closed() {
+                return Ok(false);
+            }
+            seat = self.senders.seats.take();
+        }
+        let sent = self.send_with_room(item, seat);
+        if sent != Ok(true) {
+            self.give_back_room();
+        }
+        sent
+    }
+
+    /// Sends an item that has room, by this seat, which it keeps until the item is accepted. Returns whether it is; if not, the
+    /// channel is closed.
+    fn send_with_room(&self, item: &mut Unsent<T>, mut seat: SeatGuard) -> Try<bool> {
+        match self.send_by(&mut seat, item) {
+            code::ACCEPTED => drop(seat),
+            code => return self.send_again(item, code, seat),
+        }
+        self.notify_item();
+        Ok(true)
+    }
+
+    /// Reserves room for one send. Returns whether it has; if not, the channel is closed.
+    pub fn reserve_in_row(&self, row: &Row) -> Try<bool> {
+        while !self.get_room(row) {
+            self.row_seems_to_have_room(row)?;
+            if self.is_closed() {
+                return Ok(false);
+            }
+        }
+        let is_closed = self.is_closed();
+        if is_closed {
+            self.give_back_room();
+        }
+        Ok(!is_closed)
+    }
+
+    /// Sends to room that was reserved. Returns whether it is sent; if not, the channel is closed.
+    pub fn send_to_room_of_row(&self, item: &mut Unsent<T>) -> bool {
+        loop {
+            match self.send_with_room(item, self.senders.seats.take()) {
+                Ok(true) => return true,
+                Ok(false) => {
+                    self.give_back_room();
+                    return false;
+                }
+                // Memory is wanting for a further queue.
+                Err(_) => thread::sleep(Duration::from_millis(1)),
+            }
+        }
+    }
+}
