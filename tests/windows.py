@@ -9,7 +9,8 @@ items of these that are still in the queue, and often the close. Half of the win
 None may be accused, whatever the judge's rules are: each is of a correct queue. Some are cut by the program too, which has to say the
 same. Then two takes of a window are exchanged, the
 first of which ended before the second began, of items sent one after another; or a send that found the queue closed is
-said to have been accepted. These have to be found.
+said to have been accepted. These have to be found. And of each window some calls are dropped, wherever they are, and it is said to end early in place
+of beginning late: it isn't accused.
 """
 
 import collections
@@ -32,7 +33,7 @@ WINDOWS = 1000
 CUTS = 7
 # How many calls each thread of a recording makes.
 CALLS = 1200
-LATE = '{"begins":"late"}\n'
+LATE, EARLY = '{"begins":"late"}\n', '{"ends":"early"}\n'
 # A queue that was full before the log, and one that was closed before the log and is closed again in it.
 BY_HAND = [
     (["--capacity", "1"], '{"thread":"a","begin":10,"end":11,"send":5,"answer":"full"}\n'),
@@ -213,6 +214,10 @@ def judged_window(logs, number):
         status, said = judged(options, text_of(plant))
         if status != 1:
             wrong.append(f"the fault in window {number} isn't found: {said}")
+    kept = [call for call in calls if rng.random() < 0.9]
+    status, said = judged(options, text_of(kept) + EARLY, "") if kept else (0, "")
+    if status != 0:
+        wrong.append(f"window {number} without some calls is accused: {said}")
     if number % CUTS == 0:
         wrong += cut_wrongly(logs[number % len(logs)], number, start, until)
     return wrong, "full" in answers and bool(options), "close" in {key for call in calls for key in call}, len(plants)

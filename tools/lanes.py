@@ -6,7 +6,8 @@
 It is for queues that promise order for each sender alone, as moodycamel::ConcurrentQueue. A lane has the accepted and the pending
 sends of one thread, the takes that got one of these items, all closes, and each take that hasn't returned, since that may have
 got any item. Takes that found none and sends that were refused belong to no lane. A take of an item that no line sent is in a lane of its own
-with all such takes. A lane is judged as a log whose other lines are empty, so a fault has the line numbers of the whole log.
+with all such takes. A lane is judged as a log whose other lines are empty, so a fault has the line numbers of the whole log. What the first
+line says of the log's begin and the last one of its end holds for each lane.
 
 Clean lanes mean: no item was taken twice, none was taken that wasn't sent, and the items of one thread were taken in the order in which it
 sent them. They don't mean that a take which found none was right, so a lost item is found only if a later one of its sender is
@@ -32,7 +33,7 @@ def item_of(body):
 
 
 def calls_of(lines):
-    """The calls of a log by their places, and whether it begins late."""
+    """The calls of a log by their places, and the places of the lines that say how it begins and ends."""
     calls = {}
     for place, line in enumerate(lines):
         if not line.strip():
@@ -44,18 +45,18 @@ def calls_of(lines):
         if not isinstance(call, dict):
             raise Refused(f"line {place + 1}: no JSON object")
         calls[place] = call
-    late = bool(calls) and "begins" in calls[min(calls)]
-    if late:
-        del calls[min(calls)]
+    said = {place for place, key in ((min(calls, default=None), "begins"), (max(calls, default=None), "ends")) if key in calls.get(place, ())}
+    for place in said:
+        del calls[place]
     for place, call in calls.items():
         if "thread" not in call or not {"send", "take", "close"} & call.keys():
             raise Refused(f"line {place + 1}: no call")
-    return calls, late
+    return calls, said
 
 
 def lanes_of(lines):
     """The logs of the lanes, by the names of their threads."""
-    calls, late = calls_of(lines)
+    calls, said = calls_of(lines)
     # A send without an answer was accepted, or is pending.
     sent_by = {item_of(call["send"]): str(call["thread"]) for call in calls.values() if "send" in call and "answer" not in call}
     lanes, shared = {thread: [] for thread in sent_by.values()}, []
@@ -66,11 +67,10 @@ def lanes_of(lines):
             lanes.setdefault(sent_by.get(item_of(call["take"]), UNSENT), []).append(place)
         elif "close" in call or "take" in call and "end" not in call:
             shared.append(place)
-    first = ['{"begins":"late"}\n'] if late else []
     logs = {}
     for thread, places in lanes.items():
-        kept = {*places, *shared}
-        logs[thread] = "".join([*first, *(line if place in kept else "\n" for place, line in enumerate(lines) if not first or place > 0)])
+        kept = {*places, *shared, *said}
+        logs[thread] = "".join(line if place in kept else "\n" for place, line in enumerate(lines))
     return logs
 
 

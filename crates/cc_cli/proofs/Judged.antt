@@ -16,7 +16,7 @@ told rules calls verdict right (Err AnswerFault.Memory) = inl refl
 told rules calls verdict right (Err AnswerFault.Write) = inr (verdict, right, inr refl)
 
 -- a log that was read and judged
-pub judged_due : (options : Options) (left : Option (List ℕ)) (log : Log) (status : ℕ) → log.rules.capacity ≡ judged_capacity log.late options.capacity
+pub judged_due : (options : Options) (left : Option (List ℕ)) (log : Log) (status : ℕ) → log.rules.capacity ≡ judged_capacity log.part options.capacity
     → (input : List ℕ) × HasInput left input × Gives log_view (Ok log) (log_of options input) → IsJudged log.rules log.calls.items status → Judges options left status
 judged_due options left log status capacity read (inl memory) = inl memory
 judged_due options left log status capacity read (inr (verdict, right, inr failed)) = inr (inl failed)

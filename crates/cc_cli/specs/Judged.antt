@@ -32,7 +32,7 @@ IsRefused _ status = (status ≡ 2) ⊎ (status ≡ 3)
 
 -- the rules are those of the log, by these options
 pub record HasRules (options : Options) (log : Spelled) (rules : Rules) : Type 0 where
-  pub capacity : rules.capacity ≡ judged_capacity log.late options.capacity
+  pub capacity : rules.capacity ≡ judged_capacity log.part options.capacity
   pub closes : rules.closes ≡ log.closes
   pub ties : rules.ties.items ≡ log.ties
 

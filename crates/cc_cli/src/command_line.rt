@@ -250,6 +250,8 @@ A log has a JSON object for each call, one a line, 65536 bytes at most:
   close   true
   answer  full or closed of a send; ended or closed of a take of null
 
+The first line may be {\"begins\":\"late\"}, the last one {\"ends\":\"whole\"} or {\"ends\":\"early\"}.
+
 Options:
   --page        writes the answer as a page for a browser that draws the calls; needs no network
   --capacity N  the queue holds N items: judges the answer full

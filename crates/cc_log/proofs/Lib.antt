@@ -4,3 +4,4 @@ pub mod Steps
 pub mod Ahead
 pub mod Reading
 pub mod RefusedClaims
+pub mod Part

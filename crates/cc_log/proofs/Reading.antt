@@ -3,12 +3,12 @@ use Rattle.std.proofs.Common.{◌≡◌, ◌≢◌, ◌+◌, ◌++◌, ◌<◌, 
 use Rattle.std.specs.Result.{IsErrAnd}
 use Rattle.std.specs.HashMap.{keys}
 use Rattle.std.proofs.lemmas.Bool.{lt-ltb}
-use Rattle.cc_log.specs.Names.{Call, LineFault, Log, LogFault, Options, State, Window}
+use Rattle.cc_log.specs.Names.{Call, Ending, LineFault, Log, LogFault, Options, State, Window}
 use Rattle.cc_log.specs.Answers.{Gives, IsLongLine, Refuses}
 use Rattle.cc_log.specs.Lines.{GivesLine, HasInput, HasLines, IsAhead, IsSound, IsTooLong, held, is_blank, line_limit, lines_of}
 use Rattle.cc_log.specs.declared.lines.Lines.{Lines}
 use Rattle.cc_judge.specs.Late.{padded}
-use Rattle.cc_log.specs.Log.{Known, Refusal, no_calls, ◌>>=◌, at_first, bad_line, bodies_of, calls_of, has_close, if_some, is_late, log_of, spelled, ties_of, tree_of, with_line, with_lines, with_tree}
+use Rattle.cc_log.specs.Log.{Known, Refusal, no_calls, ◌>>=◌, at_first, bad_line, bodies_of, calls_of, has_close, if_some, is_early, is_part, log_of, spelled, ties_of, tree_of, with_line, with_lines, with_tree}
 use Rattle.cc_log.specs.State.{IsStep, Shows, log_view}
 use Rattle.cc_log.proofs.Ahead.{some_ahead, some_input}
 use Rattle.cc_log.proofs.Steps.{calls_length, refused_first}
@@ -104,21 +104,24 @@ has_calls options s known shows = ap length shows.calls ∙ calls_length options
 pub no_calls_given : (options : Options) (s : State) (known : Known) → Shows options s known → nat_eq (length s.log.calls.items) 0 ≡ true → if_some options.skew known ≡ Err no_calls
 no_calls_given options s known shows none = ap (λ b. if b then Err no_calls else Ok (spelled options.skew known)) (ap (λ n. nat_eq n 0) (sym (has_calls options s known shows)) ∙ none)
 
--- whether the log begins late
-late_given : (options : Options) (s : State) (known : Known) → Shows options s known → (s.late || is_some options.window.from) ≡ is_late known
-late_given options s known shows = ap (λ (b : Bool). b || is_some options.window.from) shows.late ∙ ap (λ (w : Window). known.late || is_some w.from) (sym shows.window)
+-- whether the log is a part
+part_given : (options : Options) (s : State) (known : Known) → Shows options s known → ((s.late || is_some options.window.from) || is_early s.log.ends) ≡ is_part known
+part_given options s known shows =
+    ap (λ (b : Bool). (b || is_some options.window.from) || is_early s.log.ends) shows.late ∙ ap (λ (w : Window). (known.late || is_some w.from) || is_early s.log.ends) (sym shows.window)
+    ∙ ap (λ (o : Option Ending). (known.late || is_some known.window.from) || is_early o) shows.ends
 
-pub finished : (options : Options) (s : State) (known : Known) (late : Bool) (calls : List Call) (items : ℕ) → Shows options s known → nat_eq (length s.log.calls.items) 0 ≡ false → items ≡ length (keys s.items)
-    → late ≡ (s.late || is_some options.window.from) → calls ≡ padded late s.log.rules.closes s.log.calls.items items
-    → if_some options.skew known ≡ Ok (record { late = late; calls = calls; closes = s.log.rules.closes; ties = s.log.rules.ties.items })
-finished options s known late calls items shows some count late_is is =
-    let same : late ≡ is_late known = late_is ∙ late_given options s known shows in
+pub finished : (options : Options) (s : State) (known : Known) (part : Bool) (calls : List Call) (items : ℕ) → Shows options s known → nat_eq (length s.log.calls.items) 0 ≡ false → items ≡ length (keys s.items)
+    → part ≡ ((s.late || is_some options.window.from) || is_early s.log.ends) → calls ≡ padded part s.log.rules.closes s.log.calls.items items
+    → if_some options.skew known ≡ Ok (record { part = part; ends = s.log.ends; calls = calls; closes = s.log.rules.closes; ties = s.log.rules.ties.items })
+finished options s known part calls items shows some count part_is is =
+    let same : part ≡ is_part known = part_is ∙ part_given options s known shows in
     let due = λ (b : Bool). λ (closes : Bool). padded b closes (calls_of options.skew known.before) (length (bodies_of known.before)) in
-    let whole : calls ≡ padded (is_late known) (has_close known.before) (calls_of options.skew known.before) (length (bodies_of known.before)) =
-    is ∙ ap (λ n. padded late s.log.rules.closes s.log.calls.items n) (count ∙ ap length shows.bodies) ∙ ap (λ cs. padded late s.log.rules.closes cs (length (bodies_of known.before))) shows.calls
-    ∙ ap (λ b. due b s.log.rules.closes) same ∙ ap (λ b. due (is_late known) b) shows.closes in
+    let whole : calls ≡ padded (is_part known) (has_close known.before) (calls_of options.skew known.before) (length (bodies_of known.before)) =
+    is ∙ ap (λ n. padded part s.log.rules.closes s.log.calls.items n) (count ∙ ap length shows.bodies) ∙ ap (λ cs. padded part s.log.rules.closes cs (length (bodies_of known.before))) shows.calls
+    ∙ ap (λ b. due b s.log.rules.closes) same ∙ ap (λ b. due (is_part known) b) shows.closes in
     ap (λ b. if b then Err no_calls else Ok (spelled options.skew known)) (ap (λ n. nat_eq n 0) (sym (has_calls options s known shows)) ∙ some)
-    ∙ ap (λ cs. Ok (record { late = is_late known; calls = cs; closes = has_close known.before; ties = ties_of options.skew known.before })) (sym whole)
-    ∙ ap (λ b. Ok (record { late = is_late known; calls = calls; closes = b; ties = ties_of options.skew known.before })) (sym shows.closes)
-    ∙ ap (λ ts. Ok (record { late = is_late known; calls = calls; closes = s.log.rules.closes; ties = ts })) (sym shows.ties)
-    ∙ ap (λ b. Ok (record { late = b; calls = calls; closes = s.log.rules.closes; ties = s.log.rules.ties.items })) (sym same)
+    ∙ ap (λ cs. Ok (record { part = is_part known; ends = known.ends; calls = cs; closes = has_close known.before; ties = ties_of options.skew known.before })) (sym whole)
+    ∙ ap (λ b. Ok (record { part = is_part known; ends = known.ends; calls = calls; closes = b; ties = ties_of options.skew known.before })) (sym shows.closes)
+    ∙ ap (λ ts. Ok (record { part = is_part known; ends = known.ends; calls = calls; closes = s.log.rules.closes; ties = ts })) (sym shows.ties)
+    ∙ ap (λ b. Ok (record { part = b; ends = known.ends; calls = calls; closes = s.log.rules.closes; ties = s.log.rules.ties.items })) (sym same)
+    ∙ ap (λ e. Ok (record { part = part; ends = e; calls = calls; closes = s.log.rules.closes; ties = s.log.rules.ties.items })) (sym shows.ends)

@@ -6,10 +6,10 @@ use Rattle.std.specs.Result.{IsErrAnd}
 use Rattle.serde_json.specs.Data.{Data}
 use Rattle.serde_json.specs.Read.{read}
 use Rattle.cc_plan.proofs.Trees.{json_of_text, no_tree}
-use Rattle.cc_log.specs.Names.{Last, Line, LineFault, LogFault, Options, Said, State, Window}
+use Rattle.cc_log.specs.Names.{Ending, Last, Line, LineFault, LogFault, Options, Said, State, Window}
 use Rattle.cc_log.specs.Answers.{Refuses}
-use Rattle.cc_log.specs.Line.{Body, begins_late, or_fault}
-use Rattle.cc_log.specs.Log.{Entry, Known, Refusal, ◌>>=◌, after_last, allowed, bad_line, call_of, calls_of, bodies_of, differs, entry_of, has_close, is_close, is_first, item_in, last_of, or_refusal, sender_of, sends, tie_with, ties_of, json_in, with_cut, with_entry, with_item, with_tree}
+use Rattle.cc_log.specs.Line.{Body, begins_late, ending_in, or_fault}
+use Rattle.cc_log.specs.Log.{Entry, Known, Refusal, ◌>>=◌, after_last, allowed, bad_line, call_of, calls_of, bodies_of, differs, entry_of, has_close, is_close, is_first, item_in, last_of, or_refusal, sender_of, sends, tie_with, ties_of, json_in, not_ended, with_call, with_cut, with_end, with_entry, with_item, with_tree}
 use Rattle.cc_log.specs.Window.{cut}
 use Rattle.cc_log.specs.State.{Added, Adds, IsStep, Shows, last_in, sender_in}
 
@@ -73,6 +73,7 @@ shown_after options s new known e shows added =
       capacity = added.capacity ∙ shows.capacity;
       window = shows.window;
       late = added.late ∙ shows.late;
+      ends = added.ends ∙ shows.ends;
       bodies = added.bodies ∙ ap (λ bodies. with_item bodies (item_in e.line.said)) shows.bodies;
       senders = λ body. added.senders body ∙ ap (λ o. if sends body e.line.said then Some e.number else o) (shows.senders body);
       lasts = λ thread. added.lasts thread ∙ ap (λ p. if bytes_eq e.thread thread then Some (record { begin = e.line.begin; end = e.line.end; place = p }) else last_in s thread) place
@@ -106,45 +107,71 @@ first_when options s known shows = ap (λ n. nat_eq n 0 && not known.late) (sym 
 abbrev cut_entry : Known → Entry → Result Known Refusal
 cut_entry known e = with_cut known e (cut known.window e.line)
 
--- the line that says that the log begins late
-pub step_of_beginning : (options : Options) (s : State) (known : Known) (number : ℕ) (d : Data) → Shows options s known → ((nat_eq (length s.log.calls.items) 0 && not s.late) && begins_late d) ≡ true → IsStep options (with_tree known number d) (Ok tt) (record s { late = true })
-step_of_beginning options s known number d shows first = (
-  record known { late = true },
-  ap (λ b. if b then Ok (record known { late = true }) else (entry_of number d >>= cut_entry known)) (ap (λ b. b && begins_late d) (first_when options s known shows) ∙ first),
-  record { options_is = shows.options_is; window = shows.window; capacity = shows.capacity; late = refl; bodies = shows.bodies; senders = shows.senders; lasts = shows.lasts; calls = shows.calls; ties = shows.ties; closes = shows.closes },
-)
-
--- any other line
-pub tree_of_call : (options : Options) (s : State) (known : Known) (number : ℕ) (d : Data) → Shows options s known → ((nat_eq (length s.log.calls.items) 0 && not s.late) && begins_late d) ≡ false → with_tree known number d ≡ (entry_of number d >>= cut_entry known)
-tree_of_call options s known number d shows other =
-    ap (λ b. if b then Ok (record known { late = true }) else (entry_of number d >>= cut_entry known)) (ap (λ b. b && begins_late d) (first_when options s known shows) ∙ other)
-
 -- the window of the state is that of what is known
 window_is : (options : Options) (s : State) (known : Known) → Shows options s known → s.log.options.window ≡ known.window
 window_is options s known shows = ap (λ (o : Options). o.window) shows.options_is ∙ sym shows.window
 
 -- such a call, as it is judged
-pub tree_of_cut : (options : Options) (s : State) (known : Known) (number : ℕ) (d : Data) (e : Entry) (o : Option Line) → Shows options s known → ((nat_eq (length s.log.calls.items) 0 && not s.late) && begins_late d) ≡ false
-    → entry_of number d ≡ Ok e → cut s.log.options.window e.line ≡ o → with_tree known number d ≡ with_cut known e o
-tree_of_cut options s known number d e o shows other is cuts =
-    tree_of_call options s known number d shows other ∙ ap (λ r. r >>= cut_entry known) is
-    ∙ ap (with_cut known e) (ap (λ (w : Window). cut w e.line) (sym (window_is options s known shows)) ∙ cuts)
+tree_of_cut : (options : Options) (s : State) (known : Known) (number : ℕ) (d : Data) (e : Entry) (o : Option Line) → Shows options s known
+    → entry_of number d ≡ Ok e → cut s.log.options.window e.line ≡ o → with_call known number d ≡ with_cut known e o
+tree_of_cut options s known number d e o shows is cuts =
+    ap (λ r. r >>= cut_entry known) is ∙ ap (with_cut known e) (ap (λ (w : Window). cut w e.line) (sym (window_is options s known shows)) ∙ cuts)
 
 -- one outside of the window
-pub step_of_none : (options : Options) (s : State) (known : Known) (number : ℕ) (d : Data) (e : Entry) → Shows options s known → ((nat_eq (length s.log.calls.items) 0 && not s.late) && begins_late d) ≡ false
-    → entry_of number d ≡ Ok e → cut s.log.options.window e.line ≡ None → IsStep options (with_tree known number d) (Ok tt) s
-step_of_none options s known number d e shows other is cuts = (known, tree_of_cut options s known number d e None shows other is cuts, shows)
+pub step_of_none : (options : Options) (s : State) (known : Known) (number : ℕ) (d : Data) (e : Entry) → Shows options s known
+    → entry_of number d ≡ Ok e → cut s.log.options.window e.line ≡ None → IsStep options (with_call known number d) (Ok tt) s
+step_of_none options s known number d e shows is cuts = (known, tree_of_cut options s known number d e None shows is cuts, shows)
 
 -- one within
-pub step_of_call : (options : Options) (s new : State) (known : Known) (number : ℕ) (d : Data) (e : Entry) (line : Line) (result : Result (Unit {0}) LogFault) → Shows options s known → ((nat_eq (length s.log.calls.items) 0 && not s.late) && begins_late d) ≡ false
-    → entry_of number d ≡ Ok e → cut s.log.options.window e.line ≡ Some line → Adds s new (record { number = e.number; thread = e.thread; line = line }) result → IsStep options (with_tree known number d) result new
-step_of_call options s new known number d e line result shows other is cuts adds =
-    subst (λ due. IsStep options due result new) (sym (tree_of_cut options s known number d e (Some line) shows other is cuts)) (step_of_entry options s new known (record { number = e.number; thread = e.thread; line = line }) result shows adds)
+pub step_of_call : (options : Options) (s new : State) (known : Known) (number : ℕ) (d : Data) (e : Entry) (line : Line) (result : Result (Unit {0}) LogFault) → Shows options s known
+    → entry_of number d ≡ Ok e → cut s.log.options.window e.line ≡ Some line → Adds s new (record { number = e.number; thread = e.thread; line = line }) result → IsStep options (with_call known number d) result new
+step_of_call options s new known number d e line result shows is cuts adds =
+    subst (λ due. IsStep options due result new) (sym (tree_of_cut options s known number d e (Some line) shows is cuts)) (step_of_entry options s new known (record { number = e.number; thread = e.thread; line = line }) result shows adds)
 
-pub refused_call : (options : Options) (s : State) (known : Known) (number : ℕ) (d : Data) (fault : LogFault) → Shows options s known → ((nat_eq (length s.log.calls.items) 0 && not s.late) && begins_late d) ≡ false
-    → Refuses fault (entry_of number d) → Refuses fault (with_tree known number d)
-refused_call options s known number d fault shows other h =
-    subst (Refuses fault) (sym (tree_of_call options s known number d shows other)) (refused_first fault (entry_of number d) (cut_entry known) h)
+pub refused_call : (known : Known) (number : ℕ) (d : Data) (fault : LogFault) → Refuses fault (entry_of number d) → Refuses fault (with_call known number d)
+refused_call known number d fault h = refused_first fault (entry_of number d) (cut_entry known) h
+
+-- ---- whether a line says how the log begins or ends
+
+-- what comes of a line after those that say nothing of the end
+abbrev beginning_or_not : Known → (number : ℕ) → Data → Bool → Result Known Refusal
+beginning_or_not known number d b = if b then Ok (record known { late = true }) else with_end known number d (ending_in d)
+
+-- a line after the end
+pub refused_after_end : (options : Options) (s : State) (known : Known) (number : ℕ) (d : Data) (fault : LogFault) → Shows options s known → Refuses fault (not_ended number s.log.ends) → Refuses fault (with_tree known number d)
+refused_after_end options s known number d fault shows h =
+    refused_first fault (not_ended number known.ends) (λ goes_on. beginning_or_not known number d (is_first known && begins_late d)) (subst (λ ends. Refuses fault (not_ended number ends)) shows.ends h)
+
+-- a line before it
+tree_before_end : (options : Options) (s : State) (known : Known) (number : ℕ) (d : Data) (b : Bool) → Shows options s known → not_ended number s.log.ends ≡ Ok tt
+    → ((nat_eq (length s.log.calls.items) 0 && not s.late) && begins_late d) ≡ b → with_tree known number d ≡ beginning_or_not known number d b
+tree_before_end options s known number d b shows goes_on is =
+    ap (λ r. r >>= (λ fine. beginning_or_not known number d (is_first known && begins_late d))) (ap (not_ended number) (sym shows.ends) ∙ goes_on)
+    ∙ ap (beginning_or_not known number d) (ap (λ first. first && begins_late d) (first_when options s known shows) ∙ is)
+
+-- the line that says that the log begins late
+pub step_of_beginning : (options : Options) (s : State) (known : Known) (number : ℕ) (d : Data) → Shows options s known → not_ended number s.log.ends ≡ Ok tt
+    → ((nat_eq (length s.log.calls.items) 0 && not s.late) && begins_late d) ≡ true → IsStep options (with_tree known number d) (Ok tt) (record s { late = true })
+step_of_beginning options s known number d shows goes_on first = (
+  record known { late = true },
+  tree_before_end options s known number d true shows goes_on first,
+  record { options_is = shows.options_is; window = shows.window; capacity = shows.capacity; late = refl; ends = shows.ends; bodies = shows.bodies; senders = shows.senders; lasts = shows.lasts; calls = shows.calls; ties = shows.ties; closes = shows.closes },
+)
+
+-- the one that says how it ends
+pub step_of_end : (options : Options) (s : State) (known : Known) (number : ℕ) (d : Data) (ends : Ending) → Shows options s known → not_ended number s.log.ends ≡ Ok tt
+    → ((nat_eq (length s.log.calls.items) 0 && not s.late) && begins_late d) ≡ false → ending_in d ≡ Some ends → IsStep options (with_tree known number d) (Ok tt) (record s { log = record s.log { ends = Some ends } })
+step_of_end options s known number d ends shows goes_on other is = (
+  record known { ends = Some ends },
+  tree_before_end options s known number d false shows goes_on other ∙ ap (with_end known number d) is,
+  record { options_is = shows.options_is; window = shows.window; capacity = shows.capacity; late = shows.late; ends = refl; bodies = shows.bodies; senders = shows.senders; lasts = shows.lasts; calls = shows.calls; ties = shows.ties; closes = shows.closes },
+)
+
+-- any other line
+pub step_of_other : (options : Options) (s new : State) (known : Known) (number : ℕ) (d : Data) (result : Result (Unit {0}) LogFault) → Shows options s known → not_ended number s.log.ends ≡ Ok tt
+    → ((nat_eq (length s.log.calls.items) 0 && not s.late) && begins_late d) ≡ false → ending_in d ≡ None → IsStep options (with_call known number d) result new → IsStep options (with_tree known number d) result new
+step_of_other options s new known number d result shows goes_on other is step =
+    subst (λ due. IsStep options due result new) (sym (tree_before_end options s known number d false shows goes_on other ∙ ap (with_end known number d) is)) step
 
 -- a fault that was passed on
 pub fault_passed : (old new : State) (e : Entry) (result : Result (Unit {0}) LogFault) (fault : LogFault) → IsErrAnd result (λ f. f ≡ fault) → Refuses fault (allowed e (last_in old e.thread) (sender_in old.items)) → Adds old new e result

@@ -8,3 +8,4 @@ pub mod State
 pub mod Options
 pub mod Refused
 pub mod Window
+pub mod Part

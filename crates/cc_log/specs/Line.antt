@@ -5,7 +5,7 @@ use Rattle.std.specs.Str.{bytes_eq}
 use Rattle.serde_json.specs.Data.{Data, Members}
 use Rattle.serde_json.specs.Find.{get, as_null, as_bool, as_object, as_str}
 use Rattle.cc_plan.specs.Json.{elements, each, has, has_only, is_word, keys, whole_number}
-use Rattle.cc_log.specs.Names.{LineFault, Line, Said}
+use Rattle.cc_log.specs.Names.{Ending, LineFault, Line, Said}
 
 infixl 10 ◌>>=◌
 abbrev pub ◌>>=◌ : {A B : Type 0} → Result A LineFault → (A → Result B LineFault) → Result B LineFault
@@ -162,3 +162,11 @@ thread_of d = or_fault LineFault.Thread (option_and_then (λ value. name_of (as_
 -- the line that says that the log begins late: an object with the key `begins` alone, whose value is the text late
 abbrev pub begins_late : Data → Bool
 begins_late d = has_only (λ key. bytes_eq key (codes "begins")) d && has (is_word (codes "late")) (codes "begins") d
+
+-- how a log ends, by a word
+abbrev pub ending_of : List ℕ → Option Ending
+ending_of text = if bytes_eq text (codes "whole") then Some Ending.Whole else (if bytes_eq text (codes "early") then Some Ending.Early else None)
+
+-- the line that says how the log ends: an object with the key `ends` alone, whose value is the text whole or early
+abbrev pub ending_in : Data → Option Ending
+ending_in d = if has_only (λ key. bytes_eq key (codes "ends")) d then option_and_then (λ value. option_and_then ending_of (as_str value)) (get (codes "ends") d) else None

@@ -6,10 +6,10 @@ use Rattle.indexmap.specs.IndexSet.{insert_key}
 use Rattle.std.specs.Str.{bytes_eq}
 use Rattle.cc_plan.specs.Json.{json_of}
 use Rattle.cc_judge.specs.Late.{padded}
-use Rattle.cc_log.specs.Names.{Act, Call, Last, Line, LineFault, Options, Said, Tie, Window}
+use Rattle.cc_log.specs.Names.{Act, Call, Ending, Last, Line, LineFault, Options, Said, Tie, Window}
 use Rattle.serde_json.specs.Find.{as_object}
 use Rattle.cc_log.specs.Form.{form_fault, has_keys_once}
-use Rattle.cc_log.specs.Line.{Body, begins_late, line_of, or_fault, thread_of, unless, unless_fault}
+use Rattle.cc_log.specs.Line.{Body, begins_late, ending_in, line_of, or_fault, thread_of, unless, unless_fault}
 use Rattle.cc_log.specs.Lines.{is_blank, line_limit, lines_of}
 use Rattle.cc_log.specs.Window.{cut}
 
@@ -137,21 +137,23 @@ has_close (e ∷ before) = if is_close e.line.said then true else has_close befo
 
 -- ---- the log
 
--- the calls of a log, and the rest that is known of it
+-- the calls of a log, whether it is a part that may lack calls, how it says that it ends, and the rest that is known of it
 pub record Spelled : Type 0 where
-  pub late : Bool
+  pub part : Bool
+  pub ends : Option Ending
   pub calls : List Call
   pub closes : Bool
   pub ties : List Tie
 
--- the lines so far: the part of the log that is judged, whether they say that the log begins late, and their calls
+-- the lines so far: the part of the log that is judged, whether they say that the log begins late and how it ends, and their calls
 pub record Known : Type 0 where
   pub window : Window
   pub late : Bool
+  pub ends : Option Ending
   pub before : List Entry
 
 abbrev pub at_first : Window → Known
-at_first window = record { window = window; late = false; before = [] }
+at_first window = record { window = window; late = false; ends = None; before = [] }
 
 abbrev pub or_refusal : {A : Type 0} → (number : ℕ) → Result A LineFault → Result A Refusal
 or_refusal number (Ok x) = Ok x
@@ -184,9 +186,24 @@ with_cut known e (Some line) = with_entry known (record { number = e.number; thr
 abbrev pub is_first : Known → Bool
 is_first known = (length known.before == 0) && not known.late
 
--- the tree of a line; a first one may say that the log begins late
+-- the call that the tree of a line describes, as it is judged
+abbrev pub with_call : Known → (number : ℕ) → Data → Result Known Refusal
+with_call known number d = entry_of number d >>= (λ e. with_cut known e (cut known.window e.line))
+
+-- the same, unless the line says how the log ends: such a line adds no call
+abbrev pub with_end : Known → (number : ℕ) → Data → Option Ending → Result Known Refusal
+with_end known number d None = with_call known number d
+with_end known number d (Some ends) = Ok (record known { ends = Some ends })
+
+-- no line comes after one that says how the log ends
+abbrev pub not_ended : (number : ℕ) → Option Ending → Result (Unit {0}) Refusal
+not_ended number ends = or_refusal number (unless LineFault.AfterEnd (not (is_some ends)))
+
+-- the tree of a line: the first one may say that the log begins late, and the last one how it ends
 abbrev pub with_tree : Known → (number : ℕ) → Data → Result Known Refusal
-with_tree known number d = if is_first known && begins_late d then Ok (record known { late = true }) else entry_of number d >>= (λ e. with_cut known e (cut known.window e.line))
+with_tree known number d = do
+  goes_on ← not_ended number known.ends
+  if is_first known && begins_late d then Ok (record known { late = true }) else with_end known number d (ending_in d)
 
 -- the line doesn't begin as one that is no object of JSON in UTF-8
 abbrev pub form_of : (number : ℕ) → List ℕ → Result (Unit {0}) Refusal
@@ -217,14 +234,21 @@ abbrev pub with_lines : Known → (number : ℕ) → List (List ℕ) → Result 
 with_lines known number [] = Ok known
 with_lines known number (line ∷ rest) = with_line known number line >>= (λ next. with_lines next (number + 1) rest)
 
--- the log begins late if it says so, or is judged from a time on
-abbrev pub is_late : Known → Bool
-is_late known = known.late || is_some known.window.from
+-- it says that it ends early: the recording did, and calls may be missing
+abbrev pub is_early : Option Ending → Bool
+is_early None = false
+is_early (Some Ending.Whole) = false
+is_early (Some Ending.Early) = true
+
+-- a log is a part, which may lack calls, if it says that it begins late or ends early, or is judged from a time on
+abbrev pub is_part : Known → Bool
+is_part known = (known.late || is_some known.window.from) || is_early known.ends
 
 abbrev pub spelled : (skew : ℕ) → Known → Spelled
 spelled skew known = record {
-  late = is_late known;
-  calls = padded (is_late known) (has_close known.before) (calls_of skew known.before) (length (bodies_of known.before));
+  part = is_part known;
+  ends = known.ends;
+  calls = padded (is_part known) (has_close known.before) (calls_of skew known.before) (length (bodies_of known.before));
   closes = has_close known.before;
   ties = ties_of skew known.before;
 }

@@ -4,6 +4,7 @@ pub use Rattle.cc_judge.specs.declared.log.Call.{Call}
 pub use Rattle.cc_judge.specs.declared.log.Tie.{Tie}
 pub use Rattle.cc_log.specs.declared.fault.LineFault.{LineFault}
 pub use Rattle.cc_log.specs.declared.fault.LogFault.{LogFault}
+pub use Rattle.cc_log.specs.declared.line.Ending.{Ending}
 pub use Rattle.cc_log.specs.declared.line.Line.{Line}
 pub use Rattle.cc_log.specs.declared.line.Said.{Said}
 pub use Rattle.cc_log.specs.declared.parse.Log.{Log}

@@ -1,9 +1,9 @@
 -- Refused claims: for each kind of mistake a small case, and a claim about it that doesn't hold.
-use Rattle.std.specs.Prelude.{◌≡◌, ℕ, List, [], ◌∷◌, codes, Some, Ok}
-use Rattle.cc_log.specs.Names.{Last}
+use Rattle.std.specs.Prelude.{◌≡◌, ℕ, List, [], ◌∷◌, codes, false, Some, Ok}
+use Rattle.cc_log.specs.Names.{Ending, Last}
 use Rattle.cc_log.specs.Form.{members_in}
 use Rattle.cc_log.specs.Line.{Body, end_from}
-use Rattle.cc_log.specs.Log.{item_of, tie_with}
+use Rattle.cc_log.specs.Log.{is_early, item_of, not_ended, tie_with}
 
 -- a claim that doesn't hold
 abbrev pub Refused : Type 0 → Type 0
@@ -28,3 +28,7 @@ pub record RefusedClaims : Type 0 where
   pub colon_in_a_text : Refused (members_in (codes "{\"a\":\":\\\":\"}") ≡ 2)
   -- two calls that touch have no tie
   pub tie_lost : Refused (tie_with 0 1 5 (Some until_five) ≡ [])
+  -- a log that ends early has all calls
+  pub early_is_whole : Refused (is_early (Some Ending.Early) ≡ false)
+  -- a line may come after the one that says how the log ends
+  pub goes_on_after_end : Refused (not_ended 3 (Some Ending.Whole) ≡ Ok tt)

@@ -25,6 +25,7 @@ pub record Shows (options : Options) (s : State) (known : Known) : Type 0 where
   pub window : known.window ≡ options.window
   pub capacity : s.log.rules.capacity ≡ options.capacity
   pub late : s.late ≡ known.late
+  pub ends : s.log.ends ≡ known.ends
   pub bodies : keys s.items ≡ bodies_of known.before
   pub senders : (body : Body) → sender_in s.items body ≡ sender_of body known.before
   pub lasts : (thread : List ℕ) → last_in s thread ≡ last_of thread known.before
@@ -43,6 +44,7 @@ pub record Added (old new : State) (e : Entry) : Type 0 where
   pub options : new.log.options ≡ old.log.options
   pub capacity : new.log.rules.capacity ≡ old.log.rules.capacity
   pub late : new.late ≡ old.late
+  pub ends : new.log.ends ≡ old.log.ends
   pub bodies : keys new.items ≡ with_item (keys old.items) (item_in e.line.said)
   pub senders : (body : Body) → sender_in new.items body ≡ (if sends body e.line.said then Some e.number else sender_in old.items body)
   pub place : ℕ
@@ -58,4 +60,4 @@ Adds old new e (Err fault) = Refuses fault (allowed e (last_in old e.thread) (se
 
 -- the log that was read
 abbrev pub log_view : Log → Spelled
-log_view log = record { late = log.late; calls = log.calls.items; closes = log.rules.closes; ties = log.rules.ties.items }
+log_view log = record { part = log.part; ends = log.ends; calls = log.calls.items; closes = log.rules.closes; ties = log.rules.ties.items }

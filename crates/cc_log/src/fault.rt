@@ -59,6 +59,9 @@ pub enum LineFault {
     /// The last call of its thread hasn't returned.
     #[error("the last call of its thread hasn't returned: later calls need another name")]
     AfterOpen,
+    /// The line comes after the one that says how the log ends.
+    #[error("a line after the one that says how the log ends")]
+    AfterEnd,
 }
 
 /// Why a text is no log.

@@ -1,4 +1,4 @@
-//! The calls that a log which begins late may lack.
+//! The calls that a part of a log may lack.
 ghost use Rattle.std.specs.Prelude.{◌≡◌, ◌++◌, slice_get, slice_set, unwrap_or, true, false, IfErr, OnOk, IfOk};
 ghost use Rattle.cc_judge.specs.Late.{early_close, lacking, padded, sent_items, taken_items};
 ghost use Rattle.cc_log.specs.Names.{LogFault};
@@ -88,19 +88,19 @@ fn push_close(calls: &mut Vec<Call>, closes: bool) -> Result<(), LogFault>
     Ok(())
 }
 
-/// Adds the calls that a log which begins late may lack: of each item that no line sent, a send, of each that no line took, a
+/// Adds the calls that a part of a log may lack: of each item that no line sent, a send, of each that no line took, a
 /// take, and a close if closes are judged. All of these began before the others and haven't returned.
 pub fn pad(
     alloc: Global,
-    late: bool,
+    part: bool,
     closes: bool,
     calls: &mut Vec<Call>,
     items: usize,
 ) -> Result<(), LogFault>
-    ensures calls { OnOk result (calls.new.items ≡ padded late closes calls.old.items items) }
+    ensures calls { OnOk result (calls.new.items ≡ padded part closes calls.old.items items) }
     ensures memory { IfErr result (λ fault. fault ≡ LogFault.Memory) }
 {
-    if !late {
+    if !part {
         return Ok(());
     }
     let sent = sent_items(alloc, calls, items)?;

@@ -17,9 +17,9 @@ mod state;
 mod threads;
 mod window;
 
-pub use clauses::definitions_refuse;
+pub use clauses::{definitions_refuse, parts_have_no_fault};
 pub use fault::{LineFault, LogFault};
-pub use line::{Body, Line, Said, body_text};
+pub use line::{Body, Ending, Line, Said, body_text};
 pub use parse::{Log, Notes, Options, Shown, read_log};
 pub use threads::Last;
 pub use window::Window;

@@ -7,7 +7,7 @@ ghost use Rattle.std.specs.Result.{result_map_both};
 ghost use Rattle.serde_json.specs.Find.{as_object};
 ghost use Rattle.serde_json.specs.View.{view, items_view};
 ghost use Rattle.cc_plan.specs.Json.{each, has_only, listed, whole_number};
-ghost use Rattle.cc_log.specs.Line.{answer_of, begins_late, body_in, body_of, close_of, end_of, is_call_key, line_of, no_item, object_of_call, said_in, send_of, take_of, took_item};
+ghost use Rattle.cc_log.specs.Line.{answer_of, begins_late, body_in, body_of, close_of, end_of, ending_in, ending_of, is_call_key, line_of, no_item, object_of_call, said_in, send_of, take_of, took_item};
 
 use crate::fault::LineFault;
 use serde_json::{Map, Value};
@@ -57,6 +57,15 @@ pub struct Line {
     pub end: Option<u64>,
     /// Its act.
     pub said: Said,
+}
+
+/// How a log ends, as its last line says.
+#[derive(Clone, Copy, Debug, PartialEq, Eq)]
+pub enum Ending {
+    /// The log has all calls.
+    Whole,
+    /// The recording ended early: calls may be missing.
+    Early,
 }
 
 /// Whether a key is one of a call.
@@ -243,20 +252,20 @@ pub fn read_line(tree: &Value) -> Result<Line, LineFault>
     Ok(Line { begin, end, said })
 }
 
-/// Whether an object has the key `begins` alone.
-fn is_beginning(object: &Map<String, Value>) -> bool
-    ensures { result ≡ list_all (λ key. bytes_eq (string_bytes key) (codes "begins")) (keys object.now) }
+/// Whether an object has this key alone.
+fn has_alone(object: &Map<String, Value>, name: &str) -> bool
+    ensures { result ≡ list_all (λ key. bytes_eq (string_bytes key) name.now) (keys object.now) }
 {
-    object.keys().all(|key| key.as_str() == "begins")
+    object.keys().all(|key| key.as_str() == name)
 }
 
-/// Whether the tree is an object with the key `begins` alone.
+/// Whether the tree is an object with this key alone.
 #[tactic(auto, using(crate::proofs::Keys::all_keys))]
-fn begins_alone(tree: &Value) -> bool
-    ensures { result ≡ has_only (λ key. bytes_eq key (codes "begins")) (view tree.now) }
+fn is_alone(tree: &Value, name: &str) -> bool
+    ensures { result ≡ has_only (λ key. bytes_eq key name.now) (view tree.now) }
 {
     match tree.as_object() {
-        Some(object) => is_beginning(object),
+        Some(object) => has_alone(object, name),
         None => false,
     }
 }
@@ -265,9 +274,30 @@ fn begins_alone(tree: &Value) -> bool
 pub fn begins_late(tree: &Value) -> bool
     ensures { result ≡ begins_late (view tree.now) }
 {
-    begins_alone(tree)
+    is_alone(tree, "begins")
         && match tree.get("begins") {
             Some(value) => value.as_str() == Some("late"),
             None => false,
         }
+}
+
+/// How a log ends, by a word.
+fn ending_of(word: &str) -> Option<Ending>
+    ensures { result ≡ ending_of word.now }
+{
+    match word {
+        "whole" => Some(Ending::Whole),
+        "early" => Some(Ending::Early),
+        _ => None,
+    }
+}
+
+/// How the log ends, if the line of this tree says that.
+pub fn ending_in(tree: &Value) -> Option<Ending>
+    ensures { result ≡ ending_in (view tree.now) }
+{
+    if !is_alone(tree, "ends") {
+        return None;
+    }
+    ending_of(tree.get("ends")?.as_str()?)
 }

@@ -1,15 +1,15 @@
 //! The log that the lines of an input spell.
-ghost use Rattle.std.specs.Prelude.{◌≡◌, ◌<◌, ◌-◌, ◌^◌, ℕ, List, [], false, IfOk, slice_get};
+ghost use Rattle.std.specs.Prelude.{◌≡◌, ◌<◌, ◌-◌, ◌^◌, ◌||◌, ℕ, List, [], false, None, IfOk, is_some, slice_get};
 ghost use Rattle.cc_judge.specs.Late.{judged_capacity};
 ghost use Rattle.cc_log.specs.Answers.{Gives};
 ghost use Rattle.cc_log.specs.Lines.{HasInput};
-ghost use Rattle.cc_log.specs.Log.{Known, at_first, if_some, log_of};
+ghost use Rattle.cc_log.specs.Log.{Known, at_first, if_some, is_early, log_of};
 ghost use Rattle.cc_log.specs.Options.{no_options};
 ghost use Rattle.cc_log.specs.State.{Shows, log_view};
 
 use crate::fault::LogFault;
 use crate::late::pad;
-use crate::line::Line;
+use crate::line::{Ending, Line};
 use crate::lines::Lines;
 use crate::state::{State, add_line};
 use crate::threads::Last;
@@ -74,11 +74,13 @@ pub struct Notes {
 /// A log.
 #[derive(Drop)]
 pub struct Log {
-    /// The calls: those of the lines, in order, and after them those that a log which begins late may lack.
+    /// The calls: those of the lines, in order, and after them those that a part may lack.
     pub calls: Vec<Call>,
-    /// Whether the log begins late.
-    pub late: bool,
-    /// The rest that is known of the log. The capacity is that of the options, or none if the log begins late.
+    /// Whether the log is a part, which may lack calls: it begins late, ends early, or is judged from a time on.
+    pub part: bool,
+    /// How the log says that it ends, if it does.
+    pub ends: Option<Ending>,
+    /// The rest that is known of the log. The capacity is that of the options, or none if the log is a part.
     pub rules: Rules,
     /// How many items there are: those of the calls are below.
     pub items: usize,
@@ -96,10 +98,12 @@ impl Log {
         ensures options { (result.options ≡ options) × (result.rules.capacity ≡ options.capacity) }
         ensures calls { (result.calls.items ≡ []) × (result.rules.ties.items ≡ []) × (result.rules.closes ≡ false) }
         ensures threads { result.threads.entries ≡ [] }
+        ensures ends { result.ends ≡ None }
     {
         Log {
             calls: Vec::new(alloc),
-            late: false,
+            part: false,
+            ends: None,
             rules: Rules {
                 capacity: options.capacity,
                 closes: false,
@@ -139,17 +143,28 @@ fn at_first(alloc: Global, options: Options) -> State
     }
 }
 
-/// The capacity by which a log is judged: none if the log begins late, since it may lack items that are in the queue.
-fn judged_capacity(late: bool, capacity: Option<u32>) -> Option<u32>
-    ensures { result ≡ judged_capacity late capacity }
+/// The capacity by which a log is judged: none if the log is a part, since it may lack items that are in the queue.
+fn judged_capacity(part: bool, capacity: Option<u32>) -> Option<u32>
+    ensures { result ≡ judged_capacity part capacity }
 {
-    if late { None } else { capacity }
+    if part { None } else { capacity }
+}
+
+/// Whether a log may lack calls: it begins late, is judged from a time on, or ends early.
+fn is_part(late: bool, from: Option<u64>, ends: Option<Ending>) -> bool
+    ensures { result ≡ ((late || is_some from) || is_early ends) }
+{
+    late || from.is_some()
+        || match ends {
+            Some(Ending::Early) => true,
+            Some(Ending::Whole) | None => false,
+        }
 }
 
 /// The log of all lines.
 fn finish(alloc: Global, state: State) -> Result<Log, LogFault>
     ensures due { (options : Options) (known : Known) → Shows options state known → Gives log_view result (if_some options.skew known) }
-    ensures capacity { IfOk result (λ log. log.rules.capacity ≡ judged_capacity log.late state.log.rules.capacity) }
+    ensures capacity { IfOk result (λ log. log.rules.capacity ≡ judged_capacity log.part state.log.rules.capacity) }
 {
     let State {
         mut log,
@@ -159,11 +174,11 @@ fn finish(alloc: Global, state: State) -> Result<Log, LogFault>
     if log.calls.is_empty() {
         return Err(LogFault::Empty);
     }
-    let late = late || log.options.window.from.is_some();
+    let part = is_part(late, log.options.window.from, log.ends);
     log.items = items.len();
-    log.late = late;
-    log.rules.capacity = judged_capacity(late, log.rules.capacity);
-    pad(alloc, late, log.rules.closes, &mut log.calls, items.len())?;
+    log.part = part;
+    log.rules.capacity = judged_capacity(part, log.rules.capacity);
+    pad(alloc, part, log.rules.closes, &mut log.calls, items.len())?;
     Ok(log)
 }
 
@@ -172,7 +187,7 @@ fn finish(alloc: Global, state: State) -> Result<Log, LogFault>
 pub fn read_log<R: Source>(alloc: Global, source: &mut R, options: Options) -> Result<Log, LogFault>
     requires { R.read_failures source.old < 2 ^ 64 - 1 }
     ensures due { (input : List ℕ) × HasInput (R.bytes_left source.old) input × Gives log_view result (log_of options input) }
-    ensures capacity { IfOk result (λ log. log.rules.capacity ≡ judged_capacity log.late options.capacity) }
+    ensures capacity { IfOk result (λ log. log.rules.capacity ≡ judged_capacity log.part options.capacity) }
 {
     let mut state = at_first(alloc, options);
     let mut lines = Lines::new(alloc)?;

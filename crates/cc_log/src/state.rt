@@ -5,14 +5,14 @@ ghost use Rattle.serde_json.specs.View.{view};
 ghost use Rattle.cc_log.specs.Answers.{Gives};
 ghost use Rattle.cc_log.specs.Line.{begins_late};
 ghost use Rattle.cc_log.specs.Lines.{is_blank, line_limit};
-ghost use Rattle.cc_log.specs.Log.{Known, is_close, json_in, tree_of, with_line, with_tree};
+ghost use Rattle.cc_log.specs.Log.{Known, is_close, json_in, not_ended, tree_of, with_call, with_line, with_tree};
 ghost use Rattle.cc_log.specs.State.{Adds, IsStep, Shows, entry_in};
 ghost use Rattle.cc_log.specs.Names.{LogFault, Options};
 
 use crate::fault::{LineFault, LogFault};
 use crate::form::{check_form, check_once};
 use crate::items::{Items, act_of};
-use crate::line::{Line, Said, begins_late};
+use crate::line::{Ending, Line, Said, begins_late, ending_in};
 use crate::narrow::narrow;
 use crate::parse::{Log, Notes, Shown};
 use crate::threads::{Last, Parsed, after_last, fault_of, note_tie, read_call};
@@ -160,20 +160,43 @@ fn is_beginning(state: &State, tree: &Value) -> bool
     state.log.calls.is_empty() && !state.late && begins_late(tree)
 }
 
-/// Adds the line of a tree, if it is in the window.
-fn add_tree(alloc: Global, state: &mut State, tree: &Value, number: usize) -> Result<(), LogFault>
-    ensures { (options : Options) (known : Known) → Shows options state.old known → IsStep options (with_tree known number (view tree.now)) result state.new }
+/// Checks that no line has said how the log ends.
+fn check_goes_on(ends: Option<Ending>, number: usize) -> Result<(), LogFault>
+    ensures { Gives (λ done. done) result (not_ended number ends) }
 {
-    if is_beginning(state, tree) {
-        state.late = true;
-        return Ok(());
+    if ends.is_some() {
+        Err(fault_of(number, LineFault::AfterEnd))
+    } else {
+        Ok(())
     }
+}
+
+/// Adds the call of a tree, if it is in the window.
+fn add_call(alloc: Global, state: &mut State, tree: &Value, number: usize) -> Result<(), LogFault>
+    ensures { (options : Options) (known : Known) → Shows options state.old known → IsStep options (with_call known number (view tree.now)) result state.new }
+{
     let parsed = read_call(alloc, tree, number)?;
     let Some(line) = cut(state.log.options.window, parsed.line) else {
         return Ok(());
     };
     let Parsed { thread, line: _ } = parsed;
     add(alloc, state, Parsed { thread, line }, number)
+}
+
+/// Adds the line of a tree: the first one may say that the log begins late, and the last one how it ends.
+fn add_tree(alloc: Global, state: &mut State, tree: &Value, number: usize) -> Result<(), LogFault>
+    ensures { (options : Options) (known : Known) → Shows options state.old known → IsStep options (with_tree known number (view tree.now)) result state.new }
+{
+    check_goes_on(state.log.ends, number)?;
+    if is_beginning(state, tree) {
+        state.late = true;
+        return Ok(());
+    }
+    if let Some(ends) = ending_in(tree) {
+        state.log.ends = Some(ends);
+        return Ok(());
+    }
+    add_call(alloc, state, tree, number)
 }
 
 /// Adds a line; a blank one is passed over.

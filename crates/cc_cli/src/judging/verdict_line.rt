@@ -1,7 +1,7 @@
 //! The line of a verdict.
 
 use cc_judge::{Fault, Stay, Verdict};
-use cc_log::Log;
+use cc_log::{Ending, Log};
 use std::alloc::{AllocError, Global};
 
 /// The line of the call at a place, or these words if the log lacks the call, as one that begins late may.
@@ -205,14 +205,24 @@ fn judged(log: &Log) -> usize {
         .saturating_sub(closed)
 }
 
+/// The words for how the log says that it ends.
+fn said_end(ends: Option<Ending>) -> &'static str {
+    match ends {
+        Some(Ending::Whole) => "the log says that it is whole",
+        Some(Ending::Early) => "the log says that it ends early",
+        None => "the log doesn't say how it ends",
+    }
+}
+
 /// The line of a verdict on this log.
 pub fn text_of(alloc: Global, log: &Log, verdict: &Verdict) -> Result<String, AllocError> {
     match verdict {
         Verdict::Clean(_) => {
             let refused = refused(alloc, log)?;
             format!(in alloc;
-                "judge clean: {} calls have a legal order, {refused}\n",
-                judged(log)
+                "judge clean: {} calls have a legal order, {refused}; {}\n",
+                judged(log),
+                said_end(log.ends)
             )
         }
         Verdict::Fault(fault) => fault_text(alloc, log, fault),

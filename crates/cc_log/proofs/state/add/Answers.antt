@@ -24,6 +24,7 @@ returns c =
       options = refl;
       capacity = refl;
       late = refl;
+      ends = refl;
       bodies = c.in_ok-act.ensures.bodies;
       senders = c.in_ok-act.ensures.senders;
       place = c.in_ok-place.place;
