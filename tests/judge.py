@@ -5,7 +5,7 @@ of recorded queues.
 Usage: tests/judge.py [LOGS [FIRST]]
 
 Half of the logs are those of a real queue, half are altered; in one of two some calls haven't returned, and some sends are
-refused. Some queues are closed, or have a capacity; some logs have coarse stamps, are judged with a skew, or begin late. The
+refused. Some queues are closed, or have a capacity; some logs have coarse stamps, are judged with a skew, begin late, or say how they end. The
 log with the number N is always the same. Without words it makes 1,500 logs, from number 0 on, and those of `RARE`. The search
 knows nothing of the program's: it tries every call that began before each call that is left had ended. `judge undecided` is a
 failure, unless calls of one thread share a stamp. Without words it also records 80,000 calls each of this crate's channel, of
@@ -37,6 +37,12 @@ TOP = Path(__file__).resolve().parent.parent
 PROGRAM = Path(os.environ.get("CCQ", TOP / "crates/ccq/out/ccq"))
 REGISTRY = Path("/usr/share/cargo/registry")
 NEVER = 1 << 62
+# What the program says of the end of a log.
+SAID_END = {
+    None: "the log doesn't say how it ends",
+    "whole": "the log says that it is whole",
+    "early": "the log says that it ends early",
+}
 # Logs of rare faults: a closed queue held the item of a send that hasn't returned.
 RARE = [98583]
 
@@ -110,7 +116,7 @@ def refuse(rng, calls):
 
 
 def log(number):
-    """The calls of a log, the capacity and the skew by which it is judged, and whether it is said to begin late."""
+    """The calls of a log, the capacity and the skew by which it is judged, whether it is said to begin late, and how it is said to end."""
     rng = random.Random(number)
     capacity = rng.choice([None, None, 1, 2, 3])
     calls = play(rng, capacity, rng.random() < 0.4)
@@ -127,16 +133,16 @@ def log(number):
     late = rng.random() < 0.15
     if late:
         calls = calls[rng.randrange(len(calls)) :]
-    return calls, capacity, skew, late
+    return calls, capacity, skew, late, ("early", None, None, "whole")[number % 4]
 
 
-def padded(calls, skew, late):
-    """The calls as they are judged: wider by the skew; and with those that a log which begins late may lack."""
+def padded(calls, skew, part):
+    """The calls as they are judged: wider by the skew; and with those that a part of a log may lack."""
     wide = [
         call | {"begin": max(0, call["begin"] - skew)} | ({"end": call["end"] + skew} if "end" in call else {})
         for call in calls
     ]
-    if late:
+    if part:
         sent = [call["send"] for call in calls if "send" in call and "answer" not in call]
         taken = [list(item) for item in {tuple(call["take"]) for call in calls if call.get("take")}]
         wide += [{"begin": 0, "send": item} for item in taken if item not in sent]
@@ -246,14 +252,16 @@ def line_of(rng, call):
 def judged(number):
     """The number, whether the log has an order, whether the program says the same, whether it says that it doesn't know though
     calls share a stamp, and what it says."""
-    calls, capacity, skew, late = log(number)
+    calls, capacity, skew, late, ends = log(number)
     rng = random.Random(number)
     text = ('{"begins":"late"}\n' if late else "") + "".join(line_of(rng, call) for call in calls)
+    text += f'{{"ends":"{ends}"}}\n' if ends else ""
     options = ["--capacity", str(capacity)] * bool(capacity) + ["--skew", str(skew)] * bool(skew)
     run = subprocess.run([PROGRAM, "judge", *options], input=text, capture_output=True, text=True, check=False)
-    wide, ties = padded(calls, skew, late), ties_of(calls, skew)
-    # Of a log that begins late the queue may hold items that the log lacks.
-    capacity = None if late else capacity
+    # A log that begins late or ends early may lack calls, and items that the queue holds.
+    part = late or ends == "early"
+    wide, ties = padded(calls, skew, part), ties_of(calls, skew)
+    capacity = None if part else capacity
     closes = any("close" in call for call in calls)
     answers = [call["answer"] for call in calls if "send" in call and "answer" in call]
     full = 0 if capacity else answers.count("full")
@@ -266,6 +274,7 @@ def judged(number):
     clean = f"judge clean: {len(calls) - answers.count('full') - closed} calls have a legal order, {full + closed} not judged"
     clean += f": {full} full, {closed} closed" * bool(full + closed)
     clean += f"; {answers.count('full')} may have found {capacity} in the queue" * bool(capacity)
+    clean += f"; {SAID_END[ends]}"
     same = run.stdout == clean + "\n" if right else run.stdout.startswith("judge fault: ")
     same &= run.returncode == (0 if right else 1)
     if run.stdout.startswith("judge fault: not empty: "):
@@ -333,7 +342,12 @@ def judge_cut_short(language, ring, log):
     run = subprocess.run([ring, log, "right", "50000"], stdout=subprocess.DEVNULL, stderr=subprocess.PIPE, preexec_fn=limit, restore_signals=False, check=False)
     said = judged_file(log)
     print(f"judge: the ring in {language}, in a file of at most {size} bytes: status {run.returncode}, {said}", end="")
-    return run.returncode == 1 and b"arge" in run.stderr and log.stat().st_size > size // 2 and said.startswith("judge clean: ")
+    return run.returncode == 1 and b"arge" in run.stderr and log.stat().st_size > size // 2 and is_clean(said, "early")
+
+
+def is_clean(said, ends):
+    """Whether the program says that a log is clean and ends so."""
+    return said.startswith("judge clean: ") and said.endswith(f"; {SAID_END[ends]}\n")
 
 
 def judge_ring(language, ring, log):
@@ -344,7 +358,7 @@ def judge_ring(language, ring, log):
         subprocess.run([ring, log, *kind], stdout=subprocess.DEVNULL, check=True)
         said = judged_file(log)
         print(f"judge: the ring in {language}, {' '.join(kind)}: {said}", end="")
-        right &= said.startswith("judge fault: " if kind == ["early"] else "judge clean: ")
+        right &= said.startswith("judge fault: ") if kind == ["early"] else is_clean(said, "whole")
     clean = 0
     for later in range(5):
         log.unlink()
@@ -355,9 +369,9 @@ def judge_ring(language, ring, log):
             run.kill()
         said = judged_file(log)
         print(f"judge: the ring in {language}, killed: {said}", end="")
-        clean += said.startswith("judge clean: ")
+        clean += is_clean(said, None)
         # It was killed while it wrote.
-        right &= said.startswith("judge clean: ") or (": no JSON object" in said and "\n!" in "\n" + log.read_text())
+        right &= is_clean(said, None) or (": no JSON object" in said and "\n!" in "\n" + log.read_text())
     return right and clean > 0
 
 
@@ -374,7 +388,7 @@ def judge_recorded():
             subprocess.run([recorder, queue, log, "20000"], check=True)
             said = judged_file(log)
             print(f"judge: {queue}: {said}", end="")
-            right &= said.startswith("judge fault: taken twice: " if queue == "fault" else "judge clean: ")
+            right &= said.startswith("judge fault: taken twice: ") if queue == "fault" else is_clean(said, "whole")
         right &= judge_ring("Rust", recorder.with_name("ring"), Path(name, "ring.log"))
     return right
 

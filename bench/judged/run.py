@@ -309,7 +309,7 @@ def run_once(command, result, log, shape, calls, seed, stops, has_stops):
     verdict = verdict_of(log, result.queue)
     result.runs, result.stopped = result.runs + 1, result.stopped + stops
     with open(log, "rb") as file:
-        result.calls += sum(1 for _ in file)
+        result.calls += sum(not line.startswith(b'{"ends"') for line in file)
     result.verdicts[verdict] += 1
     result.with_stops[verdict] += stops
     if result.queue.lanes:

@@ -75,7 +75,7 @@ static int has_line(FILE *file, const char *due) {
     return *at == *due;
 }
 
-/* Seven calls, of which two are given up, and their log, which says how it ends. */
+/* Seven calls, of which two are given up, and their log. */
 static int recorded(void) {
     static vahepito_recorder mine;
     vahepito_log log;
@@ -84,7 +84,6 @@ static int recorded(void) {
     FILE *file = place < 0 ? NULL : fdopen(place, "r");
     int same;
     if (!file || vahepito_log_open(&log, name) != 0) return 26;
-    log.says_end = 1;
     vahepito_recorder_open(&mine, &log);
     vahepito_begin_recorded_send(&mine, 7);
     vahepito_end_recorded_send(&mine, VAHEPITO_SENT);
@@ -117,13 +116,12 @@ static int recorded(void) {
 }
 
 /* More calls than a recorder holds, in a log of this many bytes at most: how it closes, an errno. */
-static int many_calls(const char *path, uint64_t limit, int says_end) {
+static int many_calls(const char *path, uint64_t limit) {
     static vahepito_recorder mine;
     vahepito_log log;
     uint64_t item, before;
     int closes;
     if (vahepito_log_open(&log, path) != 0) return -1;
-    log.says_end = says_end;
     log.limit = limit;
     vahepito_recorder_open(&mine, &log);
     for (item = 0; item < 1000; item++) {
@@ -149,12 +147,12 @@ static int ends_early(void) {
     FILE *file = place < 0 ? NULL : fdopen(place, "r");
     const char *const last = "\n{\"ends\":\"early\"}\n";
     size_t size;
-    if (!file || many_calls(name, 20000, 1) != EFBIG) return 29;
+    if (!file || many_calls(name, 20000) != EFBIG) return 29;
     size = fread(text, 1, sizeof text, file);
     if (size > 20000 || size < 10000 || strncmp(text + size - strlen(last), last, strlen(last)) != 0) return 30;
     fclose(file);
     remove(name);
-    return many_calls("/dev/full", UINT64_MAX, 1) == ENOSPC && many_calls("/dev/full", UINT64_MAX, 0) == ENOSPC ? 0 : 31;
+    return many_calls("/dev/full", UINT64_MAX) == ENOSPC ? 0 : 31;
 }
 
 int main(void) {

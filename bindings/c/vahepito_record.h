@@ -26,12 +26,11 @@
  *
  * A write that fails ends the log early, and so does a limit, of which there is none unless `log.limit` is set after
  * vahepito_log_open, in bytes. The file is then as the last round left it, and vahepito_log_close returns -1, with errno of the first
- * write that failed, or EFBIG for the limit. If `log.says_end` is set to 1 after vahepito_log_open, the last line says so too:
- * {"ends":"whole"} or {"ends":"early"}; the log of a program that was killed has neither. `ccq judge` 0.4 refuses such a
- * line, so take it off before.
+ * write that failed, or EFBIG for the limit. The last line says so too: {"ends":"whole"} or {"ends":"early"}; the log of a
+ * program that was killed has neither.
  *
  * The stamps are those of vahepito_log_now(&log), which a caller can read too. The lines of two files of one such clock are one
- * log, if the names of their threads differ.
+ * log, if the names of their threads differ and this one comes last.
  *
  * With VAHEPITO_RECORD_STOPS defined before the header (Linux), threads can be stopped in the middle of their calls: see
  * vahepito_stop_threads below. Faults that need a thread to be interrupted between two of its steps are found far sooner so.
@@ -77,13 +76,13 @@ typedef struct vahepito_recorder {
 } vahepito_recorder;
 
 /* All recorders; of the file the bytes that stay, the text behind them, of calls that were pending in the last round, and its size;
- * the most bytes; whether the last line says how the log ends; why nothing more is written, an errno; a lock. */
+ * the most bytes; why nothing more is written, an errno; a lock. */
 typedef struct vahepito_log {
     vahepito_recorder *first;
     uint64_t names, kept, start, limit;
     char *shown;
     size_t shown_size;
-    int says_end, file, over, lock;
+    int file, over, lock;
 } vahepito_log;
 
 #define VAHEPITO_ENDS_WHOLE "{\"ends\":\"whole\"}\n"
@@ -172,7 +171,7 @@ static inline void vahepito_log_round(vahepito_log *log) {
             vahepito_put_line(text, one, call, 0);
     }
     if (!log->over && (!text || fclose(text) != 0)) log->over = ENOMEM;
-    if (!log->over && log->kept + all + (log->says_end ? sizeof VAHEPITO_ENDS_EARLY - 1 : 0) > log->limit) log->over = EFBIG;
+    if (!log->over && log->kept + all + sizeof VAHEPITO_ENDS_EARLY - 1 > log->limit) log->over = EFBIG;
     /* If no call has ended and no further one is pending, all is there */
     if (!log->over && (ended > 0 || all != log->shown_size)) {
         log->over = vahepito_log_write_over(log, bytes, all, log->kept);
@@ -196,7 +195,7 @@ static inline void vahepito_log_round(vahepito_log *log) {
 /* A log in a new file: 0, or -1 with errno. */
 static inline int vahepito_log_open(vahepito_log *log, const char *path) {
     log->first = NULL, log->shown = NULL, log->shown_size = 0, log->limit = UINT64_MAX;
-    log->names = log->kept = log->start = 0, log->says_end = log->over = log->lock = 0;
+    log->names = log->kept = log->start = 0, log->over = log->lock = 0;
     log->start = vahepito_moment_after(log, 0);
     log->file = open(path, O_WRONLY | O_CREAT | O_TRUNC, 0666);
     return log->file < 0 ? -1 : 0;
@@ -211,24 +210,24 @@ static inline void vahepito_recorder_open(vahepito_recorder *mine, vahepito_log 
     VAHEPITO_SET(log->lock, 0, RELEASE);
 }
 
-/* Writes all calls, and closes the file. A call that is pending now hasn't returned, and later calls aren't written. 0 if the log
- * is whole, or -1 with errno. */
+/* Writes all calls and the last line, and closes the file. A call that is pending now hasn't returned, and later calls aren't
+ * written. 0 if the log is whole, or -1 with errno. */
 static inline int vahepito_log_close(vahepito_log *log) {
-    int over;
+    const char *line;
+    const size_t size = sizeof VAHEPITO_ENDS_EARLY - 1;
+    uint64_t end;
+    int over, failed;
     vahepito_log_round(log);
     vahepito_lock_log(log);
     over = log->over;
-    if (log->says_end) {
-        const char *const line = over ? VAHEPITO_ENDS_EARLY : VAHEPITO_ENDS_WHOLE;
-        const size_t size = sizeof VAHEPITO_ENDS_EARLY - 1;
-        const uint64_t end = log->kept + log->shown_size;
-        const int failed = end + size > log->limit ? EFBIG : vahepito_log_write_over(log, line, size, end);
-        if (failed) vahepito_log_cut(log, end);
-        if (!over) over = failed;
-    }
+    line = over ? VAHEPITO_ENDS_EARLY : VAHEPITO_ENDS_WHOLE;
+    end = log->kept + log->shown_size;
+    failed = end + size > log->limit ? EFBIG : vahepito_log_write_over(log, line, size, end);
+    if (failed) vahepito_log_cut(log, end);
+    if (!over) over = failed;
     if (close(log->file) != 0 && !over) over = errno;
     free(log->shown);
-    log->shown = NULL, log->over = EBADF;
+    log->shown = NULL, log->over = EBADF, log->file = -1;
     VAHEPITO_SET(log->lock, 0, RELEASE);
     errno = over;
     return over ? -1 : 0;

@@ -13,7 +13,7 @@
 //! one.send(7, || sender.send(7).map_or(Sent::Closed, |()| Sent::Accepted));
 //! other.take(|| receiver.recv().map_or(Taken::Ended, Taken::Item));
 //! log.finish()?;
-//! # assert_eq!(std::fs::read_to_string(&path)?.lines().count(), 2);
+//! # assert_eq!(std::fs::read_to_string(&path)?.lines().count(), 3);
 //! # std::fs::remove_file(&path)?;
 //! # Ok::<(), std::io::Error>(())
 //! ```
@@ -25,9 +25,11 @@
 //! with `!`.
 //!
 //! **Whether it is whole.** A write that fails and a limit that is reached end the log early: it stays as the last round left it,
-//! and [`Log::finish`] returns an [`Early`]. With [`Options::says_end`] the last line of the file says so too.
+//! and [`Log::finish`] returns an [`Early`]. The last line of the file says so too: `{"ends":"whole"}` or `{"ends":"early"}`. The log of
+//! a program that was killed has no such line.
 //!
-//! **Time.** Stamps are nanoseconds of a [`Clock`], which a caller can read too: the lines of two files of one clock are one log.
+//! **Time.** Stamps are nanoseconds of a [`Clock`], which a caller can read too: the lines of two files of one clock are one log, if the
+//! recorder's file comes last.
 //!
 //! **Stops.** With the feature `stops`, `Log::stop_threads` stops recorded threads in the middle of their calls. Faults
 //! that need a thread to be interrupted between two of its steps are found far sooner so.

@@ -65,11 +65,10 @@ impl Shared {
     }
 }
 
-/// How a log is written: without a limit, and without a last line about its end.
+/// How a log is written: without a limit.
 #[derive(Clone, Copy, Debug, Default)]
 pub struct Options {
     limit: Option<u64>,
-    says_end: bool,
 }
 
 impl Options {
@@ -80,14 +79,6 @@ impl Options {
         self
     }
 
-    /// The log's last line says how it ends: `{"ends":"whole"}` or `{"ends":"early"}`. The log of a program that was killed has
-    /// neither. **`ccq judge` 0.4 refuses such a line**, so take it off before.
-    #[must_use]
-    pub fn says_end(mut self) -> Options {
-        self.says_end = true;
-        self
-    }
-
     /// A log in a new file.
     pub fn create(self, path: impl AsRef<Path>) -> io::Result<Log> {
         let shared = Arc::new(Shared {
@@ -95,7 +86,7 @@ impl Options {
                 start: Instant::now(),
             },
             names: AtomicU64::new(0),
-            writer: Mutex::new(Writer::new(File::create(path)?, self.limit, self.says_end)),
+            writer: Mutex::new(Writer::new(File::create(path)?, self.limit)),
         });
         let (end, ends) = mpsc::channel::<()>();
         let its = Arc::clone(&shared);
@@ -134,7 +125,7 @@ impl Log {
     }
 
     /// The clock of its lines. A caller who stamps calls by it writes them into a file of his own, with thread names that
-    /// aren't numbers: both files together are one log.
+    /// aren't numbers: both files together are one log, his own before this one.
     #[must_use]
     pub fn clock(&self) -> Clock {
         self.shared.clock
@@ -155,8 +146,8 @@ impl Log {
         }
     }
 
-    /// Writes all calls. A call that is pending now hasn't returned, and later calls aren't written. The log is whole, or the error says
-    /// why it ends early.
+    /// Writes all calls, and the last line. A call that is pending now hasn't returned, and later calls aren't written. The log is whole,
+    /// or the error says why it ends early.
     pub fn finish(mut self) -> Result<(), Early> {
         self.end()
     }

@@ -55,6 +55,7 @@ fn each_kind_of_call_has_its_line() {
         r#"{"thread":"0","take":null}"#,
         r#"{"thread":"1",end,"take":null,"answer":"ended"}"#,
         r#"{"thread":"1","send":[8]}"#,
+        r#"{"ends":"whole"}"#,
     ];
     assert_eq!(lines(&path), due);
     fs::remove_file(path).expect("it was there");
@@ -155,6 +156,7 @@ fn closes_have_their_lines() {
         r#"{"thread":"0",end,"close":true}"#,
         r#"{"thread":"0","close":true}"#,
         r#"{"thread":"1",end,"send":[8],"answer":"closed"}"#,
+        r#"{"ends":"whole"}"#,
     ];
     assert_eq!(lines(&path), due);
     fs::remove_file(path).expect("it was there");
@@ -181,13 +183,13 @@ fn a_caller_stamps_by_the_clock() {
     fs::remove_file(path).expect("it was there");
 }
 
-/// A disk that is full: the error is that of the first write, whether the log says how it ends or not.
+/// A disk that is full: the error is that of the first write.
 #[test]
 fn a_full_disk_ends_the_log_early() {
-    for options in [Log::options(), Log::options().says_end()] {
-        let log = options.create("/dev/full").expect("it is there");
+    for calls in [0, 3 * SLOTS] {
+        let log = Log::create("/dev/full").expect("it is there");
         let mut one = log.recorder();
-        for item in 0..3 * SLOTS {
+        for item in 0..calls {
             one.send(item, || Sent::Accepted);
         }
         let Err(Early::Write(error)) = log.finish() else {
@@ -207,8 +209,7 @@ fn a_log_says_how_it_ends() {
         (5, ""),
     ] {
         let path = path(&format!("ends {limit}"));
-        let options = Log::options().limit(limit).says_end();
-        let log = options.create(&path).expect("a file");
+        let log = Log::options().limit(limit).create(&path).expect("a file");
         let mut one = log.recorder();
         for item in 0..10 * SLOTS {
             one.send(item, || Sent::Accepted);
@@ -246,7 +247,7 @@ fn killed_child() {
     let Some(path) = std::env::var_os(CHILD) else {
         return;
     };
-    let log = Log::options().says_end().create(path).expect("a file");
+    let log = Log::create(path).expect("a file");
     let mut one = log.recorder();
     for item in 0..CALLS {
         one.send(item, || Sent::Accepted);
@@ -317,6 +318,6 @@ fn threads_are_stopped_in_their_calls() {
     assert!(is_stopped(longest), "{stops:?}, {longest:?}");
     drop((stops, again));
     log.finish().expect("the log is whole");
-    assert_eq!(lines(&path).len() as u64, items.start);
+    assert_eq!(lines(&path).len() as u64, items.start + 1);
     fs::remove_file(path).expect("it was there");
 }

@@ -6,7 +6,7 @@ use std::fs::File;
 use std::io::{self, Seek, SeekFrom, Write};
 use std::sync::Arc;
 
-/// The last lines of a log that says how it ends.
+/// The last line of a log says how it ends.
 const WHOLE: &[u8] = b"{\"ends\":\"whole\"}\n";
 const EARLY: &[u8] = b"{\"ends\":\"early\"}\n";
 
@@ -60,8 +60,6 @@ pub(crate) struct Writer {
     shown: Vec<u8>,
     /// The most bytes of the file.
     limit: u64,
-    /// Whether the last line says how the log ends.
-    says_end: bool,
     /// Whether nothing more is written, and why, if that was early.
     is_over: bool,
     early: Option<Early>,
@@ -71,13 +69,12 @@ pub(crate) struct Writer {
 }
 
 impl Writer {
-    pub(crate) fn new(file: File, limit: Option<u64>, says_end: bool) -> Writer {
+    pub(crate) fn new(file: File, limit: Option<u64>) -> Writer {
         Writer {
             file,
             kept: 0,
             shown: Vec::new(),
             limit: limit.unwrap_or(u64::MAX),
-            says_end,
             is_over: false,
             early: None,
             lanes: Vec::new(),
@@ -97,9 +94,8 @@ impl Writer {
         if self.is_over || text.is_empty() && pending.len() == self.shown.len() {
             return;
         }
-        let size = self.kept + (text.len() + pending.len()) as u64;
-        let end = if self.says_end { EARLY.len() as u64 } else { 0 };
-        if size.saturating_add(end) > self.limit {
+        let size = self.kept + (text.len() + pending.len() + EARLY.len()) as u64;
+        if size > self.limit {
             self.stop(Early::Limit(self.limit));
             return;
         }
@@ -128,20 +124,18 @@ impl Writer {
         let _ = self.file.set_len(self.kept + self.shown.len() as u64);
     }
 
-    /// Ends the log after its last round, and says whether it is whole.
+    /// Ends the log after its last round, by the line that says how it ends. Whether it is whole.
     pub(crate) fn end(&mut self) -> Result<(), Early> {
         let early = self.early.take();
         self.is_over = true;
-        if self.says_end {
-            let line = if early.is_some() { EARLY } else { WHOLE };
-            let end = self.kept + self.shown.len() as u64;
-            if end + line.len() as u64 > self.limit {
-                return Err(early.unwrap_or(Early::Limit(self.limit)));
-            }
-            if let Err(error) = write_over(&mut self.file, end, line) {
-                let _ = self.file.set_len(end);
-                return Err(early.unwrap_or(Early::Write(error)));
-            }
+        let line = if early.is_some() { EARLY } else { WHOLE };
+        let end = self.kept + self.shown.len() as u64;
+        if end + line.len() as u64 > self.limit {
+            return Err(early.unwrap_or(Early::Limit(self.limit)));
+        }
+        if let Err(error) = write_over(&mut self.file, end, line) {
+            let _ = self.file.set_len(end);
+            return Err(early.unwrap_or(Early::Write(error)));
         }
         early.map_or(Ok(()), Err)
     }
