@@ -8,7 +8,7 @@ Half of the logs are those of a real queue, half are altered; in one of two some
 refused. Some queues are closed, or have a capacity; some logs have coarse stamps, are judged with a skew, begin late, or say how they end. The
 log with the number N is always the same. Without words it makes 1,500 logs, from number 0 on, and those of `RARE`. The search
 knows nothing of the program's: it tries every call that began before each call that is left had ended. `judge undecided` is a
-failure, unless calls of one thread share a stamp. Without words it also records 80,000 calls each of this crate's channel, of
+failure, unless only lines order calls of one thread. Without words it also records 80,000 calls each of this crate's channel, of
 std's, of crossbeam's and flume's where Debian's packages of them are, and of a queue with a fault, which has to be found. And
 it records a ring of one's own by a program in Rust and by one in C: as it is, also with stops, with a planted fault, which has to be found,
 while the program is killed, and with a file that can't grow. Logs in other forms are refused by their forms. `windows.py` has the windows of logs, `histories.py` those of other tools, and
@@ -152,11 +152,11 @@ def padded(calls, skew, part):
 
 
 def ties_of(calls, skew):
-    """Of each call the call of its thread that ended when it began, by their places."""
+    """Of each call the last one of its thread, by their places, if the times as they are judged let the two overlap."""
     last, ties = {}, {}
     for place, call in enumerate(calls):
         before = last.get(call["thread"])
-        if before is not None and skew == 0 and calls[before].get("end") == call["begin"]:
+        if before is not None and calls[before].get("end", -1) + skew >= max(0, call["begin"] - skew):
             ties[place] = before
         last[call["thread"]] = place
     return ties
@@ -250,8 +250,8 @@ def line_of(rng, call):
 
 
 def judged(number):
-    """The number, whether the log has an order, whether the program says the same, whether it says that it doesn't know though
-    calls share a stamp, and what it says."""
+    """The number, whether the log has an order, whether the program says the same, whether it says that it doesn't know of a log in which
+    only lines order calls, whether it says so of one with an order, and what it says."""
     calls, capacity, skew, late, ends = log(number)
     rng = random.Random(number)
     text = ('{"begins":"late"}\n' if late else "") + "".join(line_of(rng, call) for call in calls)
@@ -282,7 +282,7 @@ def judged(number):
     # A fault of the capacity leaves no order of a queue with it.
     same &= possible or not ordered or not has_order(wide, ties, capacity)
     open_tie = bool(ties) and run.stdout == "judge undecided\n"
-    return number, right, same, open_tie, f"{run.returncode}, {run.stdout or run.stderr}"
+    return number, right, same, open_tie, open_tie and right, f"{run.returncode}, {run.stdout or run.stderr}"
 
 
 # A log that another program writes in another form: how it begins, and what is said of it.
@@ -417,17 +417,18 @@ def main(count=None, first=0):
     recorded = count is not None or all([judge_forms(), judge_histories(), judge_windows(), judge_recorded(), judge_ring_in_c(), judge_queues()])
     numbers = [*range(first, first + count)] if count else [*range(1500), *RARE]
     count = len(numbers)
-    clean = wrong = unknown = 0
+    clean = wrong = unknown = missed = 0
     with ThreadPoolExecutor(os.cpu_count()) as pool:
-        for number, right, same, open_tie, said in pool.map(judged, numbers):
+        for number, right, same, open_tie, is_missed, said in pool.map(judged, numbers):
             clean += right
             unknown += open_tie
+            missed += is_missed
             if not same and not open_tie:
                 wrong += 1
                 print(f"judge: log {number} has {'an' if right else 'no'} order, and the program says {said}", end="")
     print(f"judge: {count - wrong - unknown} of {count} verdicts are those of a search over all orders; {clean} logs have an order")
-    print(f"judge: {unknown} logs in which calls of a thread share a stamp are undecided")
-    return 1 if wrong or not recorded or not 0 < clean < count else 0
+    print(f"judge: {unknown} logs in which only lines order calls of a thread are undecided; {missed} of them have an order")
+    return 1 if wrong or 100 * missed > clean or not recorded or not 0 < clean < count else 0
 
 
 if __name__ == "__main__":

@@ -9,6 +9,7 @@ claims_refused = record {
   key_twice = λ claim. absurd (cc claim);
   colon_in_a_text = λ claim. absurd (cc claim);
   tie_lost = λ claim. absurd (cc claim);
+  skewed_tie_lost = λ claim. absurd (cc claim);
   early_is_whole = λ claim. absurd (cc claim);
   goes_on_after_end = λ claim. absurd (cc claim);
 }

@@ -1,5 +1,5 @@
 -- The log that the lines of an input spell, or the first line with a fault.
-use Rattle.std.specs.Prelude.{ℕ, ◌+◌, ◌-◌, ◌^◌, ◌==◌, ◌&&◌, ◌||◌, min, is_some, Bool, true, false, not, List, [], ◌∷◌, ◌++◌, length, nat_lt, if◌then◌else◌, Option, Some, None, option_map, Result, Ok, Err}
+use Rattle.std.specs.Prelude.{ℕ, ◌+◌, ◌-◌, ◌^◌, ◌==◌, ◌&&◌, ◌||◌, min, is_some, Bool, true, false, not, List, [], ◌∷◌, ◌++◌, length, nat_le, nat_lt, if◌then◌else◌, Option, Some, None, option_map, Result, Ok, Err}
 use Rattle.std.specs.List.{position_or_len}
 use Rattle.serde_json.specs.Data.{Data}
 use Rattle.indexmap.specs.IndexSet.{insert_key}
@@ -51,15 +51,15 @@ abbrev pub after_last : (begin : ℕ) → Option Last → Result (Unit {0}) Line
 after_last begin None = Ok tt
 after_last begin (Some last) = after_end begin last.begin last.end
 
--- the call began at the very time at which the last one ended
-abbrev pub touches : (begin : ℕ) → Option ℕ → Bool
-touches begin None = false
-touches begin (Some last_end) = begin == last_end
+-- as the calls are judged, wider by the skew, the call began at the time at which the last one ended or earlier
+abbrev pub touches : (skew begin : ℕ) → Option ℕ → Bool
+touches skew begin None = false
+touches skew begin (Some last_end) = nat_le (begin - skew) (min (last_end + skew) (2 ^ 64 - 1))
 
--- if it did, the lines order the two, unless clocks may differ
+-- if it did, the lines order the two
 abbrev pub tie_with : (skew place begin : ℕ) → Option Last → List Tie
 tie_with skew place begin None = []
-tie_with skew place begin (Some last) = if touches begin last.end && (skew == 0) then record { earlier = last.place; later = place } ∷ [] else []
+tie_with skew place begin (Some last) = if touches skew begin last.end then record { earlier = last.place; later = place } ∷ [] else []
 
 abbrev pub ties_of : (skew : ℕ) → List Entry → List Tie
 ties_of skew [] = []

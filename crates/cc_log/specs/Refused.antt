@@ -28,6 +28,8 @@ pub record RefusedClaims : Type 0 where
   pub colon_in_a_text : Refused (members_in (codes "{\"a\":\":\\\":\"}") ≡ 2)
   -- two calls that touch have no tie
   pub tie_lost : Refused (tie_with 0 1 5 (Some until_five) ≡ [])
+  -- two calls that may touch by the skew have none
+  pub skewed_tie_lost : Refused (tie_with 3 1 9 (Some until_five) ≡ [])
   -- a log that ends early has all calls
   pub early_is_whole : Refused (is_early (Some Ending.Early) ≡ false)
   -- a line may come after the one that says how the log ends

@@ -1,9 +1,9 @@
 //! The threads of a log, and the last call of each.
-ghost use Rattle.std.specs.Prelude.{◌≡◌, ◌++◌, IfErr, OnOk, string_bytes};
+ghost use Rattle.std.specs.Prelude.{◌≡◌, ◌++◌, IfErr, OnOk, Some, string_bytes};
 ghost use Rattle.serde_json.specs.View.{view};
 ghost use Rattle.cc_log.specs.Answers.{Gives};
 ghost use Rattle.cc_log.specs.Line.{thread_of};
-ghost use Rattle.cc_log.specs.Log.{after_last, entry_of, or_refusal, tie_with};
+ghost use Rattle.cc_log.specs.Log.{after_last, entry_of, or_refusal, tie_with, touches};
 ghost use Rattle.cc_log.specs.State.{entry_in};
 ghost use Rattle.cc_log.specs.Names.{LogFault};
 
@@ -91,6 +91,13 @@ pub fn after_last(begin: u64, last: Option<Last>) -> Result<(), LineFault>
     }
 }
 
+/// Whether a call began when the last one of its thread ended, or earlier, each wider by the skew.
+fn touches(skew: u64, begin: u64, last_end: u64) -> bool
+    ensures { result ≡ touches skew begin (Some last_end) }
+{
+    begin.saturating_sub(skew) <= last_end.saturating_add(skew)
+}
+
 /// Notes the tie of a call with the last one of its thread, if they have one.
 pub fn note_tie(
     ties: &mut Vec<Tie>,
@@ -105,12 +112,14 @@ pub fn note_tie(
     let Some(last) = last else {
         return Ok(());
     };
-    match last.end {
-        Some(end) if begin == end && skew == 0 => ties.push(Tie {
+    let Some(last_end) = last.end else {
+        return Ok(());
+    };
+    if touches(skew, begin, last_end) {
+        ties.push(Tie {
             earlier: last.place,
             later: place,
-        })?,
-        _ => {}
+        })?;
     }
     Ok(())
 }
