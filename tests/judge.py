@@ -8,7 +8,9 @@ Half of the logs are those of a real queue, half are altered; in one of two some
 refused. Some queues are closed, or have a capacity; some logs have coarse stamps, are judged with a skew, begin late, or say how they end. The
 log with the number N is always the same. Without words it makes 1,500 logs, from number 0 on, and those of `RARE`. The search
 knows nothing of the program's: it tries every call that began before each call that is left had ended. `judge undecided` is a
-failure, unless only lines order calls of one thread. Without words it also records 80,000 calls each of this crate's channel, of
+failure, unless only lines order calls of one thread. As many logs are of a bounded queue that holds one item too many, or is full
+though there is room: a fault that the program finds there has to leave no order of a queue with that capacity, and of a queue
+of one thread each such log has to be found. Without words it also records 80,000 calls each of this crate's channel, of
 std's, of crossbeam's and flume's where Debian's packages of them are, and of a queue with a fault, which has to be found. And
 it records a ring of one's own by a program in Rust and by one in C: as it is, also with stops, with a planted fault, which has to be found,
 while the program is killed, and with a file that can't grow. Logs in other forms are refused by their forms. `windows.py` has the windows of logs, `histories.py` those of other tools, and
@@ -47,9 +49,10 @@ SAID_END = {
 RARE = [98583]
 
 
-def play(rng, capacity, closes):
-    """The calls of one to four threads on a queue, each of which takes effect at a moment between its begin and its end."""
-    threads = rng.randint(1, 4)
+def play(rng, capacity, closes, most=4, room=lambda: 0):
+    """The calls of one to four threads on a queue, each of which takes effect at a moment between its begin and its end. With room it
+    holds so many items more than its capacity, or fewer."""
+    threads = rng.randint(1, most)
     free = [0] * threads
     queue, calls, item, moment, closed = [], [], 0, 0, False
     for _ in range(rng.randint(1, 9)):
@@ -63,7 +66,7 @@ def play(rng, capacity, closes):
             calls.append(call | {"close": True})
         elif rng.random() < 0.55:
             item += 1
-            answer = "closed" if closed else "full" if capacity and len(queue) == capacity else None
+            answer = "closed" if closed else "full" if capacity and len(queue) >= capacity + room() else None
             if answer is None:
                 queue.append(item)
             calls.append(call | {"send": [item]} | ({"answer": answer} if answer else {}))
@@ -160,6 +163,19 @@ def ties_of(calls, skew):
             ties[place] = before
         last[call["thread"]] = place
     return ties
+
+
+def may_fit(calls, capacity):
+    """Whether at no moment more items than the queue holds were in it for certain."""
+    taker = {tuple(call["take"]): call for call in calls if call.get("take")}
+    for moment in {call["end"] for call in calls if "end" in call}:
+        sent = [tuple(c["send"]) for c in calls if "send" in c and "answer" not in c and c.get("end", NEVER) <= moment]
+        later = sum(item in taker and taker[item]["begin"] > moment for item in sent)
+        left = sum(item not in taker for item in sent)
+        waiting = sum("take" in c and "end" not in c and c["begin"] <= moment for c in calls)
+        if later + max(0, left - waiting) > capacity:
+            return False
+    return True
 
 
 def may_be_full(calls, call, capacity):
@@ -270,6 +286,7 @@ def judged(number):
     possible = not capacity or all(
         may_be_full(wide, call, capacity) for call in wide if call.get("answer") == "full" and "end" in call
     )
+    possible &= not capacity or may_fit(wide, capacity)
     right = ordered and possible
     clean = f"judge clean: {len(calls) - answers.count('full') - closed} calls have a legal order, {full + closed} not judged"
     clean += f": {full} full, {closed} closed" * bool(full + closed)
@@ -283,6 +300,35 @@ def judged(number):
     same &= possible or not ordered or not has_order(wide, ties, capacity)
     open_tie = bool(ties) and run.stdout == "judge undecided\n"
     return number, right, same, open_tie, open_tie and right, f"{run.returncode}, {run.stdout or run.stderr}"
+
+
+def bounded(number):
+    """The number of a log of a bounded queue, in which it may hold one item too many or be full though there is room; whether the
+    log has an order of a queue with its capacity, whether one thread made it, whether the program finds it right, and what it says."""
+    rng = random.Random(f"bounded {number}")
+    capacity = rng.randint(1, 3)
+    fault = rng.choice([0, 1, -1])
+    calls = play(rng, capacity, rng.random() < 0.2, rng.choice([1, 2, 4]), lambda: rng.choice([0, fault]))
+    if rng.random() < 0.2:
+        leave_open(rng, calls)
+    text = "".join(line_of(rng, call) for call in calls)
+    run = subprocess.run([PROGRAM, "judge", "--capacity", str(capacity)], input=text, capture_output=True, text=True, check=False)
+    ordered = has_order(calls, ties_of(calls, 0), capacity)
+    alone = len({call["thread"] for call in calls}) == 1
+    return number, ordered, alone, run.stdout.startswith("judge clean: "), f"{run.returncode}, {run.stdout or run.stderr}"
+
+
+def judge_bounded(pool, numbers):
+    """Whether each fault of a bounded queue leaves no order, and each log of one thread without an order has one."""
+    right, faults, missed = True, 0, 0
+    for number, ordered, alone, clean, said in pool.map(bounded, numbers):
+        faults += not ordered
+        missed += clean and not ordered
+        if ordered != clean and (ordered or alone):
+            right = False
+            print(f"judge: log {number} of a bounded queue has {'an' if ordered else 'no'} order, and the program says {said}", end="")
+    print(f"judge: of {len(numbers)} logs of a bounded queue {faults} have no order of its capacity, and {missed} of these are clean")
+    return right and 0 <= missed * 4 < faults
 
 
 # A log that another program writes in another form: how it begins, and what is said of it.
@@ -426,6 +472,7 @@ def main(count=None, first=0):
             if not same and not open_tie:
                 wrong += 1
                 print(f"judge: log {number} has {'an' if right else 'no'} order, and the program says {said}", end="")
+        recorded &= judge_bounded(pool, numbers)
     print(f"judge: {count - wrong - unknown} of {count} verdicts are those of a search over all orders; {clean} logs have an order")
     print(f"judge: {unknown} logs in which only lines order calls of a thread are undecided; {missed} of them have an order")
     return 1 if wrong or 100 * missed > clean or not recorded or not 0 < clean < count else 0

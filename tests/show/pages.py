@@ -300,6 +300,7 @@ LOGS = [
     (1, "open after closed", [], "a 1 2 close -; b 3 4 send 7; c 5 6 take 7", [1, 2, 3]),
     (1, "closed early", [], "a 1 2 take - ended; b 3 4 close -", [1]),
     (1, "not full", ["--capacity", "2"], "a 1 2 send 1; a 4 9 send 2 full; b 5 6 take 1", [2, 3]),
+    (1, "too many", ["--capacity", "1"], "a 1 2 send 1; a 3 4 send 2; b 5 6 take 1", [1, 2, 3]),
     (0, "clean", [], "a 1 2 send 1; a 3 4 send 2 closed; b 5 6 take 1; b 7 8 take -", [1, 2, 3, 4]),
 ]
 

@@ -23,7 +23,7 @@ without_in p q (x ∷ xs) (inl here) (inr rest) apart = rest
 without_in p q (x ∷ xs) (inr later) (inl there) apart = inl there
 without_in p q (x ∷ xs) (inr later) (inr rest) apart = inr (without_in p q xs later rest apart)
 
-rising_once : (xs : List ℕ) → IsRising xs → Once xs
+pub rising_once : (xs : List ℕ) → IsRising xs → Once xs
 rising_once [] rising = tt
 rising_once (x ∷ xs) rising = (
   (λ within. let at = at_in x xs within in let less : x < x = rising 0 (suc at.0) x x (omega arith) refl at.1 in omega (arith, less)),

@@ -11,14 +11,14 @@ use Rattle.cc_judge.proofs.Orders.{returned_step, sent_in_log, in_log, in_time, 
 use Rattle.cc_judge.proofs.Fewer.{Once, once_another}
 
 -- no step is in the list twice
-abbrev NoneTwice : List Step → Type 0
+abbrev pub NoneTwice : List Step → Type 0
 NoneTwice steps = (s t : Step) → Before s t steps → s ≢ t
 
-none_twice_later : (x : Step) (steps : List Step) → NoneTwice (x ∷ steps) → NoneTwice steps
+pub none_twice_later : (x : Step) (steps : List Step) → NoneTwice (x ∷ steps) → NoneTwice steps
 none_twice_later x steps once s t before = once s t (inr before)
 
 -- nothing comes before the first step
-none_before : (x t u : Step) (steps : List Step) → NoneTwice (x ∷ steps) → x ≡ t → Before u t (x ∷ steps) → ⊥
+pub none_before : (x t u : Step) (steps : List Step) → NoneTwice (x ∷ steps) → x ≡ t → Before u t (x ∷ steps) → ⊥
 none_before x t u steps once here (inl before) = once x t (inl (refl, before.1)) here
 none_before x t u steps once here (inr before) = once x t (inl (refl, before_second u t steps before)) here
 

@@ -9,6 +9,7 @@ pub mod Tables
 pub mod Lines
 pub mod Shut
 pub mod Full
+pub mod Many
 pub mod Fullness
 pub mod Sweep
 pub mod RefusedClaims

@@ -11,6 +11,7 @@ use Rattle.cc_judge.proofs.Runs.{taken_before_none, first_taken_first}
 use Rattle.cc_judge.proofs.Orders.{runs, returned_step, sent_in_log, closed_in_log, in_time, on_before, one_take}
 use Rattle.cc_judge.proofs.Shut.{WantsOpen, closed_first, not_after, send_of, accepted_step, sent_first, sent_step, shown_step}
 use Rattle.cc_judge.proofs.Full.{not_full}
+use Rattle.cc_judge.proofs.Many.{too_many}
 use Rattle.cc_judge.proofs.Stays.{TakenBy, taken_late}
 
 pub never_sent : (rules : Rules) (calls : List Call) (take : ℕ) (order : List Step) → NeverSent calls take → IsOrder rules calls order → ⊥
@@ -143,6 +144,7 @@ no_order rules calls (Fault.NotEmpty call stays) differ stands (order, o) = not_
 no_order rules calls (Fault.Reopened closed send) differ stands (order, o) = reopened rules calls closed send order differ stands o
 no_order rules calls (Fault.ClosedEarly call) differ stands (order, o) = closed_early rules calls call order stands o
 no_order rules calls (Fault.NotFull call) differ stands (order, o) = not_full rules calls call order differ stands o
+no_order rules calls (Fault.TooMany call sends) differ stands (order, o) = too_many rules calls call sends.items order differ stands o
 
 -- no item is sent twice in a log whose sends have a table
 pub differ : (calls : List Call) (table : List (Option ℕ)) → IsTable calls Kind.Send table → Differ calls

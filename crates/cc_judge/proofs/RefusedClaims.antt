@@ -3,7 +3,7 @@ use Rattle.std.proofs.Common.{◌≡◌, ℕ, zero, suc, ◌<◌, List, [], ◌�
 use Rattle.std.specs.List.{slice_get}
 use Rattle.cc_judge.specs.Names.{Act, Call, Rules}
 use Rattle.cc_judge.specs.Order.{EndsBefore}
-use Rattle.cc_judge.specs.Faults.{Passed, SentBefore, Fewer, IsIn, Returned}
+use Rattle.cc_judge.specs.Faults.{Passed, SentBefore, Fewer, IsIn, MoreAt, Returned}
 use Rattle.cc_judge.specs.Checks.{BeginsFrom, GoesOn, IsSurelyOut}
 use Rattle.cc_judge.specs.Refused.{RefusedClaims, call, waiting, handed, beside, two_wait, closed}
 
@@ -65,9 +65,24 @@ shut_by_a_send rules s =
       ]
     ]
 
+-- an item that was taken by a call that had begun isn't in the queue for certain
+taken_by_then : MoreAt handed (0 ∷ []) 0 3 → ⊥
+taken_by_then m = elim (m.others 0 0 0 1 refl record { call = call 0 1 (Act.Send 0); call_is = refl; act_is = refl } (inl record { call = call 2 3 (Act.Took 0); call_is = refl; act_is = refl })) [
+  | inl has ↦ none_of_none m.takes (let more = m.more in omega (arith, more)) has
+  | inr late ↦
+      let same : Some late.call ≡ Some (call 2 3 (Act.Took 0)) = sym late.call_is in
+      let is : late.call ≡ call 2 3 (Act.Took 0) = cc in
+      absurd (omega (arith, late.after, ap (λ (c : Call). c.begin) is))
+]
+  where
+    none_of_none : (takes : List ℕ) → length takes < 1 → IsIn 1 takes → ⊥
+    none_of_none [] few has = absurd (cc (has.1))
+    none_of_none (x ∷ takes) few has = absurd (omega (arith, few))
+
 pub claims_refused : RefusedClaims
 claims_refused = record {
   accepted_though_untaken = λ h. untaken h.0 h.1;
+  as_many_items_as_room = λ m. absurd (omega (arith, m.more));
   as_many_takes_as_items = λ f. one_of_two f.may f.fewer (is_in f 0 refl) (is_in f 1 refl);
   clean_without_an_order = λ rules o. absurd (cc (o.legal.1));
   close_before_a_late_log_forgotten = λ is. absurd (cc (is));
@@ -85,4 +100,5 @@ claims_refused = record {
   shut_by_a_send = shut_by_a_send;
   taken_after_sent = λ t. late handed 1 0 (call 2 3 (Act.Took 0)) (call 0 1 (Act.Send 0)) 3 refl refl refl (omega arith) t.early;
   taken_twice_by_one_call = λ t. t.apart refl;
+  too_many_of_a_taken_item = taken_by_then;
 }

@@ -69,7 +69,7 @@ held_taken held (x ∷ steps) t item run has (inr rest) is = elim (to_where held
   | inr took ↦ first x t steps (Act.Took item) took rest
 ]
 
-sends_last : (held next : List ℕ) (act : Act) (item : ℕ) → Does None held act next → act ≡ Act.Send item → next ≡ held ++ item ∷ []
+pub sends_last : (held next : List ℕ) (act : Act) (item : ℕ) → Does None held act next → act ≡ Act.Send item → next ≡ held ++ item ∷ []
 sends_last held next act item does is = (subst (λ (a : Act). Does None held a next) is does).0
 
 pub taken_before_none : (held : List ℕ) (steps : List Step) (s t : Step) (item : ℕ) → IsRun None held steps → Before s t steps → s.act ≡ Act.Send item → FindsNone t.act → Earlier steps t (Act.Took item)

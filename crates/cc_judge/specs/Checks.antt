@@ -2,7 +2,7 @@
 use Rattle.std.specs.Prelude.{◌≡◌, ℕ, ◌+◌, ◌<◌, ◌≤◌, ◌⊎◌, List, length, Contains, Bool, true, false, Option, Some, None, slice_get, slice_set}
 use Rattle.cc_judge.specs.Names.{Call, Act, Inside, Leave, Step, Tie}
 use Rattle.cc_judge.specs.Complete.{In}
-use Rattle.cc_judge.specs.Faults.{Did, Returned, BeganBy, EndedBy, FewerAt}
+use Rattle.cc_judge.specs.Faults.{Did, Returned, BeganBy, EndedBy, EndedAt, BeganAfter, FewerAt, IsIn}
 
 -- the call at this place hadn't ended at a time; the later of that time and its begin
 pub record GoesOn (calls : List Call) (place time next : ℕ) : Type 0 where
@@ -83,3 +83,22 @@ pub record FewerBy (calls : List Call) (sends : List (ℕ × ℕ)) (number time 
   pub may : List ℕ
   pub fewer : length may < number
   pub others : (j begin item : ℕ) → slice_get sends j ≡ Some (begin, item) → begin ≤ time → In item may ⊎ IsGone calls item time
+
+-- ---- the items that were in the queue at a time
+
+-- an item was taken only after a time, or, if `left`, by no call
+pub record LeavesAfter (calls : List Call) (item time : ℕ) (left : Bool) : Type 0 where
+  pub either : ((take : ℕ) × Returned calls take (Act.Took item) × ((t : ℕ) → Did calls t (Act.Took item) → BeganAfter calls t time)) ⊎ ((left ≡ true) × ((t : ℕ) → Did calls t (Act.Took item) → ⊥))
+
+-- the call at this place sent an item, and had ended at a time; the item was taken only after that, or, if `left`, by no call
+pub record Stays (calls : List Call) (send time : ℕ) (left : Bool) : Type 0 where
+  pub item : ℕ
+  pub sent : Did calls send (Act.Send item)
+  pub ended : EndedAt calls send time
+  pub leaves : LeavesAfter calls item time left
+
+-- the takes that haven't returned and began by a time are this many
+pub record WaitBy (calls : List Call) (time number : ℕ) : Type 0 where
+  pub takes : List ℕ
+  pub as_many : length takes ≡ number
+  pub others : (take : ℕ) → Did calls take Act.Taking → IsIn take takes ⊎ BeganAfter calls take time

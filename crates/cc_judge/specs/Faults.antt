@@ -1,6 +1,6 @@
 -- The faults of a log: patterns, each of which leaves it without a legal order. Five are those of Henzinger, Sezgin and
--- Vafeiadis (CONCUR 2013), and three are of closes and of a capacity.
-use Rattle.std.specs.Prelude.{◌≡◌, ◌≢◌, ℕ, ◌<◌, ◌≤◌, ◌⊎◌, List, [], ◌∷◌, true, length, Option, Some, None, IsSome, slice_get}
+-- Vafeiadis (CONCUR 2013), and four are of closes and of a capacity.
+use Rattle.std.specs.Prelude.{◌≡◌, ◌≢◌, ℕ, ◌+◌, ◌<◌, ◌≤◌, ◌⊎◌, List, [], ◌∷◌, true, length, Option, Some, None, IsSome, slice_get}
 use Rattle.cc_judge.specs.Names.{Act, Call, Rules, Stay}
 use Rattle.cc_judge.specs.Order.{EndsBefore}
 
@@ -191,3 +191,38 @@ pub record NotFull (rules : Rules) (calls : List Call) (call : ℕ) : Type 0 whe
   pub full : (one : Call) × (slice_get calls call ≡ Some one) × (one.act ≡ Act.Full) × (one.begin ≡ begin) × (one.end ≡ Some end)
   pub at_begin : FewerAt calls capacity begin
   pub at_sends : (send item : ℕ) (one : Call) → slice_get calls send ≡ Some one → one.act ≡ Act.Send item → begin ≤ one.begin → one.begin ≤ end → FewerAt calls capacity one.begin
+
+-- the call at this place had ended at this time
+pub record EndedAt (calls : List Call) (place time : ℕ) : Type 0 where
+  pub call : Call
+  pub call_is : slice_get calls place ≡ Some call
+  pub end : ℕ
+  pub ended : call.end ≡ Some end
+  pub by : end ≤ time
+
+-- the call at this place began after this time
+pub record BeganAfter (calls : List Call) (place time : ℕ) : Type 0 where
+  pub call : Call
+  pub call_is : slice_get calls place ≡ Some call
+  pub after : time < call.begin
+
+-- the call at this place may have taken the item: it did; or it is a take that hasn't returned, and no call that returned took the item
+abbrev pub MayHaveTaken : List Call → (take item : ℕ) → Type 0
+MayHaveTaken calls take item = Did calls take (Act.Took item) ⊎ (Did calls take Act.Taking × ((i : ℕ) → Returned calls i (Act.Took item) → ⊥))
+
+-- These sends had ended at a time, and they are more than a number and some takes together. Each other call that may have taken one of
+-- their items began after that time. So more of their items than the number were in the queue then.
+pub record MoreAt (calls : List Call) (sends : List ℕ) (number time : ℕ) : Type 0 where
+  pub apart : IsRising sends
+  pub each : (k send : ℕ) → slice_get sends k ≡ Some send → (item : ℕ) × Did calls send (Act.Send item) × EndedAt calls send time
+  pub takes : List ℕ
+  pub more : number + length takes < length sends
+  pub others : (k send item take : ℕ) → slice_get sends k ≡ Some send → Did calls send (Act.Send item) → MayHaveTaken calls take item → IsIn take takes ⊎ BeganAfter calls take time
+
+-- when a call had ended, more of the items of these sends were in the queue than it holds
+pub record TooMany (rules : Rules) (calls : List Call) (call : ℕ) (sends : List ℕ) : Type 0 where
+  pub capacity : ℕ
+  pub capacity_is : rules.capacity ≡ Some capacity
+  pub end : ℕ
+  pub ended : (one : Call) × (slice_get calls call ≡ Some one) × (one.end ≡ Some end)
+  pub held : MoreAt calls sends capacity end

@@ -2,7 +2,7 @@
 use Rattle.std.specs.Prelude.{◌≡◌, ℕ, List, [], ◌∷◌, Option, Some, None, true, false, slice_get}
 use Rattle.cc_judge.specs.Names.{Act, Call, Rules, Stay}
 use Rattle.cc_judge.specs.Order.{Does, Allows, IsOrder}
-use Rattle.cc_judge.specs.Faults.{Passed, TakenBeforeSent, TakenTwice, SentBefore, Fewer, Overtaken, Covers, ClosedEarly}
+use Rattle.cc_judge.specs.Faults.{Passed, TakenBeforeSent, TakenTwice, SentBefore, Fewer, Overtaken, Covers, ClosedEarly, MoreAt}
 use Rattle.cc_judge.specs.Late.{judged_capacity, padded}
 use Rattle.cc_judge.specs.Checks.{GoesOn, IsKept, IsSurelyOut, BeginsFrom}
 
@@ -42,6 +42,7 @@ turned = Some 1 ∷ Some 0 ∷ []
 
 pub record RefusedClaims : Type 0 where
   pub accepted_though_untaken : Refused ((take : ℕ) × Passed (waiting 0 (Act.Send 0) ∷ []) 0 take)
+  pub as_many_items_as_room : Refused (MoreAt handed (0 ∷ []) 1 1)
   pub as_many_takes_as_items : Refused (Fewer two_wait 2 (BeginsFrom two_wait None))
   pub clean_without_an_order : (rules : Rules) → Refused (IsOrder rules (call 0 1 (Act.Took 7) ∷ []) (record { place = 0; act = Act.Took 7 } ∷ []))
   pub close_before_a_late_log_forgotten : Refused (padded true true [] 0 ≡ [])
@@ -59,3 +60,4 @@ pub record RefusedClaims : Type 0 where
   pub shut_by_a_send : (rules : Rules) → Refused (SentBefore rules handed 0 1 (Some 0) 0)
   pub taken_after_sent : Refused (TakenBeforeSent handed 0 1)
   pub taken_twice_by_one_call : Refused (TakenTwice handed 1 1)
+  pub too_many_of_a_taken_item : Refused (MoreAt handed (0 ∷ []) 0 3)

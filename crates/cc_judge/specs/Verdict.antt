@@ -2,7 +2,7 @@
 use Rattle.std.specs.Prelude.{List}
 use Rattle.cc_judge.specs.Names.{Call, Rules, Fault, Verdict, Indexed}
 use Rattle.cc_judge.specs.Order.{IsOrder, IsLinearizable, of_any_capacity}
-use Rattle.cc_judge.specs.Faults.{Differ, NeverSent, TakenBeforeSent, TakenTwice, Overtaken, NotEmpty, Reopened, ClosedEarly, NotFull}
+use Rattle.cc_judge.specs.Faults.{Differ, NeverSent, TakenBeforeSent, TakenTwice, Overtaken, NotEmpty, Reopened, ClosedEarly, NotFull, TooMany}
 use Rattle.cc_judge.specs.Table.{IsIndex}
 
 -- the log has the fault: the calls that it names did so
@@ -15,6 +15,7 @@ Stands rules calls (Fault.NotEmpty call stays) = NotEmpty rules calls call stays
 Stands rules calls (Fault.Reopened closed send) = Reopened rules calls closed send
 Stands rules calls (Fault.ClosedEarly call) = ClosedEarly rules calls call
 Stands rules calls (Fault.NotFull call) = NotFull rules calls call
+Stands rules calls (Fault.TooMany call sends) = TooMany rules calls call sends.items
 
 -- The verdict is right: a clean log has this legal order, of a queue of whatever capacity; one with a fault has the fault, and no
 -- legal order.

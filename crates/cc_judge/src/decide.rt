@@ -12,11 +12,12 @@ ghost use Rattle.cc_judge.specs.Late.{
 ghost use Rattle.cc_judge.specs.Verdict.{IsVerdict, Stands, Indexes, FaultsHaveNoOrder};
 
 use crate::closing::{is_closed_early, is_reopened, was_open};
-use crate::crowd::not_full;
+use crate::crowd::{Crowded, not_full, too_many};
 use crate::faults::{
     Index, is_never_sent, is_not_empty, is_overtaken, is_taken_before_sent, is_taken_twice,
 };
 use crate::order::is_order;
+use crate::overfull::is_too_many;
 use crate::pick::{Pair, overtaken, stays};
 use crate::room::{capacity_of, is_not_full};
 use crate::search::{Sought, seek};
@@ -66,6 +67,11 @@ pub enum Fault {
     /// A send found the queue full, and at each of its times fewer items than the queue holds may have been in it.
     NotFull {
         call: usize,
+    },
+    /// When the call had ended, more of the items of these sends were in the queue than it holds.
+    TooMany {
+        call: usize,
+        sends: Vec<usize>,
     },
 }
 
@@ -290,6 +296,35 @@ fn full_fault(alloc: Global, rules: &Rules, view: &View<'_>) -> Result<Option<Fa
     }
 }
 
+/// That more items were in the queue than it holds.
+fn many_fault(alloc: Global, rules: &Rules, view: &View<'_>) -> Result<Option<Fault>, AllocError>
+    requires { IsIndex view.now.calls.now view.now.index.now }
+    ensures { IfOk result (λ found. IfSome found (Stands rules.now view.now.calls.now)) }
+{
+    let Some(capacity) = capacity_of(rules) else {
+        return Ok(None);
+    };
+    let Some(crowded) = too_many(alloc, view, capacity)? else {
+        return Ok(None);
+    };
+    let Crowded { call, sends } = crowded;
+    if !is_too_many(rules, view.calls, view.index, call, sends.as_slice()) {
+        return Ok(None);
+    }
+    Ok(Some(Fault::TooMany { call, sends }))
+}
+
+/// That the log is not one of a queue of its capacity.
+fn room_fault(alloc: Global, rules: &Rules, view: &View<'_>) -> Result<Option<Fault>, AllocError>
+    requires { IsIndex view.now.calls.now view.now.index.now }
+    ensures { IfOk result (λ found. IfSome found (Stands rules.now view.now.calls.now)) }
+{
+    match full_fault(alloc, rules, view)? {
+        Some(fault) => Ok(Some(fault)),
+        None => many_fault(alloc, rules, view),
+    }
+}
+
 /// The verdict if this fault was found.
 fn verdict_of(rules: &Rules, calls: &[Call], index: &Index, found: Option<Fault>) -> Verdict
     requires index { IsIndex calls.now index.now }
@@ -331,7 +366,7 @@ fn found(
 {
     match stuck {
         Some(stuck) => fault_at(alloc, rules, view, shares, stuck),
-        None => full_fault(alloc, rules, view),
+        None => room_fault(alloc, rules, view),
     }
 }
 
@@ -355,7 +390,7 @@ fn sought(alloc: Global, rules: &Rules, view: &View<'_>) -> Result<Verdict, Allo
 /// A log has an order exactly if it has none of the faults (after Henzinger, Sezgin and Vafeiadis, CONCUR 2013, for calls that
 /// all returned), and no log without ties is known whose verdict is neither, unless more than a thousand takes haven't
 /// returned: then the items that show the fault may be too many (`pick`). That isn't proved, so the verdict may be undecided.
-/// Of a capacity only that is judged that a send which found the queue full may have done so.
+/// Of a capacity two faults are judged: a send found the queue full that can't have been, or the queue held too many items.
 pub fn judge(
     alloc: Global,
     rules: &Rules,

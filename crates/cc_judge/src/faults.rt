@@ -74,7 +74,7 @@ pub fn ends_before(calls: &[Call], first: usize, second: usize) -> bool
 }
 
 /// Whether the item has no place in a table of all calls of one kind.
-fn is_absent(table: &Vec<Option<u32>>, item: u32) -> bool
+pub fn is_absent(table: &Vec<Option<u32>>, item: u32) -> bool
     ensures { IsTrue result → slice_get table.now.items item ≡ Some None }
 {
     matches!(table.get(item as usize), Some(None))
@@ -259,7 +259,7 @@ fn are_left(
 }
 
 /// Whether each place is past those before it.
-fn is_rising(places: &[usize]) -> bool
+pub fn is_rising(places: &[usize]) -> bool
     ensures { IsTrue result → IsRising places.now }
 {
     let mut least = 0;

@@ -14,6 +14,7 @@ mod faults;
 mod inside;
 mod log;
 mod order;
+mod overfull;
 mod pick;
 mod room;
 mod search;

@@ -93,6 +93,12 @@ fn mark_named(marks: &mut Vec<bool>, fault: &Fault) {
             mark(marks, *send);
         }
         Fault::ClosedEarly { call } | Fault::NotFull { call } => mark(marks, *call),
+        Fault::TooMany { call, sends } => {
+            mark(marks, *call);
+            for send in sends {
+                mark(marks, *send);
+            }
+        }
     }
 }
 

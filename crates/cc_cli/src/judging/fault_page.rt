@@ -143,7 +143,7 @@ const of = number => (at.get(number) && its(at.get(number)) !== null ? 'item ' +
 
 // ---- the fault: the calls that it names, why they have no order, and when an item was in the queue for certain
 const stays = fault.stays || [];
-const named = [...new Set([fault.take, fault.send, fault.first, fault.second, fault.closed, fault.call, ...stays.flatMap(stay => [...stay.sends, stay.take, stay.next, stay.closed])].filter(Number.isInteger))];
+const named = [...new Set([fault.take, fault.send, fault.first, fault.second, fault.closed, fault.call, ...(fault.sends || []), ...stays.flatMap(stay => [...stay.sends, stay.take, stay.next, stay.closed])].filter(Number.isInteger))];
 const items = new Set(named.map(number => at.get(number)).filter(Boolean).map(its).filter(value => value !== null));
 const role = call => (named.includes(call.line) ? 'fault' : its(call) !== null && items.has(its(call)) ? 'same' : '');
 const left = stay => (stay.sends.length > 1 ? 'one of ' + list(stay.sends.map(of), 'and') : of(stay.sends.length ? stay.sends[0] : stay.take));
@@ -158,6 +158,7 @@ const WHY = {
   'open after closed': f => 'Line ' + f.closed + (at.get(f.closed) && kind(at.get(f.closed)) === 'close' ? ' closed the queue' : ' found the queue closed') + ', and had ended before line ' + f.send + ' began. That send was not told that the queue is closed. A closed queue stays closed.',
   'closed early': f => 'Line ' + f.call + ' found the queue closed, and had ended before any close began.',
   'not full': f => 'Line ' + f.call + ' found the queue full. At no moment of this call can the queue have held ' + f.capacity + ' items: count each item whose send had begun, but none whose take had ended.',
+  'too many': f => 'When line ' + f.call + ' had ended, the sends of ' + (f.sends.length > 20 ? f.sends.length + ' lines' : list(f.sends.map(line), 'and')) + ' had ended too. So few takes had begun that may have their items that more than ' + f.capacity + ' of them were in the queue.',
   'not empty': f => 'Line ' + f.take + ' found the queue empty. At each moment of this call an item was in the queue for certain: ' + list(stays.map(stay => sent(stay) + ' ' + until(stay)), 'and then') + '.',
 };
 const sure = stays.map(stay => {
@@ -167,7 +168,7 @@ const sure = stays.map(stay => {
   return from === null ? null : { name: left(stay), from, to: out ? out.begin : null };
 }).filter(Boolean);
 // The moments at which no order can have what the fault says: of each call that it accuses.
-const accused = { 'never sent': [fault.take], 'taken before sent': [], 'taken twice': [fault.first, fault.second], 'overtaken': [fault.take], 'not empty': [fault.take], 'open after closed': [fault.send], 'closed early': [fault.call], 'not full': [fault.call] }[fault.kind] || [];
+const accused = { 'never sent': [fault.take], 'taken before sent': [], 'taken twice': [fault.first, fault.second], 'overtaken': [fault.take], 'not empty': [fault.take], 'open after closed': [fault.send], 'closed early': [fault.call], 'not full': [fault.call], 'too many': [fault.call] }[fault.kind] || [];
 const never = accused.map(number => at.get(number)).filter(Boolean).map(call => ({ from: call.begin, to: call.end }));
 if (fault.kind === 'taken before sent' && at.get(fault.take) && at.get(fault.send)) never.push({ from: at.get(fault.take).end, to: at.get(fault.send).begin });
 

@@ -136,6 +136,22 @@ fn push_stays(
     text.push_str("]")
 }
 
+/// Appends a fault of a queue's capacity, and the line of its call.
+fn push_bounded(
+    alloc: Global,
+    text: &mut String,
+    log: &Log,
+    kind: &str,
+    call: usize,
+) -> Result<(), AllocError> {
+    let fault = format!(in alloc;
+        ",\"kind\":\"{kind}\",\"capacity\":{}",
+        log.rules.capacity.unwrap_or(0)
+    )?;
+    text.push_str(fault.as_str())?;
+    push_line(alloc, text, log, "call", call)
+}
+
 /// Appends a fault: its pattern, and the lines that it names.
 fn push_fault(
     alloc: Global,
@@ -184,13 +200,11 @@ fn push_fault(
             text.push_str(",\"kind\":\"closed early\"")?;
             push_line(alloc, text, log, "call", *call)
         }
-        Fault::NotFull { call } => {
-            let kind = format!(in alloc;
-                ",\"kind\":\"not full\",\"capacity\":{}",
-                log.rules.capacity.unwrap_or(0)
-            )?;
-            text.push_str(kind.as_str())?;
-            push_line(alloc, text, log, "call", *call)
+        Fault::NotFull { call } => { push_bounded(alloc, text, log, "not full", *call) }
+        Fault::TooMany { call, sends } => {
+            push_bounded(alloc, text, log, "too many", *call)?;
+            text.push_str(",")?;
+            push_sends(alloc, text, log, sends.as_slice())
         }
     }
 }

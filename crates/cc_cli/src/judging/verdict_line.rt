@@ -47,6 +47,20 @@ fn lines_at(alloc: Global, log: &Log, places: &[usize]) -> Result<String, AllocE
     Ok(text)
 }
 
+/// How many lines the line of a verdict names at most of a queue that held too many items.
+const MANY: usize = 20;
+
+/// The numbers of the lines of the calls at these places: of many the first.
+fn first_lines_at(alloc: Global, log: &Log, places: &[usize]) -> Result<String, AllocError> {
+    if places.len() <= MANY {
+        return lines_at(alloc, log, places);
+    }
+    let mut text = lines_at(alloc, log, &places[..MANY])?;
+    let others = format!(in alloc; " and {} others", places.len() - MANY)?;
+    text.push_str(others.as_str())?;
+    Ok(text)
+}
+
 /// The lines of the sends of a stay.
 fn sends(alloc: Global, log: &Log, stay: &Stay) -> Result<String, AllocError> {
     match stay {
@@ -143,6 +157,14 @@ fn fault_text(alloc: Global, log: &Log, fault: &Fault) -> Result<String, AllocEr
             let capacity = log.rules.capacity.unwrap_or(0);
             format!(in alloc;
                 "judge fault: not full: {} found the queue full, and at none of its times can it have held {capacity}\n",
+                line(alloc, log, *call)?
+            )
+        }
+        Fault::TooMany { call, sends } => {
+            let capacity = log.rules.capacity.unwrap_or(0);
+            let sends = first_lines_at(alloc, log, sends.as_slice())?;
+            format!(in alloc;
+                "judge fault: too many: when {} had ended, more than {capacity} of the items of {sends} were in the queue\n",
                 line(alloc, log, *call)?
             )
         }

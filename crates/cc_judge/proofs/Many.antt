@@ -1,0 +1,400 @@
+-- A queue never holds more items than its capacity.
+use Rattle.std.proofs.Common.{◌≡◌, ℕ, suc, ◌+◌, ◌<◌, ◌≤◌, ◌⊎◌, inl, inr, List, [], ◌∷◌, length, length-append, Bool, true, false, Option, Some, None, IsSome, refl, sym, ap, ◌∙◌, subst, arith}
+use Rattle.std.specs.List.{slice_get}
+use Rattle.cc_judge.specs.Names.{Act, Call, Rules, Step}
+use Rattle.cc_judge.specs.Order.{Does, IsRun, IsOrder}
+use Rattle.cc_judge.specs.Faults.{Did, Returned, Differ, IsRising, IsIn, EndedAt, BeganAfter, MoreAt, TooMany}
+use Rattle.cc_judge.specs.Checks.{LeavesAfter, Stays, WaitBy}
+use Rattle.cc_judge.specs.Names.{Kind}
+use Rattle.cc_judge.specs.Table.{IsTable}
+use Rattle.cc_judge.proofs.Places.{In, Before, before_first, in_order, in_at, at_in, in_last}
+use Rattle.cc_judge.proofs.Runs.{to_where, sends_last, loosened}
+use Rattle.cc_judge.proofs.Orders.{StepOf, step_of, returned_step, took_in_log, in_time, on_before, one_take, apart}
+use Rattle.cc_judge.proofs.Fewer.{rising_once, once_another}
+use Rattle.cc_judge.proofs.Full.{NoneTwice, none_twice_later, none_before}
+use Rattle.cc_judge.proofs.Turns.{nat_cases}
+use Rattle.std.proofs.lemmas.Option.{slice_get_within}
+
+-- ---- what the queue holds after a step
+
+-- the step is this one, or comes before it
+abbrev Until : Step → Step → List Step → Type 0
+Until u t steps = (u ≡ t) ⊎ Before u t steps
+
+few_after : (capacity : ℕ) (held next : List ℕ) (act : Act) → Does (Some capacity) held act next → length held ≤ capacity → length next ≤ capacity
+few_after capacity held next (Act.Send v) does few = let n = ap length does.0 in let sum = length-append held (v ∷ []) in omega (arith, n, sum, does.1)
+few_after capacity held next (Act.Took v) does few = let n = ap length does in omega (arith, n, few)
+few_after capacity held next Act.FoundNone does few = let n = ap length does.1 in omega (arith, n)
+few_after capacity held next Act.Taking does few = absurd does
+few_after capacity held next Act.Full does few = let n = ap length does.0 in omega (arith, n, few)
+few_after capacity held next Act.Closed does few = let n = ap length does in omega (arith, n, few)
+few_after capacity held next Act.Ended does few = let n = ap length does.1 in omega (arith, n)
+few_after capacity held next Act.Close does few = let n = ap length does in omega (arith, n, few)
+
+-- a step until t took the item
+abbrev IsTakenUntil : Step → List Step → ℕ → Type 0
+IsTakenUntil t steps item = (u : Step) × Until u t steps × In u steps × (u.act ≡ Act.Took item)
+
+-- what the queue holds after t: few items, and each that was held or sent until then and not taken
+record HeldAfter (capacity : ℕ) (held : List ℕ) (steps : List Step) (t : Step) : Type 0 where
+  items : List ℕ
+  few : length items ≤ capacity
+  old : (item : ℕ) → In item held → In item items ⊎ IsTakenUntil t steps item
+  new : (item : ℕ) (s : Step) → Until s t steps → s.act ≡ Act.Send item → In item items ⊎ IsTakenUntil t steps item
+
+-- the same with one step more at the front
+further : (x t : Step) (steps : List Step) (item : ℕ) → IsTakenUntil t steps item → IsTakenUntil t (x ∷ steps) item
+further x t steps item (u, inl same, within, took) = (u, inl same, inr within, took)
+further x t steps item (u, inr before, within, took) = (u, inr (inr before), inr within, took)
+
+further_in : (x t : Step) (steps : List Step) (items : List ℕ) (item : ℕ) → In item items ⊎ IsTakenUntil t steps item → In item items ⊎ IsTakenUntil t (x ∷ steps) item
+further_in x t steps items item (inl has) = inl has
+further_in x t steps items item (inr taken) = inr (further x t steps item taken)
+
+just_sent : (capacity : ℕ) (held next : List ℕ) (act : Act) (item : ℕ) → Does (Some capacity) held act next → act ≡ Act.Send item → In item next
+just_sent capacity held next act item does is = subst (In item) (sym (sends_last held next act item (loosened (Some capacity) held next act does) is)) (in_last item held)
+
+held_after : (capacity : ℕ) (held : List ℕ) (steps : List Step) (t : Step) → IsRun (Some capacity) held steps → NoneTwice steps → length held ≤ capacity → In t steps → HeldAfter capacity held steps t
+held_after capacity held [] t run once few within = absurd within
+held_after capacity held (x ∷ steps) t run once few (inl here) = record {
+  items = run.0;
+  few = few_after capacity held run.0 x.act run.1 few;
+  old = λ item has. elim (to_where held run.0 x.act item (loosened (Some capacity) held run.0 x.act run.1) has) [
+    | inl still ↦ inl still
+    | inr took ↦ inr (x, inl here, inl refl, took)
+  ];
+  new = λ item s until sent. elim until [
+    | inl same ↦ inl (just_sent capacity held run.0 x.act item run.1 (ap (λ (y : Step). y.act) (here ∙ sym same) ∙ sent))
+    | inr before ↦ absurd (none_before x t s steps once here before)
+  ];
+}
+held_after capacity held (x ∷ steps) t run once few (inr rest) =
+    let h = held_after capacity run.0 steps t run.2 (none_twice_later x steps once) (few_after capacity held run.0 x.act run.1 few) rest in
+    record {
+      items = h.items;
+      few = h.few;
+      old = λ item has. elim (to_where held run.0 x.act item (loosened (Some capacity) held run.0 x.act run.1) has) [
+        | inl still ↦ further_in x t steps h.items item (h.old item still)
+        | inr took ↦ inr (x, inr (inl (refl, rest)), inl refl, took)
+      ];
+      new = λ item s until sent. elim until [
+        | inl same ↦ further_in x t steps h.items item (h.new item s (inl same) sent)
+        | inr before ↦ elim before [
+          | inl first ↦ further_in x t steps h.items item (h.old item (just_sent capacity held run.0 x.act item run.1 (ap (λ (y : Step). y.act) first.0 ∙ sent)))
+          | inr later ↦ further_in x t steps h.items item (h.new item s (inr later) sent)
+        ]
+      ];
+    }
+
+-- ---- the last of some sends
+
+-- a send of the list, and its step; those of all others come before it
+record Last (order : List Step) (sends : List ℕ) : Type 0 where
+  step : Step
+  within : In step order
+  place : In step.place sends
+  item : ℕ
+  act_is : step.act ≡ Act.Send item
+  each : (send : ℕ) → In send sends → (item : ℕ) × (s : Step) × (s.place ≡ send) × (s.act ≡ Act.Send item) × Until s step order
+
+module _ (rules : Rules) (calls : List Call) (order : List Step) (o : IsOrder rules calls order) where
+  until_on : (s t u : Step) → Until s t order → Before t u order → Until s u order
+  until_on s t u (inl same) later = inr (subst (λ (x : Step). Before x u order) (sym same) later)
+  until_on s t u (inr before) later = inr (on_before rules calls order o s t u before later)
+
+  last_of : (send : ℕ) (sends : List ℕ) → ((s : ℕ) → In s (send ∷ sends) → (item : ℕ) × StepOf order s (Act.Send item)) → Last order (send ∷ sends)
+  last_of send [] steps =
+      let s = steps send (inl refl) in
+      record {
+        step = s.1.step;
+        within = s.1.within;
+        place = inl (sym s.1.place_is);
+        item = s.0;
+        act_is = s.1.act_is;
+        each = λ other within. elim within [
+          | inl here ↦ (s.0, s.1.step, (s.1.place_is ∙ here), s.1.act_is, inl refl)
+          | inr none ↦ absurd none
+        ];
+      }
+  last_of send (next ∷ sends) steps =
+      let s = steps send (inl refl) in
+      let l = last_of next sends (λ other within. steps other (inr within)) in
+      elim (in_order s.1.step l.step order s.1.within l.within) [
+        | inl same ↦ behind s.0 s.1 l (inl same)
+        | inr placed ↦ elim placed [
+          | inl first ↦ behind s.0 s.1 l (inr first)
+          | inr later ↦ record {
+            step = s.1.step;
+            within = s.1.within;
+            place = inl (sym s.1.place_is);
+            item = s.0;
+            act_is = s.1.act_is;
+            each = λ other within. elim within [
+              | inl here ↦ (s.0, s.1.step, (s.1.place_is ∙ here), s.1.act_is, inl refl)
+              | inr rest ↦ let e = l.each other rest in (e.0, e.1, e.2, e.3, until_on e.1 l.step s.1.step e.4 later)
+            ];
+          }
+        ]
+      ]
+    where
+      behind : (item : ℕ) (s : StepOf order send (Act.Send item)) (l : Last order (next ∷ sends)) → Until s.step l.step order → Last order (send ∷ next ∷ sends)
+      behind item s l until = record {
+        step = l.step;
+        within = l.within;
+        place = inr l.place;
+        item = l.item;
+        act_is = l.act_is;
+        each = λ other within. elim within [
+          | inl here ↦ (item, s.step, (s.place_is ∙ here), s.act_is, until)
+          | inr rest ↦ l.each other rest
+        ];
+      }
+
+-- ---- items and takes, told apart by even and odd numbers
+
+abbrev evens : List ℕ → List ℕ
+evens [] = []
+evens (x ∷ xs) = (x + x) ∷ evens xs
+
+abbrev evens_and_odds : List ℕ → List ℕ → List ℕ
+evens_and_odds [] ys = evens ys
+evens_and_odds (x ∷ xs) ys = suc (x + x) ∷ evens_and_odds xs ys
+
+evens_length : (xs : List ℕ) → length (evens xs) ≡ length xs
+evens_length [] = refl
+evens_length (x ∷ xs) = ap suc (evens_length xs)
+
+both_length : (xs ys : List ℕ) → length (evens_and_odds xs ys) ≡ length xs + length ys
+both_length [] ys = let e = evens_length ys in omega (arith, e)
+both_length (x ∷ xs) ys = let e = both_length xs ys in omega (arith, e)
+
+in_evens : (x : ℕ) (xs : List ℕ) → In x xs → In (x + x) (evens xs)
+in_evens x [] within = absurd within
+in_evens x (y ∷ xs) (inl here) = inl (ap (λ (n : ℕ). n + n) here)
+in_evens x (y ∷ xs) (inr rest) = inr (in_evens x xs rest)
+
+in_even : (x : ℕ) (xs ys : List ℕ) → In x ys → In (x + x) (evens_and_odds xs ys)
+in_even x [] ys within = in_evens x ys within
+in_even x (y ∷ xs) ys within = inr (in_even x xs ys within)
+
+in_odd : (x : ℕ) (xs ys : List ℕ) → In x xs → In (suc (x + x)) (evens_and_odds xs ys)
+in_odd x [] ys within = absurd within
+in_odd x (y ∷ xs) ys (inl here) = inl (ap (λ (n : ℕ). suc (n + n)) here)
+in_odd x (y ∷ xs) ys (inr rest) = inr (in_odd x xs ys rest)
+
+-- ---- of an order
+
+module _ (rules : Rules) (calls : List Call) (order : List Step) (o : IsOrder rules calls order) (differ : Differ calls) where
+  -- the item of a send is held, or a step of one of these calls took it; the number says which
+  abbrev Where : (held takes : List ℕ) → (send number : ℕ) → Type 0
+  Where held takes send number = ((item : ℕ) × Did calls send (Act.Send item) × In item held × (number ≡ item + item)) ⊎ ((item : ℕ) × Did calls send (Act.Send item) × (u : Step) × In u order × (u.act ≡ Act.Took item) × In u.place takes × (number ≡ suc (u.place + u.place)))
+
+  one_step : (u v : Step) → In u order → In v order → u.place ≡ v.place → u ≡ v
+  one_step u v first second same = elim (in_order u v order first second) [
+    | inl here ↦ here
+    | inr placed ↦ elim placed [
+      | inl one ↦ absurd (apart rules calls order o u v one same)
+      | inr two ↦ absurd (apart rules calls order o v u two (sym same))
+    ]
+  ]
+
+  one_where : (held takes : List ℕ) (s t number : ℕ) → Where held takes s number → Where held takes t number → s ≡ t
+  one_where held takes s t number (inl a) (inl b) = let same : b.0 ≡ a.0 = omega (arith, a.3, b.3) in differ a.0 s t a.1 (subst (λ (i : ℕ). Did calls t (Act.Send i)) same b.1)
+  one_where held takes s t number (inl a) (inr b) = absurd (omega (arith, a.3, b.6))
+  one_where held takes s t number (inr a) (inl b) = absurd (omega (arith, a.6, b.3))
+  one_where held takes s t number (inr a) (inr b) =
+      let places : a.2.place ≡ b.2.place = omega (arith, a.6, b.6) in
+      let same = one_step a.2 b.2 a.3 b.3 places in
+      let acts : Act.Took b.0 ≡ Act.Took a.0 = sym b.4 ∙ ap (λ (u : Step). u.act) (sym same) ∙ a.4 in
+      let items : b.0 ≡ a.0 = cc in
+      differ a.0 s t a.1 (subst (λ (i : ℕ). Did calls t (Act.Send i)) items b.1)
+
+  ended_step : (send item time : ℕ) → Did calls send (Act.Send item) → EndedAt calls send time → StepOf order send (Act.Send item)
+  ended_step send item time did e =
+      let both : Some did.call ≡ Some e.call = sym did.call_is ∙ e.call_is in
+      let one : did.call ≡ e.call = cc in
+      step_of rules calls order o send did.call (Act.Send item) did.call_is did.act_is (λ is. cc) (subst IsSome (sym (ap (λ (c : Call). c.end) one ∙ e.ended)) refl)
+
+  -- a call whose step is one until that of a send that had ended began by then
+  begun : (x u : Step) (sent taken end time : ℕ) (c d : Call) → x.act ≡ Act.Send sent → u.act ≡ Act.Took taken → Until u x order → slice_get calls x.place ≡ Some c → c.end ≡ Some end → end ≤ time → slice_get calls u.place ≡ Some d → time < d.begin → ⊥
+  begun x u sent taken end time c d sends takes (inl same) c_is ended by d_is after = let clash : Act.Took taken ≡ Act.Send sent = sym takes ∙ ap (λ (y : Step). y.act) same ∙ sends in cc
+  begun x u sent taken end time c d sends takes (inr before) c_is ended by d_is after =
+      in_time rules calls order o u x before (record { one = c; other = d; end = end; one_is = c_is; other_is = d_is; ended = ended; before = omega (arith, by, after) })
+
+  some_place : (sends : List ℕ) (n : ℕ) → n < length sends → (first : ℕ) × (rest : List ℕ) × (sends ≡ first ∷ rest)
+  some_place [] n less = absurd (omega (arith, less))
+  some_place (x ∷ xs) n less = (x, xs, refl)
+
+  legal_so : (capacity : ℕ) → rules.capacity ≡ Some capacity → IsRun (Some capacity) [] order
+  legal_so capacity is = subst (λ (c : Option ℕ). IsRun c [] order) is o.legal
+
+  none_twice : NoneTwice order
+  none_twice s t before same = apart rules calls order o s t before (ap (λ (x : Step). x.place) same)
+
+  module _ (sends : List ℕ) (capacity time : ℕ) (is : rules.capacity ≡ Some capacity) (m : MoreAt calls sends capacity time) where
+    steps_of : (s : ℕ) → In s sends → (item : ℕ) × StepOf order s (Act.Send item)
+    steps_of s within =
+        let at = at_in s sends within in
+        let e = m.each at.0 s at.1 in
+        (e.0, ended_step s e.0 time e.1 e.2)
+
+    last : Last order sends
+    last =
+        let f = some_place sends (capacity + length m.takes) m.more in
+        subst (Last order) (sym f.2) (last_of rules calls order o f.0 f.1 (λ s within. steps_of s (subst (In s) (sym f.2) within)))
+
+    after : HeldAfter capacity [] order last.step
+    after = held_after capacity [] order last.step (legal_so capacity is) none_twice (omega arith) last.within
+
+    -- a step until the last send that took the item of a send is of one of the takes
+    taken_by : (send item : ℕ) → In send sends → Did calls send (Act.Send item) → (u : Step) → Until u last.step order → In u order → u.act ≡ Act.Took item → In u.place m.takes
+    taken_by send item within did u until there took =
+        let at = at_in send sends within in
+        let here = at_in last.step.place sends last.place in
+        let e = m.each here.0 last.step.place here.1 in
+        elim (m.others at.0 send item u.place at.1 did may) [
+          | inl has ↦ in_at u.place m.takes has.0 has.1
+          | inr late ↦ absurd (begun last.step u last.item item e.2.end time e.2.call late.call last.act_is took until e.2.call_is e.2.ended e.2.by late.call_is late.after)
+        ]
+      where
+        may : Did calls u.place (Act.Took item) ⊎ (Did calls u.place Act.Taking × ((i : ℕ) → Returned calls i (Act.Took item) → ⊥))
+        may = elim (took_in_log rules calls order o u item there took) [
+          | inl said ↦ inl said
+          | inr taking ↦ inr (
+            taking,
+            λ i r.
+                let t = returned_step rules calls order o i (Act.Took item) (λ e. cc) r in
+                let same = one_take rules calls order o differ item t.step u t.within there t.act_is took in
+                let place : i ≡ u.place = sym t.place_is ∙ ap (λ (y : Step). y.place) same in
+                let both : Some r.call ≡ Some taking.call = sym r.call_is ∙ ap (slice_get calls) place ∙ taking.call_is in
+                let one : r.call ≡ taking.call = cc in
+                let clash : Act.Took item ≡ Act.Taking = sym r.act_is ∙ ap (λ (c : Call). c.act) one ∙ taking.act_is in
+                cc,
+          )
+        ]
+
+    somewhere : (send : ℕ) → In send sends → (number : ℕ) × (Where after.items m.takes send number × In number (evens_and_odds m.takes after.items))
+    somewhere send within =
+        let l = last.each send within in
+        let at = at_in send sends within in
+        let e = m.each at.0 send at.1 in
+        let s = ended_step send e.0 time e.1 e.2 in
+        let same = one_step l.1 s.step (until_in l.1 l.4) s.within (l.2 ∙ sym s.place_is) in
+        let sent : l.1.act ≡ Act.Send e.0 = ap (λ (x : Step). x.act) same ∙ s.act_is in
+        elim (after.new e.0 l.1 l.4 sent) [
+          | inl has ↦ (e.0 + e.0, (inl (e.0, e.1, has, refl), in_even e.0 m.takes after.items has))
+          | inr taken ↦
+              let by = taken_by send e.0 within e.1 taken.0 taken.1 taken.2 taken.3 in
+              (suc (taken.0.place + taken.0.place), (inr (e.0, e.1, taken.0, taken.2, taken.3, by, refl), in_odd taken.0.place m.takes after.items by))
+        ]
+      where
+        until_in : (s : Step) → Until s last.step order → In s order
+        until_in s (inl same) = subst (λ (x : Step). In x order) (sym same) last.within
+        until_in s (inr before) = before_first s last.step order before
+
+    overfull : ⊥
+    overfull =
+        let sum = both_length m.takes after.items in
+        let fewer : length (evens_and_odds m.takes after.items) < length sends = omega (arith, sum, after.few, m.more) in
+        (once_another (λ send number. Where after.items m.takes send number × In number (evens_and_odds m.takes after.items)) (λ number. ⊥) sends (evens_and_odds m.takes after.items) (rising_once sends m.apart) fewer somewhere (λ s t number a b. one_where after.items m.takes s t number a.0 b.0) (λ s number within a. inl a.1)).more
+
+pub too_many : (rules : Rules) (calls : List Call) (call : ℕ) (sends : List ℕ) (order : List Step) → Differ calls → TooMany rules calls call sends → IsOrder rules calls order → ⊥
+too_many rules calls call sends order differ f o = overfull rules calls order o differ sends f.capacity f.end f.capacity_is f.held
+
+-- ---- as it is checked
+
+same_item : (calls : List Call) (send item other : ℕ) → Did calls send (Act.Send item) → Did calls send (Act.Send other) → item ≡ other
+same_item calls send item other one two =
+    let both : Some one.call ≡ Some two.call = sym one.call_is ∙ two.call_is in
+    let call : one.call ≡ two.call = cc in
+    let acts : Act.Send item ≡ Act.Send other = sym one.act_is ∙ ap (λ (c : Call). c.act) call ∙ two.act_is in
+    cc
+
+pub leaves_taken : (calls : List Call) (table : List (Option ℕ)) (item take time : ℕ) (left : Bool) → IsTable calls Kind.Take table → slice_get table item ≡ Some (Some take) → Returned calls take (Act.Took item) → BeganAfter calls take time → LeavesAfter calls item time left
+leaves_taken calls table item take time left tabled has took after = record {
+  either = inl (
+    take,
+    took,
+    λ t did.
+        let both : Some (Some t) ≡ Some (Some take) = sym (tabled.all t item did) ∙ has in
+        let same : take ≡ t = cc in
+        subst (λ (p : ℕ). BeganAfter calls p time) same after,
+  );
+}
+
+pub leaves_left : (calls : List Call) (table : List (Option ℕ)) (item time : ℕ) (left : Bool) → IsTable calls Kind.Take table → slice_get table item ≡ Some None → left ≡ true → LeavesAfter calls item time left
+leaves_left calls table item time left tabled none is = record {
+  either = inr (is, λ t did. let both : Some (Some t) ≡ Some None = sym (tabled.all t item did) ∙ none in cc);
+}
+
+-- of the takes so far that haven't returned this many began by the time
+pub record WaitTo (calls : List Call) (time number upto : ℕ) : Type 0 where
+  pub takes : List ℕ
+  pub as_many : length takes ≡ number
+  pub others : (take : ℕ) → take < upto → Did calls take Act.Taking → IsIn take takes ⊎ BeganAfter calls take time
+
+pub wait_skip : (calls : List Call) (time number i : ℕ) → (Did calls i Act.Taking → BeganAfter calls i time) → WaitTo calls time number i → WaitTo calls time number (i + 1)
+wait_skip calls time number i past w = record {
+  takes = w.takes;
+  as_many = w.as_many;
+  others = λ take below did. elim (nat_cases take i) [
+    | inl same ↦ inr (subst (λ (p : ℕ). BeganAfter calls p time) (sym same) (past (subst (λ (p : ℕ). Did calls p Act.Taking) same did)))
+    | inr apart ↦ w.others take (omega (arith, below, apart)) did
+  ];
+}
+
+pub wait_one : (calls : List Call) (time number more i : ℕ) → more ≡ number + 1 → WaitTo calls time number i → WaitTo calls time more (i + 1)
+wait_one calls time number more i is w = record {
+  takes = i ∷ w.takes;
+  as_many = omega (arith, w.as_many, is);
+  others = λ take below did. elim (nat_cases take i) [
+    | inl same ↦ inl (0, ap Some (sym same))
+    | inr apart ↦ elim (w.others take (omega (arith, below, apart)) did) [ inl has ↦ inl (suc has.0, has.1) | inr after ↦ inr after ]
+  ];
+}
+
+pub wait_end : (calls : List Call) (time number i : ℕ) → length calls ≤ i → WaitTo calls time number i → WaitBy calls time number
+wait_end calls time number i end w = record {
+  takes = w.takes;
+  as_many = w.as_many;
+  others = λ take did. let within : take < length calls = slice_get_within calls take did.call did.call_is in w.others take (omega (arith, within, end)) did;
+}
+
+pub more_taken : (calls : List Call) (sends : List ℕ) (number time : ℕ) → IsRising sends → ((k send : ℕ) → slice_get sends k ≡ Some send → Stays calls send time false) → number < length sends → MoreAt calls sends number time
+more_taken calls sends number time rising stay more = record {
+  apart = rising;
+  each = λ k send is. let s = stay k send is in (s.item, s.sent, s.ended);
+  takes = [];
+  more = omega (arith, more);
+  others = λ k send item take is did may.
+      let s = stay k send is in
+      let same = same_item calls send s.item item s.sent did in
+      elim s.leaves.either [
+        | inr left ↦ absurd (cc (left.0))
+        | inl by ↦ elim may [
+          | inl took ↦ inr (by.2 take (subst (λ (i : ℕ). Did calls take (Act.Took i)) (sym same) took))
+          | inr taking ↦ absurd (taking.1 by.0 (subst (λ (i : ℕ). Returned calls by.0 (Act.Took i)) same by.1))
+        ]
+      ];
+}
+
+pub more_left : (calls : List Call) (sends : List ℕ) (number takes time : ℕ) → IsRising sends → ((k send : ℕ) → slice_get sends k ≡ Some send → Stays calls send time true) → WaitBy calls time takes → number + takes < length sends → MoreAt calls sends number time
+more_left calls sends number takes time rising stay w more = record {
+  apart = rising;
+  each = λ k send is. let s = stay k send is in (s.item, s.sent, s.ended);
+  takes = w.takes;
+  more = omega (arith, more, w.as_many);
+  others = λ k send item take is did may.
+      let s = stay k send is in
+      let same = same_item calls send s.item item s.sent did in
+      elim s.leaves.either [
+        | inr left ↦ elim may [
+          | inl took ↦ absurd (left.1 take (subst (λ (i : ℕ). Did calls take (Act.Took i)) (sym same) took))
+          | inr taking ↦ w.others take taking.0
+        ]
+        | inl by ↦ elim may [
+          | inl took ↦ inr (by.2 take (subst (λ (i : ℕ). Did calls take (Act.Took i)) (sym same) took))
+          | inr taking ↦ absurd (taking.1 by.0 (subst (λ (i : ℕ). Returned calls by.0 (Act.Took i)) same by.1))
+        ]
+      ];
+}
