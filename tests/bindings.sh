@@ -8,8 +8,11 @@
 #
 # Usage: tests/bindings.sh [--quick]
 #
-# With --quick it leaves out valgrind, the sanitizers, the copy and the package. Prints a line for each step. A step for which something
-# isn't on the machine is skipped, and its line says so. Exit status 0 if no step failed, 77 if none could be done.
+# With --quick it leaves out valgrind, the sanitizers, the copy and the package; makes a twentieth of the rounds of the long tests, or
+# as many of a hundred as VAHEPITO_ROUNDS says; does over the strict archive and with the feature unproved the tests by threads alone;
+# gives the crate one archive of another version; and uses what cargo has in the folder CARGO_TARGET_DIR, if that is set. Prints a line
+# for each step. A step for which something isn't on the machine is skipped, and its line says so. Exit status 0 if no step failed, 77
+# if none could be done.
 set -u
 cd "$(dirname "$0")/.." || exit 1
 top=$PWD tests=bindings
@@ -26,9 +29,9 @@ if ! has make || ! has cc; then
 else
     done=1
     make -k -s -C bindings/c "$([ -n "$quick" ] && echo check || echo check-all)" OUT="$room/c" </dev/null || failed=$((failed + 1))
-    strict=(check)
     # The address sanitizer sees the program alone, which is the same.
-    [ -n "$quick" ] || strict+=(check-valgrind check-thread check-boxes-gcc check-boxes-clang)
+    strict=(check check-valgrind check-thread check-boxes-gcc check-boxes-clang)
+    [ -z "$quick" ] || strict=(check-version check-groups_threads check-hand_over check-waits)
     echo "$tests: C: the same over the strict archive"
     make -k -s -C bindings/c "${strict[@]}" STRICT=yes OUT="$room/strict" </dev/null || failed=$((failed + 1))
 fi
@@ -36,17 +39,22 @@ fi
 cd bindings/rust || exit 1
 # A debugger's lines are enough here: valgrind and the sanitizers print them. Nothing is compiled a second time after a change,
 # so what cargo would keep for that isn't made.
-export CARGO_TARGET_DIR=$room/target CARGO_TERM_COLOR=never CARGO_PROFILE_DEV_DEBUG=line-tables-only CARGO_INCREMENTAL=0
+[ -n "$quick" ] && [ -n "${CARGO_TARGET_DIR-}" ] || export CARGO_TARGET_DIR=$room/target
+export CARGO_TERM_COLOR=never CARGO_PROFILE_DEV_DEBUG=line-tables-only CARGO_INCREMENTAL=0
 options=(--quiet --locked --offline)
 if ! cargo --version >/dev/null 2>&1; then
     skip 'the crate in Rust' 'cargo is not on this machine'
     end_steps
 fi
-# Without valgrind and the rest no lines are needed, and a twentieth of the rounds of the long tests is made.
-[ -z "$quick" ] || export VAHEPITO_ROUNDS=5 CARGO_PROFILE_DEV_DEBUG=none
+strict=(--tests) unproved=()
+# Without valgrind and the rest no lines are needed.
+if [ -n "$quick" ]; then
+    export VAHEPITO_ROUNDS=${VAHEPITO_ROUNDS:-5} CARGO_PROFILE_DEV_DEBUG=none
+    strict=(--test threads --test hand_over) unproved=("${strict[@]}")
+fi
 limit=600 step 'Rust: tests' cargo "${options[@]}" test
-limit=600 step 'Rust: tests with the feature strict' env "VAHEPITO_ROUNDS=${VAHEPITO_ROUNDS:-25}" cargo "${options[@]}" test --tests --features strict
-limit=600 step 'Rust: tests with the feature unproved' env VAHEPITO_ROUNDS=5 cargo "${options[@]}" test --features unproved
+limit=600 step 'Rust: tests with the feature strict' env "VAHEPITO_ROUNDS=${VAHEPITO_ROUNDS:-25}" cargo "${options[@]}" test "${strict[@]}" --features strict
+limit=600 step 'Rust: tests with the feature unproved' env "VAHEPITO_ROUNDS=${VAHEPITO_ROUNDS:-5}" cargo "${options[@]}" test "${unproved[@]}" --features unproved
 step 'Rust: the recorder' cargo "${options[@]}" test --manifest-path record/Cargo.toml
 step 'Rust: the recorder with stops' cargo "${options[@]}" test --manifest-path record/Cargo.toml --all-features --lib
 step 'Rust: the feature unproved is warned of' bash -c "cargo check --locked --offline --features unproved 2>&1 | grep 'warning: .* nothing is proved'"
@@ -60,6 +68,7 @@ for archive in "$room"/c/*/libvahepito.a; do
     linked=$("$(dirname "$archive")/version" | sed 's/.*library \([0-9]*\),.*/\1/')
     step "Rust: an archive of another version is refused ($linked)" env "VAHEPITO_LINKED=$linked" "VAHEPITO_LIB=$archive" \
         "CARGO_TARGET_DIR=$room/others" cargo "${options[@]}" test --test other_library -- --ignored
+    [ -z "$quick" ] || break
 done
 if [ -n "$quick" ]; then end_steps; fi
 
@@ -119,10 +128,9 @@ package=$(echo "$CARGO_TARGET_DIR"/package/vahepito-*.crate)
 tar xzf "$package" -C "$room"
 package=$room/$(basename "$package" .crate)
 export CARGO_TARGET_DIR=$room/of_package
-for folder in "$room/copy" "$package"; do
-    limit=600 step "Rust: the tests of the $([ "$folder" = "$package" ] && echo package || echo copy)" bash -c \
-        "cd '$folder' && VAHEPITO_ROUNDS=2 cargo ${options[*]} test"
-done
+# So the tests of the one are those of the other.
+step 'Rust: the package has what the copy has' bash -c "for it in build.rs src tests examples lib README.md; do diff -r '$room/copy/'\$it '$package/'\$it || exit; done"
+limit=600 step 'Rust: the tests of the package' bash -c "cd '$package' && VAHEPITO_ROUNDS=2 cargo ${options[*]} test"
 cargo clippy --version >/dev/null 2>&1 &&
     step 'Rust: clippy on the package' bash -c "cd '$package' && cargo clippy --quiet --offline --all-targets -- -D warnings"
 mkdir -p "$room/repository/bindings" && cp -r "$room/copy" "$room/repository/bindings/rust"

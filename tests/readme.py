@@ -12,9 +12,10 @@ an empty environment, and has to end with status 0. If its comment ends with `pr
 A block of another language is a file, whose name is the last one in backticks before it. --list prints commands and files, and
 runs none.
 
-The tests of the crate make a twentieth of their rounds (VAHEPITO_ROUNDS). With --gate, as ./test calls it, `./test --quick` is left out,
-whose checks are the gate's own, and so are the examples in the crate's documentation (RUSTDOC), which an old rustc compiles one by one.
-A line says so. Prints a line with the processor seconds of each command.
+The tests of the crate make a twentieth of their rounds (VAHEPITO_ROUNDS). With --gate, as ./test calls it, they make a fiftieth, and
+cargo compiles each crate once for all commands, without a debugger's lines: tests/bindings.sh makes all rounds in the same gate. The
+examples in the crate's documentation are left out then (RUSTDOC), which an old rustc compiles one by one. A line says so. Prints a line
+with the processor seconds of each command, and their sum.
 The exit status is 0 if all hold, 1 if one fails, and 77 if this machine can't make a chroot: not root, no debootstrap, no unshare, no
 mirror, or none that gives the packages.
 """
@@ -32,7 +33,8 @@ import time
 TOP = pathlib.Path(__file__).resolve().parent.parent
 KEPT = TOP / "out" / "debian"
 ENVIRONMENT = {"HOME": "/root", "PATH": "/usr/local/sbin:/usr/local/bin:/usr/sbin:/usr/bin:/sbin:/bin", "LANG": "C.UTF-8", "VAHEPITO_ROUNDS": "5"}
-OF_THE_GATE = "./test --quick"
+# What makes the same commands cheaper, in the gate.
+CHEAPER = {"VAHEPITO_ROUNDS": "2", "RUSTDOC": "true", "CARGO_TARGET_DIR": "/root/target", "CARGO_PROFILE_DEV_DEBUG": "none", "CARGO_INCREMENTAL": "0"}
 # What apt-get says if the mirror, or the disk, can't give a package that exists.
 OF_THE_MIRROR = r"(?m)^E: (Failed to fetch .*|You don't have enough free space .*)|^.*No space left on device$"
 # Mounts that end with the command: the room is the home and the folder for temporary files.
@@ -149,7 +151,7 @@ def put_clone(folder):
 def run_all(room, found):
     """Runs these; the number of commands that failed."""
     packages = [part.text for part in found if isinstance(part, Command) and part.text.startswith("apt-get ")]
-    base, failed = have_base(packages), 0
+    base, failed, spent = have_base(packages), 0, 0
     for folder in ("home", "tmp"):
         (room / folder).mkdir()
     clone = room / "home" / "vahepito"
@@ -165,6 +167,7 @@ def run_all(room, found):
             continue
         start = time.time()
         status, said, seconds = in_chroot(base, room, "/root/vahepito", part.text)
+        spent += seconds
         unfetched = re.search(OF_THE_MIRROR, said) if status != 0 and part.text in packages else None
         if unfetched:
             raise Skipped(f"the packages couldn't be fetched: {unfetched[0]}")
@@ -175,7 +178,10 @@ def run_all(room, found):
             print(f"readme: {part.text}: passed ({seconds:.1f} processor seconds, {time.time() - start:.0f} s)", flush=True)
         else:
             failed += 1
-            print(f"readme: {part.text}: FAILED ({fault}); its last lines:\n" + "\n".join(said.splitlines()[-40:]), flush=True)
+            lines = said.splitlines()
+            lines = [line for line in lines[:-40] if "FAILED" in line] + lines[-40:]
+            print(f"readme: {part.text}: FAILED ({fault}); its last lines, and each with this word:\n" + "\n".join(lines), flush=True)
+    print(f"readme: {spent:.1f} processor seconds of all commands")
     return failed
 
 
@@ -189,9 +195,8 @@ def main():
         print(__doc__)
         return 0 if sys.argv[1:] == ["--help"] else 64
     if sys.argv[1:]:
-        found = [part for part in found if not (isinstance(part, Command) and part.text == OF_THE_GATE)]
-        ENVIRONMENT["RUSTDOC"] = "true"
-        print(f"readme: left out here: {OF_THE_GATE}, and the examples in the crate's documentation")
+        ENVIRONMENT.update(CHEAPER)
+        print("readme: left out here: the examples in the crate's documentation, and most rounds of long tests")
     commands = [part for part in found if isinstance(part, Command)]
     if len(commands) < 2 or not any(part.text.startswith("apt-get ") for part in commands) or len(commands) == len(found):
         print("readme: README.md has no commands, no packages or no files, so this script reads it wrongly")

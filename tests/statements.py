@@ -8,9 +8,11 @@ and other comments change nothing. Exit status 0 if so. It writes no file.
 
 CHANGES are of the repository's own sources, and STEPS of a small crate: each step is one that a reviewer may pass, and the
 last one changes what is proved. A random edit changes one word of a definition that docs/statements has, of an import that such
-a definition or a clause uses, or of what an item of the code says.
+a definition or a clause uses, or of what an item of the code says. If VAHEPITO_ROUNDS is set, as many of a hundred CHANGES and
+random edits are made.
 """
 import hashlib
+import os
 import pathlib
 import random
 import re
@@ -22,8 +24,9 @@ import sources
 import specs_reader
 import statements
 
+ROUNDS = int(os.environ.get("VAHEPITO_ROUNDS", 100))
 # How many random edits the gate tries.
-EDITS = 30
+EDITS = max(30 * ROUNDS // 100, 1)
 # A public function, up to one of its clauses or its body.
 FUNCTION = r'(\n *pub (?:extern "C" )?fn (?:(?!\n *\{\n)(?!;\n).)*?)'
 # What is changed, in which crate and in which kind of its files: the first text that matches there becomes the other.
@@ -444,7 +447,7 @@ def main(words):
         print("usage: tests/statements.py [--edits N [SEED]]", file=sys.stderr)
         return 64
     before, failed = statements.texts(files), []
-    changes = CHANGES + list(changes_of_definitions(files))
+    changes = (CHANGES + list(changes_of_definitions(files)))[:: max(100 // ROUNDS, 1)]
     for what, crate, kind, pattern, replacement in changes:
         changed = said(change(files, crate, kind, pattern, replacement))
         path = f"{statements.FOLDER}/{crate}.txt"

@@ -8,7 +8,7 @@ each archive of bindings/rust/lib/x86_64-unknown-linux-gnu, by handles and by on
 default archive, in which each further store is plain whose old value nothing reads. There the program has to find a round that misses, by
 handles and by the pointer; so the test would see such an archive.
 
-ROUNDS is the number for each archive, 100,000 if it isn't given. The exit status is 0 if all is as it should be, and 77 if nothing was
+ROUNDS is the number for each archive. If it isn't given, it is 100,000, or as many of a hundred of these as VAHEPITO_ROUNDS says. The exit status is 0 if all is as it should be, and 77 if nothing was
 done: a processor other than x86-64, one processor alone, or no C compiler.
 """
 import os
@@ -24,7 +24,7 @@ sys.dont_write_bytecode = True
 TOP = pathlib.Path(__file__).resolve().parent.parent
 ARCHIVES = TOP / "bindings/rust/lib/x86_64-unknown-linux-gnu"
 sys.path.insert(0, str(TOP / "tools"))
-ROUNDS = 100_000
+ROUNDS = 1000 * int(os.environ.get("VAHEPITO_ROUNDS", 100))
 OF_CONTROL = 6_000_000  # rounds in which the control has to miss; it stops at the first
 LIMIT = 240  # seconds of one run
 FORMS = {"handles": [], "pointer": ["-DBY_POINTER"]}

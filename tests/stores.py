@@ -5,7 +5,8 @@
 
 - The archive in the tree is the strict one with all stores turned that may be, and it is accepted.
 - Wrong changes of it are refused: each exchange that stays one, turned too; a plain store of another register or to another
-  word, or as a load; each other locked instruction without its lock; and changes of bytes all over the archive.
+  word, or as a load; each other locked instruction without its lock; and changes of bytes all over the archive, of which
+  VAHEPITO_ROUNDS of a hundred are made if that is set.
 - In the MODULES the loads of shared words, the stores, and those of 2 are counted as beside them.
 - Of SMALL functions, in which the first exchange is turned, just those are accepted whose name begins with `right`. An assembler
   makes them. The end of a case's name says which function it is.
@@ -16,6 +17,7 @@
 Exit status 0 if no case failed.
 """
 import dataclasses
+import os
 import pathlib
 import subprocess
 import sys
@@ -23,6 +25,7 @@ import tempfile
 
 sys.dont_write_bytecode = True
 TOP = pathlib.Path(__file__).resolve().parent.parent
+ROUNDS = int(os.environ.get("VAHEPITO_ROUNDS", 100))
 ARCHIVES = TOP / "bindings/rust/lib/x86_64-unknown-linux-gnu"
 sys.path.insert(0, str(TOP / "tools"))
 import stores
@@ -226,7 +229,7 @@ def wrong_changes(library, relaxed: bytes):
                     yield f"{here} stores to another word", with_byte(relaxed, at + 1, relaxed[at + 1] ^ 1)
             elif i.prefix == "lock":
                 yield f"{here} has no lock", with_byte(relaxed, start, 0x90)
-    for at in range(0, len(relaxed), 29):
+    for at in range(0, len(relaxed), 29 * 100 // ROUNDS | 1):
         yield f"the byte {at:#x} is another", with_byte(relaxed, at, relaxed[at] ^ 1)
 
 
