@@ -74,12 +74,19 @@ WITHOUT_HEADS = re.compile(r"crates/\w+/specs/Lib.antt|HANDLES|.*/PROOF")
 CLAUSE = re.compile(r"(?:requires|ensures)\*? (\w+) {")
 
 
+def is_program(path):
+    """Whether a compiler made the file."""
+    with open(path, "rb") as file:
+        return file.read(4) == b"\x7fELF"
+
+
 def kept_files():
-    """The paths of all files of the tree, but those that a build leaves."""
+    """The paths of all files of the tree, but those that a build leaves, and the program that README's commands make beside README."""
     for folder, folders, files in os.walk(TOP):
         folders[:] = [name for name in folders if name not in (".git", "out", "target", "__pycache__")]
-        for name in files:
-            yield os.path.relpath(os.path.join(folder, name), TOP)
+        for path in (os.path.join(folder, name) for name in files):
+            if folder != str(TOP) or not is_program(path):
+                yield os.path.relpath(path, TOP)
 
 
 class Tree:
