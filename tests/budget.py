@@ -7,8 +7,8 @@ Usage: tests/budget.py --yard           prints the processor seconds of a fixed 
 
 The piece of work is the proof of the toolchain's own template of a library, twice from nothing. docs/GATE.md has the limit, in
 processor minutes, and the seconds that this work takes on the host of its table. On a slower host the limit is higher by as much as
-the work takes longer there, by the mean of what was measured before the gate, while it ran, and after it: a host that is idle is
-faster than the same host under the gate's load. The exit status is 0 if the sum of all parts is within the limit.
+the work takes longer there, by the mean of what was measured while the gate ran and at its end: a host's speed changes with its
+load. The exit status is 0 if the sum of all parts is within the limit.
 """
 
 import os
