@@ -29,8 +29,8 @@ if ! has make || ! has cc; then
 else
     done=1
     make -k -s -C bindings/c "$([ -n "$quick" ] && echo check || echo check-all)" OUT="$room/c" </dev/null || failed=$((failed + 1))
-    # The address sanitizer sees the program alone, which is the same.
-    strict=(check check-valgrind check-thread check-boxes-gcc check-boxes-clang)
+    # The sanitizers see the programs alone, which are the same.
+    strict=(check check-valgrind)
     [ -z "$quick" ] || strict=(check-version check-groups_threads check-hand_over check-waits)
     echo "$tests: C: the same over the strict archive"
     make -k -s -C bindings/c "${strict[@]}" STRICT=yes OUT="$room/strict" </dev/null || failed=$((failed + 1))
@@ -46,7 +46,7 @@ if ! cargo --version >/dev/null 2>&1; then
     skip 'the crate in Rust' 'cargo is not on this machine'
     end_steps
 fi
-strict=(--tests) unproved=()
+strict=(--tests) unproved=(--tests)
 # Without valgrind and the rest no lines are needed.
 if [ -n "$quick" ]; then
     export VAHEPITO_ROUNDS=${VAHEPITO_ROUNDS:-5} CARGO_PROFILE_DEV_DEBUG=none
@@ -93,7 +93,8 @@ else
     skip 'Rust: streams and sinks' "librust-futures-core-dev or librust-futures-sink-dev is not on this machine"
 fi
 # What the strict archive does the relaxed one may do too. So the memory of the crate's own code is checked over the relaxed one
-# alone; the strict archive itself runs under valgrind with the programs in C, above.
+# alone; the strict archive itself runs under valgrind with the programs in C, above. The examples of the documentation ran with the
+# tests above.
 host=$(rustc -vV | sed -n 's/^host: //p')
 if has valgrind; then
     lost='definite,indirect'
@@ -130,7 +131,7 @@ package=$room/$(basename "$package" .crate)
 export CARGO_TARGET_DIR=$room/of_package
 # So the tests of the one are those of the other.
 step 'Rust: the package has what the copy has' bash -c "for it in build.rs src tests examples lib README.md; do diff -r '$room/copy/'\$it '$package/'\$it || exit; done"
-limit=600 step 'Rust: the tests of the package' bash -c "cd '$package' && VAHEPITO_ROUNDS=2 cargo ${options[*]} test"
+limit=600 step 'Rust: the tests of the package' bash -c "cd '$package' && VAHEPITO_ROUNDS=2 cargo ${options[*]} test --tests"
 cargo clippy --version >/dev/null 2>&1 &&
     step 'Rust: clippy on the package' bash -c "cd '$package' && cargo clippy --quiet --offline --all-targets -- -D warnings"
 mkdir -p "$room/repository/bindings" && cp -r "$room/copy" "$room/repository/bindings/rust"
