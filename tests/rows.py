@@ -233,7 +233,9 @@ class Terminal:
         modes = termios.tcgetattr(theirs)
         modes[3] &= ~termios.ECHO
         termios.tcsetattr(theirs, termios.TCSANOW, modes)
-        self.child = subprocess.Popen([program, *words], cwd=TOP, **{"stdin": subprocess.DEVNULL, "env": DUMB, **others, **dict.fromkeys(at, theirs)})
+        streams = {"stdin": subprocess.DEVNULL, **others, **dict.fromkeys(at, theirs)}
+        # A shell's background jobs ignore interrupts, and so would a program that this script starts in one.
+        self.child = subprocess.Popen([program, *words], cwd=TOP, **{"env": DUMB, **streams}, preexec_fn=lambda: signal.signal(signal.SIGINT, signal.SIG_DFL))
         os.close(theirs)
 
     def read_up_to(self, pattern, seconds=30):
