@@ -5,7 +5,7 @@ Usage: tests/budget.py --yard           prints the processor seconds of a fixed 
        tests/budget.py --yards          prints them now, and again every ten minutes until it is killed
        tests/budget.py PARTS YARDS      compares: PARTS has a line `SECONDS NAME` for each part, YARDS a line for each such number
 
-The piece of work is the proof of the toolchain's own template of a library, twice from nothing. docs/GATE.md has the limit, in
+The piece of work is the proof of the toolchain's own template of a library, from nothing. docs/GATE.md has the limit, in
 processor minutes, and the seconds that this work takes on the host of its table. On a slower host the limit is higher by as much as
 the work takes longer there, by the mean of what was measured while the gate ran and at its end: a host's speed changes with its
 load. The exit status is 0 if the sum of all parts is within the limit.
@@ -34,19 +34,16 @@ def yard() -> float:
     def run(*words: str, cwd: str) -> None:
         subprocess.run(words, cwd=cwd, check=True, stdin=subprocess.DEVNULL, stdout=subprocess.DEVNULL, stderr=subprocess.DEVNULL)
 
-    total = 0.0
-    for _ in range(2):
-        with tempfile.TemporaryDirectory() as top:
-            run("git", "init", "-q", cwd=top)
-            run("rt", "new", "crates/yard", "start_lib", cwd=top)
-            Path(top, "crates.txt").write_text("yard:\n")
-            for name in ("BUILD.bazel", "crates/yard/BUILD.bazel"):
-                Path(top, name).unlink(missing_ok=True)
-            before = resource.getrusage(resource.RUSAGE_CHILDREN)
-            run("rt", "check", "--jobs", "1", cwd=os.path.join(top, "crates", "yard"))
-            after = resource.getrusage(resource.RUSAGE_CHILDREN)
-            total += after.ru_utime - before.ru_utime + after.ru_stime - before.ru_stime
-    return total
+    with tempfile.TemporaryDirectory() as top:
+        run("git", "init", "-q", cwd=top)
+        run("rt", "new", "crates/yard", "start_lib", cwd=top)
+        Path(top, "crates.txt").write_text("yard:\n")
+        for name in ("BUILD.bazel", "crates/yard/BUILD.bazel"):
+            Path(top, name).unlink(missing_ok=True)
+        before = resource.getrusage(resource.RUSAGE_CHILDREN)
+        run("rt", "check", "--jobs", "1", cwd=os.path.join(top, "crates", "yard"))
+        after = resource.getrusage(resource.RUSAGE_CHILDREN)
+    return after.ru_utime - before.ru_utime + after.ru_stime - before.ru_stime
 
 
 def print_yards() -> None:
