@@ -1,32 +1,12 @@
-//! The memory of a channel without a bound, as the C library has handed it out: while many items wait, and after that. One test,
-//! so that no other one asks for memory meanwhile.
+//! The memory of a channel without a bound, as the C library has handed it out: while many items wait, and after that.
+mod heap;
 #[path = "../src/channel/rounds.rs"]
 mod rounds;
 
+use heap::used;
 use rounds::rounds;
 use std::thread::{self, available_parallelism};
 use vahepito::{unbounded, unbounded_groups};
-
-/// The result of `mallinfo2` of the GNU C library.
-#[repr(C)]
-struct Info {
-    arena: usize,
-    free_chunks: [usize; 2],
-    mapped_chunks: usize,
-    mapped: usize,
-    fast: [usize; 2],
-    used: usize,
-    free: [usize; 2],
-}
-
-unsafe extern "C" {
-    safe fn mallinfo2() -> Info;
-}
-
-fn used() -> usize {
-    let info = mallinfo2();
-    info.used + info.mapped
-}
 
 #[test]
 fn a_burst_is_cheap_in_memory() {

@@ -1,29 +1,11 @@
-//! The costs of a channel: its memory, as the C library has handed it out, and its opening. One test, so that
-//! no other one asks for memory meanwhile. The README's table has these figures for four processors.
+//! The costs of a channel: its memory, as the C library has handed it out, and its opening. The README's table has these figures
+//! for four processors.
+mod heap;
+
+use heap::used;
 use std::thread::available_parallelism;
 use std::time::Instant;
 use vahepito::{channel, groups, never};
-
-/// The result of `mallinfo2` of the GNU C library.
-#[repr(C)]
-struct Info {
-    arena: usize,
-    free_chunks: [usize; 2],
-    mapped_chunks: usize,
-    mapped: usize,
-    fast: [usize; 2],
-    used: usize,
-    free: [usize; 2],
-}
-
-unsafe extern "C" {
-    safe fn mallinfo2() -> Info;
-}
-
-fn used() -> usize {
-    let info = mallinfo2();
-    info.used + info.mapped
-}
 
 /// The bytes that this holds: the mean of many at once, as what a thread keeps of freed memory counts as
 /// handed out.

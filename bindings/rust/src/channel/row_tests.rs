@@ -1,8 +1,7 @@
 //! Rows of queues so small that they follow one another all the time: of few places, few items, and few sends of each sender.
 use super::rounds::rounds;
+use super::tests::pass_in_order;
 use super::*;
-use std::collections::BTreeMap;
-use std::sync::Mutex;
 use std::task::{Context, Poll, Waker};
 use std::thread;
 use std::time::Duration;
@@ -85,37 +84,10 @@ fn a_limit_is_exact() {
     }
 }
 
-/// Each sender's items come in its order, and no item is lost. If the row has a limit, it never holds more.
 fn threads(which: ([u32; 2], u64, u32), limit: Option<usize>, senders: u64, receivers: usize) {
+    let most = limit.unwrap_or(usize::MAX);
     let count = 20.max(rounds(400));
-    let (sender, receiver) = small(which, limit);
-    let taken: Mutex<Vec<Vec<(u64, u64)>>> = Mutex::default();
-    thread::scope(|scope| {
-        for number in 0..senders {
-            let sender = sender.clone();
-            scope.spawn(move || (0..count).for_each(|n| sender.send((number, n)).unwrap()));
-        }
-        drop(sender);
-        for _ in 0..receivers {
-            let (receiver, taken) = (receiver.clone(), &taken);
-            scope.spawn(move || {
-                let items: Vec<_> = receiver.iter().collect();
-                taken.lock().unwrap().push(items);
-            });
-        }
-        drop(receiver);
-    });
-    let taken = taken.into_inner().unwrap();
-    for items in &taken {
-        let mut last = BTreeMap::new();
-        for (sender, number) in items {
-            assert!(last.insert(sender, number) < Some(number), "{items:?}");
-        }
-    }
-    let mut all: Vec<_> = taken.into_iter().flatten().collect();
-    all.sort();
-    let sent = (0..senders).flat_map(|sender| (0..count).map(move |n| (sender, n)));
-    assert!(all.into_iter().eq(sent));
+    pass_in_order(small(which, limit), most, senders, receivers, count);
 }
 
 #[test]

@@ -88,10 +88,12 @@ fn tries_that_find_no_room_meet_no_end() {
     }
 }
 
-/// Each sender's items come in its order, and no more than the capacity are there at any time.
-fn threads(capacity: u32, life: u64, per_sender: u32, senders: u64, receivers: usize) {
-    let count = 10.max(rounds(60));
-    let (sender, receiver) = short(capacity, life, per_sender);
+/// A channel of numbered items of numbered senders.
+pub type Numbered = (Sender<(u64, u64)>, Receiver<(u64, u64)>);
+
+/// Each sender's items come in its order, no item is lost, and no more than `most` are there at any time. Each sender sends `count`.
+pub fn pass_in_order(channel: Numbered, most: usize, senders: u64, receivers: usize, count: u64) {
+    let (sender, receiver) = channel;
     let taken: Mutex<Vec<Vec<(u64, u64)>>> = Mutex::default();
     thread::scope(|scope| {
         for number in 0..senders {
@@ -104,7 +106,7 @@ fn threads(capacity: u32, life: u64, per_sender: u32, senders: u64, receivers: u
             scope.spawn(move || {
                 let mut items = vec![];
                 while let Ok(item) = receiver.recv() {
-                    assert!(receiver.len() <= capacity as usize);
+                    assert!(receiver.len() <= most);
                     items.push(item);
                 }
                 taken.lock().unwrap().push(items);
@@ -123,6 +125,12 @@ fn threads(capacity: u32, life: u64, per_sender: u32, senders: u64, receivers: u
     all.sort();
     let sent = (0..senders).flat_map(|sender| (0..count).map(move |n| (sender, n)));
     assert!(all.into_iter().eq(sent));
+}
+
+fn threads(capacity: u32, life: u64, per_sender: u32, senders: u64, receivers: usize) {
+    let channel = short(capacity, life, per_sender);
+    let count = 10.max(rounds(60));
+    pass_in_order(channel, capacity as usize, senders, receivers, count);
 }
 
 #[test]
