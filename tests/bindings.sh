@@ -46,15 +46,15 @@ if ! cargo --version >/dev/null 2>&1; then
     skip 'the crate in Rust' 'cargo is not on this machine'
     end_steps
 fi
-strict=(--tests) unproved=(--tests)
+chosen=(--tests)
 # Without valgrind and the rest no lines are needed.
 if [ -n "$quick" ]; then
     export VAHEPITO_ROUNDS=${VAHEPITO_ROUNDS:-5} CARGO_PROFILE_DEV_DEBUG=none
-    strict=(--test threads --test hand_over) unproved=("${strict[@]}")
+    chosen=(--test threads --test hand_over)
 fi
 limit=600 step 'Rust: tests' cargo "${options[@]}" test
-limit=600 step 'Rust: tests with the feature strict' env "VAHEPITO_ROUNDS=${VAHEPITO_ROUNDS:-25}" cargo "${options[@]}" test "${strict[@]}" --features strict
-limit=600 step 'Rust: tests with the feature unproved' env "VAHEPITO_ROUNDS=${VAHEPITO_ROUNDS:-5}" cargo "${options[@]}" test "${unproved[@]}" --features unproved
+limit=600 step 'Rust: tests with the feature strict' env "VAHEPITO_ROUNDS=${VAHEPITO_ROUNDS:-25}" cargo "${options[@]}" test "${chosen[@]}" --features strict
+limit=600 step 'Rust: tests with the feature unproved' env "VAHEPITO_ROUNDS=${VAHEPITO_ROUNDS:-5}" cargo "${options[@]}" test "${chosen[@]}" --features unproved
 step 'Rust: the recorder' cargo "${options[@]}" test --manifest-path record/Cargo.toml
 step 'Rust: the recorder with stops' cargo "${options[@]}" test --manifest-path record/Cargo.toml --all-features --lib
 step 'Rust: the feature unproved is warned of' bash -c "cargo check --locked --offline --features unproved 2>&1 | grep 'warning: .* nothing is proved'"
