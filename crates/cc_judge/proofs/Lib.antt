@@ -3,7 +3,6 @@ pub mod Turns
 pub mod Runs
 pub mod Orders
 pub mod Fewer
-pub mod Stays
 pub mod NoOrder
 pub mod Tables
 pub mod Lines
@@ -12,6 +11,9 @@ pub mod Full
 pub mod Many
 pub mod Fullness
 pub mod Sweep
+pub mod Sweeping
+pub mod Judging
+pub mod Deciding
 pub mod RefusedClaims
 pub mod Weave
 pub mod Fifo
@@ -20,5 +22,12 @@ pub mod Views
 pub mod Weaker
 pub mod Shares
 pub mod Clips
+pub mod Counted
+pub mod Counting
+pub mod Listing
+pub mod RefusedCounts
+pub mod Faultless
+pub mod Cuts
+pub mod Ranks
 pub mod Marks
 pub mod Late

@@ -1,11 +1,11 @@
 -- The clauses refuse these claims.
-use Rattle.std.proofs.Common.{◌≡◌, ℕ, zero, suc, ◌<◌, List, [], ◌∷◌, length, Option, Some, None, inl, inr, false, refl, sym, ap, ◌∙◌, arith}
+use Rattle.std.proofs.Common.{◌≡◌, ℕ, zero, suc, ◌<◌, List, [], ◌∷◌, length, Some, inl, inr, refl, sym, ap, ◌∙◌, arith}
 use Rattle.std.specs.List.{slice_get}
-use Rattle.cc_judge.specs.Names.{Act, Call, Rules}
+use Rattle.cc_judge.specs.Names.{Act, Call}
 use Rattle.cc_judge.specs.Order.{EndsBefore}
-use Rattle.cc_judge.specs.Faults.{Passed, SentBefore, Fewer, IsIn, MoreAt, Returned}
-use Rattle.cc_judge.specs.Checks.{BeginsFrom, GoesOn, IsSurelyOut}
-use Rattle.cc_judge.specs.Refused.{RefusedClaims, call, waiting, handed, beside, two_wait, closed}
+use Rattle.cc_judge.specs.Faults.{Passed, IsIn, MoreAt, Returned, WasClosed}
+use Rattle.cc_judge.specs.Checks.{GoesOn, IsSurelyOut}
+use Rattle.cc_judge.specs.Refused.{RefusedClaims, call, waiting, handed, beside, closed}
 
 -- a call that ended at a time didn't end before one that began by then
 late : (calls : List Call) (first second : ℕ) (one other : Call) (end : ℕ) → slice_get calls first ≡ Some one → slice_get calls second ≡ Some other → one.end ≡ Some end → other.begin < end → EndsBefore calls first second → ⊥
@@ -35,25 +35,9 @@ over next g = let same : Some g.call ≡ Some (call 0 1 Act.Close) = sym g.call_
     let is : g.call ≡ call 0 1 Act.Close = cc in
     absurd (omega (arith, g.not_ended 1 (ap (λ (c : Call). c.end) is)))
 
--- a list of one element has no two of them
-one_of_two : (may : List ℕ) → length may < 2 → IsIn 0 may → IsIn 1 may → ⊥
-one_of_two [] few first second = absurd (cc (first.1))
-one_of_two (x ∷ []) few (zero, first) (zero, second) = absurd (cc (first, second))
-one_of_two (x ∷ []) few (suc k, first) second = absurd (cc (first))
-one_of_two (x ∷ []) few first (suc k, second) = absurd (cc (second))
-one_of_two (x ∷ y ∷ rest) few first second = absurd (omega (arith, few))
-
-is_in : (f : Fewer two_wait 2 (BeginsFrom two_wait None)) (i : ℕ) → slice_get two_wait i ≡ Some (waiting 0 Act.Taking) → IsIn i f.may
-is_in f i is = elim (f.others i record { call = waiting 0 Act.Taking; call_is = is; act_is = refl }) [ inl here ↦ here | inr none ↦ absurd none ]
-
-sent_beside : (rules : Rules) (closed : Option ℕ) → rules.closes ≡ false → SentBefore rules beside 0 1 closed 0 → ⊥
-sent_beside rules None is_open s = late beside 0 1 (call 0 5 (Act.Send 0)) (call 1 6 (Act.Send 1)) 5 refl refl refl (omega arith) s.before
-sent_beside rules (Some shut) is_open s = absurd (cc (is_open, s.before.judged))
-
 -- a send doesn't show that the queue was closed
-shut_by_a_send : (rules : Rules) → SentBefore rules handed 0 1 (Some 0) 0 → ⊥
-shut_by_a_send rules s =
-    let w = s.before.was_closed in
+shut_by_a_send : WasClosed handed 0 → ⊥
+shut_by_a_send w =
     let same : Some w.returned.call ≡ Some (call 0 1 (Act.Send 0)) = sym w.returned.call_is in
     let is : w.returned.call ≡ call 0 1 (Act.Send 0) = cc in
     let act : w.act ≡ Act.Send 0 = sym w.returned.act_is ∙ ap (λ (c : Call). c.act) is in
@@ -83,19 +67,16 @@ pub claims_refused : RefusedClaims
 claims_refused = record {
   accepted_though_untaken = λ h. untaken h.0 h.1;
   as_many_items_as_room = λ m. absurd (omega (arith, m.more));
-  as_many_takes_as_items = λ f. one_of_two f.may f.fewer (is_in f 0 refl) (is_in f 1 refl);
   clean_without_an_order = λ rules o. absurd (cc (o.legal.1));
   close_before_a_late_log_forgotten = λ is. absurd (cc (is));
   closed_early_beside_a_close = λ rules c. late closed 1 0 (call 2 3 Act.Closed) (call 0 1 Act.Close) 3 refl refl refl (omega arith) (c.later 0 record { call = call 0 1 Act.Close; call_is = refl; act_is = refl });
-  covered_in_part = λ rules before. late beside 0 1 (call 0 5 (Act.Send 0)) (call 1 6 (Act.Send 1)) 5 refl refl refl (omega arith) before;
   ended_while_open = λ e. absurd (cc (e));
   full_before_a_send_began = not_out;
   late_log_judged_by_a_capacity = λ is. absurd (cc (is));
   lines_turned_round = λ kept. absurd (omega (arith, kept 0 1 refl refl));
   never_sent_of_a_sent_item = λ is. absurd (cc (is));
   none_beside_an_item = λ d. absurd (cc (d.0));
-  overtaken_in_one_go = sent_beside;
-  overtaken_since_a_close = λ rules o. absurd (cc (o.timely));
+  overtaken_in_one_go = λ take later o. late beside 0 1 (call 0 5 (Act.Send 0)) (call 1 6 (Act.Send 1)) 5 refl refl refl (omega arith) o.sent_first;
   overtakes_an_ended_call = λ next g. over next g;
   shut_by_a_send = shut_by_a_send;
   taken_after_sent = λ t. late handed 1 0 (call 2 3 (Act.Took 0)) (call 0 1 (Act.Send 0)) 3 refl refl refl (omega arith) t.early;

@@ -195,7 +195,7 @@ pub record LeastAt (P : ℕ → ℕ → Type 0) (n : ℕ) : Type 0 where
   pub holds : P place number
   pub least : (q v : ℕ) → q < n → P q v → number ≤ v
 
-least_at : (P : ℕ → ℕ → Type 0) → (one : (q v w : ℕ) → P q v → P q w → v ≡ w) → ((q : ℕ) → ((v : ℕ) × P q v) ⊎ ((v : ℕ) → P q v → ⊥)) → (n : ℕ) → LeastAt P n ⊎ ((q v : ℕ) → q < n → P q v → ⊥)
+pub least_at : (P : ℕ → ℕ → Type 0) → (one : (q v w : ℕ) → P q v → P q w → v ≡ w) → ((q : ℕ) → ((v : ℕ) × P q v) ⊎ ((v : ℕ) → P q v → ⊥)) → (n : ℕ) → LeastAt P n ⊎ ((q v : ℕ) → q < n → P q v → ⊥)
 least_at P one decide zero = inr (λ q v less h. omega (arith, less))
 least_at P one decide (suc n) = elim (decide n) [
   | inr none_here ↦ elim (least_at P one decide n) [
@@ -423,7 +423,7 @@ differ_given calls p item dp differ v i j di dj = differ v i j (old_of calls p i
 IsDone : List Call → Type 0
 IsDone calls = ((q : ℕ) → Did calls q Act.Taking → ⊥) ⊎ ((y item e : ℕ) (d : Did calls y (Act.Send item)) → d.call.end ≡ Some e → ((t : ℕ) → Did calls t (Act.Took item) → ⊥) → ⊥)
 
-end_cases : (o : Option ℕ) → ((e : ℕ) × (o ≡ Some e)) ⊎ (o ≡ None)
+pub end_cases : (o : Option ℕ) → ((e : ℕ) × (o ≡ Some e)) ⊎ (o ≡ None)
 end_cases None = inr refl
 end_cases (Some e) = inl (e, refl)
 
@@ -489,7 +489,7 @@ Waits calls q v = (d : Did calls q Act.Taking) × (d.call.begin ≡ v)
 Stays : List Call → ℕ → ℕ → Type 0
 Stays calls y v = (item : ℕ) × (d : Did calls y (Act.Send item)) × (d.call.end ≡ Some v) × ((t : ℕ) → Did calls t (Act.Took item) → ⊥)
 
-call_at : (calls : List Call) (q : ℕ) → ((c : Call) × (slice_get calls q ≡ Some c)) ⊎ (slice_get calls q ≡ None)
+pub call_at : (calls : List Call) (q : ℕ) → ((c : Call) × (slice_get calls q ≡ Some c)) ⊎ (slice_get calls q ≡ None)
 call_at [] q = inr refl
 call_at (c ∷ calls) zero = inl (c, refl)
 call_at (c ∷ calls) (suc q) = call_at calls q

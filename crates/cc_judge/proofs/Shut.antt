@@ -1,11 +1,10 @@
 -- A queue that was closed stays so: which steps come before which by that.
-use Rattle.std.proofs.Common.{◌≡◌, ◌≢◌, ℕ, ◌⊎◌, inl, inr, List, [], ◌∷◌, Bool, true, false, Option, Some, None, refl, sym, ap, ◌∙◌, subst}
-use Rattle.std.specs.List.{slice_get}
+use Rattle.std.proofs.Common.{◌≡◌, ◌≢◌, ℕ, ◌⊎◌, inl, inr, List, [], ◌∷◌, Bool, true, false, refl, sym, ap, ◌∙◌, subst}
 use Rattle.cc_judge.specs.Names.{Act, Call, Rules, Step}
-use Rattle.cc_judge.specs.Order.{EndsBefore, Allows, Closes, closed_after, IsOrder}
-use Rattle.cc_judge.specs.Faults.{Did, Differ, ShowsClosed, WasClosed, WasAccepted, SentWhileOpen, SentBefore}
-use Rattle.cc_judge.proofs.Places.{In, Before, before_first, in_order}
-use Rattle.cc_judge.proofs.Orders.{StepOf, runs, returned_step, ended_step, sent_in_log, in_time, on_before, apart}
+use Rattle.cc_judge.specs.Order.{Allows, Closes, closed_after, IsOrder}
+use Rattle.cc_judge.specs.Faults.{Differ, ShowsClosed, WasClosed, WasAccepted}
+use Rattle.cc_judge.proofs.Places.{In, Before, before_first}
+use Rattle.cc_judge.proofs.Orders.{StepOf, runs, returned_step, sent_in_log}
 use Rattle.cc_judge.proofs.Runs.{Earlier, sent_before}
 
 -- the queue has to be open for this
@@ -122,40 +121,3 @@ accepted_step rules calls order o differ send item (inr taken) =
     let e = send_of rules calls order o t.step p.item t.within t.act_is in
     let within = before_first e.step t.step order e.before in
     record { step = e.step; within = within; place_is = differ p.item e.step.place send (sent_in_log rules calls order o e.step p.item within e.act_is) p.sent; item = p.item; act_is = e.act_is }
-
--- a send has one item
-one_item : (rules : Rules) (calls : List Call) (order : List Step) → IsOrder rules calls order → (s : Step) (send item other : ℕ) → In s order → s.place ≡ send → s.act ≡ Act.Send other → Did calls send (Act.Send item) → other ≡ item
-one_item rules calls order o s send item other within place_is act_is sent =
-    let d = sent_in_log rules calls order o s other within act_is in
-    let both : Some d.call ≡ Some sent.call = sym d.call_is ∙ ap (slice_get calls) place_is ∙ sent.call_is in
-    let one : d.call ≡ sent.call = cc in
-    let acts : Act.Send other ≡ Act.Send item = sym d.act_is ∙ ap (λ (c : Call). c.act) one ∙ sent.act_is in
-    cc
-
--- the step of an accepted send whose call comes before another
-pub sent_step : (rules : Rules) (calls : List Call) (order : List Step) → IsOrder rules calls order → Differ calls → (send from : ℕ) (closed : Option ℕ) (item : ℕ) → SentBefore rules calls send from closed item → StepOf order send (Act.Send item)
-sent_step rules calls order o differ send from None item s = ended_step rules calls order o send from (Act.Send item) (λ is. cc) s.sent s.before
-sent_step rules calls order o differ send from (Some closed) item s =
-    let a = accepted_step rules calls order o differ send item s.before.accepted in
-    record { step = a.step; within = a.within; place_is = a.place_is; act_is = a.act_is ∙ ap Act.Send (one_item rules calls order o a.step send item a.item a.within a.place_is a.act_is s.sent) }
-
--- no step of the other call comes before it
-pub sent_first : (rules : Rules) (calls : List Call) (order : List Step) → IsOrder rules calls order → (send from : ℕ) (closed : Option ℕ) (item : ℕ) → SentBefore rules calls send from closed item → (s f : Step) → s.place ≡ send → s.act ≡ Act.Send item → f.place ≡ from → Before f s order → ⊥
-sent_first rules calls order o send from None item b s f s_place s_act f_place first = in_time rules calls order o f s first (subst (λ (x : ℕ × ℕ). EndsBefore calls x.0 x.1) (λ i. (sym s_place i, sym f_place i)) b.before)
-sent_first rules calls order o send from (Some closed) item b s f s_place s_act f_place first = while_open b.before
-  where
-    while_open : SentWhileOpen rules calls send from closed item → ⊥
-    while_open w =
-        let h = shown_step rules calls order o closed w.was_closed in
-        let shows : ShowsClosed h.step.act = subst ShowsClosed (sym h.act_is) w.was_closed.shows in
-        let closes = o.closing w.judged in
-        elim (in_order h.step f order h.within (before_first f s order first)) [
-          | inl same ↦ not_after false order f s closes first (subst (λ (x : Step). ShowsClosed x.act) same shows) (sent_open s.act item s_act)
-          | inr placed ↦ elim placed [
-            | inl earlier ↦ not_after false order h.step s closes (on_before rules calls order o h.step f s earlier first) shows (sent_open s.act item s_act)
-            | inr later ↦ elim w.by [
-              | inl here ↦ apart rules calls order o f h.step later (f_place ∙ sym here ∙ sym h.place_is)
-              | inr ends ↦ in_time rules calls order o f h.step later (subst (λ (x : ℕ × ℕ). EndsBefore calls x.0 x.1) (λ i. (sym h.place_is i, sym f_place i)) ends)
-            ]
-          ]
-        ]

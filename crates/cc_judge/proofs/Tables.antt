@@ -1,9 +1,10 @@
 -- A table of the calls of one kind, one call further.
 use Rattle.std.proofs.Common.{◌≡◌, ◌≢◌, ℕ, ◌+◌, ◌<◌, ◌≤◌, ◌⊎◌, inl, inr, List, length, get_or, Option, Some, None, sym, ap, ◌∙◌, subst, arith}
 use Rattle.std.specs.List.{slice_get, slice_set}
-use Rattle.std.proofs.lemmas.Option.{slice_get-get_or, slice_get_within}
-use Rattle.cc_judge.specs.Names.{Act, Call, Kind, Rules}
-use Rattle.cc_judge.specs.Faults.{Did, IsLeft, NeverSent, Returned, SentBefore}
+use Rattle.std.proofs.lemmas.List.{length-set}
+use Rattle.std.proofs.lemmas.Option.{slice_get-get_or, slice_get_within, slice_get_cases}
+use Rattle.cc_judge.specs.Names.{Act, Call, Kind}
+use Rattle.cc_judge.specs.Faults.{Did}
 use Rattle.cc_judge.specs.Table.{act_of, IsTable, Twice}
 use Rattle.cc_judge.proofs.Turns.{below_or_at, nat_cases, set_at, set_elsewhere}
 
@@ -74,6 +75,22 @@ tabled_new calls kind before after i item d within is was now so_far = record { 
       | inr apart ↦ omega (arith, so_far.past place other (sym (kept other apart) ∙ has))
     ]
 
+-- an entry leaves the table as long as it was
+pub as_long : (before after : List (Option ℕ)) (item : ℕ) (x : Option ℕ) → after ≡ slice_set before item x → length after ≡ length before
+as_long before after item x now = ap length now ∙ length-set before item x
+
+-- a call whose item has no entry has an item past the table
+pub stray_past : (calls : List Call) (kind : Kind) (table : List (Option ℕ)) (i item items : ℕ) (d : Call) → i < length calls → (get_or calls i d).act ≡ act_of kind item → slice_get table item ≡ None → length table ≡ items → (other : ℕ) → Did calls i (act_of kind other) → items ≤ other
+stray_past calls kind table i item items d within is none long other did =
+    let here = did_here calls i d (act_of kind item) within is in
+    let both : Some here.call ≡ Some did.call = sym here.call_is ∙ did.call_is in
+    let one : here.call ≡ did.call = cc in
+    let same = one_item kind item other (sym here.act_is ∙ ap (λ (c : Call). c.act) one ∙ did.act_is) in
+    elim (slice_get_cases table item).1 [
+      | inl has ↦ let clash : None ≡ Some has.0 = sym none ∙ has.2 in cc
+      | inr past ↦ let out = past.0 in omega (arith, out, long, same)
+    ]
+
 pub tabled_twice : (calls : List Call) (kind : Kind) (table : List (Option ℕ)) (i item first : ℕ) (d : Call) → i < length calls → (get_or calls i d).act ≡ act_of kind item → slice_get table item ≡ Some (Some first) → TabledTo calls kind table i → Twice calls kind first i
 tabled_twice calls kind table i item first d within is had so_far = record {
   item = item;
@@ -89,12 +106,5 @@ tabled_end calls kind table i end so_far = record {
 }
 
 -- an item without a place in the table has no call of the kind
-absent : (calls : List Call) (kind : Kind) (table : List (Option ℕ)) (item : ℕ) → IsTable calls kind table → slice_get table item ≡ Some None → (place : ℕ) → Did calls place (act_of kind item) → ⊥
+pub absent : (calls : List Call) (kind : Kind) (table : List (Option ℕ)) (item : ℕ) → IsTable calls kind table → slice_get table item ≡ Some None → (place : ℕ) → Did calls place (act_of kind item) → ⊥
 absent calls kind table item is none place did = let both : Some (Some place) ≡ Some None = sym (is.all place item did) ∙ none in cc
-
--- so one that was taken was never sent, and one that was sent is left
-pub never_sent_so : (calls : List Call) (table : List (Option ℕ)) (take item : ℕ) → IsTable calls Kind.Send table → Returned calls take (Act.Took item) → slice_get table item ≡ Some None → NeverSent calls take
-never_sent_so calls table take item is took none = record { item = item; took = took; none = absent calls Kind.Send table item is none }
-
-pub left_so : (rules : Rules) (calls : List Call) (table : List (Option ℕ)) (from : ℕ) (closed : Option ℕ) (send item : ℕ) → IsTable calls Kind.Take table → SentBefore rules calls send from closed item → slice_get table item ≡ Some None → IsLeft rules calls from closed send
-left_so rules calls table from closed send item is sent none = record { item = item; sent_before = sent; untaken = absent calls Kind.Take table item is none }

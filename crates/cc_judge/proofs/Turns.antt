@@ -1,12 +1,11 @@
 -- An element of a list that is read at an index, one turn of a loop further.
-use Rattle.std.proofs.Common.{◌≡◌, ◌≢◌, ℕ, zero, suc, ◌+◌, ◌<◌, ◌≤◌, ◌⊎◌, inl, inr, List, [], ◌∷◌, length, get_or, Bool, true, false, Option, Some, refl, sym, ap, ◌∙◌, subst, arith}
+use Rattle.std.proofs.Common.{◌≡◌, ◌≢◌, ℕ, zero, suc, ◌+◌, ◌<◌, ◌≤◌, ◌⊎◌, inl, inr, List, [], ◌∷◌, length, get_or, Bool, true, false, Some, refl, sym, ap, ◌∙◌, subst, arith}
 use Rattle.std.specs.List.{slice_get, slice_set}
 use Rattle.std.proofs.lemmas.Bool.{cases_lt}
 use Rattle.std.proofs.lemmas.Option.{get_or_from_slice_get, slice_get-get_or, slice_get_within}
-use Rattle.cc_judge.specs.Names.{Act, Call, Step}
+use Rattle.cc_judge.specs.Names.{Call, Step}
 use Rattle.cc_judge.specs.Order.{EndsBefore, HasStepOf, IsOnce, RespectsRealTime}
-use Rattle.cc_judge.specs.Faults.{Did, IsIn, Fewer}
-use Rattle.cc_judge.specs.Checks.{GoesOn, Marks, BeginsFrom}
+use Rattle.cc_judge.specs.Checks.{GoesOn, Marks}
 
 pub nat_cases : (a b : ℕ) → (a ≡ b) ⊎ (a ≢ b)
 nat_cases a b = elim (cases_lt a b) [
@@ -109,36 +108,3 @@ all_once order marks i end so_far j k s t less s_is t_is = let within : k < leng
 pub record RisingTo (xs : List ℕ) (upto least : ℕ) : Type 0 where
   pub below : (k x : ℕ) → k < upto → slice_get xs k ≡ Some x → x < least
   pub rising : (j k x y : ℕ) → j < k → k < upto → slice_get xs j ≡ Some x → slice_get xs k ≡ Some y → x < y
-
--- of the takes so far that haven't returned, those which began before `next` are as many as `spare` falls short of the number
-pub record FewerTo (calls : List Call) (next : Option ℕ) (number spare upto : ℕ) : Type 0 where
-  pub may : List ℕ
-  pub rest : length may + spare ≡ number
-  pub others : (i : ℕ) → i < upto → Did calls i Act.Taking → IsIn i may ⊎ BeginsFrom calls next i
-
-pub fewer_skip : (calls : List Call) (next : Option ℕ) (number spare i : ℕ) → (Did calls i Act.Taking → BeginsFrom calls next i) → FewerTo calls next number spare i → FewerTo calls next number spare (i + 1)
-fewer_skip calls next number spare i other f = record {
-  may = f.may;
-  rest = f.rest;
-  others = λ k below taking. elim (nat_cases k i) [
-    | inl same ↦ inr (subst (BeginsFrom calls next) (sym same) (other (subst (λ (p : ℕ). Did calls p Act.Taking) same taking)))
-    | inr apart ↦ f.others k (omega (arith, below, apart)) taking
-  ];
-}
-
-pub fewer_one : (calls : List Call) (next : Option ℕ) (number spare less i : ℕ) → less + 1 ≡ spare → FewerTo calls next number spare i → FewerTo calls next number less (i + 1)
-fewer_one calls next number spare less i is f = record {
-  may = i ∷ f.may;
-  rest = omega (arith, f.rest, is);
-  others = λ k below taking. elim (nat_cases k i) [
-    | inl same ↦ inl (0, ap Some (sym same))
-    | inr apart ↦ elim (f.others k (omega (arith, below, apart)) taking) [ inl has ↦ inl (suc has.0, has.1) | inr from ↦ inr from ]
-  ];
-}
-
-pub fewer_end : (calls : List Call) (next : Option ℕ) (number spare i : ℕ) → length calls ≤ i → 0 < spare → FewerTo calls next number spare i → Fewer calls number (BeginsFrom calls next)
-fewer_end calls next number spare i end some f = record {
-  may = f.may;
-  fewer = omega (arith, f.rest, some);
-  others = λ k taking. let within : k < length calls = slice_get_within calls k taking.call taking.call_is in f.others k (omega (arith, within, end)) taking;
-}

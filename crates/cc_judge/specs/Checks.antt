@@ -1,6 +1,6 @@
 -- The result of one turn of a check.
-use Rattle.std.specs.Prelude.{◌≡◌, ℕ, ◌+◌, ◌<◌, ◌≤◌, ◌⊎◌, List, length, Contains, Bool, true, false, Option, Some, None, slice_get, slice_set}
-use Rattle.cc_judge.specs.Names.{Call, Act, Inside, Leave, Step, Tie}
+use Rattle.std.specs.Prelude.{◌≡◌, ℕ, ◌+◌, ◌<◌, ◌≤◌, ◌⊎◌, List, length, Contains, Bool, true, false, Option, Some, slice_get, slice_set}
+use Rattle.cc_judge.specs.Names.{Call, Act, Inside, Step, Tie}
 use Rattle.cc_judge.specs.Complete.{In}
 use Rattle.cc_judge.specs.Faults.{Did, Returned, BeganBy, EndedBy, EndedAt, BeganAfter, FewerAt, IsIn}
 
@@ -16,16 +16,6 @@ pub record GoesOn (calls : List Call) (place time next : ℕ) : Type 0 where
 pub record Marks (before : List Bool) (place : ℕ) (after : List Bool) : Type 0 where
   pub was : slice_get before place ≡ Some false
   pub now : after ≡ slice_set before place true
-
--- there is a take `next` that hasn't returned, and the call at the other place began no earlier
-abbrev pub BeginsFrom : List Call → (next : Option ℕ) → (place : ℕ) → Type 0
-BeginsFrom calls None place = ⊥
-BeginsFrom calls (Some next) place = (one other : Call) × (slice_get calls next ≡ Some one) × (slice_get calls place ≡ Some other) × (one.begin ≤ other.begin) × (one.act ≡ Act.Taking)
-
--- the call at a place is the one by which an item left, or hasn't returned and began no earlier
-abbrev pub Until : List Call → Leave → (place : ℕ) → Type 0
-Until calls Leave.Never place = ⊥
-Until calls (Leave.By take) place = (place ≡ take) ⊎ (Did calls place Act.Taking × BeginsFrom calls (Some take) place)
 
 -- the table has of each call the place of its step
 abbrev pub HasPlaces : List Step → List (Option ℕ) → Type 0

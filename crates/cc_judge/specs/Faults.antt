@@ -1,7 +1,7 @@
--- The faults of a log: patterns, each of which leaves it without a legal order. Five are those of Henzinger, Sezgin and
--- Vafeiadis (CONCUR 2013), and four are of closes and of a capacity.
-use Rattle.std.specs.Prelude.{◌≡◌, ◌≢◌, ℕ, ◌+◌, ◌<◌, ◌≤◌, ◌⊎◌, List, [], ◌∷◌, true, length, Option, Some, None, IsSome, slice_get}
-use Rattle.cc_judge.specs.Names.{Act, Call, Rules, Stay}
+-- The faults of a log: patterns, each of which leaves it without a legal order. Those of items that were overtaken or left are in
+-- Counts.
+use Rattle.std.specs.Prelude.{◌≡◌, ◌≢◌, ℕ, ◌+◌, ◌<◌, ◌≤◌, ◌⊎◌, List, true, length, Some, IsSome, slice_get}
+use Rattle.cc_judge.specs.Names.{Act, Call, Rules}
 use Rattle.cc_judge.specs.Order.{EndsBefore}
 
 -- the call at this place has exactly this act
@@ -59,89 +59,17 @@ pub record WasClosed (calls : List Call) (place : ℕ) : Type 0 where
 abbrev pub WasAccepted : List Call → (send item : ℕ) → Type 0
 WasAccepted calls send item = Returned calls send (Act.Send item) ⊎ ((take : ℕ) × Passed calls send take)
 
--- a send that was accepted comes before the call `from`, since the queue was closed by the end of the call `closed`, which is that
--- call, or had ended before that began
-pub record SentWhileOpen (rules : Rules) (calls : List Call) (send from closed item : ℕ) : Type 0 where
-  pub judged : rules.closes ≡ true
-  pub accepted : WasAccepted calls send item
-  pub was_closed : WasClosed calls closed
-  pub by : (closed ≡ from) ⊎ EndsBefore calls closed from
-
--- a send comes before the call `from`: it had ended before that began; or, if a call is named by which the queue was closed, since
--- the queue was closed
-abbrev pub ComesBefore : Rules → List Call → (send from : ℕ) → (closed : Option ℕ) → (item : ℕ) → Type 0
-ComesBefore rules calls send from None item = EndsBefore calls send from
-ComesBefore rules calls send from (Some closed) item = SentWhileOpen rules calls send from closed item
-
--- the call at one place sent the item, and comes before the call `from`
-pub record SentBefore (rules : Rules) (calls : List Call) (send from : ℕ) (closed : Option ℕ) (item : ℕ) : Type 0 where
-  pub sent : Did calls send (Act.Send item)
-  pub before : ComesBefore rules calls send from closed item
-
--- the call at one place sent an item before the call `from`, and no call took it that returned
-pub record IsLeft (rules : Rules) (calls : List Call) (from : ℕ) (closed : Option ℕ) (send : ℕ) : Type 0 where
-  pub item : ℕ
-  pub sent_before : SentBefore rules calls send from closed item
-  pub untaken : (i : ℕ) → Did calls i (Act.Took item) → ⊥
-
 -- the element is in the list
 abbrev pub IsIn : ℕ → List ℕ → Type 0
 IsIn x xs = (k : ℕ) × (slice_get xs k ≡ Some x)
-
--- of fewer takes than this number that haven't returned no more is known
-pub record Fewer (calls : List Call) (number : ℕ) (more : ℕ → Type 0) : Type 0 where
-  pub may : List ℕ
-  pub fewer : length may < number
-  pub others : (i : ℕ) → Did calls i Act.Taking → IsIn i may ⊎ more i
 
 -- each element is past those before it
 abbrev pub IsRising : List ℕ → Type 0
 IsRising xs = (j k x y : ℕ) → j < k → slice_get xs j ≡ Some x → slice_get xs k ≡ Some y → x < y
 
--- no call took these items, and too few takes may have; of each other take that may have more is known
-pub record Left (rules : Rules) (calls : List Call) (sends : List ℕ) (from : ℕ) (closed : Option ℕ) (more : ℕ → Type 0) : Type 0 where
-  pub each : (k send : ℕ) → slice_get sends k ≡ Some send → IsLeft rules calls from closed send
-  pub apart : IsRising sends
-  pub fewer : Fewer calls (length sends) more
-
--- an item was sent before the call `from`; one of which more is known took it, or none did
-abbrev pub Stays : Rules → List Call → Stay → (from : ℕ) → (more : ℕ → Type 0) → Type 0
-Stays rules calls (Stay.Taken send take closed) from more = (item : ℕ) × SentBefore rules calls send from closed item × Returned calls take (Act.Took item) × more take
-Stays rules calls (Stay.Left sends next closed) from more = Left rules calls sends.items from closed more
-
--- the call by which the queue was closed, if a stay rests on that
-abbrev pub closed_by : Stay → Option ℕ
-closed_by (Stay.Taken send take closed) = closed
-closed_by (Stay.Left sends next closed) = closed
-
--- the call at one place is another, and began after the first had ended
-pub record Follows (calls : List Call) (first second : ℕ) : Type 0 where
-  pub apart : first ≢ second
-  pub after : EndsBefore calls first second
-
--- two items were sent one after the other, by the times of the sends; the later one was taken, and the earlier one after that, or never
-pub record Overtaken (rules : Rules) (calls : List Call) (stay : Stay) (later_send later_take : ℕ) : Type 0 where
-  pub later : Passed calls later_send later_take
-  pub timely : closed_by stay ≡ None
-  pub stays : Stays rules calls stay later_send (Follows calls later_take)
-
--- Items were in the queue at all times of a call: the first was sent before the call `from`; each further one was sent before
--- the take of the one before it; and the call had ended before the last was taken.
-abbrev pub Covers : Rules → List Call → (call from : ℕ) → List Stay → Type 0
-Covers rules calls call from [] = EndsBefore calls call from
-Covers rules calls call from (x ∷ rest) = Stays rules calls x from (λ take. Covers rules calls call take rest)
-
 -- a take found none, whether or not the queue was closed
 abbrev pub FindsNone : Act → Type 0
 FindsNone act = (act ≡ Act.FoundNone) ⊎ (act ≡ Act.Ended)
-
--- a take found none, and items were in the queue at all of its times
-pub record NotEmpty (rules : Rules) (calls : List Call) (call : ℕ) (stays : List Stay) : Type 0 where
-  pub act : Act
-  pub finds_none : FindsNone act
-  pub found_none : Returned calls call act
-  pub some : stays ≢ []
-  pub covers : Covers rules calls call call stays
 
 -- a send that found the queue open: it found it full, or was accepted
 abbrev pub WasOpen : List Call → (send : ℕ) → Type 0

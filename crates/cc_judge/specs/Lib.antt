@@ -4,6 +4,11 @@ pub mod Faults
 pub mod Checks
 pub mod Table
 pub mod Complete
+pub mod Counts
+pub mod Faultless
+pub mod Sweeps
+pub mod Cuts
 pub mod Verdict
 pub mod Refused
+pub mod RefusedCounts
 pub mod Late

@@ -9,8 +9,12 @@ pub use Rattle.cc_judge.specs.declared.table.Kind.{Kind}
 pub use Rattle.cc_judge.specs.declared.table.Found.{Found}
 pub use Rattle.cc_judge.specs.declared.table.Entry.{Entry}
 pub use Rattle.cc_judge.specs.declared.faults.Index.{Index}
-pub use Rattle.cc_judge.specs.declared.faults.Leave.{Leave}
 pub use Rattle.cc_judge.specs.declared.inside.Inside.{Inside}
+pub use Rattle.cc_judge.specs.declared.shutting.Shut.{Shut}
+pub use Rattle.cc_judge.specs.declared.lists.Spell.{Spell}
+pub use Rattle.cc_judge.specs.declared.lists.Lists.{Lists}
+pub use Rattle.cc_judge.specs.declared.sweeps.Reach.{Reach}
+pub use Rattle.cc_judge.specs.declared.overtaking.Passed.{Passed}
 pub use Rattle.cc_judge.specs.declared.decide.Fault.{Fault}
 pub use Rattle.cc_judge.specs.declared.decide.Verdict.{Verdict}
 pub use Rattle.cc_judge.specs.declared.decide.Indexed.{Indexed}

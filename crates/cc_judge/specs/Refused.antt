@@ -1,10 +1,11 @@
 -- Refused claims: for each kind of mistake a small log, and a claim about it that the clause doesn't admit.
 use Rattle.std.specs.Prelude.{◌≡◌, ℕ, List, [], ◌∷◌, Option, Some, None, true, false, slice_get}
-use Rattle.cc_judge.specs.Names.{Act, Call, Rules, Stay}
+use Rattle.cc_judge.specs.Names.{Act, Call, Rules}
 use Rattle.cc_judge.specs.Order.{Does, Allows, IsOrder}
-use Rattle.cc_judge.specs.Faults.{Passed, TakenBeforeSent, TakenTwice, SentBefore, Fewer, Overtaken, Covers, ClosedEarly, MoreAt}
+use Rattle.cc_judge.specs.Faults.{Passed, TakenBeforeSent, TakenTwice, WasClosed, ClosedEarly, MoreAt}
+use Rattle.cc_judge.specs.Counts.{TookOver}
 use Rattle.cc_judge.specs.Late.{judged_capacity, padded}
-use Rattle.cc_judge.specs.Checks.{GoesOn, IsKept, IsSurelyOut, BeginsFrom}
+use Rattle.cc_judge.specs.Checks.{GoesOn, IsKept, IsSurelyOut}
 
 -- a claim that doesn't hold
 abbrev pub Refused : Type 0 → Type 0
@@ -25,10 +26,6 @@ handed = call 0 1 (Act.Send 0) ∷ call 2 3 (Act.Took 0) ∷ []
 abbrev pub beside : List Call
 beside = call 0 5 (Act.Send 0) ∷ call 1 6 (Act.Send 1) ∷ []
 
--- two takes that haven't returned
-abbrev pub two_wait : List Call
-two_wait = waiting 0 Act.Taking ∷ waiting 0 Act.Taking ∷ []
-
 -- a close, and then a send that found the queue closed
 abbrev pub closed : List Call
 closed = call 0 1 Act.Close ∷ call 2 3 Act.Closed ∷ []
@@ -43,21 +40,18 @@ turned = Some 1 ∷ Some 0 ∷ []
 pub record RefusedClaims : Type 0 where
   pub accepted_though_untaken : Refused ((take : ℕ) × Passed (waiting 0 (Act.Send 0) ∷ []) 0 take)
   pub as_many_items_as_room : Refused (MoreAt handed (0 ∷ []) 1 1)
-  pub as_many_takes_as_items : Refused (Fewer two_wait 2 (BeginsFrom two_wait None))
   pub clean_without_an_order : (rules : Rules) → Refused (IsOrder rules (call 0 1 (Act.Took 7) ∷ []) (record { place = 0; act = Act.Took 7 } ∷ []))
   pub close_before_a_late_log_forgotten : Refused (padded true true [] 0 ≡ [])
   pub closed_early_beside_a_close : (rules : Rules) → Refused (ClosedEarly rules closed 1)
-  pub covered_in_part : (rules : Rules) → Refused (Covers rules beside 0 1 [])
   pub ended_while_open : Refused (Allows false Act.Ended)
   pub full_before_a_send_began : Refused (IsSurelyOut (waiting 4 (Act.Send 0) ∷ []) 0 4)
   pub late_log_judged_by_a_capacity : Refused (judged_capacity true (Some 1) ≡ Some 1)
   pub lines_turned_round : Refused (IsKept turned record { earlier = 0; later = 1 })
   pub never_sent_of_a_sent_item : Refused (slice_get placed 0 ≡ Some None)
   pub none_beside_an_item : Refused (Does None (7 ∷ []) Act.FoundNone (7 ∷ []))
-  pub overtaken_in_one_go : (rules : Rules) (closed : Option ℕ) → rules.closes ≡ false → Refused (SentBefore rules beside 0 1 closed 0)
-  pub overtaken_since_a_close : (rules : Rules) → Refused (Overtaken rules handed (Stay.Taken 0 1 (Some 0)) 0 1)
+  pub overtaken_in_one_go : (take later : ℕ) → Refused (TookOver beside 0 take 1 later)
   pub overtakes_an_ended_call : (next : ℕ) → Refused (GoesOn (call 0 1 Act.Close ∷ []) 0 2 next)
-  pub shut_by_a_send : (rules : Rules) → Refused (SentBefore rules handed 0 1 (Some 0) 0)
+  pub shut_by_a_send : Refused (WasClosed handed 0)
   pub taken_after_sent : Refused (TakenBeforeSent handed 0 1)
   pub taken_twice_by_one_call : Refused (TakenTwice handed 1 1)
   pub too_many_of_a_taken_item : Refused (MoreAt handed (0 ∷ []) 0 3)

@@ -1,5 +1,5 @@
 -- The places at which each item of a log was sent and taken.
-use Rattle.std.specs.Prelude.{◌≡◌, ◌≢◌, ℕ, List, Option, Some, None, slice_get, slice_set}
+use Rattle.std.specs.Prelude.{◌≡◌, ◌≢◌, ℕ, ◌≤◌, List, Option, Some, None, slice_get, slice_set}
 use Rattle.cc_judge.specs.Names.{Act, Call, Kind, Found, Entry, Index}
 use Rattle.cc_judge.specs.Faults.{Did}
 
@@ -31,6 +31,12 @@ abbrev pub IsFound : List Call → Kind → Found → Type 0
 IsFound calls kind (Found.Each table) = IsTable calls kind table.items
 IsFound calls kind (Found.Twice first second) = Twice calls kind first second
 IsFound calls kind (Found.Stray place) = (item : ℕ) × Did calls place (act_of kind item)
+
+-- a call was found to have an item past the number of items: then it has
+abbrev pub IsPast : (items : ℕ) → List Call → Kind → Found → Type 0
+IsPast items calls kind (Found.Each table) = Unit {0}
+IsPast items calls kind (Found.Twice first second) = Unit {0}
+IsPast items calls kind (Found.Stray place) = (item : ℕ) → Did calls place (act_of kind item) → items ≤ item
 
 -- the index has each send and each take
 pub record IsIndex (calls : List Call) (index : Index) : Type 0 where

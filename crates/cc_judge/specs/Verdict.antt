@@ -1,33 +1,76 @@
 -- The verdict on a log.
-use Rattle.std.specs.Prelude.{List}
-use Rattle.cc_judge.specs.Names.{Call, Rules, Fault, Verdict, Indexed}
-use Rattle.cc_judge.specs.Order.{IsOrder, IsLinearizable, of_any_capacity}
-use Rattle.cc_judge.specs.Faults.{Differ, NeverSent, TakenBeforeSent, TakenTwice, Overtaken, NotEmpty, Reopened, ClosedEarly, NotFull, TooMany}
+use Rattle.std.specs.Prelude.{◌≡◌, ℕ, ◌<◌, ◌⊎◌, List, [], Some, slice_get}
+use Rattle.cc_judge.specs.Names.{Act, Call, Rules, Fault, Stay, Verdict, Indexed}
+use Rattle.cc_judge.specs.Order.{IsLinearizable, of_any_capacity}
+use Rattle.cc_judge.specs.Faults.{Did, Differ, Passed, NeverSent, TakenBeforeSent, TakenTwice, Reopened, ClosedEarly, NotFull, TooMany}
+use Rattle.cc_judge.specs.Counts.{TookOver, LeftBehind, NeverEmpty, EndedWithItems}
+use Rattle.cc_judge.specs.Faultless.{IsWritten}
 use Rattle.cc_judge.specs.Table.{IsIndex}
 
--- the log has the fault: the calls that it names did so
+-- no call took the item that the call at this place sent
+pub record IsUntaken (calls : List Call) (send : ℕ) : Type 0 where
+  pub item : ℕ
+  pub sent : Did calls send (Act.Send item)
+  pub untaken : (take : ℕ) → Did calls take (Act.Took item) → ⊥
+
+abbrev pub AreUntaken : List Call → (sends : List ℕ) → Type 0
+AreUntaken calls sends = (k send : ℕ) → slice_get sends k ≡ Some send → IsUntaken calls send
+
+-- the stay is one of the log: its item was sent and taken by these calls, or no call took the items of these sends
+abbrev pub IsStay : List Call → Stay → Type 0
+IsStay calls (Stay.Taken send take closed) = Passed calls send take
+IsStay calls (Stay.Left sends more next closed) = AreUntaken calls sends.items
+
+abbrev pub AreStays : List Call → List Stay → Type 0
+AreStays calls stays = (k : ℕ) (s : Stay) → slice_get stays k ≡ Some s → IsStay calls s
+
+-- an item was taken, though one that was sent before it was taken later, or is left
+abbrev pub IsOvertaken : Rules → List Call → Stay → (later_send later_take : ℕ) → Type 0
+IsOvertaken rules calls (Stay.Taken send take closed) later_send later_take = TookOver calls send take later_send later_take
+IsOvertaken rules calls (Stay.Left sends more next closed) later_send later_take = LeftBehind rules calls later_send later_take × AreUntaken calls sends.items
+
+-- a take found none, though at each of its times an item was in the queue; or found the queue closed, though one was when it ended
+abbrev pub IsNotEmpty : Rules → List Call → (call : ℕ) → Type 0
+IsNotEmpty rules calls call = NeverEmpty rules calls call ⊎ EndedWithItems rules calls call
+
+-- The log has the fault: the calls that it names did so. Of the stays of a take that found none, nothing is asked but that each is one of
+-- the log.
 abbrev pub Stands : Rules → List Call → Fault → Type 0
 Stands rules calls (Fault.NeverSent take) = NeverSent calls take
 Stands rules calls (Fault.TakenBeforeSent send take) = TakenBeforeSent calls send take
 Stands rules calls (Fault.TakenTwice first second) = TakenTwice calls first second
-Stands rules calls (Fault.Overtaken stay later_send later_take) = Overtaken rules calls stay later_send later_take
-Stands rules calls (Fault.NotEmpty call stays) = NotEmpty rules calls call stays.items
+Stands rules calls (Fault.Overtaken stay later_send later_take) = IsOvertaken rules calls stay later_send later_take
+Stands rules calls (Fault.NotEmpty call stays) = IsNotEmpty rules calls call × AreStays calls stays.items
 Stands rules calls (Fault.Reopened closed send) = Reopened rules calls closed send
 Stands rules calls (Fault.ClosedEarly call) = ClosedEarly rules calls call
 Stands rules calls (Fault.NotFull call) = NotFull rules calls call
 Stands rules calls (Fault.TooMany call sends) = TooMany rules calls call sends.items
 
--- The verdict is right: a clean log has this legal order, of a queue of whatever capacity; one with a fault has the fault, and no
--- legal order.
+-- The verdict is right: a clean log has a legal order, of a queue of whatever capacity; one with a fault has the fault, and no legal
+-- order.
 abbrev pub IsVerdict : Rules → List Call → Verdict → Type 0
-IsVerdict rules calls (Verdict.Clean order) = IsOrder (of_any_capacity rules) calls order.items
+IsVerdict rules calls Verdict.Clean = IsLinearizable (of_any_capacity rules) calls
 IsVerdict rules calls (Verdict.Fault fault) = Stands rules calls fault × (IsLinearizable rules calls → ⊥)
 IsVerdict rules calls Verdict.Undecided = Unit {0}
+
+-- the items of a log are below a number
+pub record AreBelow (calls : List Call) (items : ℕ) : Type 0 where
+  pub sent : (place item : ℕ) → Did calls place (Act.Send item) → item < items
+  pub took : (place item : ℕ) → Did calls place (Act.Took item) → item < items
+
+-- The verdict decides a log without ties, whose items differ and are below a number, if the log is well-formed.
+abbrev pub IsDecided : Rules → List Call → (items : ℕ) → Verdict → Type 0
+IsDecided rules calls items verdict = verdict ≡ Verdict.Undecided → rules.ties.items ≡ [] → Differ calls → AreBelow calls items → IsWritten calls → ⊥
 
 -- an index of the log, or its verdict
 abbrev pub Indexes : Rules → List Call → Indexed → Type 0
 Indexes rules calls (Indexed.Index index) = IsIndex calls index
 Indexes rules calls (Indexed.Due verdict) = IsVerdict rules calls verdict
+
+-- so does a verdict that is due without an index
+abbrev pub IsDecidedBy : Rules → List Call → (items : ℕ) → Indexed → Type 0
+IsDecidedBy rules calls items (Indexed.Index index) = Unit {0}
+IsDecidedBy rules calls items (Indexed.Due verdict) = IsDecided rules calls items verdict
 
 -- the law: a fault leaves a log of items that differ without a legal order
 abbrev pub FaultsHaveNoOrder : Type 0

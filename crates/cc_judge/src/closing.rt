@@ -1,77 +1,104 @@
-//! Whether a log has a fault of its closes: each is confirmed by the calls that it names.
-ghost use Rattle.std.specs.Prelude.{◌≡◌, ◌⊎◌, ℕ, IsTrue, IfSome};
-ghost use Rattle.cc_judge.specs.Names.{Call, Act};
-ghost use Rattle.cc_judge.specs.Order.{EndsBefore};
-ghost use Rattle.cc_judge.specs.Faults.{Did, Returned, WasOpen, Reopened, ClosedEarly};
+//! The faults of closes: each is found, or there is none.
+ghost use Rattle.std.specs.Prelude.{◌≡◌, ◌≤◌, ◌<◌, ℕ, IsTrue, IsFalse, IfSome, IfNone, Some};
+ghost use Rattle.cc_judge.specs.Names.{Call, Act, Rules};
+ghost use Rattle.cc_judge.specs.Faults.{Did, BeganBy, BeganAfter, WasOpen};
+ghost use Rattle.cc_judge.specs.Table.{IsIndex};
+ghost use Rattle.cc_judge.specs.Faultless.{IsWritten};
+ghost use Rattle.cc_judge.specs.Sweeps.{IsShutAt, KeepsClosed};
+ghost use Rattle.cc_judge.specs.Verdict.{Stands};
 
-use crate::faults::{Index, ends_before, was_accepted, was_closed};
-use crate::{Act, Call, Rules};
+use crate::decide::Fault;
+use crate::faults::Index;
+use crate::shutting::Shut;
+use crate::table::{call_at, place_in};
+use crate::{Act, Call};
 
-/// Whether the call at this place is a send that found the queue full, and returned.
-fn found_full(calls: &[Call], place: usize) -> bool
-    ensures { IsTrue result → Returned calls.now place Act.Full }
+/// Whether the call at this place is a close that began by a time.
+fn closes_by(calls: &[Call], place: usize, time: u64) -> bool
+    ensures close { IsTrue result → Did calls.now place Act.Close }
+    ensures begun { IsTrue result → BeganBy calls.now place time }
+    ensures others { IsFalse result → Did calls.now place Act.Close → BeganAfter calls.now place time }
 {
-    match calls.get(place).copied() {
-        Some(call) => matches!(call.act, Act::Full) && call.end.is_some(),
+    match call_at(calls, place) {
+        Some(call) => matches!(call.act, Act::Close) && call.begin <= time,
         None => false,
     }
 }
 
-/// Whether the call at this place is a send that found the queue open.
-pub fn was_open(calls: &[Call], index: &Index, send: usize) -> bool
-    ensures { IsTrue result → WasOpen calls.now send }
+/// The first close that began by a time.
+fn close_by(calls: &[Call], time: u64) -> Option<usize>
+    ensures close { IfSome result (λ p. Did calls.now p Act.Close) }
+    ensures begun { IfSome result (λ p. BeganBy calls.now p time) }
+    ensures none { IfNone result ((p : ℕ) → Did calls.now p Act.Close → BeganAfter calls.now p time) }
 {
-    found_full(calls, send) || was_accepted(calls, index, send).is_some()
-}
-
-/// Whether the queue was closed by the end of one call, and a send that began after that found it open.
-pub fn is_reopened(rules: &Rules, calls: &[Call], index: &Index, closed: usize, send: usize) -> bool
-    ensures { IsTrue result → Reopened rules.now calls.now closed send }
-{
-    rules.closes
-        && was_closed(calls, closed)
-        && ends_before(calls, closed, send)
-        && was_open(calls, index, send)
-}
-
-/// The act of the call at this place, if it was answered that the queue is closed.
-fn answered_closed(calls: &[Call], place: usize) -> Option<Act>
-    ensures answered { IfSome result (λ act. (act ≡ Act.Closed) ⊎ (act ≡ Act.Ended)) }
-    ensures returned { IfSome result (Returned calls.now place) }
-{
-    let call = calls.get(place).copied()?;
-    match (call.act, call.end) {
-        (Act::Closed, Some(_)) => Some(call.act),
-        (Act::Ended, Some(_)) => Some(call.act),
-        _ => None,
-    }
-}
-
-/// Whether the call at one place is no close, or began after the call at the other had ended.
-fn is_later(calls: &[Call], call: usize, close: usize) -> bool
-    ensures { IsTrue result → Did calls.now close Act.Close → EndsBefore calls.now call close }
-{
-    match calls.get(close).copied() {
-        Some(one) => !matches!(one.act, Act::Close) || ends_before(calls, call, close),
-        None => true,
-    }
-}
-
-/// Whether each close began after the call at this place had ended.
-fn are_later(calls: &[Call], call: usize) -> bool
-    ensures { IsTrue result → (close : ℕ) → Did calls.now close Act.Close → EndsBefore calls.now call close }
-{
-    for close in 0..calls.len() {
-        if !is_later(calls, call, close) {
-            return false;
+    for place in 0..calls.len() {
+        if closes_by(calls, place, time) {
+            return Some(place);
         }
     }
-    true
+    None
 }
 
-/// Whether the call at this place was answered that the queue is closed, and each close began after that.
-pub fn is_closed_early(rules: &Rules, calls: &[Call], call: usize) -> bool
-    ensures { IsTrue result → ClosedEarly rules.now calls.now call }
+/// Whether the call at this place is a send that found the queue open.
+fn was_open(calls: &[Call], index: &Index, send: usize) -> bool
+    requires index { IsIndex calls.now index.now }
+    requires written { IsWritten calls.now }
+    ensures open { IsTrue result → WasOpen calls.now send }
+    ensures others { IsFalse result → WasOpen calls.now send → ⊥ }
 {
-    rules.closes && answered_closed(calls, call).is_some() && are_later(calls, call)
+    match call_at(calls, send) {
+        Some(call) => match call.act {
+            Act::Full => call.end.is_some(),
+            Act::Send(item) => match call.end {
+                Some(_) => true,
+                None => place_in(&index.takes, item).is_some(),
+            },
+            _ => false,
+        },
+        None => false,
+    }
+}
+
+/// Whether the call at this place began after a time.
+fn began_after(calls: &[Call], place: usize, time: u64) -> bool
+    ensures after { IsTrue result → BeganAfter calls.now place time }
+    ensures others { IsFalse result → BeganAfter calls.now place time → ⊥ }
+{
+    match call_at(calls, place) {
+        Some(call) => time < call.begin,
+        None => false,
+    }
+}
+
+/// The first send that found the queue open and began after a time.
+fn open_after(calls: &[Call], index: &Index, time: u64) -> Option<usize>
+    requires index { IsIndex calls.now index.now }
+    requires written { IsWritten calls.now }
+    ensures open { IfSome result (WasOpen calls.now) }
+    ensures after { IfSome result (λ p. BeganAfter calls.now p time) }
+    ensures none { IfNone result ((p : ℕ) → WasOpen calls.now p → BeganAfter calls.now p time → ⊥) }
+{
+    for send in 0..calls.len() {
+        if began_after(calls, send, time) && was_open(calls, index, send) {
+            return Some(send);
+        }
+    }
+    None
+}
+
+/// That a call found the queue closed too early, or open after it was closed.
+pub fn close_fault(calls: &[Call], index: &Index, shut: Option<Shut>) -> Option<Fault>
+    requires index { IsIndex calls.now index.now }
+    requires written { IsWritten calls.now }
+    ensures some { IfSome result (λ fault. (rules : Rules) → IsShutAt rules calls.now shut → Stands rules calls.now fault) }
+    ensures none { IfNone result ((rules : Rules) → IsShutAt rules calls.now shut → KeepsClosed rules calls.now) }
+{
+    let Shut { call, time } = shut?;
+    if close_by(calls, time).is_none() {
+        return Some(Fault::ClosedEarly { call });
+    }
+    match open_after(calls, index, time) {
+        Some(send) => Some(Fault::Reopened { closed: call, send }),
+        None => None,
+    }
 }

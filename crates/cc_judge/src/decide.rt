@@ -1,30 +1,34 @@
 //! The verdict on a log.
-ghost use Rattle.std.specs.Prelude.{IfOk, IfSome};
-ghost use Rattle.cc_judge.specs.Names.{Verdict, Fault};
-ghost use Rattle.cc_judge.specs.Table.{IsIndex};
+ghost use Rattle.std.specs.Prelude.{◌≡◌, ℕ, [], IfOk, IfSome, IfNone};
+ghost use Rattle.cc_judge.specs.Names.{Kind, Rules, Verdict, Fault};
+ghost use Rattle.cc_judge.specs.Table.{IsIndex, Twice};
 ghost use Rattle.cc_judge.specs.Faults.{Differ};
 ghost use Rattle.cc_judge.specs.Complete.{LogsWithoutFaultsHaveOrders};
+ghost use Rattle.cc_judge.specs.Faultless.{IsWritten, NoFault};
 ghost use Rattle.cc_judge.specs.Late.{
   LateLogsAreLinearizable,
   LateLogsHaveNoFault,
   WindowsAreLinearizable,
 };
-ghost use Rattle.cc_judge.specs.Verdict.{IsVerdict, Stands, Indexes, FaultsHaveNoOrder};
+ghost use Rattle.cc_judge.specs.Sweeps.{AreLists, IsShutAt, MayBeEmpty};
+ghost use Rattle.cc_judge.specs.Verdict.{IsVerdict, IsDecided, IsDecidedBy, Stands, Indexes, FaultsHaveNoOrder};
 
-use crate::closing::{is_closed_early, is_reopened, was_open};
+use crate::closing::close_fault;
 use crate::crowd::{Crowded, not_full, too_many};
-use crate::faults::{
-    Index, is_never_sent, is_not_empty, is_overtaken, is_taken_before_sent, is_taken_twice,
-};
+use crate::faults::Index;
+use crate::lists::{Lists, lists_of};
+use crate::nones::{first_none, stays_of};
 use crate::order::is_order;
 use crate::overfull::is_too_many;
-use crate::pick::{Pair, overtaken, stays};
+use crate::overtaking::{take_fault, turn_fault};
 use crate::room::{capacity_of, is_not_full};
 use crate::search::{Sought, seek};
-use crate::share::{Shares, place_of, share};
+use crate::share::share;
+use crate::shutting::{Shut, shut_of};
 use crate::table::{Found, Kind, find};
-use crate::times::{View, first_closed, view_of};
-use crate::{Act, Call, Rules, Stay, Step};
+use crate::times::{View, ranks_of, view_of};
+use crate::written::is_written;
+use crate::{Call, Rules, Stay};
 use std::alloc::{AllocError, Global};
 
 /// Why a log has no legal order, by the places of the calls that show it.
@@ -78,12 +82,12 @@ pub enum Fault {
 /// The verdict on a log.
 #[derive(Drop)]
 pub enum Verdict {
-    /// The log is linearizable: this is a legal order.
-    Clean(Vec<Step>),
+    /// The log is linearizable: it has a legal order.
+    Clean,
     /// The log isn't linearizable: it has no legal order.
     Fault(Fault),
-    /// Neither an order nor a fault was found. That is also the verdict if two calls sent one item, or an item isn't below the number
-    /// of items.
+    /// Neither an order nor a fault was found: only their lines order some calls. That is also the verdict if two calls sent one item,
+    /// an item isn't below the number of items, or a call isn't well-formed.
     Undecided,
 }
 
@@ -98,14 +102,13 @@ pub enum Indexed {
 
 /// The verdict if two calls took one item.
 fn twice(rules: &Rules, calls: &[Call], first: usize, second: usize) -> Verdict
-    requires { Differ calls.now }
-    ensures { IsVerdict rules.now calls.now result }
+    requires differ { Differ calls.now }
+    requires written { IsWritten calls.now }
+    requires twice { Twice calls.now Kind.Take first second }
+    ensures right { IsVerdict rules.now calls.now result }
+    ensures decided { result ≡ Verdict.Undecided → ⊥ }
 {
-    if is_taken_twice(calls, first, second) {
-        Verdict::Fault(Fault::TakenTwice { first, second })
-    } else {
-        Verdict::Undecided
-    }
+    Verdict::Fault(Fault::TakenTwice { first, second })
 }
 
 /// Finds the places at which each item was sent and taken, or the verdict that is due without that.
@@ -115,22 +118,21 @@ fn index_of(
     calls: &[Call],
     items: usize,
 ) -> Result<Indexed, AllocError>
-    ensures { IfOk result (Indexes rules.now calls.now) }
+    requires { IsWritten calls.now }
+    ensures indexed { IfOk result (Indexes rules.now calls.now) }
+    ensures decided { IfOk result (IsDecidedBy rules.now calls.now items) }
 {
     let sends = match find(alloc, calls, items, Kind::Send)? {
         Found::Each(sends) => sends,
-        Found::Twice(..) | Found::Stray(_) => return Ok(Indexed::Due(Verdict::Undecided)),
+        Found::Twice(..) => return Ok(Indexed::Due(Verdict::Undecided)),
+        Found::Stray(_) => return Ok(Indexed::Due(Verdict::Undecided)),
     };
     let takes = match find(alloc, calls, items, Kind::Take)? {
         Found::Each(takes) => takes,
         Found::Twice(first, second) => return Ok(Indexed::Due(twice(rules, calls, first, second))),
         Found::Stray(_) => return Ok(Indexed::Due(Verdict::Undecided)),
     };
-    Ok(Indexed::Index(Index {
-        sends,
-        takes,
-        closed: first_closed(calls),
-    }))
+    Ok(Indexed::Index(Index { sends, takes }))
 }
 
 /// The law: a fault leaves a log of items that differ without a legal order.
@@ -160,123 +162,50 @@ pub fn late_logs_have_no_fault()
     ensures { LateLogsHaveNoFault }
 {}
 
-/// The first take whose item no call sent, or whose item was sent by a call that began after the take had ended.
-fn take_fault(rules: &Rules, calls: &[Call], index: &Index) -> Option<Fault>
-    requires { IsIndex calls.now index.now }
-    ensures { IfSome result (Stands rules.now calls.now) }
-{
-    for (take, call) in calls.iter().enumerate() {
-        if let Act::Took(item) = call.act {
-            if is_never_sent(calls, index, take) {
-                return Some(Fault::NeverSent { take });
-            }
-            if let Some(send) = place_of(&index.sends, item) {
-                if is_taken_before_sent(calls, send, take) {
-                    return Some(Fault::TakenBeforeSent { send, take });
-                }
-            }
-        }
-    }
-    None
-}
-
-/// The first call that found the queue closed too early, or open after it was closed.
-fn close_fault(rules: &Rules, calls: &[Call], index: &Index) -> Option<Fault>
-    ensures { IfSome result (Stands rules.now calls.now) }
-{
-    let closed = index.closed?;
-    if is_closed_early(rules, calls, closed) {
-        return Some(Fault::ClosedEarly { call: closed });
-    }
-    match latest_open(calls, index) {
-        Some(send) if is_reopened(rules, calls, index, closed, send) => {
-            Some(Fault::Reopened { closed, send })
-        }
-        _ => None,
-    }
-}
-
-/// The call that found the queue open and began last.
-fn latest_open(calls: &[Call], index: &Index) -> Option<usize> {
-    let mut latest: Option<(u64, usize)> = None;
-    for (place, call) in calls.iter().enumerate() {
-        if was_open(calls, index, place) {
-            let later = match latest {
-                Some((begin, _)) => begin < call.begin,
-                None => true,
-            };
-            if later {
-                latest = Some((call.begin, place));
-            }
-        }
-    }
-    match latest {
-        Some((_, place)) => Some(place),
-        None => None,
-    }
-}
-
-/// Two items of which the later one overtook the earlier one.
-fn pair_fault(
-    alloc: Global,
-    rules: &Rules,
-    view: &View<'_>,
-    shares: &Shares,
-) -> Result<Option<Fault>, AllocError>
-    requires { IsIndex view.now.calls.now view.now.index.now }
-    ensures { IfOk result (λ found. IfSome found (Stands rules.now view.now.calls.now)) }
-{
-    let Some(pair) = overtaken(alloc, view, shares)? else {
-        return Ok(None);
-    };
-    let Pair {
-        stay,
-        later_send,
-        later_take,
-    } = pair;
-    if !is_overtaken(rules, view.calls, view.index, &stay, later_send, later_take) {
-        return Ok(None);
-    }
-    Ok(Some(Fault::Overtaken {
-        stay,
-        later_send,
-        later_take,
-    }))
-}
-
-/// That the call at this place found none, though the queue can't have been empty.
+/// That a take found none, though an item was in the queue for certain.
 fn none_fault(
     alloc: Global,
-    rules: &Rules,
-    view: &View<'_>,
-    shares: &Shares,
-    call: usize,
+    calls: &[Call],
+    lists: &Lists,
+    shut: Option<Shut>,
 ) -> Result<Option<Fault>, AllocError>
-    requires { IsIndex view.now.calls.now view.now.index.now }
-    ensures { IfOk result (λ found. IfSome found (Stands rules.now view.now.calls.now)) }
+    ensures some { IfOk result (λ found. IfSome found (λ fault. (rules : Rules) → AreLists rules calls.now lists.now → IsShutAt rules calls.now shut → Stands rules calls.now fault)) }
+    ensures none { IfOk result (λ found. IfNone found ((rules : Rules) → AreLists rules calls.now lists.now → IsShutAt rules calls.now shut → (place : ℕ) → MayBeEmpty rules calls.now place)) }
 {
-    let stays = stays(alloc, view, shares, call)?;
-    if !is_not_empty(rules, view.calls, view.index, call, stays.as_slice()) {
-        return Ok(None);
+    match first_none(calls, lists, shut) {
+        Some(call) => Ok(Some(Fault::NotEmpty {
+            call,
+            stays: stays_of(alloc, calls, lists, shut, call)?,
+        })),
+        None => Ok(None),
     }
-    Ok(Some(Fault::NotEmpty { call, stays }))
 }
 
-/// The fault of a log in which the search got stuck at a call.
-fn fault_at(
+/// The fault of a log of a queue of whatever capacity, if it has one. It takes memory in proportion to the log, and O(n log n); or
+/// O(log n) for each pair of a take that found none and an item, if one found none while items came and went without a break.
+fn fault_of(
     alloc: Global,
     rules: &Rules,
-    view: &View<'_>,
-    shares: &Shares,
-    stuck: usize,
+    calls: &[Call],
+    index: &Index,
 ) -> Result<Option<Fault>, AllocError>
-    requires { IsIndex view.now.calls.now view.now.index.now }
-    ensures { IfOk result (λ found. IfSome found (Stands rules.now view.now.calls.now)) }
+    requires index { IsIndex calls.now index.now }
+    requires written { IsWritten calls.now }
+    ensures some { IfOk result (λ found. IfSome found (Stands rules.now calls.now)) }
+    ensures none { IfOk result (λ found. IfNone found (NoFault rules.now calls.now)) }
 {
-    match pair_fault(alloc, rules, view, shares)? {
-        Some(fault) => Ok(Some(fault)),
-        None => none_fault(alloc, rules, view, shares, stuck),
+    if let Some(fault) = take_fault(calls, index) {
+        return Ok(Some(fault));
     }
+    let shut = shut_of(rules, calls);
+    if let Some(fault) = close_fault(calls, index, shut) {
+        return Ok(Some(fault));
+    }
+    let lists = lists_of(alloc, calls, index, shut)?;
+    if let Some(fault) = turn_fault(alloc, calls, index, &lists)? {
+        return Ok(Some(fault));
+    }
+    none_fault(alloc, calls, &lists, shut)
 }
 
 /// That a send found the queue full, though it can't have been.
@@ -326,91 +255,86 @@ fn room_fault(alloc: Global, rules: &Rules, view: &View<'_>) -> Result<Option<Fa
 }
 
 /// The verdict if this fault was found.
-fn verdict_of(rules: &Rules, calls: &[Call], index: &Index, found: Option<Fault>) -> Verdict
+fn verdict_of(rules: &Rules, calls: &[Call], index: &Index, fault: Fault) -> Verdict
     requires index { IsIndex calls.now index.now }
-    requires stands { IfSome found (Stands rules.now calls.now) }
-    ensures { IsVerdict rules.now calls.now result }
+    requires stands { Stands rules.now calls.now fault }
+    ensures right { IsVerdict rules.now calls.now result }
+    ensures decided { result ≡ Verdict.Undecided → ⊥ }
 {
-    match found {
-        Some(fault) => Verdict::Fault(fault),
-        None => Verdict::Undecided,
-    }
+    Verdict::Fault(fault)
 }
 
-/// The verdict if this is the order that was found: it is checked.
-fn checked(
-    alloc: Global,
-    rules: &Rules,
-    calls: &[Call],
-    order: Vec<Step>,
-) -> Result<Verdict, AllocError>
-    ensures { IfOk result (IsVerdict rules.now calls.now) }
+/// The verdict on a log with ties that has no fault which needs none of them: an order is sought, and checked.
+fn sought(alloc: Global, rules: &Rules, view: &View<'_>) -> Result<Verdict, AllocError>
+    ensures right { IfOk result (IsVerdict rules.now view.now.calls.now) }
 {
-    if is_order(alloc, rules, calls, order.as_slice())? {
-        Ok(Verdict::Clean(order))
+    let shares = share(alloc, view)?;
+    let Sought { order, stuck } = seek(alloc, view, &shares)?;
+    if stuck.is_none() && is_order(alloc, rules, view.calls, order.as_slice())? {
+        Ok(Verdict::Clean)
     } else {
         Ok(Verdict::Undecided)
     }
 }
 
-/// The fault of a log in which the search got stuck at a call, or at none.
-fn found(
+/// The verdict on a log of a queue of whatever capacity, that has no fault but of ties.
+fn ordered(alloc: Global, rules: &Rules, view: &View<'_>) -> Result<Verdict, AllocError>
+    requires index { IsIndex view.now.calls.now view.now.index.now }
+    requires written { IsWritten view.now.calls.now }
+    requires fine { NoFault rules.now view.now.calls.now }
+    ensures right { IfOk result (IsVerdict rules.now view.now.calls.now) }
+    ensures decided { IfOk result (λ v. v ≡ Verdict.Undecided → rules.now.ties.items ≡ [] → ⊥) }
+{
+    if rules.ties.is_empty() {
+        return Ok(Verdict::Clean);
+    }
+    sought(alloc, rules, view)
+}
+
+/// The verdict on a log that has this index.
+fn verdict_by(
     alloc: Global,
     rules: &Rules,
-    view: &View<'_>,
-    shares: &Shares,
-    stuck: Option<usize>,
-) -> Result<Option<Fault>, AllocError>
-    requires { IsIndex view.now.calls.now view.now.index.now }
-    ensures { IfOk result (λ found. IfSome found (Stands rules.now view.now.calls.now)) }
+    calls: &[Call],
+    index: &Index,
+) -> Result<Verdict, AllocError>
+    requires index { IsIndex calls.now index.now }
+    requires written { IsWritten calls.now }
+    ensures right { IfOk result (IsVerdict rules.now calls.now) }
+    ensures decided { IfOk result (λ v. v ≡ Verdict.Undecided → rules.now.ties.items ≡ [] → ⊥) }
 {
-    match stuck {
-        Some(stuck) => fault_at(alloc, rules, view, shares, stuck),
-        None => room_fault(alloc, rules, view),
+    if let Some(fault) = fault_of(alloc, rules, calls, index)? {
+        return Ok(verdict_of(rules, calls, index, fault));
+    }
+    let ranks = ranks_of(alloc, calls)?;
+    let view = view_of(rules, calls, index, ranks.as_slice());
+    match room_fault(alloc, rules, &view)? {
+        Some(fault) => Ok(verdict_of(rules, calls, index, fault)),
+        None => ordered(alloc, rules, &view),
     }
 }
 
-/// The verdict on a log that is viewed so, whose takes and closes have no fault of their own.
-fn sought(alloc: Global, rules: &Rules, view: &View<'_>) -> Result<Verdict, AllocError>
-    requires { IsIndex view.now.calls.now view.now.index.now }
-    ensures { IfOk result (IsVerdict rules.now view.now.calls.now) }
-{
-    let shares = share(alloc, view)?;
-    let Sought { order, stuck } = seek(alloc, view, &shares)?;
-    match found(alloc, rules, view, &shares, stuck)? {
-        Some(fault) => Ok(verdict_of(rules, view.calls, view.index, Some(fault))),
-        None if stuck.is_none() => checked(alloc, rules, view.calls, order),
-        None => Ok(Verdict::Undecided),
-    }
-}
-
-/// The verdict on a log whose items are below `items`. It takes memory in proportion to the log, and O(n log n), or O(n) for
-/// each take that hasn't returned if one of the others found none though items were left.
+/// The verdict on a log whose items are below `items`. It takes memory in proportion to the log, and O(n log n) if few calls are under
+/// way at a time.
 ///
-/// A log has an order exactly if it has none of the faults (after Henzinger, Sezgin and Vafeiadis, CONCUR 2013, for calls that
-/// all returned), and no log without ties is known whose verdict is neither, unless more than a thousand takes haven't
-/// returned: then the items that show the fault may be too many (`pick`). That isn't proved, so the verdict may be undecided.
-/// Of a capacity two faults are judged: a send found the queue full that can't have been, or the queue held too many items.
+/// A log without ties is decided, with closes and calls that haven't returned: it has a legal order exactly if it has none of the
+/// faults (after Henzinger, Sezgin and Vafeiadis, CONCUR 2013, for calls that all returned and take no moment's emptiness). With ties
+/// the verdict may be undecided. Of a capacity two faults are judged: a send found the queue full that can't have been, or the queue
+/// held too many items.
 pub fn judge(
     alloc: Global,
     rules: &Rules,
     calls: &[Call],
     items: usize,
 ) -> Result<Verdict, AllocError>
-    ensures { IfOk result (IsVerdict rules.now calls.now) }
+    ensures right { IfOk result (IsVerdict rules.now calls.now) }
+    ensures decided { IfOk result (IsDecided rules.now calls.now items) }
 {
-    let index = match index_of(alloc, rules, calls, items)? {
-        Indexed::Index(index) => index,
-        Indexed::Due(verdict) => return Ok(verdict),
-    };
-    if let Some(fault) = take_fault(rules, calls, &index) {
-        return Ok(verdict_of(rules, calls, &index, Some(fault)));
+    if !is_written(calls) {
+        return Ok(Verdict::Undecided);
     }
-    if rules.closes {
-        if let Some(fault) = close_fault(rules, calls, &index) {
-            return Ok(verdict_of(rules, calls, &index, Some(fault)));
-        }
+    match index_of(alloc, rules, calls, items)? {
+        Indexed::Index(index) => verdict_by(alloc, rules, calls, &index),
+        Indexed::Due(verdict) => Ok(verdict),
     }
-    let view = view_of(rules, calls, &index);
-    sought(alloc, rules, &view)
 }

@@ -8,21 +8,31 @@
 
 mod clauses;
 mod closing;
+mod counts;
 mod crowd;
 mod decide;
 mod faults;
 mod inside;
+mod lists;
 mod log;
+mod nones;
 mod order;
 mod overfull;
-mod pick;
+mod overtaking;
 mod room;
 mod search;
 mod share;
+mod shutting;
+mod sweeps;
 mod table;
 mod times;
+mod written;
 
 pub use clauses::clauses_refuse;
+pub use counts::{
+    counts_are_right, counts_have_no_order, counts_refuse, cut_logs_are_exact,
+    cuts_by_rank_are_exact, faultless_logs_have_orders,
+};
 pub use decide::{
     Fault, Verdict, faults_have_no_order, judge, late_logs_are_linearizable,
     late_logs_have_no_fault, logs_without_faults_have_orders, windows_are_linearizable,

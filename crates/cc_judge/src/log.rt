@@ -1,6 +1,4 @@
 //! The calls of a log, and what else is known of it.
-ghost use Rattle.std.specs.Prelude.{◌≡◌};
-ghost use Rattle.cc_judge.specs.Faults.{closed_by};
 
 /// The act of a call. Items are numbered.
 #[derive(Clone, Copy, PartialEq, Eq, Drop)]
@@ -69,8 +67,10 @@ pub enum Stay {
     /// No call is known to have taken these items, which are more than the takes that haven't returned and began before
     /// `next`: so one is left until `next`, or for ever.
     Left {
-        /// The places of the sends, in order.
+        /// The places of up to 20 of the sends, in order.
         sends: Vec<usize>,
+        /// How many others there are.
+        more: usize,
         /// The place of the first of the other takes that haven't returned, if there is one.
         next: Option<usize>,
         /// The place of a call by which the queue was closed, if one of the sends comes before other calls only for that.
@@ -80,9 +80,7 @@ pub enum Stay {
 
 impl Stay {
     /// The place of the call by which the queue was closed, if the stay rests on that.
-    pub fn closed(&self) -> Option<usize>
-        ensures { result ≡ closed_by self.now }
-    {
+    pub fn closed(&self) -> Option<usize> {
         match self {
             Stay::Taken { closed, .. } | Stay::Left { closed, .. } => *closed,
         }

@@ -7,6 +7,7 @@ ghost use Rattle.cc_judge.specs.Table.{IsIndex};
 
 use crate::faults::{Index, is_absent, is_rising, sent, taken};
 use crate::room::capacity_of;
+use crate::table::place_in;
 use crate::{Act, Call, Rules};
 
 /// Whether the call at this place had ended at a time.
@@ -40,22 +41,12 @@ fn took_after(calls: &[Call], take: usize, item: u32, time: u64) -> bool
     taken(calls, take) == Some(item) && began_after(calls, take, time)
 }
 
-/// The place of an item's call in a table of all calls of one kind.
-fn entry(table: &Vec<Option<u32>>, item: u32) -> Option<usize>
-    ensures { IfSome result (λ place. slice_get table.now.items item ≡ Some (Some place)) }
-{
-    match table.get(item as usize) {
-        Some(Some(place)) => Some(*place as usize),
-        _ => None,
-    }
-}
-
 /// Whether an item was taken by a call that began after a time; or, if `left`, by no call.
 fn leaves_after(calls: &[Call], index: &Index, item: u32, time: u64, left: bool) -> bool
     requires { IsIndex calls.now index.now }
     ensures { IsTrue result → LeavesAfter calls.now item time left }
 {
-    match entry(&index.takes, item) {
+    match place_in(&index.takes, item) {
         Some(take) => took_after(calls, take, item, time),
         None => left && is_absent(&index.takes, item),
     }

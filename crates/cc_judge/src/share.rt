@@ -2,22 +2,17 @@
 //! began first, and so on. If the log has an order, it has one in which those takes have no others. Nothing is asked of it
 //! here but that it is safe and ends.
 
-use crate::faults::{ends_before, sent, was_closed};
+use crate::Act;
+use crate::faults::sent;
 use crate::table::narrow;
 use crate::times::{ByTime, View};
-use crate::{Act, Stay};
 use std::alloc::{AllocError, Global};
-use std::slice::from_ref;
 
 /// Which takes that haven't returned have which items.
 #[derive(Drop)]
 pub struct Shares {
     /// The items that such takes have, in order, with the places of the takes.
     takes: Vec<(u32, u32)>,
-    /// The sends of the items that are left, by their ends.
-    left: ByTime,
-    /// The takes that haven't returned, by their begins.
-    taking: ByTime,
 }
 
 /// The place of an item's call.
@@ -65,11 +60,7 @@ pub fn share(alloc: Global, view: &View<'_>) -> Result<Shares, AllocError> {
         }
     }
     takes.sort()?;
-    Ok(Shares {
-        takes,
-        left,
-        taking,
-    })
+    Ok(Shares { takes })
 }
 
 /// The place of the call that has an item: that took it, or that hasn't returned.
@@ -94,59 +85,4 @@ pub fn take_of(view: &View<'_>, shares: &Shares, item: u32) -> Option<usize> {
         }
     }
     None
-}
-
-/// The call by which the queue was closed before the call `from` began, or else by its end.
-fn closed_by(view: &View<'_>, from: usize) -> Option<usize> {
-    let first = view.index.closed?;
-    if ends_before(view.calls, first, from) {
-        return Some(first);
-    }
-    if was_closed(view.calls, from) {
-        Some(from)
-    } else {
-        None
-    }
-}
-
-/// The call by which the queue was closed, unless all of these sends had ended before the call `from` began.
-fn closed_since(view: &View<'_>, sends: &[usize], from: usize) -> Option<usize> {
-    for send in sends {
-        if !ends_before(view.calls, *send, from) {
-            return closed_by(view, from);
-        }
-    }
-    None
-}
-
-/// The stay of the item that was sent at a place, before the call `from`.
-pub fn stay_of(
-    alloc: Global,
-    view: &View<'_>,
-    shares: &Shares,
-    send: usize,
-    item: u32,
-    from: usize,
-) -> Result<Stay, AllocError> {
-    if let Some(take) = place_of(&view.index.takes, item) {
-        let closed = closed_since(view, from_ref(&send), from);
-        return Ok(Stay::Taken { send, take, closed });
-    }
-    let mut sends = Vec::new(alloc);
-    let mut next = None;
-    for (at, (_, _, place)) in shares.left.iter().enumerate() {
-        let place = *place as usize;
-        sends.push(place)?;
-        next = shares.taking.get(at).map(|(_, _, take)| *take as usize);
-        if place == send || next.is_none() {
-            break;
-        }
-    }
-    sends.sort()?;
-    let closed = closed_since(view, sends.as_slice(), from);
-    Ok(Stay::Left {
-        sends,
-        next,
-        closed,
-    })
 }

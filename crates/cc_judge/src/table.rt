@@ -1,7 +1,7 @@
 //! The places at which each item of a log was sent and taken.
 ghost use Rattle.std.specs.Prelude.{◌≡◌, ◌≢◌, ℕ, IfOk, IfSome, IfNone, IsTrue, slice_get, slice_set, Some, None};
 ghost use Rattle.cc_judge.specs.Names.{Call, Act, Kind, Found, Entry};
-ghost use Rattle.cc_judge.specs.Table.{act_of, IsFound, Enters};
+ghost use Rattle.cc_judge.specs.Table.{act_of, IsFound, IsPast, Enters};
 
 use crate::{Act, Call};
 use std::alloc::{AllocError, Global};
@@ -77,10 +77,30 @@ fn enter(table: &mut Vec<Option<u32>>, item: u32, place: usize) -> Result<Entry,
     }
 }
 
+/// The call at a place.
+pub fn call_at(calls: &[Call], place: usize) -> Option<Call>
+    ensures some { IfSome result (λ call. slice_get calls.now place ≡ Some call) }
+    ensures none { IfNone result (slice_get calls.now place ≡ None) }
+{
+    calls.get(place).copied()
+}
+
+/// The place of an item's call in a table of all calls of one kind.
+pub fn place_in(table: &Vec<Option<u32>>, item: u32) -> Option<usize>
+    ensures some { IfSome result (λ place. slice_get table.now.items item ≡ Some (Some place)) }
+    ensures none { IfNone result ((place : ℕ) → slice_get table.now.items item ≢ Some (Some place)) }
+{
+    match table.get(item as usize) {
+        Some(Some(place)) => Some(*place as usize),
+        _ => None,
+    }
+}
+
 /// Finds the calls of this kind by their items, which are below `items`. It takes memory in proportion to the items.
-#[tactic(auto, using(crate::proofs::Tables::tabled_twice, crate::proofs::Tables::did_here))]
+#[tactic(auto, using(crate::proofs::Tables::tabled_twice, crate::proofs::Tables::did_here, crate::proofs::Tables::stray_past))]
 pub fn find(alloc: Global, calls: &[Call], items: usize, kind: Kind) -> Result<Found, AllocError>
-    ensures { IfOk result (IsFound calls.now kind) }
+    ensures found { IfOk result (IsFound calls.now kind) }
+    ensures past { IfOk result (IsPast items calls.now kind) }
 {
     let mut table = vec![in alloc; None; items]?;
     for (place, call) in calls.iter().enumerate() {

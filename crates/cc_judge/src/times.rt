@@ -1,13 +1,16 @@
 //! When each call of a log may be placed in an order. Nothing is asked of it here but that it is safe and ends.
 //!
-//! Moments are twice the times: a call may be placed from twice its begin to twice its end and one. If the log has its closes,
-//! the queue is closed at a moment as late as may be, twice the least end of a call that shows it closed. Sends that found the
-//! queue open are placed by then, and calls that were answered that it is closed after that.
+//! Moments are twice the times, or twice their ranks if the times are too far apart: a call may be placed from the moment of its begin
+//! to that after the moment of its end. If the log has its closes, the queue is closed at a moment as late as may be, that of the least
+//! end of a call that shows it closed. Sends that found the queue open are placed by then, and calls that were answered that it is
+//! closed after that.
 
 ghost use Rattle.std.specs.Prelude.{◌≡◌};
 
-use crate::faults::{Index, shows_closed};
+use crate::faults::Index;
+use crate::shutting::shut_of;
 use crate::{Act, Call, Rules, Tie};
+use std::alloc::{AllocError, Global};
 
 /// A moment after all calls.
 pub const NEVER: u64 = u64::MAX;
@@ -26,6 +29,8 @@ pub struct View<'a> {
     pub ties: &'a [Tie],
     /// The first begin.
     first: u64,
+    /// The sorted times, if they are too far apart.
+    ranks: &'a [u64],
     /// The moment at which the queue is closed, if it has to be.
     closed: Option<u64>,
     /// The close that closes it.
@@ -61,33 +66,46 @@ pub fn first_close(calls: &[Call]) -> Option<usize> {
     }
 }
 
-/// The call that shows first that the queue is closed: of those that returned the one that ended first.
-pub fn first_closed(calls: &[Call]) -> Option<usize> {
-    let mut first: Option<(u64, usize)> = None;
-    for (place, call) in calls.iter().enumerate() {
-        if let (true, Some(end)) = (shows_closed(call.act), call.end) {
-            let earlier = match first {
-                Some((least, _)) => end < least,
-                None => true,
-            };
-            if earlier {
-                first = Some((end, place));
-            }
+/// Times that are closer than this have distinct doubles.
+const FAR: u64 = 1 << 62;
+
+/// The sorted times of a log, if they are too far apart to be doubled, and else none. Then it takes memory in proportion to the log.
+pub fn ranks_of(alloc: Global, calls: &[Call]) -> Result<Vec<u64>, AllocError> {
+    let (first, mut last) = (first_begin(calls), 0u64);
+    for call in calls {
+        last = last.max(call.begin).max(call.end.unwrap_or(0));
+    }
+    let mut times = Vec::new(alloc);
+    if last.saturating_sub(first) < FAR {
+        return Ok(times);
+    }
+    for call in calls {
+        times.push(call.begin)?;
+        if let Some(end) = call.end {
+            times.push(end)?;
         }
     }
-    match first {
-        Some((_, place)) => Some(place),
-        None => None,
-    }
+    times.sort()?;
+    Ok(times)
 }
 
-/// Twice a time, from the first begin on.
-fn twice(first: u64, time: u64) -> u64 {
-    time.saturating_sub(first).saturating_mul(2)
+/// The moment of a time: twice its distance from the first begin, or twice its rank.
+fn twice(ranks: &[u64], first: u64, time: u64) -> u64 {
+    let moment = if ranks.is_empty() {
+        time.saturating_sub(first)
+    } else {
+        ranks.partition_point(|other| *other < time) as u64
+    };
+    moment.saturating_mul(2)
 }
 
 /// A log, with what its calls' moments depend on.
-pub fn view_of<'a>(rules: &'a Rules, calls: &'a [Call], index: &'a Index) -> View<'a>
+pub fn view_of<'a>(
+    rules: &'a Rules,
+    calls: &'a [Call],
+    index: &'a Index,
+    ranks: &'a [u64],
+) -> View<'a>
     ensures calls { result.calls.now ≡ calls.now }
     ensures index { result.index.now ≡ index.now }
 {
@@ -97,18 +115,15 @@ pub fn view_of<'a>(rules: &'a Rules, calls: &'a [Call], index: &'a Index) -> Vie
         index,
         ties: rules.ties.as_slice(),
         first,
-        closed: closed_at(rules, calls, index, first),
+        ranks,
+        closed: closed_at(rules, calls, ranks, first),
         close: first_close(calls),
     }
 }
 
 /// The moment at which the queue is closed, if it has to be.
-fn closed_at(rules: &Rules, calls: &[Call], index: &Index, first: u64) -> Option<u64> {
-    if !rules.closes {
-        return None;
-    }
-    let call = calls.get(index.closed?).copied()?;
-    Some(twice(first, call.end?))
+fn closed_at(rules: &Rules, calls: &[Call], ranks: &[u64], first: u64) -> Option<u64> {
+    Some(twice(ranks, first, shut_of(rules, calls)?.time))
 }
 
 impl<'a> View<'a> {
@@ -128,7 +143,7 @@ impl<'a> View<'a> {
 
     /// From when on a call may be placed.
     pub fn begin(&self, place: usize, call: &Call) -> u64 {
-        let moment = twice(self.first, call.begin);
+        let moment = twice(self.ranks, self.first, call.begin);
         match (call.act, self.closed) {
             (Act::Closed | Act::Ended, Some(closed)) => moment.max(closed.saturating_add(1)),
             (Act::Close, Some(closed)) if self.close != Some(place) => {
@@ -141,7 +156,7 @@ impl<'a> View<'a> {
     /// By when a call that returned has to be placed.
     pub fn end(&self, call: &Call) -> u64 {
         let moment = match call.end {
-            Some(end) => twice(self.first, end).saturating_add(1),
+            Some(end) => twice(self.ranks, self.first, end).saturating_add(1),
             None => NEVER,
         };
         match (call.act, self.closed) {

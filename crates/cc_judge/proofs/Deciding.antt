@@ -1,0 +1,18 @@
+-- What the verdict on a log rests on: no log without ties, of items that differ and are below a number, is left undecided.
+use Rattle.std.proofs.Common.{ℕ, ◌<◌, ◌≤◌, List, Option, Some, None, Result, Ok, Err, IfOk, IfNone, arith}
+use Rattle.cc_judge.specs.Names.{Call, Kind}
+use Rattle.cc_judge.specs.Faults.{Did}
+use Rattle.cc_judge.specs.Table.{act_of}
+
+-- no item is past the number that all are below
+pub none_past : (calls : List Call) (items place : ℕ) (kind : Kind) → ((item : ℕ) × Did calls place (act_of kind item)) → ((item : ℕ) → Did calls place (act_of kind item) → items ≤ item) → ((item : ℕ) → Did calls place (act_of kind item) → item < items) → ⊥
+none_past calls items place kind (item, did) past below =
+    let le = past item did in
+    let less = below item did in
+    omega (arith, le, less)
+
+-- what holds if none was found may be weakened
+pub ok_none : {X E : Type 0} (P Q : Type 0) (r : Result (Option X) E) → IfOk r (λ found. IfNone found P) → (P → Q) → IfOk r (λ found. IfNone found Q)
+ok_none P Q (Ok None) p f = f p
+ok_none P Q (Ok (Some x)) p f = p
+ok_none P Q (Err e) p f = p
