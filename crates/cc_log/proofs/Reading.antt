@@ -4,7 +4,7 @@ use Rattle.std.specs.Result.{IsErrAnd}
 use Rattle.std.specs.HashMap.{keys}
 use Rattle.std.proofs.lemmas.Bool.{lt-ltb}
 use Rattle.cc_log.specs.Names.{Call, Ending, LineFault, Log, LogFault, Options, State, Window}
-use Rattle.cc_log.specs.Answers.{Gives, IsLongLine, Refuses}
+use Rattle.cc_log.specs.Answers.{Gives, GivesOfInput, IsLongLine, Refuses, RefusesInput}
 use Rattle.cc_log.specs.Lines.{GivesLine, HasInput, HasLines, IsAhead, IsSound, IsTooLong, held, is_blank, line_limit, lines_of}
 use Rattle.cc_log.specs.declared.lines.Lines.{Lines}
 use Rattle.cc_judge.specs.Late.{padded}
@@ -45,12 +45,26 @@ pub record Due {A V : Type 0} (left : Option (List ℕ)) (value : A → V) (resu
   pub has : HasInput left input
   pub gives : Gives value result (due input)
 
+-- what is refused of an input is no failed read
+of_input : {V : Type 0} (left : Option (List ℕ)) (due : List ℕ → Result V Refusal) (fault : LogFault) → (input : List ℕ) × HasInput left input × Refuses fault (due input) → RefusesInput left fault due
+of_input left due (LogFault.Line line fault) h = h
+of_input left due (LogFault.Key line key) h = h
+of_input left due (LogFault.Clash line fault last) h = h
+of_input left due (LogFault.SentTwice first second item) h = h
+of_input left due LogFault.Empty h = h
+of_input left due LogFault.Read h = tt
+of_input left due LogFault.Memory h = h
+
+given : {A V : Type 0} (left : Option (List ℕ)) (value : A → V) (due : List ℕ → Result V Refusal) (result : Result A LogFault) (input : List ℕ) → HasInput left input → Gives value result (due input) → GivesOfInput value left result due
+given left value due (Ok x) input has gives = (input, has, gives)
+given left value due (Err fault) input has gives = of_input left due fault (input, has, gives)
+
 -- no further line
 pub at_end : (left_first left : Option (List ℕ)) (l : Lines) (known : Known) (number : ℕ) (options : Options) (result : Result Log LogFault) → HasLines l left [] [] → ((after : List ℕ) → IsAhead l left after → Leads options left_first known number after)
-    → Gives log_view result (if_some options.skew known) → (input : List ℕ) × HasInput left_first input × Gives log_view result (log_of options input)
+    → Gives log_view result (if_some options.skew known) → GivesOfInput log_view left_first result (log_of options)
 at_end left_first left l known number options result none leads gives =
     let h = leads none.text none.ahead in
-    (h.input, h.has, subst (λ r. Gives log_view result (r >>= if_some options.skew)) (sym (h.same ∙ ap (λ lines. with_lines known number lines) none.lines_are)) gives)
+    given left_first log_view (log_of options) result h.input h.has (subst (λ r. Gives log_view result (r >>= if_some options.skew)) (sym (h.same ∙ ap (λ lines. with_lines known number lines) none.lines_are)) gives)
 
 -- a refused line
 pub refused_line : (left_first left : Option (List ℕ)) (l : Lines) (known : Known) (number : ℕ) (options : Options) (line : List ℕ) (rest : List (List ℕ)) (fault : LogFault) → HasLines l left [] (line ∷ rest)
@@ -68,7 +82,7 @@ long_refused : (known : Known) (number : ℕ) (line : List ℕ) → line_limit <
 long_refused known number line long = ap (λ b. if b then Err (bad_line number LineFault.TooLong) else (if is_blank line then Ok known else (tree_of number line >>= with_tree known number))) (lt-ltb line_limit (length line) long)
 
 pub long_line : (left_first left : Option (List ℕ)) (l : Lines) (known : Known) (number : ℕ) (options : Options) (fault : LogFault) → IsLongLine number (IsTooLong l left) fault
-    → ((after : List ℕ) → IsAhead l left after → Leads options left_first known number after) → (input : List ℕ) × HasInput left_first input × Refuses fault (log_of options input)
+    → ((after : List ℕ) → IsAhead l left after → Leads options left_first known number after) → RefusesInput left_first fault (log_of options)
 long_line left_first left l known number options (LogFault.Line line fault) long leads =
     let t = long.2 in
     refused_line left_first left l known number options t.line t.rest (LogFault.Line line fault) t.has_lines leads
@@ -77,23 +91,23 @@ long_line left_first left l known number options (LogFault.Key line key) long le
 long_line left_first left l known number options (LogFault.Clash line fault last) long leads = absurd long
 long_line left_first left l known number options (LogFault.SentTwice first second item) long leads = absurd long
 long_line left_first left l known number options LogFault.Empty long leads = absurd long
-long_line left_first left l known number options LogFault.Read long leads = let i = some_input left_first in (i.0, i.1, tt)
+long_line left_first left l known number options LogFault.Read long leads = tt
 long_line left_first left l known number options LogFault.Memory long leads = let i = some_input left_first in (i.0, i.1, tt)
 
 -- a line that was refused after it was read
 pub line_refused : (left_first left_old left_new : Option (List ℕ)) (old new : Lines) (known : Known) (number : ℕ) (options : Options) (line : List ℕ) (fault : LogFault) → IsSound new left_new → GivesLine old new left_old left_new line
-    → ((after : List ℕ) → IsAhead old left_old after → Leads options left_first known number after) → Refuses fault (with_line known number line) → (input : List ℕ) × HasInput left_first input × Refuses fault (log_of options input)
+    → ((after : List ℕ) → IsAhead old left_old after → Leads options left_first known number after) → Refuses fault (with_line known number line) → RefusesInput left_first fault (log_of options)
 line_refused left_first left_old left_new old new known number options line fault sound gives leads refuses =
     let some = some_ahead new left_new sound in
-    refused_line left_first left_old old known number options line (lines_of some.0) fault (gives some.0 some.1) leads refuses
+    of_input left_first (log_of options) fault (refused_line left_first left_old old known number options line (lines_of some.0) fault (gives some.0 some.1) leads refuses)
 
 -- a fault that was passed on
 pub passed_on : {A V : Type 0} (left : Option (List ℕ)) (value : A → V) (due : List ℕ → Result V Refusal) (result : Result A LogFault) (fault : LogFault) → IsErrAnd result (λ f. f ≡ fault)
-    → (input : List ℕ) × HasInput left input × Refuses fault (due input) → (input : List ℕ) × HasInput left input × Gives value result (due input)
+    → RefusesInput left fault due → GivesOfInput value left result due
 passed_on left value due (Ok x) fault h refused = absurd h
-passed_on left value due (Err f) fault h refused = (refused.0, refused.1, subst (λ x. Refuses x (due refused.0)) (sym h) refused.2)
+passed_on left value due (Err f) fault h refused = subst (λ x. RefusesInput left x due) (sym h) refused
 
-pub no_memory : {V : Type 0} (left : Option (List ℕ)) (due : List ℕ → Result V Refusal) → (input : List ℕ) × HasInput left input × Refuses LogFault.Memory (due input)
+pub no_memory : {V : Type 0} (left : Option (List ℕ)) (due : List ℕ → Result V Refusal) → RefusesInput left LogFault.Memory due
 no_memory left due = let i = some_input left in (i.0, i.1, tt)
 
 -- ---- the log of all lines

@@ -26,7 +26,7 @@ refused_first (LogFault.Key line key) due next h = ap (λ r. r >>= next) h
 refused_first (LogFault.Clash line fault last) due next h = ap (λ r. r >>= next) h
 refused_first (LogFault.SentTwice first second item) due next h = ap (λ r. r >>= next) h
 refused_first LogFault.Empty due next h = ap (λ r. r >>= next) h
-refused_first LogFault.Read due next h = tt
+refused_first LogFault.Read due next h = absurd h
 refused_first LogFault.Memory due next h = tt
 
 pub refused_next : {A B : Type 0} (fault : LogFault) (due : Result A Refusal) (x : A) (next : A → Result B Refusal) → due ≡ Ok x → Refuses fault (next x) → Refuses fault (due >>= next)

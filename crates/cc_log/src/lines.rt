@@ -1,8 +1,8 @@
 //! The lines of an input, one after another.
-ghost use Rattle.std.specs.Prelude.{◌≡◌, ◌<◌, ◌≤◌, ◌-◌, ◌^◌, ◌++◌, ℕ, List, [], true, false, length, IfOk, IfErr, IfSome, IfNone, OnOk};
+ghost use Rattle.std.specs.Prelude.{◌≡◌, ◌<◌, ◌≤◌, ◌+◌, ◌-◌, ◌^◌, ◌++◌, ℕ, List, [], true, false, length, IfOk, IfErr, IfSome, IfNone, OnErr, OnOk};
 ghost use Rattle.std.specs.Bool.{OnTrue, OnFalse};
 ghost use Rattle.cc_log.specs.Lines.{GivesLine, HasLines, HasNoNewline, IsNewline, IsSound, IsTooLong, Passes, held, line_limit, lines_after, lines_if};
-ghost use Rattle.cc_log.specs.Answers.{IsLongLine};
+ghost use Rattle.cc_log.specs.Answers.{IsLongLine, failed_reads};
 ghost use Rattle.cc_log.specs.Names.{LogFault};
 
 use crate::fault::{LineFault, LogFault};
@@ -81,6 +81,7 @@ impl Lines {
         ensures sound { OnOk result (IsSound self.new (R.bytes_left source.new)) }
         ensures passes { OnOk result ((begun : List ℕ) → Passes self.old self.new (R.bytes_left source.old) (R.bytes_left source.new) begun begun) }
         ensures fault { IfErr result (λ fault. fault ≡ LogFault.Read) }
+        ensures failed { OnErr result (R.read_failures source.new ≡ R.read_failures source.old + 1) }
     {
         match source.read_some(&mut self.chunk) {
             Ok(n) => {
@@ -108,6 +109,7 @@ impl Lines {
         ensures short { IfOk result (λ more. length line.new.items ≤ line_limit) }
         ensures none { IfOk result (λ more. OnFalse more (HasLines self.old (R.bytes_left source.old) [] [])) }
         ensures fault { IfErr result (IsLongLine number (IsTooLong self.old (R.bytes_left source.old))) }
+        ensures counted { R.read_failures source.new ≡ R.read_failures source.old + failed_reads result }
     {
         line.clear();
         for _ in 0..u64::MAX {

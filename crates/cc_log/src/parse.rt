@@ -1,8 +1,7 @@
 //! The log that the lines of an input spell.
-ghost use Rattle.std.specs.Prelude.{◌≡◌, ◌<◌, ◌-◌, ◌^◌, ◌||◌, ℕ, List, [], false, None, IfOk, is_some, slice_get};
+ghost use Rattle.std.specs.Prelude.{◌≡◌, ◌<◌, ◌+◌, ◌-◌, ◌^◌, ◌||◌, [], false, None, IfOk, is_some, slice_get};
 ghost use Rattle.cc_judge.specs.Late.{judged_capacity};
-ghost use Rattle.cc_log.specs.Answers.{Gives};
-ghost use Rattle.cc_log.specs.Lines.{HasInput};
+ghost use Rattle.cc_log.specs.Answers.{Gives, GivesOfInput, failed_reads};
 ghost use Rattle.cc_log.specs.Log.{Known, at_first, if_some, is_early, log_of};
 ghost use Rattle.cc_log.specs.Options.{no_options};
 ghost use Rattle.cc_log.specs.State.{Shows, log_view};
@@ -186,8 +185,9 @@ fn finish(alloc: Global, state: State) -> Result<Log, LogFault>
 /// a fault, and its first fault.
 pub fn read_log<R: Source>(alloc: Global, source: &mut R, options: Options) -> Result<Log, LogFault>
     requires { R.read_failures source.old < 2 ^ 64 - 1 }
-    ensures due { (input : List ℕ) × HasInput (R.bytes_left source.old) input × Gives log_view result (log_of options input) }
+    ensures due { GivesOfInput log_view (R.bytes_left source.old) result (log_of options) }
     ensures capacity { IfOk result (λ log. log.rules.capacity ≡ judged_capacity log.part options.capacity) }
+    ensures failures { R.read_failures source.new ≡ R.read_failures source.old + failed_reads result }
 {
     let mut state = at_first(alloc, options);
     let mut lines = Lines::new(alloc)?;

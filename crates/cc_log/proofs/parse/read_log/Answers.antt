@@ -1,10 +1,11 @@
-use Rattle.std.proofs.Common.{◌≡◌, List, [], ℕ, true, false, Ok, rules, subst, arith}
+use Rattle.std.proofs.Common.{◌≡◌, ◌∙◌, List, [], ℕ, true, false, Ok, rules, subst, arith}
 use Rattle.std.specs.Bool.{OnFalse, OnTrue}
 use Rattle.cc_log.specs.Names.{LogFault}
 use Rattle.cc_log.specs.Lines.{GivesLine, HasLines}
 use Rattle.cc_log.specs.Log.{log_of, with_line}
-use Rattle.cc_log.specs.Answers.{Refuses}
+use Rattle.cc_log.specs.Answers.{Refuses, failed_by, failed_reads}
 use Rattle.cc_log.specs.State.{log_view}
+use Rattle.cc_log.proofs.Failed.{failed_on, none_failed, none_failed_in}
 use Rattle.cc_log.proofs.Reading.{at_end, leads_on, line_refused, long_line, no_memory, passed_on}
 use Rattle.cc_log.proofs.parse.read_log.Goals as goal
 
@@ -61,3 +62,32 @@ loop-number-preserved g c =
 
 pub returns-clause-due : goal.returns-clause-due
 returns-clause-due g c = no_memory (g.R.Source.bytes_left c.args.source.now) (log_of c.args.options)
+
+pub returns-in_err-lines-clause-failures : goal.returns-in_err-lines-clause-failures
+returns-in_err-lines-clause-failures g c =
+    let none : failed_reads c.from_residual.result ≡ 0 = failed_on c.from_residual.result LogFault.Memory c.from_residual.ensures.1 in
+    omega (arith, none)
+
+pub returns-in_err-next-clause-failures : goal.returns-in_err-next-clause-failures
+returns-in_err-next-clause-failures g c =
+    let same = c.loop-number.invariant.failures in
+    let counted = c.in_err-next.ensures.counted in
+    let failed : failed_reads c.from_residual-in_err-next.result ≡ failed_by c.in_err-next.field-0.0 = failed_on c.from_residual-in_err-next.result c.in_err-next.field-0.0 c.from_residual-in_err-next.ensures.1 in
+    omega (arith, same, counted, failed)
+
+pub returns-then-not-branch-clause-failures : goal.returns-then-not-branch-clause-failures
+returns-then-not-branch-clause-failures g c =
+    let inv = c.loop-number.invariant in
+    let none : failed_reads c.finish.result ≡ 0 = none_failed_in log_view c.finish.result _ (c.finish.ensures.due c.args.options inv.known inv.shows) in
+    let same = inv.failures in
+    let kept = c.in_ok-next.ensures.failures in
+    omega (arith, none, same, kept)
+
+pub returns-in_err-add_line-clause-failures : goal.returns-in_err-add_line-clause-failures
+returns-in_err-add_line-clause-failures g c =
+    let inv = c.loop-number.invariant in
+    let fault = c.in_err-add_line.field-0.0 in
+    let none : failed_reads c.from_residual-in_err-add_line.result ≡ 0 = failed_on c.from_residual-in_err-add_line.result fault c.from_residual-in_err-add_line.ensures.1 ∙ none_failed fault _ (c.in_err-add_line.ensures c.args.options inv.known inv.shows) in
+    let same = inv.failures in
+    let kept = c.in_ok-next.ensures.failures in
+    omega (arith, none, same, kept)

@@ -1,9 +1,12 @@
-use Rattle.std.proofs.Common.{◌≡◌, ◌<◌, ◌≤◌, List, ℕ, [], true, false, length, refl, sym, subst, ◌∙◌, rules, arith}
+use Rattle.std.proofs.Common.{◌≡◌, ap, ◌<◌, ◌≤◌, List, ℕ, [], true, false, length, refl, sym, subst, ◌∙◌, rules, arith}
 use Rattle.cc_log.specs.Lines.{HasLines, IsAhead, held, line_limit, lines_if}
 use Rattle.cc_log.proofs.Ahead.{gave_out, held_none, last_given, none_given, not_zero, some_ahead, sound_after, then_has, too_long}
 use Rattle.std.proofs.Common.{true≢false}
 use Rattle.std.proofs.lemmas.Bool.{eqb-true}
 use Rattle.std.specs.Bool.{OnFalse}
+use Rattle.cc_log.specs.Answers.{failed_by, failed_reads}
+use Rattle.cc_log.specs.Names.{LogFault}
+use Rattle.cc_log.proofs.Failed.{failed_on}
 use Rattle.cc_log.proofs.lines.Lines.next.Goals as goal
 use Rattle.cc_log.proofs.lines.Lines.next.Goals.{else-self-via-then-self+else-is_empty, else-self-via-else-self}
 
@@ -73,3 +76,16 @@ loop-preserved g c =
           (gave_out c.loop.self c.give_out.new.self left c.loop.line.items c.give_out.new.line.items c.in_ok-found.found out.same.2 out.lines filled.text filled.ahead) in
           record { text = given.text; ahead = given.ahead; lines_are = given.lines_are ∙ filled.lines_are });
     }
+
+pub returns-in_err-found-clause-counted : goal.returns-in_err-found-clause-counted
+returns-in_err-found-clause-counted g c =
+    let none : failed_reads c.from_residual.result ≡ 0 = failed_on c.from_residual.result LogFault.Memory c.from_residual.ensures.1 in
+    let same = c.loop.invariant.failures in
+    omega (arith, none, same)
+
+pub returns-in_err-fill-clause-counted : goal.returns-in_err-fill-clause-counted
+returns-in_err-fill-clause-counted g c =
+    let one : failed_reads c.from_residual-in_err-fill.result ≡ 1 = failed_on c.from_residual-in_err-fill.result c.in_err-fill.field-0.0 c.from_residual-in_err-fill.ensures.1 ∙ ap failed_by c.in_err-fill.ensures.fault in
+    let same = c.loop.invariant.failures in
+    let more = c.in_err-fill.ensures.failed in
+    omega (arith, one, same, more)
