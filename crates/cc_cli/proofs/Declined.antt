@@ -7,7 +7,7 @@ use Rattle.cc_cli.specs.Names.{Form, Options, Task, PlayFault, ShowFault}
 use Rattle.cc_play.specs.Outcome.{line_of}
 use Rattle.cc_show.specs.Show.{shown_line}
 use Rattle.cc_cli.specs.Run.{Declines, Runs}
-use Rattle.cc_cli.proofs.Explained.{no_memory}
+use Rattle.cc_cli.proofs.Explained.{no_memory, without_memory}
 
 kept : (bytes : Option (List ℕ)) → Keeps bytes bytes
 kept None = tt
@@ -19,7 +19,7 @@ module _ (left : Option (List ℕ)) (reads : ℕ) (old new : Option (List ℕ)) 
   unfolding line_of shown_line
   declined name form options (Some Task.Play) faults kind (inl memory) d = let out = subst (Declines old new fails fails_after errors_old errors_new before after status) memory d in (Err PlayFault.NoMemory, out.1, omega arith, omega (arith, out.2), out.0, out.3)
   declined name form options (Some Task.Audit) faults kind (inl memory) d = let out = subst (Declines old new fails fails_after errors_old errors_new before after status) memory d in (Err PlayFault.NoMemory, out.1, omega arith, omega (arith, out.2), out.0, out.3)
-  declined name form options (Some Task.Judge) faults kind (inl memory) d = let out = subst (Declines old new fails fails_after errors_old errors_new before after status) memory d in inl out.0
+  declined name form options (Some Task.Judge) faults kind (inl memory) d = let out = subst (Declines old new fails fails_after errors_old errors_new before after status) memory d in record { due = inl out.0; failures = without_memory reads reads fails fails_after status out.0 refl out.2 }
   declined name form options (Some Task.Why) faults kind (inl memory) d =
       let out = subst (Declines old new fails fails_after errors_old errors_new before after status) memory d in
       no_memory left left reads reads fails fails_after status out.0 refl out.2

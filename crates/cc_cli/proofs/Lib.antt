@@ -1,5 +1,7 @@
 pub mod Lines
 pub mod Declined
+pub mod DriveLine
+pub mod DriveClaims
 pub mod Explained
 pub mod JudgeOptions
 pub mod Judged

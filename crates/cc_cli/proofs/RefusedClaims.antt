@@ -3,9 +3,10 @@ use Rattle.std.proofs.Common.{◌≡◌, arith}
 use Rattle.cc_judge.specs.declared.decide.Verdict.{Verdict}
 use Rattle.cc_cli.specs.Judged.{verdict_status}
 use Rattle.cc_cli.specs.Refused.{RefusedClaims}
+use Rattle.cc_cli.proofs.DriveClaims.{fault_made_up, fault_overlooked, option_ignored}
 
 no_refusal : (verdict : Verdict) → 2 ≡ verdict_status verdict → ⊥
-no_refusal (Verdict.Clean order) is = absurd (omega (arith, is))
+no_refusal Verdict.Clean is = absurd (omega (arith, is))
 no_refusal (Verdict.Fault fault) is = absurd (omega (arith, is))
 no_refusal Verdict.Undecided is = absurd (omega (arith, is))
 
@@ -18,4 +19,9 @@ claims_refused = record {
   read_failure_hidden = λ old new reads fails e. omega (arith, e.failures.counted);
   write_failure_hidden = λ old new reads fails e. omega (arith, e.failures.counted);
   failure_made_up = λ old new reads fails e. omega (arith, e.failures.counted);
+  log_failure_hidden = λ options left reads fails j. omega (arith, j.failures.counted);
+  log_failure_made_up = λ options left reads fails j. omega (arith, j.failures.counted);
+  option_ignored = option_ignored;
+  fault_overlooked = fault_overlooked;
+  fault_made_up = fault_made_up;
 }

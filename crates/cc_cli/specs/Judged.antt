@@ -5,11 +5,12 @@ use Rattle.cc_judge.specs.Verdict.{IsVerdict}
 use Rattle.cc_judge.specs.declared.decide.Verdict.{Verdict}
 use Rattle.cc_log.specs.Lines.{HasInput}
 use Rattle.cc_log.specs.Log.{Refusal, Spelled, log_of}
+use Rattle.cc_cli.specs.Failures.{FailsBy}
 use Rattle.cc_cli.specs.Names.{AnswerFault, Call, LogFault, Options, Rules}
 
 -- the status of a verdict: clean, a fault, or undecided
 abbrev pub verdict_status : Verdict → ℕ
-verdict_status (Verdict.Clean order) = 0
+verdict_status Verdict.Clean = 0
 verdict_status (Verdict.Fault fault) = 1
 verdict_status Verdict.Undecided = 5
 
@@ -18,6 +19,15 @@ abbrev pub told_status : ℕ → Result (Unit {0}) AnswerFault → ℕ
 told_status status (Ok done) = status
 told_status status (Err AnswerFault.Memory) = 3
 told_status status (Err AnswerFault.Write) = 4
+
+-- how many writes failed
+abbrev pub failed_by : AnswerFault → ℕ
+failed_by AnswerFault.Memory = 0
+failed_by AnswerFault.Write = 1
+
+abbrev pub failed_writes : Result (Unit {0}) AnswerFault → ℕ
+failed_writes (Ok done) = 0
+failed_writes (Err fault) = failed_by fault
 
 -- The status is that of a right verdict on the log, in whatever form this was written, or says that memory was refused or a
 -- write failed.
@@ -41,6 +51,11 @@ abbrev pub IsDue : Options → Result Spelled Refusal → ℕ → Type 0
 IsDue options (Ok log) status = (rules : Rules) × (verdict : Verdict) × HasRules options log rules × IsVerdict rules log.calls verdict × (status ≡ verdict_status verdict)
 IsDue options (Err refusal) status = status ≡ 2
 
--- The input of a source was judged: the status is due, or says that memory was refused or that a device failed.
-abbrev pub Judges : Options → (left : Option (List ℕ)) → ℕ → Type 0
-Judges options left status = (status ≡ 3) ⊎ ((status ≡ 4) ⊎ ((input : List ℕ) × HasInput left input × IsDue options (log_of options input) status))
+-- the status is due of an input of the source, or it is 3 or 4
+abbrev pub IsDueOrNone : Options → (left : Option (List ℕ)) → ℕ → Type 0
+IsDueOrNone options left status = (status ≡ 3) ⊎ ((status ≡ 4) ⊎ ((input : List ℕ) × HasInput left input × IsDue options (log_of options input) status))
+
+-- The input of a source was judged: the status is due, or it is 4 exactly if a device failed, or 3 if memory was refused.
+pub record Judges (options : Options) (left : Option (List ℕ)) (reads reads_after fails fails_after status : ℕ) : Type 0 where
+  pub due : IsDueOrNone options left status
+  pub failures : FailsBy reads reads_after fails fails_after status

@@ -1,7 +1,11 @@
 -- Refused claims: for each kind of mistake a claim that the definitions don't admit.
-use Rattle.std.specs.Prelude.{ℕ, ◌≡◌, ◌+◌, true, false, List, [], codes, Option, Some, Ok}
+use Rattle.std.specs.Prelude.{ℕ, ◌≡◌, ◌+◌, true, false, List, [], ◌∷◌, codes, Option, Some, Ok}
+use Rattle.clap.specs.Words.{IsAmong, fault_of}
+use Rattle.clap.specs.declared.error.kind.ErrorKind.{ErrorKind}
+use Rattle.cc_drive.specs.declared.config.DriveConfig.{DriveConfig}
 use Rattle.cc_log.specs.Log.{Spelled}
-use Rattle.cc_cli.specs.Judged.{IsDue}
+use Rattle.cc_cli.specs.Judged.{IsDue, Judges}
+use Rattle.cc_cli.specs.Line.{IsAsked, drive_command}
 use Rattle.cc_cli.specs.Names.{Head, Options}
 use Rattle.cc_cli.specs.Paint.{due_head, wants_colours}
 use Rattle.cc_cli.specs.Why.{Explains}
@@ -24,3 +28,13 @@ pub record RefusedClaims : Type 0 where
   pub write_failure_hidden : (old new : Option (List ℕ)) (reads fails : ℕ) → Refused (Explains old new reads reads fails (fails + 1) 0)
   -- a device failed, and none did
   pub failure_made_up : (old new : Option (List ℕ)) (reads fails : ℕ) → Refused (Explains old new reads reads fails fails 4)
+  -- of a log whose read failed: memory was refused
+  pub log_failure_hidden : (options : Options) (left : Option (List ℕ)) (reads fails : ℕ) → Refused (Judges options left reads (reads + 1) fails fails 3)
+  -- a device failed while a log was judged, and none did
+  pub log_failure_made_up : (options : Options) (left : Option (List ℕ)) (reads fails : ℕ) → Refused (Judges options left reads reads fails fails 4)
+  -- a line with an option asks for the default
+  pub option_ignored : (c : DriveConfig) → Refused (IsAsked (codes "drive" ∷ codes "--senders" ∷ codes "3" ∷ []) c × (c.senders ≡ 4))
+  -- a line with an option that there isn't asks for a drive
+  pub fault_overlooked : (c : DriveConfig) → Refused (IsAsked (codes "drive" ∷ codes "--sender" ∷ []) c)
+  -- a line without a fault may be declined for an unknown word
+  pub fault_made_up : Refused (IsAmong ErrorKind.UnknownArgument (ErrorKind.OutOfMemory ∷ fault_of drive_command (codes "drive" ∷ [])))

@@ -60,7 +60,7 @@ module _ (old new : Option (List ℕ)) (fails fails_after : ℕ) (errors_old err
 
 -- The bytes that a whole line leaves, on its input too, with the number of failed reads. If it asks for a play, an audit or a
 -- run in a form, that is done as far as it goes and its outcome reported, by the name of its input if reading that failed. If it asks for a verdict on a log by these options,
--- the status is that of a right one. If it asks for the place of an input's fault, the status says whether it has one. If it asks for none, nothing is read, and it is declined for a fault that the parser of command lines finds in it, or for lack of memory.
+-- the status is that of a right one, or says that memory was refused or a device failed. If it asks for the place of an input's fault, the status says whether it has one. If it asks for none, nothing is read, and it is declined for a fault that the parser of command lines finds in it, or for lack of memory.
 module _ (left_old left_new : Option (List ℕ)) (reads reads_after : ℕ) (old new : Option (List ℕ)) (fails fails_after : ℕ) (errors_old errors_new : Option (List ℕ)) (before after status : ℕ) where
   abbrev pub Does : (name : List ℕ) → (Option (List ℕ) → Option (List ℕ) → Result Verdict PlayFault → Option (List ℕ) → Option (List ℕ) → Type 0) → Type 0
   Does name Work = (outcome : Result Verdict PlayFault) × Work left_old left_new outcome old new × (reads_after ≡ reads + failed_reads outcome) × (fails_after ≡ fails + failed_writes outcome)
@@ -73,7 +73,7 @@ module _ (left_old left_new : Option (List ℕ)) (reads reads_after : ℕ) (old 
   abbrev pub Runs : (name : List ℕ) → Form → Options → Option Task → Kinds → Type 0
   Runs name form options (Some Task.Play) faults = Does name Plays
   Runs name form options (Some Task.Audit) faults = Does name Audits
-  Runs name form options (Some Task.Judge) faults = Judges options left_old status
+  Runs name form options (Some Task.Judge) faults = Judges options left_old reads reads_after fails fails_after status
   Runs name form options (Some Task.Why) faults = Explains left_old left_new reads reads_after fails fails_after status
   Runs name form options (Some Task.Show) faults = DoesShow name form
   Runs name form options None faults = Keeps left_old left_new × (reads_after ≡ reads)

@@ -1,6 +1,8 @@
 //! The run that a line of a drive asks for.
-ghost use Rattle.std.specs.Prelude.{◌≡◌, IfOk, IfSome, map, string_bytes};
-ghost use Rattle.cc_cli.specs.Line.{IsAsked, IsGiven, asks_to_drive};
+ghost use Rattle.std.specs.Prelude.{◌≡◌, ◌∷◌, IfOk, IfErr, false, map, string_bytes};
+ghost use Rattle.clap.specs.Words.{IsAmong, app_of, fault_of, found_of, kind_of, rows_of, rule_of};
+ghost use Rattle.clap.specs.declared.builder.command.Command.TheViews.{out-Command as fields_of};
+ghost use Rattle.cc_cli.specs.Line.{HasLarge, HasNumbers, HasSmall, IsAsked, IsGiven, IsNumberIn, asks_to_drive, drive_command, number, with_items, with_threads};
 
 use cc_drive::DriveConfig;
 use clap::builder::ValueParser;
@@ -24,32 +26,92 @@ pub fn asks_to_drive(words: &[String]) -> bool
 /// The run that a line asks for: the numbers that its options give, or else their defaults. Its first word is `drive`. Or
 /// why there is no run: help is asked for, a word is wrong, a number is out of its range, or memory was refused.
 pub fn asked(alloc: Global, words: &[String]) -> Result<DriveConfig, Error>
-    ensures { IfOk result IsAsked }
+    ensures asked { IfOk result (IsAsked (map string_bytes words.now)) }
+    ensures declined { IfErr result (λ e. IsAmong (kind_of e) (ErrorKind.OutOfMemory ∷ fault_of drive_command (map string_bytes words.now))) }
 {
-    let mut command = drive_command(alloc)?;
-    let matches = command.try_get_matches_from_mut(words)?;
-    match given(&matches) {
-        Some(config) => Ok(config),
-        None => Err(command.error(ErrorKind::MissingRequiredArgument, "a number is missing")?),
-    }
+    let command = drive_command(alloc)?;
+    let matches = command.try_get_matches_from(words)?;
+    Ok(given(&matches))
 }
 
 /// The run with the numbers that were found for the options. There is one for each, since each has a default.
-fn given(matches: &ArgMatches) -> Option<DriveConfig>
-    ensures { IfSome result (IsGiven matches.now) }
+fn given(matches: &ArgMatches) -> DriveConfig
+    requires { HasNumbers (rows_of (found_of matches.now)) }
+    ensures { IsGiven (rows_of (found_of matches.now)) result }
 {
-    Some(DriveConfig {
-        senders: matches.get_one("senders")?,
-        receivers: matches.get_one("receivers")?,
-        items: matches.get_one("items")?,
-        capacity: matches.get_one("capacity")?,
-        bound: matches.get_one("bound")?,
+    DriveConfig {
+        senders: small(matches, "senders"),
+        receivers: small(matches, "receivers"),
+        items: large(matches, "items"),
+        capacity: small(matches, "capacity"),
+        bound: small(matches, "bound"),
         limit: LIMIT,
-    })
+    }
+}
+
+/// The number of 32 bits that was found for an option.
+fn small(matches: &ArgMatches, option: &str) -> u32
+    requires { HasSmall (rows_of (found_of matches.now)) option.now }
+    ensures { IsNumberIn (rows_of (found_of matches.now)) option.now result }
+{
+    match matches.get_one(option) {
+        Some(number) => number,
+        None => unreachable!(),
+    }
+}
+
+/// The number of 64 bits that was found for an option.
+fn large(matches: &ArgMatches, option: &str) -> u64
+    requires { HasLarge (rows_of (found_of matches.now)) option.now }
+    ensures { IsNumberIn (rows_of (found_of matches.now)) option.now result }
+{
+    match matches.get_one(option) {
+        Some(number) => number,
+        None => unreachable!(),
+    }
 }
 
 /// The command, with its options and the texts of its help.
-fn drive_command<'a>(alloc: Global) -> Result<Command<'a>, AllocError> {
+fn drive_command<'a>(alloc: Global) -> Result<Command<'a>, AllocError>
+    ensures app { IfOk result (λ c. app_of c ≡ drive_command) }
+    ensures local { IfOk result (λ c. (fields_of c).has_globals ≡ false) }
+{
+    with_items(alloc)?
+        .arg(number(
+            alloc,
+            "capacity",
+            value_parser!(u32).range(1..=4096),
+            "64",
+            "Items that may wait in the queue, 1 to 4096",
+        ))?
+        .arg(number(
+            alloc,
+            "bound",
+            value_parser!(u32).range(1..=1024),
+            "8",
+            "Calls that one combiner serves in a row, 1 to 1024",
+        ))
+}
+
+/// The command with the options of its threads and items.
+fn with_items<'a>(alloc: Global) -> Result<Command<'a>, AllocError>
+    ensures app { IfOk result (λ c. app_of c ≡ with_items) }
+    ensures local { IfOk result (λ c. (fields_of c).has_globals ≡ false) }
+{
+    with_threads(alloc)?.arg(number(
+        alloc,
+        "items",
+        value_parser!(u64).range(0..=1_000_000),
+        "1000",
+        "Items that each sender sends, 0 to 1000000",
+    ))
+}
+
+/// The command with the options of its threads.
+fn with_threads<'a>(alloc: Global) -> Result<Command<'a>, AllocError>
+    ensures app { IfOk result (λ c. app_of c ≡ with_threads) }
+    ensures local { IfOk result (λ c. (fields_of c).has_globals ≡ false) }
+{
     Command::new(alloc, "drive")
         .about(
             "Drives a queue by threads that send and threads that take, and audits their receipts",
@@ -69,27 +131,6 @@ fn drive_command<'a>(alloc: Global) -> Result<Command<'a>, AllocError> {
             value_parser!(u32).range(1..=64),
             "4",
             "Threads that take, 1 to 64",
-        ))?
-        .arg(number(
-            alloc,
-            "items",
-            value_parser!(u64).range(0..=1_000_000),
-            "1000",
-            "Items that each sender sends, 0 to 1000000",
-        ))?
-        .arg(number(
-            alloc,
-            "capacity",
-            value_parser!(u32).range(1..=4096),
-            "64",
-            "Items that may wait in the queue, 1 to 4096",
-        ))?
-        .arg(number(
-            alloc,
-            "bound",
-            value_parser!(u32).range(1..=1024),
-            "8",
-            "Calls that one combiner serves in a row, 1 to 1024",
         ))
 }
 
@@ -100,19 +141,17 @@ fn number<'a>(
     range: ValueParser<'a>,
     default: &'a str,
     help: &'a str,
-) -> Arg<'a> {
-    option(alloc, name, help)
-        .value_parser(range)
-        .default_value(default)
-}
-
-/// An option that takes a value.
-fn option<'a>(alloc: Global, name: &'a str, help: &'a str) -> Arg<'a> {
+) -> Arg<'a>
+    ensures rule { rule_of result ≡ number name.entry.now range.entry default.entry.now }
+    ensures local { result.global ≡ false }
+{
     Arg::new(alloc, name)
         .long(name)
         .action(ArgAction::Set)
         .value_name("N")
         .help(help)
+        .value_parser(range)
+        .default_value(default)
 }
 
 const DETAILS: &str = "\

@@ -38,7 +38,7 @@ pub fn run<R: Threads + Wait + Sync, G: Gate + Send + Copy, S: Source + Reasoned
     requires errors { E.write_failures errors.old < 2 ^ 64 - 1 }
 
     ensures drives { OnTrue (asks_to_drive (map string_bytes line.entry.words.now))
-        (Drives (S.bytes_left source.old) (S.bytes_left source.new)
+        (Drives (map string_bytes line.entry.words.now) (S.bytes_left source.old) (S.bytes_left source.new)
         (S.read_failures source.old) (S.read_failures source.new)
         (W.bytes_written sink.old) (W.bytes_written sink.new)
         (W.write_failures sink.old) (W.write_failures sink.new)
@@ -71,7 +71,7 @@ fn answer<R: Threads + Wait + Sync, G: Gate + Send + Copy, W: Sink, E: Sink>(
 ) -> u8
     requires writes { W.write_failures sink.old < 2 ^ 64 - 1 }
     requires errors { E.write_failures errors.old < 2 ^ 64 - 1 }
-    ensures { Answers (W.bytes_written sink.old) (W.bytes_written sink.new)
+    ensures { Answers (map string_bytes words.now) (W.bytes_written sink.old) (W.bytes_written sink.new)
         (W.write_failures sink.old) (W.write_failures sink.new)
         (E.bytes_written errors.old) (E.bytes_written errors.new)
         (E.write_failures errors.old) (E.write_failures errors.new) result }

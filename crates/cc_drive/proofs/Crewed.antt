@@ -45,7 +45,7 @@ are_of z items limit workers passes gave is =
     (row_weaker (SenderGave z items limit) (λ n d. IfSome d.pass (SenderIsBack z items n)) (λ n d gave. gave.0) 0 workers gave)))
 
 -- all of them, if none was refused
-all_started : (senders receivers sending taking : ℕ) (refused : Option Refused) → is_some refused ≡ false → AreStarted senders receivers sending taking refused → (sending ≡ senders) × (taking ≡ receivers)
+pub all_started : (senders receivers sending taking : ℕ) (refused : Option Refused) → is_some refused ≡ false → AreStarted senders receivers sending taking refused → (sending ≡ senders) × (taking ≡ receivers)
 all_started senders receivers sending taking None none all = all
 all_started senders receivers sending taking (Some e) none at = absurd (cc none)
 
@@ -174,7 +174,7 @@ ended_with z c refused ours shut theirs told is e =
     }
 
 -- the threads of both rows, the receivers' first
-both_started : (senders receivers sending taking : ℕ) (first second : Option Refused) → IsStarted None (senders + 1) receivers taking first → IsStarted first 0 senders sending second → AreStarted senders receivers sending taking second
+pub both_started : (senders receivers sending taking : ℕ) (first second : Option Refused) → IsStarted None (senders + 1) receivers taking first → IsStarted first 0 senders sending second → AreStarted senders receivers sending taking second
 both_started senders receivers sending taking None None all all' = (all', all)
 both_started senders receivers sending taking None (Some e) all at = inr (at.0 ∙ omega arith, at.1, all)
 both_started senders receivers sending taking (Some e) second at none = subst (AreStarted senders receivers sending taking) (sym none.1) (inl (at.0, at.1, none.0))

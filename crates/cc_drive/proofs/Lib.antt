@@ -9,6 +9,7 @@ pub mod Pairs
 pub mod Closers
 pub mod Ended
 pub mod Crewed
+pub mod Asked
 pub mod Totals
 pub mod Settled
 pub mod Dealt

@@ -7,4 +7,5 @@ pub mod Crew
 pub mod Ran
 pub mod Jobs
 pub mod Start
+pub mod Asked
 pub mod Refused

@@ -1,7 +1,8 @@
 //! A run: threads that send while threads take, the close, and the audit.
-ghost use Rattle.std.specs.Prelude.{◌≡◌, ◌+◌, MatchResult, Ok, vec_len};
+ghost use Rattle.std.specs.Prelude.{◌≡◌, ◌+◌, MatchResult, Ok, OnOk, vec_len};
 ghost use Rattle.cc_drive.specs.Names.{DriveFault};
 ghost use Rattle.cc_queue.specs.Opened.{HasOpened};
+ghost use Rattle.cc_drive.specs.Asked.{WereAsked, gates_in};
 ghost use Rattle.cc_drive.specs.Config.{drive_fault, queue_of};
 ghost use Rattle.cc_drive.specs.Jobs.{ArePasses, AreReady, IsQueueOf};
 ghost use Rattle.cc_drive.specs.Ran.{Driven, HasNoEnd, HasRun, IsEndOf, IsTold};
@@ -22,7 +23,7 @@ use std::thread::{Scope, Threads, scope, scope_env};
 /// `items` as bodies of one word, each in a thread of its own; after Empty, and after Full, they try again with a back-off.
 /// When all senders are joined, they meet the closer, and it closes; when all receivers are joined too, all passes meet, and
 /// the receipts are audited with the close's total. A worker asks its own gate after each begin and after each answer; there
-/// is one gate for each worker, the senders' first.
+/// is one gate for each worker, the senders' first. If the drive has an end, each worker asked the gate of its place.
 ///
 /// A thread that is refused ends the starting of further ones, and the workers that run go on to their end. So do they if
 /// one of them reaches its limit or finds no memory for a receipt. Each fault has its cause in this run.
@@ -34,7 +35,8 @@ pub fn drive<G: Gate + Send, R: Threads + Wait + Sync>(
     gates: Vec<G>,
 ) -> Result<DriveEnd, DriveFault>
     requires gates { vec_len gates ≡ config.now.senders + config.now.receivers }
-    ensures { Driven (drive_fault config.now) config.now result }
+    ensures driven { Driven (drive_fault config.now) config.now result }
+    ensures asked { OnOk result (WereAsked G.tells gates.items config.now) }
 {
     let of_queue = config.queue()?;
     let opened = Queue::open_checked(alloc, &of_queue)?;
@@ -51,7 +53,8 @@ fn drive_opened<G: Gate + Send, R: Threads + Wait + Sync>(
 ) -> Result<DriveEnd, DriveFault>
     requires gates { vec_len gates ≡ config.now.senders + config.now.receivers }
     requires opened { HasOpened (queue_of config.now) opened }
-    ensures { Driven (Ok tt) config.now result }
+    ensures driven { Driven (Ok tt) config.now result }
+    ensures asked { OnOk result (WereAsked G.tells gates.items config.now) }
 {
     let Opened {
         queue,
@@ -81,7 +84,8 @@ fn deal_and_run<G: Gate + Send, R: Threads + Wait + Sync>(
 ) -> Result<DriveEnd, DriveFault>
     requires gates { vec_len gates ≡ config.now.senders + config.now.receivers }
     requires passes { ArePasses queue.now config.now passes }
-    ensures { Driven (Ok tt) config.now result }
+    ensures driven { Driven (Ok tt) config.now result }
+    ensures asked { OnOk result (WereAsked G.tells gates.items config.now) }
 {
     let Passes {
         closer,
@@ -108,7 +112,8 @@ fn run_and_settle<G: Gate + Send, R: Threads + Wait + Sync>(
     workers: Workers<G>,
 ) -> Result<DriveEnd, DriveFault>
     requires ready { AreReady queue.now config.now workers }
-    ensures { Driven (Ok tt) config.now result }
+    ensures driven { Driven (Ok tt) config.now result }
+    ensures asked { OnOk result (WereAsked G.tells (gates_in workers) config.now) }
 {
     let ran = run(rt, alloc, queue, config, workers)?;
     settle(alloc, queue, ran)
@@ -124,7 +129,8 @@ fn run<G: Gate + Send, R: Threads + Wait + Sync>(
     workers: Workers<G>,
 ) -> Result<Ran, DriveFault>
     requires ready { AreReady queue.now config.now workers }
-    ensures { MatchResult result (HasRun queue.now config.now) (HasNoEnd config.now) }
+    ensures run { MatchResult result (HasRun queue.now config.now) (HasNoEnd config.now) }
+    ensures asked { OnOk result (WereAsked G.tells (gates_in workers) config.now) }
 {
     let config = *config;
     scope(
@@ -132,7 +138,8 @@ fn run<G: Gate + Send, R: Threads + Wait + Sync>(
         rt,
         move |scope| -> Result<Ran, DriveFault>
             requires ready { AreReady queue.now config workers }
-            ensures { MatchResult result (HasRun queue.entry.now config) (IsTold queue.entry.now config) }
+            ensures run { MatchResult result (HasRun queue.entry.now config) (IsTold queue.entry.now config) }
+            ensures asked { OnOk result (WereAsked G.tells (gates_in workers) config) }
         { run_in(scope, rt, alloc, queue, config, workers) },
     )
 }
@@ -147,7 +154,8 @@ fn run_in<'s, E, G: Gate + Send + 's, R: Threads + Wait + Sync + 's>(
     workers: Workers<G>,
 ) -> Result<Ran, DriveFault>
     requires ready { AreReady queue.now config workers }
-    ensures { MatchResult result (HasRun queue.now config) (IsTold queue.now config) }
+    ensures run { MatchResult result (HasRun queue.now config) (IsTold queue.now config) }
+    ensures asked { OnOk result (WereAsked G.tells (gates_in workers) config) }
 {
     let Workers {
         closer,

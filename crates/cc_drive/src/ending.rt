@@ -1,14 +1,16 @@
 //! The end of a run: its threads are joined, its queue is closed, and its result is made.
-ghost use Rattle.std.specs.Prelude.{ℕ, [], ◌≡◌, ◌+◌, ◌<◌, ◌≤◌, ◌^◌, ◌&&◌, IfOk, IfErr, is_some, vec_len, vec_capacity};
+ghost use Rattle.std.specs.Prelude.{ℕ, List, [], ◌≡◌, ◌+◌, ◌<◌, ◌≤◌, ◌^◌, ◌&&◌, IfOk, IfErr, OnOk, None, false, is_some, map, vec_len, vec_capacity};
 ghost use Rattle.std.specs.List.{All};
 ghost use Rattle.cc_steps.specs.Topic.{Topic};
-ghost use Rattle.cc_steps.specs.Walk.{IsOf};
+ghost use Rattle.cc_steps.specs.Walk.{IsOf, Walk};
+ghost use Rattle.cc_drive.specs.Asked.{ReceiversAsked, SendersAsked};
+ghost use Rattle.cc_drive.specs.declared.jobs.WorkerJob.{WorkerJob};
 ghost use Rattle.cc_drive.specs.Names.{Brief, DriveFault};
 ghost use Rattle.cc_drive.specs.Back.{SenderGave, ReceiverGave};
 ghost use Rattle.cc_drive.specs.Config.{queue_of};
 ghost use Rattle.cc_drive.specs.Crew.{IsCrew, IsRoomFor};
 ghost use Rattle.cc_drive.specs.Ran.{HasClosed, HasEnded, HasRun, IsTold, due};
-ghost use Rattle.cc_drive.specs.Row.{InRow};
+ghost use Rattle.cc_drive.specs.Row.{InRow, InRowWith};
 
 use crate::closing::close_after;
 use crate::config::{DriveConfig, DriveFault};
@@ -78,6 +80,7 @@ pub fn join_senders<G: Gate + Send, R: Threads>(
     requires few { vec_len sending.handles < 2 ^ 32 }
     requires room { IsRoomFor (vec_len sending.handles) room }
     ensures back { (z : Topic) (b : Brief) → InRow (λ n h. (h.promise.queue.value ≡ z) × (h.promise.brief ≡ b) × (h.promise.row ≡ n)) 0 sending.handles.items → IsCrew (SenderGave z b.items b.limit) 0 0 (vec_len sending.handles) result.passes.items result }
+    ensures asked { (z : Topic) (b : Brief) (jobs : List (WorkerJob Walk G)) → InRowWith (λ n h j. (h.promise.queue.value ≡ z) × (h.promise.brief ≡ b) × (h.promise.row ≡ n) × (h.promise.worker.value ≡ j)) 0 sending.handles.items jobs → SendersAsked G.tells z b.items b.limit (vec_len sending.handles) result.limited (map (λ j. j.gate) jobs) }
     ensures room { vec_len result.passes < vec_capacity result.passes }
 {
     let Room { done, passes } = room;
@@ -95,7 +98,8 @@ pub fn join_receivers<G: Gate + Send, R: Threads>(
 ) -> Crew<Receiver, TakeReceipt>
     requires few { senders + vec_len taking.handles < 2 ^ 32 }
     requires room { IsRoomFor (vec_len taking.handles) room }
-    ensures { (z : Topic) (b : Brief) → InRow (λ n h. (h.promise.queue.value ≡ z) × (h.promise.brief ≡ b) × (h.promise.row ≡ n)) (senders + 1) taking.handles.items → IsCrew (ReceiverGave z b.limit) (senders + 1) senders (vec_len taking.handles) result.passes.items result }
+    ensures asked { (z : Topic) (b : Brief) (jobs : List (WorkerJob Walk G)) → InRowWith (λ n h j. (h.promise.queue.value ≡ z) × (h.promise.brief ≡ b) × (h.promise.row ≡ n) × (h.promise.worker.value ≡ j)) (senders + 1) taking.handles.items jobs → ReceiversAsked G.tells z b.limit (senders + 1) senders (vec_len taking.handles) result.limited (map (λ j. j.gate) jobs) }
+    ensures back { (z : Topic) (b : Brief) → InRow (λ n h. (h.promise.queue.value ≡ z) × (h.promise.brief ≡ b) × (h.promise.row ≡ n)) (senders + 1) taking.handles.items → IsCrew (ReceiverGave z b.limit) (senders + 1) senders (vec_len taking.handles) result.passes.items result }
 {
     let Room { done, passes } = room;
     let done = join_all(rt, taking.handles, done);
@@ -114,7 +118,8 @@ pub fn close_behind(
     requires closer { IsOf queue.now closer }
     requires senders { All (IsOf queue.now) sent.passes.items }
     requires room { vec_len sent.passes < vec_capacity sent.passes }
-    ensures { (count : ℕ) → IsCrew (SenderGave queue.now brief.items brief.limit) 0 0 count sent.passes.items sent → HasClosed queue.now brief closer count result.0 result.1 }
+    ensures limited { result.0.limited ≡ sent.limited }
+    ensures closed { (count : ℕ) → IsCrew (SenderGave queue.now brief.items brief.limit) 0 0 count sent.passes.items sent → HasClosed queue.now brief closer count result.0 result.1 }
 {
     let mut sent = sent;
     match close_after(alloc, queue, brief.limit, closer, &mut sent.passes) {
@@ -137,6 +142,7 @@ pub fn ran_of(
     requires few { config.senders + config.receivers < 2 ^ 16 }
     ensures run { (z : Topic) → z.setting.config ≡ queue_of config → HasEnded z config refused sent closed taken → IfOk result (HasRun z config) }
     ensures told { (z : Topic) → HasEnded z config refused sent closed taken → IfErr result (IsTold z config) }
+    ensures free { OnOk result ((is_some refused ≡ false) × (sent.limited ≡ None) × (taken.limited ≡ None)) }
 {
     let is_refused = refused.is_some();
     let is_closed = closed.is_some();

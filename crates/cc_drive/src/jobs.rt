@@ -1,6 +1,6 @@
 //! The work of each thread: a pass, its number and its gate.
 
-ghost use Rattle.std.specs.Prelude.{◌≡◌, ◌+◌, ◌<◌, ◌≤◌, ◌^◌, map, IfOk, OnOk, vec_len};
+ghost use Rattle.std.specs.Prelude.{◌≡◌, ◌+◌, ◌++◌, ◌<◌, ◌≤◌, ◌^◌, map, IfOk, OnOk, vec_len};
 ghost use Rattle.cc_drive.specs.Row.{InRow};
 
 use crate::gate::Gate;
@@ -91,6 +91,7 @@ pub fn deal<P: Drop, G: Gate>(
     requires few { vec_len passes < 2 ^ 16 }
     ensures passes { IfOk result (λ v. map (λ j. j.pass) v.items ≡ passes.items) }
     ensures numbers { IfOk result (λ v. InRow (λ n j. j.number ≡ n) 1 v.items) }
+    ensures dealt { IfOk result (λ v. map (λ j. j.gate) v.items ++ gates.new.items ≡ gates.old.items) }
     ensures gates { OnOk result (vec_len gates.new + vec_len passes ≡ vec_len gates.old) }
 {
     let mut jobs = Vec::new(alloc);

@@ -26,6 +26,7 @@ pub(crate) fn start<'s, E, J: Worker + 's, R: Wait + Sync + 's>(
 ) -> Result<PromisedHandle<J::Done, WorkOf<J>>, Refused>
     requires { J.is_ready queue.now row worker }
     ensures promised { IfOk result (λ h. (h.promise.queue.value ≡ queue.now) × (h.promise.brief ≡ brief) × (h.promise.row ≡ row)) }
+    ensures worker { IfOk result (λ h. h.promise.worker.value ≡ worker) }
     ensures refused { IfErr result (λ e. e.row ≡ row) }
 {
     let promise = work_of::<J>(queue, brief, row, &worker);

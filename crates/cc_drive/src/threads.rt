@@ -1,8 +1,8 @@
 //! Workers in threads: starting them in a row, and joining them.
-ghost use Rattle.std.specs.Prelude.{ℕ, [], ◌≡◌, ◌+◌, ◌<◌, ◌≤◌, ◌^◌, vec_len, vec_capacity};
+ghost use Rattle.std.specs.Prelude.{ℕ, List, [], ◌≡◌, ◌+◌, ◌<◌, ◌≤◌, ◌^◌, vec_len, vec_capacity};
 ghost use Rattle.cc_steps.specs.Topic.{Topic};
 ghost use Rattle.cc_drive.specs.Names.{Brief};
-ghost use Rattle.cc_drive.specs.Row.{InRow};
+ghost use Rattle.cc_drive.specs.Row.{InRow, InRowWith};
 ghost use Rattle.cc_drive.specs.Start.{IsStarted};
 
 use crate::starting::{Refused, start};
@@ -98,6 +98,7 @@ pub fn start_all<'s, E, J: Worker + 's, R: Wait + Sync + 's>(
     requires none { row.handles.items ≡ [] }
     requires room { vec_len row.workers ≤ vec_capacity row.handles }
     ensures promised { InRow (λ n h. (h.promise.queue.value ≡ queue.now) × (h.promise.brief ≡ brief) × (h.promise.row ≡ n)) row.first result.handles.items }
+    ensures workers { InRowWith (λ n h j. (h.promise.queue.value ≡ queue.now) × (h.promise.brief ≡ brief) × (h.promise.row ≡ n) × (h.promise.worker.value ≡ j)) row.first result.handles.items row.workers.items }
     ensures started { IsStarted before row.first (vec_len row.workers) (vec_len result.handles) result.refused }
 {
     let Row {
@@ -134,8 +135,8 @@ pub fn start_all<'s, E, J: Worker + 's, R: Wait + Sync + 's>(
     }
 }
 
-/// Waits for the end of each of these threads. For each queue and place that they may have been promised for, each result is
-/// that of a worker at its place.
+/// Waits for the end of each of these threads. For each queue, place and workers that they may have been promised for, each
+/// result is that of the worker at its place.
 pub fn join_all<R: Threads, J: Worker>(
     rt: &R,
     handles: Vec<PromisedHandle<J::Done, WorkOf<J>>>,
@@ -144,6 +145,7 @@ pub fn join_all<R: Threads, J: Worker>(
     requires none { done.items ≡ [] }
     requires room { vec_len handles ≤ vec_capacity done }
     ensures gives { (z : Topic) (b : Brief) (first : ℕ) → InRow (λ n h. (h.promise.queue.value ≡ z) × (h.promise.brief ≡ b) × (h.promise.row ≡ n)) first handles.items → InRow (λ n d. (j : J) × J.gives z b n j d) first result.items }
+    ensures by_worker { (z : Topic) (b : Brief) (first : ℕ) (workers : List J) → InRowWith (λ n h j. (h.promise.queue.value ≡ z) × (h.promise.brief ≡ b) × (h.promise.row ≡ n) × (h.promise.worker.value ≡ j)) first handles.items workers → InRowWith (λ n d j. J.gives z b n j d) first result.items workers }
     ensures len { vec_len result ≡ vec_len handles }
 {
     let mut done = done;

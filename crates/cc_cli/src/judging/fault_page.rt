@@ -146,7 +146,7 @@ const stays = fault.stays || [];
 const named = [...new Set([fault.take, fault.send, fault.first, fault.second, fault.closed, fault.call, ...(fault.sends || []), ...stays.flatMap(stay => [...stay.sends, stay.take, stay.next, stay.closed])].filter(Number.isInteger))];
 const items = new Set(named.map(number => at.get(number)).filter(Boolean).map(its).filter(value => value !== null));
 const role = call => (named.includes(call.line) ? 'fault' : its(call) !== null && items.has(its(call)) ? 'same' : '');
-const left = stay => (stay.sends.length > 1 ? 'one of ' + list(stay.sends.map(of), 'and') : of(stay.sends.length ? stay.sends[0] : stay.take));
+const left = stay => (stay.sends.length > 1 ? 'one of ' + list([...stay.sends.map(of), ...(stay.more ? [stay.more + ' others'] : [])], 'and') : of(stay.sends.length ? stay.sends[0] : stay.take));
 // An item whose send hadn't ended may count since the queue was closed.
 const sent = stay => left(stay) + (stay.closed ? ', sent before the queue was closed (' + line(stay.closed) + '),' : '');
 const until = stay => (stay.take ? 'until ' + line(stay.take) + ' began to take it' : stay.next ? 'at least until ' + line(stay.next) + ' began' : 'to the end, since no call took it');

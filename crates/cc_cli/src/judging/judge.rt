@@ -1,7 +1,7 @@
 //! Judging the log on an input.
-ghost use Rattle.std.specs.Prelude.{◌≡◌, ◌⊎◌, ◌<◌, ◌-◌, ◌^◌, IfOk};
+ghost use Rattle.std.specs.Prelude.{◌≡◌, ◌⊎◌, ◌<◌, ◌+◌, ◌-◌, ◌^◌, ◌==◌, IfOk, if◌then◌else◌};
 ghost use Rattle.cc_judge.specs.Verdict.{IsVerdict};
-ghost use Rattle.cc_cli.specs.Judged.{IsJudged, IsRefused, Judges, told_status, verdict_status};
+ghost use Rattle.cc_cli.specs.Judged.{IsJudged, IsRefused, Judges, failed_writes, told_status, verdict_status};
 
 use crate::input::Reasoned;
 use crate::judging::page::{AnswerFault, write_page};
@@ -26,7 +26,7 @@ fn status_of(verdict: &Verdict) -> u8
     ensures { result ≡ verdict_status verdict.now }
 {
     match verdict {
-        Verdict::Clean(_) => 0,
+        Verdict::Clean => 0,
         Verdict::Fault(_) => 1,
         Verdict::Undecided => 5,
     }
@@ -71,6 +71,7 @@ fn tell_refusal<E: Sink>(alloc: Global, errors: &mut E, fault: &LogFault) -> u8
 }
 
 /// Writes a verdict, as its line or as a page, as the options of the log say.
+#[tactic(auto, using(crate::proofs::Judged::unwritten))]
 fn write_found<W: Sink>(
     alloc: Global,
     log: &Log,
@@ -78,6 +79,7 @@ fn write_found<W: Sink>(
     sink: &mut W,
 ) -> Result<(), AnswerFault>
     requires { W.write_failures sink.old < 2 ^ 64 - 1 }
+    ensures { W.write_failures sink.new ≡ W.write_failures sink.old + failed_writes result }
 {
     if log.options.page {
         return write_page(alloc, sink, log, &found.verdict, found.line.as_str());
@@ -99,11 +101,12 @@ fn tell_written<E: Sink>(errors: &mut E, status: u8, outcome: Result<(), AnswerF
 }
 
 /// Writes the verdict on a log, and returns the status, which is the verdict's whether that is written as a line or as a page.
-#[tactic(auto, using(crate::proofs::Judged::told))]
+#[tactic(auto, using(crate::proofs::Judged::told, crate::proofs::Judged::counted))]
 fn judge_log<W: Sink, E: Sink>(alloc: Global, log: &Log, sink: &mut W, errors: &mut E) -> u8
     requires writes { W.write_failures sink.old < 2 ^ 64 - 1 }
     requires errors { E.write_failures errors.old < 2 ^ 64 - 1 }
-    ensures { IsJudged log.now.rules log.now.calls.items result }
+    ensures judged { IsJudged log.now.rules log.now.calls.items result }
+    ensures failures { W.write_failures sink.new ≡ W.write_failures sink.old + (if result == 4 then 1 else 0) }
 {
     let Ok(found) = verdict_on(alloc, log) else {
         return out_of_memory(errors);
@@ -116,7 +119,7 @@ fn judge_log<W: Sink, E: Sink>(alloc: Global, log: &Log, sink: &mut W, errors: &
 /// Reads the log of a line from the source, judges it by the line's options, and writes the verdict to the sink, as a line or as a page. It returns the exit status: 0
 /// if the log is linearizable, 1 if it isn't, 2 if the log is refused, 3 if memory is, 4 if a device fails, and 5 if the
 /// verdict is undecided. A refusal or a failure is reported on `errors`. The status is that of a right verdict on the log that the
-/// input spells, or says that the input spells none.
+/// input spells, or says that the input spells none. It is 4 exactly if a device failed, as the counts of failures show.
 pub fn judge_input<R: Source + Reasoned, W: Sink, E: Sink>(
     alloc: Global,
     line: CommandLine<'_>,
@@ -127,7 +130,9 @@ pub fn judge_input<R: Source + Reasoned, W: Sink, E: Sink>(
     requires reads { R.read_failures source.old < 2 ^ 64 - 1 }
     requires writes { W.write_failures sink.old < 2 ^ 64 - 1 }
     requires errors { E.write_failures errors.old < 2 ^ 64 - 1 }
-    ensures { Judges line.entry.options (R.bytes_left source.old) result }
+    ensures { Judges line.entry.options (R.bytes_left source.old)
+        (R.read_failures source.old) (R.read_failures source.new)
+        (W.write_failures sink.old) (W.write_failures sink.new) result }
 {
     match read_log(alloc, source, line.options) {
         Ok(log) => judge_log(alloc, &log, sink, errors),

@@ -1,6 +1,8 @@
 //! The page of a judged log, written piece by piece: a text before the fault, the fault as a line of JSON, a text, a line of JSON for
 //! each shown call, and a text. `choice` has which calls are shown.
-ghost use Rattle.std.specs.Prelude.{◌≡◌, ◌<◌, ◌-◌, ◌^◌, OnOk};
+ghost use Rattle.std.specs.Prelude.{◌≡◌, ◌<◌, ◌+◌, ◌-◌, ◌^◌};
+ghost use Rattle.cc_cli.specs.Judged.{failed_writes};
+ghost use Rattle.cc_cli.specs.Names.{AnswerFault};
 
 use crate::judging::choice::{Choice, beside_fault, first_calls};
 use crate::judging::fault_page::{BACK, FRONT, MIDDLE};
@@ -20,12 +22,16 @@ pub enum AnswerFault {
 }
 
 impl From<AllocError> for AnswerFault {
+    ghost from_gives = { λ _ fault. fault ≡ AnswerFault.Memory };
+
     fn from(_: AllocError) -> AnswerFault {
         AnswerFault::Memory
     }
 }
 
 impl From<WriteFault> for AnswerFault {
+    ghost from_gives = { λ _ fault. fault ≡ AnswerFault.Write };
+
     fn from(_: WriteFault) -> AnswerFault {
         AnswerFault::Write
     }
@@ -96,8 +102,16 @@ fn push_stay(alloc: Global, text: &mut String, log: &Log, stay: &Stay) -> Result
             push_sends(alloc, text, log, from_ref(send))?;
             push_line(alloc, text, log, "take", *take)?;
         }
-        Stay::Left { sends, next, .. } => {
+        Stay::Left {
+            sends,
+            more,
+            next,
+            ..
+        } => {
             push_sends(alloc, text, log, sends.as_slice())?;
+            if *more > 0 {
+                text.push_str(format!(in alloc; ",\"more\":{more}")?.as_str())?;
+            }
             if let Some(next) = next {
                 push_line(alloc, text, log, "next", *next)?;
             }
@@ -121,7 +135,10 @@ fn push_two(
     push_line(alloc, text, log, second.0, second.1)
 }
 
-/// Appends stays.
+/// How many stays a page names at most.
+const MANY: usize = 20;
+
+/// Appends stays: of many the first.
 fn push_stays(
     alloc: Global,
     text: &mut String,
@@ -129,7 +146,7 @@ fn push_stays(
     stays: &[Stay],
 ) -> Result<(), AllocError> {
     text.push_str(",\"stays\":[")?;
-    for (at, stay) in stays.iter().enumerate() {
+    for (at, stay) in stays.iter().take(MANY).enumerate() {
         text.push_str(if at == 0 { "" } else { "," })?;
         push_stay(alloc, text, log, stay)?;
     }
@@ -277,6 +294,7 @@ fn call_json(alloc: Global, log: &Log, line: usize, shown: Shown) -> Result<Stri
 }
 
 /// Writes the line of a call.
+#[tactic(auto, using(crate::proofs::Judged::unwritten))]
 fn write_call<W: Sink>(
     alloc: Global,
     sink: &mut W,
@@ -285,7 +303,7 @@ fn write_call<W: Sink>(
     shown: Shown,
 ) -> Result<(), AnswerFault>
     requires { W.write_failures sink.old < 2 ^ 64 - 1 }
-    ensures { OnOk result (W.write_failures sink.new ≡ W.write_failures sink.old) }
+    ensures { W.write_failures sink.new ≡ W.write_failures sink.old + failed_writes result }
 {
     let text = call_json(alloc, log, line, shown)?;
     write_bytes(sink, text.as_bytes())?;
@@ -293,6 +311,7 @@ fn write_call<W: Sink>(
 }
 
 /// Writes the lines of the chosen calls.
+#[tactic(auto, using(crate::proofs::Judged::unwritten))]
 fn write_calls<W: Sink>(
     alloc: Global,
     sink: &mut W,
@@ -300,7 +319,7 @@ fn write_calls<W: Sink>(
     marks: &[bool],
 ) -> Result<(), AnswerFault>
     requires { W.write_failures sink.old < 2 ^ 64 - 1 }
-    ensures { OnOk result (W.write_failures sink.new ≡ W.write_failures sink.old) }
+    ensures { W.write_failures sink.new ≡ W.write_failures sink.old + failed_writes result }
 {
     for (place, (shown, marked)) in log.notes.shown.iter().zip(marks.iter()).enumerate() {
         if let (true, Some(line)) = (*marked, log.line_of(place)) {
@@ -319,6 +338,7 @@ fn chosen(alloc: Global, log: &Log, verdict: &Verdict) -> Result<Choice, AllocEr
 }
 
 /// Writes the page of a verdict, whose line of text is given. Of the page no more than a line is in memory at a time.
+#[tactic(auto, using(crate::proofs::Judged::unwritten))]
 pub fn write_page<W: Sink>(
     alloc: Global,
     sink: &mut W,
@@ -327,6 +347,7 @@ pub fn write_page<W: Sink>(
     line: &str,
 ) -> Result<(), AnswerFault>
     requires { W.write_failures sink.old < 2 ^ 64 - 1 }
+    ensures { W.write_failures sink.new ≡ W.write_failures sink.old + failed_writes result }
 {
     let choice = chosen(alloc, log, verdict)?;
     let fault = verdict_json(alloc, log, verdict, line, choice.left_out)?;

@@ -47,25 +47,34 @@ fn lines_at(alloc: Global, log: &Log, places: &[usize]) -> Result<String, AllocE
     Ok(text)
 }
 
+/// The numbers of the lines of the calls at these places, and how many others there are.
+fn lines_and(
+    alloc: Global,
+    log: &Log,
+    places: &[usize],
+    more: usize,
+) -> Result<String, AllocError> {
+    let mut text = lines_at(alloc, log, places)?;
+    if more > 0 {
+        text.push_str(format!(in alloc; " and {more} others")?.as_str())?;
+    }
+    Ok(text)
+}
+
 /// How many lines the line of a verdict names at most of a queue that held too many items.
 const MANY: usize = 20;
 
 /// The numbers of the lines of the calls at these places: of many the first.
 fn first_lines_at(alloc: Global, log: &Log, places: &[usize]) -> Result<String, AllocError> {
-    if places.len() <= MANY {
-        return lines_at(alloc, log, places);
-    }
-    let mut text = lines_at(alloc, log, &places[..MANY])?;
-    let others = format!(in alloc; " and {} others", places.len() - MANY)?;
-    text.push_str(others.as_str())?;
-    Ok(text)
+    let named = places.len().min(MANY);
+    lines_and(alloc, log, &places[..named], places.len() - named)
 }
 
 /// The lines of the sends of a stay.
 fn sends(alloc: Global, log: &Log, stay: &Stay) -> Result<String, AllocError> {
     match stay {
         Stay::Taken { send, .. } => line_or(alloc, log, *send, "a send before the log"),
-        Stay::Left { sends, .. } => lines_at(alloc, log, sends.as_slice()),
+        Stay::Left { sends, more, .. } => lines_and(alloc, log, sends.as_slice(), *more),
     }
 }
 
@@ -93,7 +102,15 @@ fn item(stay: &Stay) -> &'static str {
 /// counts for that.
 fn items(alloc: Global, log: &Log, stays: &[Stay]) -> Result<String, AllocError> {
     let mut text = String::new(alloc);
-    for stay in stays {
+    for (at, stay) in stays.iter().enumerate() {
+        if at == MANY {
+            let others = format!(in alloc;
+                "; then {} others, one after another",
+                stays.len() - at
+            )?;
+            text.push_str(others.as_str())?;
+            break;
+        }
         let (sends, leaves) = (sends(alloc, log, stay)?, leaves(alloc, log, stay)?);
         let one = format!(in alloc; "; {} of {sends}, ", item(stay))?;
         text.push_str(one.as_str())?;
@@ -239,7 +256,7 @@ fn said_end(ends: Option<Ending>) -> &'static str {
 /// The line of a verdict on this log.
 pub fn text_of(alloc: Global, log: &Log, verdict: &Verdict) -> Result<String, AllocError> {
     match verdict {
-        Verdict::Clean(_) => {
+        Verdict::Clean => {
             let refused = refused(alloc, log)?;
             format!(in alloc;
                 "judge clean: {} calls have a legal order, {refused}; {}\n",

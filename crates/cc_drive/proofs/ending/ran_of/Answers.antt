@@ -13,3 +13,6 @@ returns-clause-run c z setting e = let free = none_of _ c.in_default.not-Some in
 
 pub returns-in-Some-clause-told : goal.returns-in-Some-clause-told
 returns-in-Some-clause-told c z e = inr (ended_with z c.args.config c.args.refused c.args.sent c.args.closed c.args.taken _ (cc) e)
+
+pub returns-clause-free : goal.returns-clause-free
+returns-clause-free c = let free = none_due _ _ _ _ _ _ (sym c.fault_in.ensures ∙ none_of _ c.in_default.not-Some) in (sym c.is_some-is_refused.ensures ∙ free.0, free.1, free.2)

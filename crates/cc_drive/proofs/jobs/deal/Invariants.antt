@@ -10,3 +10,4 @@ invariant-loop-pass g l =
     × (vec_len l.gates + vec_len l.jobs ≡ vec_len l.fn.gates))
     × (map (λ j. j.pass) l.jobs.items ++ into_iter_items l.pass-iterator ≡ l.fn.passes.items)
     × InRow (λ n j. j.number ≡ n) 1 l.jobs.items
+    × (map (λ j. j.gate) l.jobs.items ++ l.gates.items ≡ l.fn.gates.items)

@@ -1,8 +1,21 @@
-use Rattle.cc_cli.proofs.Judged.{judged_due, refused_due}
+use Rattle.std.proofs.Common.{refl}
+use Rattle.cc_cli.proofs.Judged.{judged_due, judged_failures, refused_due, refused_failures}
 use Rattle.cc_cli.proofs.judging.judge.judge_input.Goals as goal
 
 pub returns-in-Ok : goal.returns-in-Ok
-returns-in-Ok g c = judged_due c.args.line.options (g.R.Source.bytes_left c.args.source.now) c.in-Ok.log c.judge_log.result c.in-Ok.ensures.capacity c.in-Ok.ensures.due c.judge_log.ensures
+returns-in-Ok g c =
+    let reads = g.R.Source.read_failures in
+    let fails = g.W.Sink.write_failures in
+    record {
+      due = judged_due c.args.line.options (g.R.Source.bytes_left c.args.source.now) c.in-Ok.log c.judge_log.result c.in-Ok.ensures.capacity c.in-Ok.ensures.due c.judge_log.ensures.judged;
+      failures = judged_failures (reads c.args.source.now) (reads c.read_log.new.source) (fails c.args.sink.now) (fails c.judge_log.new.sink) c.judge_log.result c.in-Ok.ensures.failures c.judge_log.ensures.failures;
+    }
 
 pub returns-in-Err : goal.returns-in-Err
-returns-in-Err g c = refused_due c.args.line.options (g.R.Source.bytes_left c.args.source.now) c.in-Err.fault c.refused.result c.in-Err.ensures.due c.refused.ensures
+returns-in-Err g c =
+    let reads = g.R.Source.read_failures in
+    let fails = g.W.Sink.write_failures in
+    record {
+      due = refused_due c.args.line.options (g.R.Source.bytes_left c.args.source.now) c.in-Err.fault c.refused.result c.in-Err.ensures.due c.refused.ensures;
+      failures = refused_failures c.in-Err.fault (reads c.args.source.now) (reads c.read_log.new.source) (fails c.args.sink.now) (fails c.args.sink.now) c.refused.result c.refused.ensures c.in-Err.ensures.failures refl;
+    }
