@@ -12,3 +12,4 @@ pub mod Legal
 pub mod Ends
 pub mod Orders
 pub mod One
+pub mod RefusedClaims

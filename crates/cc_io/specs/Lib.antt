@@ -4,3 +4,4 @@ pub mod DeviceParts
 pub mod Written
 pub mod Input
 pub mod FaultLine
+pub mod Refused

@@ -1,11 +1,13 @@
 -- Refused claims: for each kind of mistake a small case, and a claim about it that the clause doesn't admit.
-use Rattle.std.specs.Prelude.{◌≡◌, [], ◌∷◌, length}
+use Rattle.std.specs.Prelude.{◌≡◌, ◌≢◌, ℕ, [], ◌∷◌, length}
 use Rattle.cc_model.specs.Body.{body_of}
 use Rattle.cc_model.specs.Items.{handed_to_all}
 use Rattle.cc_model.specs.Record.{Record, Side, silent}
+use Rattle.cc_runs.specs.State.{State, chain_of}
+use Rattle.cc_runs.specs.Step.{stepped}
 use Rattle.cc_machine.specs.BoardSteps.{side_room}
 use Rattle.cc_machine.specs.Known.{IsKnown}
-use Rattle.cc_machine.specs.Names.{Answer, AnswerCounts, Board, Call, Chain, Pass, SendAnswer, TakeAnswer}
+use Rattle.cc_machine.specs.Names.{Answer, AnswerCounts, Board, Call, Chain, Entry, Pass, Phase, SendAnswer, Setting, TakeAnswer}
 use Rattle.cc_machine.specs.Valid.{HasRoomToCome}
 
 -- a claim that doesn't hold
@@ -37,3 +39,7 @@ pub record RefusedClaims : Type 0 where
   pub knows_the_greatest_of_the_groups : Refused (handed_to_all one_group_got ≡ 1)
   -- room that the calls made fill has room for one call more
   pub one_call_has_no_room : (b : Board) (x : Chain) → (side_room x b.history).room ≡ length (side_room x b.history).lists.calls → Refused (HasRoomToCome b x)
+  -- the exchange of a sender puts no call into the history
+  pub exchange_places_no_call : (c : Setting) (s : State) (p : ℕ) (call : Entry) → chain_of c.config p ≡ Chain.Send → (s.stand p).phase ≡ Phase.Exchange call → Refused ((stepped c s p).history ≡ s.history)
+  -- the link of a sender puts a call into the history
+  pub call_is_placed_at_its_link : (c : Setting) (s : State) (p put : ℕ) → chain_of c.config p ≡ Chain.Send → (s.stand p).phase ≡ Phase.Link put → Refused ((stepped c s p).history ≢ s.history)

@@ -12,3 +12,4 @@ pub mod StepLaws
 pub mod Laid
 pub mod Dealt
 pub mod OnChains
+pub mod RefusedClaims

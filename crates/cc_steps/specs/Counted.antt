@@ -6,7 +6,7 @@ use Rattle.cc_steps.specs.Names.{Setting, Move, Object, Word, View, Role}
 use Rattle.cc_runs.specs.Words.{layout_of, exists}
 use Rattle.cc_runs.specs.Run.{IsRun}
 use Rattle.cc_steps.specs.Slots.{slot}
-use Rattle.cc_steps.specs.Seen.{Onward, Covers, word_in}
+use Rattle.cc_steps.specs.Seen.{Later, Onward, Covers, word_in}
 use Rattle.cc_steps.specs.Shown.{passing}
 use Rattle.cc_steps.specs.Noted.{Noted}
 use Rattle.cc_steps.specs.Walk.{Walk, IsReadyToStep}
@@ -31,6 +31,12 @@ pub record Watched (v : View) (place found : ℕ) (w : View) : Type 0 where
   pub mine : Covers v.number v.seen w.seen
   pub found_at : FoundAt v.setting w.seen place found
 
+-- a part has seen such a run, which goes on from what the part had seen
+pub record Followed (v : View) (place found : ℕ) (w : View) : Type 0 where
+  pub view : w ≡ parting v.setting w.seen
+  pub later : Later v.seen w.seen
+  pub found_at : FoundAt v.setting w.seen place found
+
 -- the view of a seat, in the words of the table's own contracts
 abbrev Sat : Type 0
 Sat = Me (Unit {0}) View
@@ -41,6 +47,9 @@ glimpses st m n m' = Glimpsed m.0.setting st.word n m'.0
 
 abbrev pub watches : table.Step (Unit {0}) → Sat → ℕ → Sat → Type 0
 watches st m n m' = Watched m.0 st.word n m'.0
+
+abbrev pub follows : table.Step (Unit {0}) → Sat → ℕ → Sat → Type 0
+follows st m n m' = Followed m.0 st.word n m'.0 × (m'.1 ≡ m.1)
 
 -- ---- in contracts
 

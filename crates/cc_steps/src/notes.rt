@@ -64,7 +64,7 @@ impl Play<(), View> for Enters {
 /// thread as any value does: in a closure, by a join, under a lock.
 #[derive(Drop)]
 pub struct Note {
-    seat: Seat<(), View>,
+    pub(crate) seat: Seat<(), View>,
 }
 
 impl Model for Note {
@@ -100,6 +100,7 @@ pub fn blank(words: &Words) -> Note
 }
 
 /// Notes what the pass has seen. Nothing of the pass changes. It costs one load, takes no memory and never waits.
+#[inline(always)]
 #[tactic(auto, using(crate::proofs::Joined::some_words, crate::proofs::Joined::cuts))]
 pub fn make_note(words: &Words, from: &mut PassSeat) -> Note
     requires here { IsOf words.now from.old }
@@ -113,6 +114,7 @@ pub fn make_note(words: &Words, from: &mut PassSeat) -> Note
 }
 
 /// The same note once more, at the cost of one load.
+#[inline(always)]
 #[tactic(auto, using(crate::proofs::Joined::some_words, crate::proofs::Joined::cuts_part))]
 pub fn again(words: &Words, note: &mut Note) -> Note
     requires here { IsNoteOf words.now note.old }
@@ -127,6 +129,7 @@ pub fn again(words: &Words, note: &mut Note) -> Note
 
 /// The pass sees what was noted: the run that it has seen is afterwards the longer of the two, and goes on from both.
 /// Nothing else of it changes. It costs two loads, takes no memory and never waits.
+#[inline(always)]
 pub fn heed(words: &Words, to: &mut PassSeat, note: Note)
     requires here { IsOf words.now to.old }
     requires there { IsNoteOf words.now note }
