@@ -3,6 +3,7 @@ pub mod HandleBoxValues
 pub mod Values
 pub mod Quiet
 pub mod AbandonedValues
+pub mod SeenValues
 pub mod Staying
 pub mod Trying
 pub mod Places

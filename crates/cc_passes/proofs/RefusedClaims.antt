@@ -1,19 +1,37 @@
 -- The clauses refuse these claims.
-use Rattle.std.proofs.Common.{◌≡◌, ◌≢◌, ℕ, ◌<◌, List, [], ◌∷◌, length, Option, Some, None, Err, sym, ap, subst, arith}
-use Rattle.std.specs.List.{All}
+use Rattle.std.proofs.Common.{◌≡◌, ◌≢◌, ℕ, ◌<◌, ◌≤◌, List, [], ◌∷◌, length, Option, Some, None, Err, sym, ap, subst, arith}
+use Rattle.std.specs.List.{All, AllByRecursion}
 use Rattle.std.specs.declared.alloc.Global.{Global}
 use Rattle.std.specs.declared.vec.Vec.{Vec}
+use Rattle.cc_model.specs.Items.{accepted, calls_of}
+use Rattle.cc_runs.specs.Counts.{counted, mark_of, IsSeen}
+use Rattle.cc_runs.specs.ChainLaws.{IsOut}
+use Rattle.cc_runs.specs.Run.{passes, reached, history_of}
+use Rattle.cc_runs.specs.State.{pass_at}
+use Rattle.cc_queue.specs.Counted.{state_noted}
+use Rattle.cc_steps.specs.Noted.{Noted}
+use Rattle.cc_steps.specs.Topic.{Topic}
 use Rattle.cc_steps.specs.Walk.{Walk}
-use Rattle.cc_passes.specs.Names.{Config, Pass, SendAnswer, SendResult}
+use Rattle.cc_passes.specs.Names.{Answer, Config, Entry, Pass, SendAnswer, SendResult}
 use Rattle.cc_passes.specs.declared.handles.return_codes.TheConstants.{BUSY, WAITING}
 use Rattle.cc_passes.specs.Results.{only, sent_as}
 use Rattle.cc_passes.specs.Calls.{IsExhausted, SendTurns, TurnsSend}
 use Rattle.cc_passes.specs.Made.{kept_of}
 use Rattle.cc_passes.specs.Caller.{SendsBy, TurnsBy}
+use Rattle.cc_passes.specs.Looks.{FindsAccepted}
 use Rattle.cc_passes.specs.Opened.{HasPlaces, HasPool}
 use Rattle.cc_passes.specs.Pooled.{Pool}
 use Rattle.cc_passes.specs.declared.pool.kept.Kept.{Kept}
 use Rattle.cc_passes.specs.Refused.{RefusedClaims}
+
+too_many : (z : Topic) (n : Noted) (found : ℕ) → length (accepted (history_of n.setting n.seen)) < found → FindsAccepted z (Some n) found → ⊥
+too_many z n found more (f, is) = let most = f.counts.most in omega (arith, more, is, most)
+
+forgets : (z : Topic) (n : Noted) (found p place : ℕ) (e : Entry) → p < passes n.setting → IsOut ((reached n.setting n.seen).stand p).phase
+    → calls_of (pass_at n.setting.config p) (history_of n.setting n.seen) ≡ (e, Some (Answer.Send (SendAnswer.Accepted place))) ∷ [] → found ≤ place → FindsAccepted z (Some n) found → ⊥
+forgets z n found p place e below out is few (f, same) =
+    let seen = subst (AllByRecursion (IsSeen (counted (state_noted n)) (mark_of (state_noted n)))) is (f.counts.ended p below out) in
+    let counts : place < counted (state_noted n) = seen.0 in omega (arith, few, same, counts)
 
 without_senders : (c : Config) (words : ℕ) (p : Pool) → 0 < c.senders → p.senders ≡ [] → HasPool c words p → ⊥
 without_senders c words p some none has = let e = ap (λ (ks : List Kept). length ks) none in let f = has.senders in omega (arith, some, e, f)
@@ -54,6 +72,8 @@ drops p place v (after, turns, is, settles) = waits_without v after turns is
 
 pub claims_refused : RefusedClaims
 claims_refused = record {
+  counts_too_many = too_many;
+  forgets_a_send = forgets;
   opened_without_senders = without_senders;
   opened_without_receivers = without_receivers;
   worn_too_early = too_early;

@@ -20,4 +20,5 @@ pub mod Lent
 pub mod Cut
 pub mod Call
 pub mod New
+pub mod Looks
 pub mod Refused

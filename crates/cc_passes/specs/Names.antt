@@ -1,6 +1,7 @@
 -- The types that specs, proofs and contracts of this crate speak of. A variant comes after its type, as `Pass.Sender`.
 pub use Rattle.cc_model.specs.declared.body.Body.{Body}
 pub use Rattle.cc_model.specs.declared.call.Call.{Call}
+pub use Rattle.cc_model.specs.declared.call.Entry.{Entry}
 pub use Rattle.cc_model.specs.declared.call.Item.{Item}
 pub use Rattle.cc_model.specs.declared.call.SendAnswer.{SendAnswer}
 pub use Rattle.cc_model.specs.declared.call.CloseAnswer.{CloseAnswer}

@@ -1,18 +1,24 @@
 -- Refused claims: for each kind of mistake a small case, and a claim about it that the clause doesn't admit.
-use Rattle.std.specs.Prelude.{◌≡◌, ◌≢◌, ℕ, ◌<◌, [], ◌∷◌, Option, Some, None, Err}
+use Rattle.std.specs.Prelude.{◌≡◌, ◌≢◌, ℕ, ◌<◌, ◌≤◌, [], ◌∷◌, length, Option, Some, None, Err}
 use Rattle.std.specs.declared.alloc.Global.{Global}
 use Rattle.std.specs.declared.result.Result.{Result}
 use Rattle.std.specs.declared.vec.Vec.{Vec}
+use Rattle.cc_model.specs.Items.{accepted, calls_of}
+use Rattle.cc_runs.specs.Run.{passes, reached, history_of}
+use Rattle.cc_runs.specs.State.{pass_at}
+use Rattle.cc_runs.specs.ChainLaws.{IsOut}
 use Rattle.cc_queue.specs.Group.{Ranked}
+use Rattle.cc_steps.specs.Noted.{Noted}
 use Rattle.cc_steps.specs.Topic.{Topic}
 use Rattle.cc_steps.specs.Walk.{Walk}
-use Rattle.cc_passes.specs.Names.{Body, Config, Pass, SendResult, TakeResult, TakenItem}
+use Rattle.cc_passes.specs.Names.{Answer, Body, Config, Entry, Pass, SendAnswer, SendResult, TakeResult, TakenItem}
 use Rattle.cc_passes.specs.declared.handles.return_codes.TheConstants.{BUSY, WAITING}
 use Rattle.cc_passes.specs.Items.{Form}
 use Rattle.cc_passes.specs.Results.{only}
 use Rattle.cc_passes.specs.Calls.{IsExhausted, TriesSend, TurnsSend}
 use Rattle.cc_passes.specs.Made.{IsMade, TakesIn}
 use Rattle.cc_passes.specs.Caller.{IsOutside, SendsBy, TurnsBy}
+use Rattle.cc_passes.specs.Looks.{FindsAccepted}
 use Rattle.cc_passes.specs.Opened.{HasPool}
 use Rattle.cc_passes.specs.Pooled.{Pool}
 use Rattle.cc_passes.specs.declared.pool.kept.Kept.{Kept}
@@ -22,6 +28,11 @@ abbrev pub Refused : Type 0 → Type 0
 Refused claim = claim → ⊥
 
 pub record RefusedClaims : Type 0 where
+  -- a look finds more items than were accepted
+  pub counts_too_many : (z : Topic) (n : Noted) (found : ℕ) → length (accepted (history_of n.setting n.seen)) < found → Refused (FindsAccepted z (Some n) found)
+  -- a look leaves out a send that was accepted, and whose pass is at rest
+  pub forgets_a_send : (z : Topic) (n : Noted) (found p place : ℕ) (e : Entry) → p < passes n.setting → IsOut ((reached n.setting n.seen).stand p).phase
+      → calls_of (pass_at n.setting.config p) (history_of n.setting n.seen) ≡ (e, Some (Answer.Send (SendAnswer.Accepted place))) ∷ [] → found ≤ place → Refused (FindsAccepted z (Some n) found)
   -- a new queue has senders, and no place for one
   pub opened_without_senders : (c : Config) (words : ℕ) (p : Pool) → 0 < c.senders → p.senders ≡ [] → Refused (HasPool c words p)
   -- a group of a new queue has receivers, and no place for one

@@ -1,19 +1,20 @@
 -- What a look at the counts of a queue finds.
-use Rattle.std.proofs.Common.{◌≡◌, ℕ, ◌<◌, List, refl, sym, ap, ◌∙◌, subst, Ok}
+use Rattle.std.proofs.Common.{◌≡◌, ◌≢◌, ℕ, ◌+◌, ◌<◌, ◌≤◌, List, [], refl, sym, ap, ◌∙◌, subst, Ok}
 use Rattle.cc_model.specs.Config.{config_fault}
 use Rattle.cc_steps.specs.Names.{Object, Word}
 use Rattle.cc_runs.specs.Run.{IsRun, reached, history_of, passes}
+use Rattle.cc_runs.specs.Words.{groups}
 use Rattle.cc_runs.specs.ChainLaws.{IsOut}
-use Rattle.cc_runs.specs.Counts.{counted, mark_of, AreSeen}
-use Rattle.cc_runs.proofs.Counts.Laws.{counts_are_near, ended_calls_are_seen}
+use Rattle.cc_runs.specs.Counts.{counted, counted_for, mark_of, AreSeen, CountsNoLess, IsFull, HasAll}
+use Rattle.cc_runs.proofs.Counts.Laws.{counts_are_near, counts_grow, ended_calls_are_seen, looks_find_full, looks_find_none}
 use Rattle.cc_queue.specs.Names.{Config, Move, Setting, Served, Phase, SenderSeat, ReceiverSeat}
 use Rattle.cc_steps.specs.Counted.{FoundInNote, HasWatched}
 use Rattle.cc_steps.specs.Noted.{Noted, IsNoteOf}
-use Rattle.cc_steps.specs.Seen.{GoesOn, word_in}
+use Rattle.cc_steps.specs.Seen.{Onward, GoesOn, word_in}
 use Rattle.cc_steps.specs.Topic.{Topic}
 use Rattle.cc_steps.specs.Walk.{Walk, IsSound}
 use Rattle.cc_queue.specs.Passes.{HasStopped, KeepsQueue, KeepsSender, KeepsReceiver}
-use Rattle.cc_queue.specs.Counted.{state_seen, state_noted, NotesCounts, SeesCounts}
+use Rattle.cc_queue.specs.Counted.{state_seen, state_noted, NotesCounts, FollowsCounts, LooksAnswerEmpty, LooksAnswerFull, SeesCounts}
 use Rattle.cc_queue.proofs.Meetings.{met_stopped, idle_sender, idle_receiver}
 
 -- the word that was found, in the state of the run
@@ -41,6 +42,33 @@ ended_since : (c : Setting) (first seen : List Move) → GoesOn first seen → c
 ended_since c first seen on list checked run p below out =
     let all = ended_calls_are_seen c on.more first list checked (subst (IsRun c) on.is run) p below out in
     subst (λ (l : List Move). AreSeen c.config (counted (reached c l)) (mark_of (reached c l)) p (history_of c first)) (sym on.is) all
+
+-- a note of a queue that was looked at again
+pub follows_counts : (z : Topic) (c : Config) (n m : Noted) (object : Object) (found : ℕ) → KeepsQueue z c → IsNoteOf z m → Onward n.seen m.seen → FoundInNote m object found → FollowsCounts z n m
+follows_counts z c n m object found keeps here onward h =
+    let setting : m.setting ≡ record { served = Served.List; config = c } = here.1 ∙ keeps.list in
+    let list : m.setting.served ≡ Served.List = ap (λ (s : Setting). s.served) setting in
+    let checked : config_fault m.setting.config ≡ Ok tt = subst (λ (s : Setting). config_fault s.config ≡ Ok tt) (sym setting) keeps.checked in
+    let on : GoesOn n.seen m.seen = onward n.seen (record { more = []; is = refl }) in
+    record {
+      counts = notes_counts z c m object found keeps here h;
+      onward = onward;
+      no_less = subst (λ (l : List Move). CountsNoLess m.setting (reached m.setting n.seen) (reached m.setting l)) (sym on.is) (counts_grow m.setting on.more n.seen list checked (subst (IsRun m.setting) on.is h.run));
+      ended = λ first before p below out. ended_since m.setting first m.seen (onward first before) list checked h.run p below out;
+    }
+
+pub looks_answer_full : LooksAnswerFull
+looks_answer_full z n m g checked f below full =
+    let on : GoesOn n.seen m.seen = f.onward n.seen (record { more = []; is = refl }) in
+    looks_find_full m.setting on.more n.seen checked.list checked.checked (subst (IsRun m.setting) on.is f.counts.run) g below
+    (subst (λ (l : List Move). counted_for (reached m.setting l) g + m.setting.config.capacity ≤ counted (reached m.setting n.seen)) on.is full)
+
+pub looks_answer_empty : LooksAnswerEmpty
+looks_answer_empty z n m g checked f below none others =
+    let on : GoesOn n.seen m.seen = f.onward n.seen (record { more = []; is = refl }) in
+    looks_find_none m.setting on.more n.seen checked.list checked.checked (subst (IsRun m.setting) on.is f.counts.run) g below
+    (subst (λ (l : List Move). counted (reached m.setting l) ≤ counted_for (reached m.setting n.seen) g) on.is none)
+    (subst (λ (l : List Move). (k : ℕ) → k < groups m.setting.config → k ≢ g → counted_for (reached m.setting l) k ≤ counted_for (reached m.setting n.seen) g) on.is others)
 
 -- a pass that looked, and doesn't move; a caller knows it as u
 sees_counts : (u v w : Walk) (object : Object) (found : ℕ) → v ≡ u → HasStopped v → HasWatched v object found w → IsSound w → SeesCounts u w

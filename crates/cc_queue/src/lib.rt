@@ -34,6 +34,7 @@ pub use cc_model::{CloseAnswer, Config, ConfigFault, Item, Pass, SendAnswer, Tak
 pub use cc_runs::OpenFault;
 pub use cc_steps::notes::Note;
 pub use clauses::clauses_refuse;
+pub use counts::{looks_answer_empty, looks_answer_full};
 pub use given_up::GivenUp;
 pub use meets::{Live, Meets, meet_all};
 pub use notes::{again, heeded_is_fresh, heeded_stays, send_after, take_after, turns_complete};

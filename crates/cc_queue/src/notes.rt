@@ -90,6 +90,94 @@ impl PendingTake {
     }
 }
 
+impl Sender {
+    /// As `note`, by way of the queue.
+    #[inline(always)]
+    pub fn note_of(&mut self, queue: &Queue) -> Note
+        requires { IsOf queue.now self.old }
+        ensures same { self.new ≡ self.old }
+        ensures noted { result ≡ noted_by self.old }
+    {
+        make_note(&queue.words, &mut self.at.seat)
+    }
+
+    /// As `heed`, by way of the queue, of a note that is left as it is. It costs three loads.
+    #[inline(always)]
+    pub fn see_noted(&mut self, queue: &Queue, note: &mut Note)
+        requires here { IsOf queue.now self.old }
+        requires there { IsNoteOf queue.now note.old }
+        ensures same { note.new ≡ note.old }
+        ensures met { HasMet self.old self.new }
+        ensures heeded { HasHeeded note.old self.new }
+    {
+        let copy = notes::again(&queue.words, note);
+        notes::heed(&queue.words, &mut self.at.seat, copy);
+        self.at.seat.is_sound();
+    }
+}
+
+impl Receiver {
+    /// As `note`, by way of the queue.
+    #[inline(always)]
+    pub fn note_of(&mut self, queue: &Queue) -> Note
+        requires { IsOf queue.now self.old }
+        ensures same { self.new ≡ self.old }
+        ensures noted { result ≡ noted_by self.old }
+    {
+        make_note(&queue.words, &mut self.at.seat)
+    }
+
+    /// As `heed`, by way of the queue, of a note that is left as it is. It costs three loads.
+    #[inline(always)]
+    pub fn see_noted(&mut self, queue: &Queue, note: &mut Note)
+        requires here { IsOf queue.now self.old }
+        requires there { IsNoteOf queue.now note.old }
+        ensures same { note.new ≡ note.old }
+        ensures met { HasMet self.old self.new }
+        ensures heeded { HasHeeded note.old self.new }
+    {
+        let copy = notes::again(&queue.words, note);
+        notes::heed(&queue.words, &mut self.at.seat, copy);
+        self.at.seat.is_sound();
+    }
+}
+
+impl PendingSend {
+    /// As `note`, by way of the queue.
+    #[inline(always)]
+    pub fn note_of(&mut self, queue: &Queue) -> Note
+        requires { IsOf queue.now self.old }
+        ensures same { self.new ≡ self.old }
+        ensures noted { result ≡ noted_by self.old }
+    {
+        make_note(&queue.words, &mut self.at.seat)
+    }
+}
+
+impl PendingClose {
+    /// As `note`, by way of the queue.
+    #[inline(always)]
+    pub fn note_of(&mut self, queue: &Queue) -> Note
+        requires { IsOf queue.now self.old }
+        ensures same { self.new ≡ self.old }
+        ensures noted { result ≡ noted_by self.old }
+    {
+        make_note(&queue.words, &mut self.at.seat)
+    }
+}
+
+impl PendingTake {
+    /// As `note`, by way of the queue.
+    #[inline(always)]
+    pub fn note_of(&mut self, queue: &Queue) -> Note
+        requires { IsOf queue.now self.old }
+        ensures same { self.new ≡ self.old }
+        ensures noted { result ≡ noted_by self.old }
+    {
+        make_note(&queue.words, &mut self.at.seat)
+    }
+}
+
 impl Queue {
     /// A note by which nothing was seen. It takes no memory and never waits.
     pub fn blank_note(&self) -> Note
