@@ -2,10 +2,10 @@
 //!
 //! A handle holds one pass with its own share of the queue, or none. The handle is lent to each call, which runs with its
 //! content (`Handle::with`). No export requires anything: each possible mistake is tested, and reported by a code. No call but
-//! the openings takes memory.
+//! the openings and `vahepito_observe` takes memory.
 //!
 //! `specs/Calls.antt` says what each call returns, and `specs/Opened.antt` what an opening does.
-ghost use Rattle.std.specs.Prelude.{◌≡◌, ◌≢◌, nat_le};
+ghost use Rattle.std.specs.Prelude.{◌≡◌, ◌≢◌, nat_le, None};
 ghost use Rattle.std.specs.Mem.{type_size};
 ghost use Rattle.cc_passes.specs.contracts.handles.open_handles.Settings as settings_type;
 ghost use Rattle.cc_passes.specs.contracts.handles.handle.Handle as handle_type;
@@ -17,6 +17,7 @@ ghost use Rattle.cc_passes.specs.Items.{one_word, all_words};
 ghost use Rattle.cc_passes.specs.OpenHandles.{config_of, refusal, HaveOpened};
 ghost use Rattle.cc_passes.specs.Handles.{pass_of, longest_of, IsDropped};
 ghost use Rattle.cc_passes.specs.Calls.{single, fitting, IfRoom, BeginsSend, TurnsSend, TriesSend, TellsWorn, BeginsClose, TurnsClose, BeginsTake, TurnsTake, TriesTake, TellsGroup};
+ghost use Rattle.cc_passes.specs.Looks.{IsUnobserved, Observes};
 
 use crate::version::VERSION;
 use cc_model::Body;
@@ -24,6 +25,8 @@ use cc_passes::handles::handle::Handle;
 use cc_passes::handles::items::{ItemForm, TakenItem, TakenWords};
 use cc_passes::handles::open_handles::{Settings, check, open};
 use cc_passes::handles::return_codes::{DONE, NO_MEMORY, NO_PASS};
+use cc_passes::pool::looks::observe;
+use cc_passes::pool::root::Root;
 use std::alloc::Global;
 use std::mem::size_of;
 
@@ -339,4 +342,24 @@ pub extern "C" fn vahepito_drop(alloc: Global, pass: &mut Handle) -> u32
     };
     pass.abandoned = held.give_up();
     DONE
+}
+
+/// Gives an observer of the queue of this pass, which stays as it is: a pointer for looks alone, with a share of the queue of its own. It
+/// takes memory. `vahepito_free` frees it. Nothing is in `observer` if there is none.
+#[unsafe(no_mangle)]
+pub extern "C" fn vahepito_observe(alloc: Global, pass: &mut Handle, observer: &mut Root) -> u32
+    ensures observes { result ≡ DONE → Observes (pass_of pass.old) observer.new }
+    ensures refused { result ≢ DONE → IsUnobserved (pass_of pass.old) result × (observer.new.value ≡ None) }
+    ensures same { pass.new.boxed.value ≡ pass.old.boxed.value }
+{
+    match observe(alloc, pass) {
+        Ok(boxed) => {
+            *observer = Root::of(boxed);
+            DONE
+        }
+        Err(code) => {
+            *observer = Root::empty(alloc);
+            code
+        }
+    }
 }

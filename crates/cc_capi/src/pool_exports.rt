@@ -15,6 +15,7 @@ ghost use Rattle.cc_passes.specs.contracts.pool.call.Call as call_type;
 ghost use Rattle.cc_passes.specs.Call.{IsReady, IsSame};
 ghost use Rattle.cc_passes.specs.Caller.{SendsBy, ClosesBy, TakesBy, TurnsBy};
 ghost use Rattle.cc_passes.specs.Opened.{refusal, IsRefusedAs};
+ghost use Rattle.cc_passes.specs.Looks.{CanLook, FindsAccepted, FindsTaken, FindsShut};
 ghost use Rattle.cc_passes.specs.New.{IsNew, IsWhole};
 
 use cc_passes::handles::items::TakenWords;
@@ -23,6 +24,7 @@ use cc_passes::handles::return_codes::DONE;
 use cc_passes::pool::call::Call;
 use cc_passes::pool::opening::open_boxed;
 use cc_passes::pool::root::Root;
+use cc_passes::pool::watch::Watch;
 use std::alloc::Global;
 use std::mem::size_of;
 
@@ -155,4 +157,39 @@ pub extern "C" fn vahepito_call_turn_take(
     *item = told.item;
     *total = told.total;
     told.code
+}
+
+/// How many items the queue has accepted, by one load: in a run that the caller has seen then, all but at most one whose send isn't
+/// answered yet.
+#[unsafe(no_mangle)]
+pub extern "C" fn vahepito_accepted(look: &mut Watch) -> u64
+    requires { CanLook look.old }
+    ensures finds { IfSome look.old.queue.value (λ p. FindsAccepted p.queue look.new.seen.value result) }
+    ensures same { IsSame look.old.queue look.new.queue }
+    ensures can { CanLook look.new }
+{
+    look.accepted()
+}
+
+/// How many items this group, from 1, has taken, by one load: the last of them may be that of a take that isn't answered yet. 0 if the
+/// queue has no such group.
+#[unsafe(no_mangle)]
+pub extern "C" fn vahepito_taken(look: &mut Watch, group: u32) -> u64
+    requires { CanLook look.old }
+    ensures finds { IfSome look.old.queue.value (λ p. FindsTaken p.queue group look.new.seen.value result) }
+    ensures same { IsSame look.old.queue look.new.queue }
+    ensures can { CanLook look.new }
+{
+    look.taken(group)
+}
+
+/// 1 if the queue is shut, else 0, by one load.
+#[unsafe(no_mangle)]
+pub extern "C" fn vahepito_is_shut(look: &mut Watch) -> u32
+    requires { CanLook look.old }
+    ensures finds { IfSome look.old.queue.value (λ p. FindsShut p.queue look.new.seen.value result) }
+    ensures same { IsSame look.old.queue look.new.queue }
+    ensures can { CanLook look.new }
+{
+    look.shut()
 }
