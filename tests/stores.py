@@ -54,6 +54,9 @@ TAKEN = "mov r10d,1\nxor eax,eax\nlock cmpxchg [r9],r10\n"
 FOUND = "mov rax,[rdx+8]\nmov rcx,[rax]\nmov rcx,[rcx+8]\n"
 GIVEN = "xor r11d,r11d\nxchg [r9],r11\nret"
 SHARED = "vahepito_call_send"
+# Behind a jump by a table two ways end.
+BY_TABLE = "lea r8,[rip+3f]\nmovsxd r9,[r8+rsi*4]\nadd r9,r8\nnotrack jmp r9\n1: ret\n2: xor eax,eax\nret\n"
+BY_TABLE += '.section .rodata.vahepito_it,"a",@progbits\n3: .long 1b-3b,2b-3b'
 NAMES = {"of a take": "vahepito_try_take", "of a shared queue": SHARED}
 SMALL = {
     "right: a turn that has nothing to do with a register that it keeps": SAVED + KEPT + "mov rax,[rcx+rsi*8]\nret",
@@ -123,7 +126,12 @@ SMALL = {
     "an elided lock": TURNED + ".byte 0xf2\n" + FENCE[len("mov rdx,2\n") :],
     "a released lock": TURNED + ".byte 0xf3\n" + FENCE[len("mov rdx,2\n") :],
     "an address of four bytes": TURNED + "mov r9,[ecx]\n" + FENCE,
+    "right: a mark for pointers": TURNED + "endbr64\n" + FENCE,
+    "right: a jump by a table, without a mark at its targets": TURNED + BY_TABLE,
+    "a load behind a jump by a table": TURNED + BY_TABLE.replace("1: ret", "1: mov rax,[rcx]\nret"),
     "a jump by a register": TURNED + "jmp rsi",
+    "a jump by a register, without a mark at its target": TURNED + "notrack jmp rsi",
+    "a call by a register": TURNED + "notrack call rsi\n" + FENCE,
     "a jump out of the function": TURNED + "xor r10d,r10d\njmp elsewhere",
     "a call of C": TURNED + "call memcpy\n" + FENCE,
     "the function's end": TURNED + "xor r10d,r10d\nnop",

@@ -11,14 +11,15 @@
 # `rt lib` proves and builds what is below crates/cc_capi, and `rattle build`, which `rt lib` calls, that itself, for each target.
 # In its archive, and in the functions for memory, the three symbols that don't begin with vahepito_ are renamed; all else stays as
 # it was built. That is libvahepito_strict.a. Beside it module.ll.xz is what the toolchain's compiler read, as text: PROOF says
-# with which words the compiler was called, and tests/module.py calls another one.
+# with which words the compiler was called, and tests/module.py calls another one. In that text tools/mark_module.py has asked for what
+# debuggers and CET need; tools/unwind.py compares what the compiler wrote of that with the code.
 #
 # For x86-64 libvahepito.a is made of the strict archive by tools/stores.py, which turns locked stores into plain ones; the same
 # stores have to be found in the compiler's own module. The functions for memory are the toolchain's (liblibc_c.a).
 # For aarch64 there is no such archive, since the law of plain stores is one of x86. tools/arm_words.py shows there that each
 # access of a shared word is sequentially consistent. The functions for memory are those of bindings/c/heap.c.
 #
-# Without python3-capstone the accesses on aarch64 aren't looked at: then --update fails, and else a line says so.
+# Without python3-capstone the accesses and the tables of unwinding on aarch64 aren't looked at: then --update fails, and else a line says so.
 #
 # --over-gate takes the libraries below cc_capi as `rt ci` left them in this folder a moment ago: `rt lib` would prove them
 # once more. Both ways give the same bytes.
@@ -99,7 +100,8 @@ clang=$kit/toolchain/bin/clang
 # slower. The words change no instruction of a function.
 aligned=(-mllvm -align-all-functions=6)
 
-# A folder of the toolchain for a target, whose clang keeps what rattle gives it, and by which words, with those above before them.
+# A folder of the toolchain for a target, whose clang marks the module that rattle gives it, and keeps what it is given, and by which
+# words, with those above before them.
 # rattle takes the folder for aarch64's by the name of this file, which nothing reads: a static library is linked with nothing.
 make_toolchain() {
     watched=$top/out/toolchain/$1
@@ -112,7 +114,13 @@ make_toolchain() {
 #!/bin/bash
 set -- ${aligned[*]} "\$@"
 echo "\$*" >>"$watched/kept/words"
-for word; do [ ! -f "\$word" ] || cp "\$word" "$watched/kept/"; done
+for word; do
+    [[ \$word != *.bc ]] || {
+        "$clang" --target=$1 -Werror -S -emit-llvm -Xclang -disable-llvm-passes -x ir "\$word" -o "$watched/unmarked.ll" &&
+            "$top/tools/mark_module.py" <"$watched/unmarked.ll" >"\$word" || exit 1
+    }
+    [ ! -f "\$word" ] || cp "\$word" "$watched/kept/"
+done
 exec "$clang" "\$@"
 END
     chmod +x "$watched/bin/clang"
@@ -158,21 +166,22 @@ keep_module() {
         xz -9e -T1 -c "$made/module.ll" >"$made/module.ll.xz" && rm "$made/module.ll" "$made/again.o"
 }
 
-# Makes libvahepito.a of the strict archive, and checks it twice. Its last line is for PROOF.
+# Makes libvahepito.a of the strict archive, checks it twice, and both archives' tables. The last line of the first is for PROOF.
 relax() {
     tools/stores.py relax "$made/libvahepito_strict.a" "$made/libvahepito.a" >"$made/looked" &&
         tools/stores.py check "$made/libvahepito_strict.a" "$made/libvahepito.a" &&
-        tools/stores.py compare "$made/libvahepito_strict.a" "$made/optimized.ll"
+        tools/stores.py compare "$made/libvahepito_strict.a" "$made/optimized.ll" &&
+        tools/unwind.py "$made/libvahepito_strict.a" "$made/libvahepito.a"
 }
 
 # Shows that the words are accessed in one order. Its line is for PROOF.
 look_at_words() {
     local status
-    tools/arm_words.py "$made/libvahepito_strict.a" "$made/optimized.ll" >"$made/looked"
+    tools/arm_words.py "$made/libvahepito_strict.a" "$made/optimized.ll" >"$made/looked" && tools/unwind.py "$made/libvahepito_strict.a"
     status=$?
     [ "$status" != 0 ] && cat "$made/looked"
     [ "$status" != 69 ] || [ -n "$update" ] && return "$status"
-    echo "library: the accesses of shared words on aarch64: SKIPPED: python3-capstone is not on this machine"
+    echo "library: the accesses of shared words on aarch64, and its tables of unwinding: SKIPPED: python3-capstone is not on this machine"
     grep '^words: ' "$kept/PROOF" >"$made/looked"
 }
 
@@ -182,6 +191,7 @@ make_heap() {
     local compile=("$clang" --target="$1" -std=c11 -O2 -fPIC -g0 -c) objects=(blocks)
     case $1 in
     x86_64-*)
+        compile+=(-fcf-protection=full)
         objcopy -D --redefine-sym rattle_alloc=vahepito_mem --redefine-sym rattle_realloc=vahepito_renew \
             --redefine-sym rattle_dealloc=vahepito_freed --redefine-sym malloc=vahepito_block "$kit/c/liblibc_c.a" "$made/libvahepito_heap.a" || return 1
         ;;
@@ -198,9 +208,11 @@ closing_of() {
     case $1 in
     x86_64-*) echo 'libvahepito_strict.a is what was proved and built. libvahepito.a is the same, but some of its stores are plain moves in place of
 locked exchanges: tools/stores.py says which may be, and the laws of crates/cc_x86 that they can'\''t be told apart on x86-TSO.
-The proofs end at the exports of these two. The crate, the headers and libvahepito_heap.a are not proved.' ;;
+The proofs end at the exports of these two. The crate, the headers and libvahepito_heap.a are not proved. tools/unwind.py checks
+what the archives tell debuggers (.eh_frame), and that they keep the rules of CET.' ;;
     *) echo 'libvahepito_strict.a is what was proved and built: the same source and contracts as for x86-64. docs/TRUST.md says what is trusted
-on this machine. The proofs end at the exports. The crate, the headers and libvahepito_heap.a are not proved.' ;;
+on this machine. The proofs end at the exports. The crate, the headers and libvahepito_heap.a are not proved. tools/unwind.py checks
+what the archive tells debuggers (.eh_frame).' ;;
     esac
 }
 

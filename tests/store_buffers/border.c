@@ -28,7 +28,7 @@ static _Alignas(128) atomic_bool ends;      /* this round is the last */
 static _Alignas(128) bool saw_none[MOST_SENDERS]; /* the sender saw no mark in this round */
 
 #ifdef BY_POINTER
-static vahepito_queue *queue;
+static vahepito_raw *queue;
 typedef vahepito_call caller;
 
 static bool opened(void) {

@@ -28,7 +28,7 @@ REGISTERS |= {f"xmm{number}": (f"xmm{number}", 16) for number in range(16)} | {"
 
 NO_STORES = {"cmp", "test", "bt", "push", "jmp", "call", "mul", "imul", "div", "nop"}
 # These write no operand, or their first one without reading it; `xchg` and `xadd` write both.
-WRITES_NONE = re.compile(r"(cmp|test|bt|push|call|ret|nop|ud2|pause|mfence|mul|div|j\w+)$")
+WRITES_NONE = re.compile(r"(cmp|test|bt|push|call|ret|nop|ud2|pause|mfence|endbr64|mul|div|j\w+)$")
 WRITES_ANEW = re.compile(r"(mov\w*|lea|pop|set\w+|bsr|bsf|tzcnt|lzcnt|pextr\w|pshufd)$")
 # What is read and written besides.
 BESIDES = {

@@ -30,13 +30,13 @@ MAKES_NUMBERS = SETS | set("shl shr sar rol ror mul imul div and movzx movsx mov
 MAKES_ANEW = SETS | set("mov movzx movsx movsxd bsr bsf tzcnt lzcnt pextrd movd".split())
 SUMS = set("add sub or xor adc sbb neg not".split())
 VECTORS = set("movaps movups movapd movdqa movdqu movd movq movsd movlps xorps pxor pextrd pextrq paddd punpcklqdq pshufd".split())
-OTHERS = set("mov movabs lea inc dec cdqe cdq cqo cmp test bt nop push pop ret call xchg xadd cmpxchg ud2 pause mfence".split())
+OTHERS = set("mov movabs lea inc dec cdqe cdq cqo cmp test bt nop push pop ret call xchg xadd cmpxchg ud2 pause mfence endbr64".split())
 KNOWN = JUMPS | MOVES_IF | MAKES_NUMBERS | SUMS | VECTORS | OTHERS
 # In front of these alone the bytes f2 and f3 are no prefix of their own.
 PREFIXES, REPEATS = {0xF0, 0xF2, 0xF3, 0x2E, 0x36, 0x3E, 0x26, 0x64, 0x65, 0x66, 0x67}, {0xF2, 0xF3}
-TAKES_REPEATS = VECTORS | {"pause", "tzcnt", "lzcnt"}
+TAKES_REPEATS = VECTORS | {"pause", "tzcnt", "lzcnt", "endbr64"}
 SHORT_ADDRESS = 0x67
-WRITES_NO_REGISTER = {"cmp", "test", "bt", "nop", "ud2", "pause", "mfence"}
+WRITES_NO_REGISTER = {"cmp", "test", "bt", "nop", "ud2", "pause", "mfence", "endbr64"}
 
 
 @dataclasses.dataclass(frozen=True)
@@ -369,7 +369,9 @@ class Function:
         raise Refused(f"{self.where(i)}: does not know what {i.text} does to the stack")
 
     def must_know(self, i: Instruction) -> None:
-        if i.name not in KNOWN or i.prefix not in ("", "lock") or sum(each.memory is not None for each in i.operands) > 1:
+        # `notrack` says that the target of a jump may be any instruction, and changes nothing else.
+        is_alone = i.prefix in ("", "lock") or (i.prefix == "notrack" and i.name == "jmp")
+        if i.name not in KNOWN or not is_alone or sum(each.memory is not None for each in i.operands) > 1:
             raise Refused(f"{self.where(i)}: does not know {i.text}")
         prefixes = set(itertools.takewhile(lambda byte: byte in PREFIXES, i.bytes))
         if (prefixes & REPEATS and i.name not in TAKES_REPEATS) or SHORT_ADDRESS in prefixes:

@@ -11,6 +11,9 @@ access may be the next behind the other. The turns that an export calls are part
 rows of the table of steps. They are found by the definitions in crates/cc_x86/specs/Rows.antt, and nothing rests on them:
 `is_labelled` of cc_x86 decides whether they are right, and whether each store is plain only where it may be.
 
+A load of the table's first word is no step: the word has a number of the configuration, and only the opening writes it. By such loads a
+call takes over what its caller has seen (crates/cc_steps/src/notes.rt). So they have no nodes.
+
 The last graph is a control, which has to be refused: there each mark is a plain store.
 
 What is trusted is that the nodes and edges are those of the machine code. The loads, the pointers, their distances and the paths are
@@ -32,6 +35,8 @@ ARCHIVES = TOP / "bindings/rust/lib/x86_64-unknown-linux-gnu"
 TEXT = TOP / "crates/cc_graphs/stdin"
 ROWS = TOP / "crates/cc_x86/specs/Rows.antt"
 WORD, LINE = 8, 8
+# How far from its begin a table's first word is.
+FIRST = (0, 0)
 
 
 # ---- the graph of an export
@@ -124,10 +129,10 @@ class Archive:
         return self.found[name]
 
     def is_access(self, checked, k: int) -> bool:
-        """Whether an instruction accesses a word of the table; not one of the own stack, nor the flag of a place."""
+        """Whether an instruction accesses a word of the table; not the first one by a load, nor one of the own stack, nor the flag of a place."""
         i, state = checked.function.instructions[k], checked.function.before[k]
         if not i.is_locked:
-            return checked.look(k) is not None
+            return checked.look(k) is not None and checked.function.address(state, i.memory) != {(checked.table, FIRST)}
         return i.memory is not None and i.memory.base != "rsp" and paths(checked.function.address(state, i.memory)) != {checked.flags}
 
     def access(self, checked, k: int) -> tuple:
