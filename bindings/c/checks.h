@@ -2,11 +2,13 @@
 #ifndef CHECKS_H
 #define CHECKS_H
 
-#include "vahepito_wait.h"
+#include "vahepito.h"
 
+#include <sched.h>
 #include <stdio.h>
 #include <stdlib.h>
 #include <string.h>
+#include <unistd.h>
 
 static inline void check(int holds, const char *what) {
     if (!holds) {
@@ -15,13 +17,14 @@ static inline void check(int holds, const char *what) {
     }
 }
 
-/* Those of the program's queue. */
-static vahepito_waits waits = VAHEPITO_WAITS;
-
-/* No call is in a line of theirs, or was notified and isn't, and none is parked. How many calls ended beside parked ones is any number. */
-static inline void check_no_call_waits(void) {
-    check(waits.senders.counts == 0 && waits.sends.waiting == 0, "no send waits");
-    for (int k = 0; k < 8; k++) check(waits.groups[k].counts == 0 && waits.takes[k].waiting == 0, "no take waits");
+/* Opens a queue of this capacity for items of one word, with this number of groups. */
+static inline vahepito_queue *opened(uint32_t capacity, uint32_t groups) {
+    vahepito_attributes attributes = VAHEPITO_ATTRIBUTES;
+    vahepito_queue *queue;
+    attributes.capacity = capacity;
+    attributes.groups = groups;
+    check(vahepito_create_as(&attributes, &queue) == VAHEPITO_DONE && queue, "the queue is opened");
+    return queue;
 }
 
 /* The next of numbers without an order to be seen, below a bound. */
@@ -35,11 +38,10 @@ static inline uint64_t item_of(uint32_t thread, uint64_t number) { return (uint6
 
 /* A thread's sends, from 1 up to a number of items, each of which is accepted. */
 static inline void send_up_to(vahepito_queue *queue, uint32_t thread, uint64_t items) {
-    vahepito_call mine = VAHEPITO_CALL(queue);
     uint64_t last = 0;
     for (uint64_t number = 1; number <= items; number++) {
         uint64_t place;
-        check(vahepito_send(&waits, &mine, item_of(thread, number), &place) == VAHEPITO_ACCEPTED, "a send is accepted in the end");
+        check(vahepito_send(queue, item_of(thread, number), &place) == VAHEPITO_ACCEPTED, "a send is accepted in the end");
         check(number == 1 || place > last, "places rise");
         last = place;
     }
@@ -54,10 +56,9 @@ enum { MOST_THREADS = 64 };
 /* Takes until the end for a group the items that threads below this number send by send_up_to. */
 static inline void take_to_the_end(vahepito_queue *queue, uint32_t group, uint32_t threads, struct taker *mine) {
     uint64_t last[MOST_THREADS] = {0}, last_place = 0;
-    vahepito_call call = VAHEPITO_CALL(queue);
     vahepito_item item;
     uint32_t code;
-    while ((code = vahepito_take(&waits, &call, group, &item, &mine->total)) != VAHEPITO_ENDED) {
+    while ((code = vahepito_take(queue, group, &item, &mine->total)) != VAHEPITO_ENDED) {
         const uint32_t thread = (uint32_t)(item.words[0] >> 32);
         const uint64_t number = (uint32_t)item.words[0];
         check(code == VAHEPITO_GOT, "a take gets an item, or is told the end");

@@ -25,8 +25,7 @@ static void *consume(void *mine) {
 
 int main(int count, char **words) {
     if (count > 1) items = strtoull(words[1], NULL, 10);
-    const vahepito_config config = {PUBLISHERS, CONSUMERS, 64, 64, (uint64_t)1 << 48, UINT32_MAX};
-    check(vahepito_new(&config, 1, 1, &topic) == VAHEPITO_DONE && topic, "the topic is opened");
+    topic = opened(64, 1);
 
     pthread_t publishers[PUBLISHERS], threads[CONSUMERS];
     const uint32_t numbers[PUBLISHERS] = {0, 1, 2};
@@ -35,16 +34,15 @@ int main(int count, char **words) {
     for (int k = 0; k < PUBLISHERS; k++) check(!pthread_create(&publishers[k], NULL, publish, (void *)&numbers[k]), "a thread starts");
     for (int k = 0; k < PUBLISHERS; k++) check(!pthread_join(publishers[k], NULL), "a thread ends");
     uint64_t total, got = 0, sum = 0;
-    vahepito_call mine = VAHEPITO_CALL(topic);
-    check(vahepito_close(&waits, &mine, &total) == VAHEPITO_SHUT, "the first close closes");
+    check(vahepito_close(topic, &total) == VAHEPITO_SHUT, "the first close closes");
     for (int k = 0; k < CONSUMERS; k++) {
         check(!pthread_join(threads[k], NULL), "a thread ends");
         check(consumers[k].total == total, "the end tells the total");
         got += consumers[k].got;
         sum += consumers[k].sum;
     }
-    check(vahepito_send(&waits, &mine, 1, NULL) == VAHEPITO_CLOSED, "nothing is accepted after the close");
-    vahepito_free(topic);
+    check(vahepito_send(topic, 1, NULL) == VAHEPITO_CLOSED, "nothing is accepted after the close");
+    vahepito_destroy(topic, NULL, NULL);
 
     check(total == PUBLISHERS * items && got == total, "each item was taken once");
     check(sum == PUBLISHERS * (items * (items + 1) / 2), "and as it was sent");

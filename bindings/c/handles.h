@@ -1,5 +1,5 @@
-/* The exports of the library that the Rust crate calls, for the tests in this folder: a queue whose calls are made by handles.
- * This header isn't installed. A program in C has vahepito.h, whose calls need one pointer for all threads.
+/* The exports of the library that the Rust crate and vahepito_queue.c call: a queue whose calls are made by handles.
+ * This header isn't for programs. A program in C has vahepito.h, and vahepito_raw.h, whose calls need one pointer for all threads.
  *
  * A pass is one sender or one receiver of one queue, and it is held by a handle, a vahepito_pass. Passes are not copied and not
  * shared by two threads at once: a queue has as many as its configuration says, all given by its opening. A queue of vahepito_open has one
@@ -10,24 +10,25 @@
  * sender send one word there too.
  *
  * A call is begun, and then asked for its answer in turns. Turn every begun call to its end: if it is abandoned, or its handle
- * dropped, no pass of its side may get an answer any more. No call but the three openings takes memory.
+ * dropped, no pass of its side may get an answer any more. No call but the three openings and
+ * vahepito_observe takes memory.
  *
  * The caller must do the following, and nothing checks it:
  * - A handle begins as VAHEPITO_PASS_EMPTY, or all zero, and is filled by an opening alone. Its bytes are neither changed nor copied to a second
  *   handle that is used; a handle may be moved to another place, and the old place is then not used.
  * - A handle is given to one call at a time. It may go to another thread: by a mutex, a thread's start or join, or a
  *   sequentially consistent atomic. Different handles may be used by different threads at once, of one queue or of many.
- * All else is as vahepito.h says. */
+ * All else is as vahepito_raw.h says. */
 #ifndef VAHEPITO_HANDLES_H
 #define VAHEPITO_HANDLES_H
 
-#include "vahepito.h"
+#include "vahepito_raw.h"
 
 #ifdef __cplusplus
 extern "C" {
 #endif
 
-/* The codes that these calls have beside those of vahepito.h. */
+/* The codes that these calls have beside those of vahepito_raw.h. */
 enum {
     /* an opening: not one handle for each pass, or one that is not empty */
     VAHEPITO_BAD_HANDLES = 8,
@@ -127,6 +128,12 @@ uint32_t vahepito_try_take_words(vahepito_pass *receiver, vahepito_item *item, u
  * calls.
  * DONE, NO_PASS. */
 uint32_t vahepito_drop(vahepito_pass *pass);
+
+/* An observer of the queue of this pass, which stays as it is: a pointer for looks alone, with a share of the queue. vahepito_free frees it, once
+ * no look by it is under way; what is freed last, a handle or an observer, frees the queue. It takes memory. The thread that holds the handle
+ * calls.
+ * DONE. NO_PASS, NO_MEMORY: *observer is NULL. */
+uint32_t vahepito_observe(vahepito_pass *pass, vahepito_raw **observer);
 
 #if defined(VAHEPITO_TOLD)
 /* A handle doesn't say which queue it is of: NULL is for all of them, and all groups are one. */

@@ -1,10 +1,10 @@
 /* The headers in C99 to C23 and in C++11 to C++23: compiled by each compiler that is there, with all warnings. Run, it
- * makes each call that waits, on one thread, records some, and ends with status 0 if each returned what it has to. */
+ * makes calls that wait, on one thread, records some, and ends with status 0 if each returned what it has to. */
 #ifndef _POSIX_C_SOURCE
 #define _POSIX_C_SOURCE 200809L
 #endif
 #include "vahepito_record.h"
-#include "vahepito_wait.h"
+#include "vahepito_raw.h"
 
 #include <stdio.h>
 #include <string.h>
@@ -12,42 +12,37 @@
 /* A caller's own struct with a queue in it. */
 struct service {
     vahepito_queue *queue;
-    vahepito_waits waits;
 };
-
-static vahepito_waits waits = VAHEPITO_WAITS;
 
 /* One item through a queue with room for one, and the end. Gives how far that went: 0 where all was as it has to be. */
 static int one_item(struct service *service) {
     const struct timespec soon = vahepito_after(2000000);
-    vahepito_call call = VAHEPITO_CALL(service->queue);
     vahepito_item item;
     uint64_t number;
-    if (vahepito_send(&service->waits, &call, 7, &number) != VAHEPITO_ACCEPTED || number != 0) return 1;
-    if (vahepito_finish_send(&call, NULL) != VAHEPITO_NO_PASS || call.waiting.live) return 2;
-    if (vahepito_send_now(&service->waits, &call, 9, NULL) != VAHEPITO_FULL) return 3;
-    if (vahepito_send_until(&service->waits, &call, 9, &soon, NULL) != VAHEPITO_FULL) return 4;
-    if (vahepito_take(&service->waits, &call, 1, &item, &number) != VAHEPITO_GOT) return 5;
-    if (item.words[0] != 7 || item.count != 1 || item.place != 0 || item.sender != 1 || item.number != 1 || number != 0) return 6;
-    if (vahepito_take_now(&service->waits, &call, 1, &item, &number) != VAHEPITO_EMPTY || item.count != 0) return 7;
-    if (vahepito_take_until(&service->waits, &call, 1, NULL, &soon, NULL) != VAHEPITO_EMPTY) return 8;
-    if (vahepito_finish_take(&call, NULL, NULL) != VAHEPITO_NO_PASS) return 9;
-    if (vahepito_close(&service->waits, &call, &number) != VAHEPITO_SHUT || number != 1) return 10;
-    if (vahepito_close(&service->waits, &call, &number) != VAHEPITO_ALREADY || number != 1) return 11;
-    if (vahepito_finish_close(&call, &number) != VAHEPITO_NO_PASS || number != 0) return 12;
-    return vahepito_take(&service->waits, &call, 1, &item, &number) == VAHEPITO_ENDED && number == 1 ? 0 : 13;
+    if (vahepito_send(service->queue, 7, &number) != VAHEPITO_ACCEPTED || number != 0) return 1;
+    if (vahepito_length(service->queue) != 1 || vahepito_capacity(service->queue) != 1 || vahepito_is_closed(service->queue)) return 2;
+    if (vahepito_send_now(service->queue, 9, NULL) != VAHEPITO_FULL) return 3;
+    if (vahepito_send_until(service->queue, 9, &soon, NULL) != VAHEPITO_FULL) return 4;
+    if (vahepito_take(service->queue, 1, &item, &number) != VAHEPITO_GOT) return 5;
+    if (item.words[0] != 7 || item.count != 1 || item.place != 0 || item.sender < 1 || item.sender > 64 || item.number < 1 || number != 0) return 6;
+    if (vahepito_take_now(service->queue, 1, &item, &number) != VAHEPITO_EMPTY || item.count != 0) return 7;
+    if (vahepito_take_until(service->queue, 1, NULL, &soon, NULL) != VAHEPITO_EMPTY) return 8;
+    if (vahepito_length(service->queue) != 0) return 9;
+    if (vahepito_close(service->queue, &number) != VAHEPITO_SHUT || number != 1) return 10;
+    if (vahepito_close(service->queue, &number) != VAHEPITO_ALREADY || number != 1) return 11;
+    if (!vahepito_is_closed(service->queue)) return 12;
+    return vahepito_take(service->queue, 1, &item, &number) == VAHEPITO_ENDED && number == 1 ? 0 : 13;
 }
 
 /* An item of two words so, by the calls that wait. */
 static int two_words(vahepito_queue *queue) {
     const uint64_t words[2] = {7, 8};
     const struct timespec soon = vahepito_after(2000000);
-    vahepito_call call = VAHEPITO_CALL(queue);
     vahepito_item item;
-    if (vahepito_send_words(&waits, &call, words, 2, NULL) != VAHEPITO_ACCEPTED) return 14;
-    if (vahepito_send_words_now(&waits, &call, words, 2, NULL) != VAHEPITO_FULL) return 15;
-    if (vahepito_send_words_until(&waits, &call, words, 2, &soon, NULL) != VAHEPITO_FULL) return 16;
-    if (vahepito_take(&waits, &call, 1, &item, NULL) != VAHEPITO_GOT) return 17;
+    if (vahepito_send_words(queue, words, 2, NULL) != VAHEPITO_ACCEPTED) return 14;
+    if (vahepito_send_words_now(queue, words, 2, NULL) != VAHEPITO_FULL) return 15;
+    if (vahepito_send_words_until(queue, words, 2, &soon, NULL) != VAHEPITO_FULL) return 16;
+    if (vahepito_take(queue, 1, &item, NULL) != VAHEPITO_GOT) return 17;
     return item.count == 2 && item.words[0] == 7 && item.words[1] == 8 && item.words[2] == 0 ? 0 : 18;
 }
 
@@ -156,18 +151,21 @@ static int ends_early(void) {
 }
 
 int main(void) {
-    const vahepito_config config = {1, 1, 1, 8, (uint64_t)1 << 48, UINT32_MAX};
-    struct service service = {NULL, VAHEPITO_WAITS};
+    vahepito_attributes attributes = VAHEPITO_ATTRIBUTES;
+    struct service service = {NULL};
     vahepito_queue *queue;
     int failed;
     if (vahepito_check_version() != VAHEPITO_DONE) return 19;
-    if (vahepito_new(&config, 0, 1, &queue) != VAHEPITO_BAD_GROUPS || queue) return 20;
-    if (vahepito_new(&config, 1, 1, &service.queue) != VAHEPITO_DONE) return 21;
+    attributes.groups = 9;
+    if (vahepito_create_as(&attributes, &queue) != VAHEPITO_BAD_GROUPS || queue) return 20;
+    if (!(service.queue = vahepito_create(1))) return 21;
     failed = one_item(&service);
-    vahepito_free(service.queue);
-    if (vahepito_new(&config, 1, 2, &queue) != VAHEPITO_DONE) return 22;
+    vahepito_destroy(service.queue, NULL, NULL);
+    attributes.groups = 1, attributes.words = 2, attributes.capacity = 1;
+    if (vahepito_create_as(&attributes, &queue) != VAHEPITO_DONE) return 22;
     if (!failed) failed = two_words(queue);
-    vahepito_free(queue);
+    vahepito_destroy(queue, NULL, NULL);
+    vahepito_destroy(NULL, NULL, NULL);
     vahepito_free(NULL);
     if (!failed) failed = texts();
     if (!failed) failed = recorded();

@@ -1,20 +1,23 @@
-/* No wake-up is lost: the code of vahepito_wait.h in every interleaving of small models.
+/* No wake-up is lost: the code of vahepito_queue.c in every interleaving of small models.
  *
- * A process makes calls of the header. Its steps are the header's accesses to the counts of a line, its futex calls, and its
- * calls of the library. Here the counts, the futex and the library are models: a bounded queue whose calls take one step, and
- * the kernel's futex, which may wake any one that sleeps, may time out, and may once wake a process for nothing. The search
+ * A process makes calls of vahepito.h. Its steps are the code's accesses to the counts of a line and to the mark of a close, its lock, its
+ * futex calls, and its calls of the proved library. Here the counts, the lock, the futex and the library are models: a bounded queue whose calls
+ * take one step, without memory for a further one, and the kernel's futex, which may wake any one that sleeps, may time out, and may once wake a
+ * process for nothing. The row has one queue, and no descriptors. The search
  * visits all states that the processes reach. It replays a process from its start with the results of its steps so far, up
  * to the next step.
  *
- * In some models there are few places: a call takes a place in one step and is answered in its next one, and a call that finds
- * no free place is refused with BUSY, and makes its next step once a place is free.
+ * In some models a call is begun in one step, and is answered in its next one.
  *
  * It ends with status 0 if this holds in each state in which no process makes a step: no process sleeps whose try would find
- * something, none waits for a place, and the counts of each line are those of the processes that sleep there; and if no call
- * returns BUSY. With --faults it ends with status 0 if
- * this fails in some state: so the Makefile compiles it with each fault of wait_faults.txt in the header. */
+ * something, and the counts of each line are those of the processes that sleep there; and if no call returns before its answer. With --faults it ends with status 0 if
+ * this fails in some state: so the Makefile compiles it with each fault of wait_faults.txt in the code. */
+#ifndef _POSIX_C_SOURCE
+#define _POSIX_C_SOURCE 200809L
+#endif
 #include <errno.h>
 #include <limits.h>
+#include <pthread.h>
 #include <setjmp.h>
 #include <stdarg.h>
 #include <stdbool.h>
@@ -28,6 +31,9 @@
 #define __atomic_load_n(place, order) model_load(place)
 #define __atomic_fetch_add(place, by, order) model_add(place, by)
 #define __atomic_compare_exchange_n(place, old, new, weak, order, other) model_exchange(place, old, new)
+#define __atomic_store_n(place, value, order) model_store(place, (uint64_t)(value))
+#define pthread_mutex_lock(lock) ((void)(lock), model_lock())
+#define pthread_mutex_unlock(lock) ((void)(lock), model_unlock())
 #define syscall model_futex
 /* Calls that wait for their answer or for a place don't park here. They look again after a millisecond, so that none waits in vain. */
 #define __atomic_fetch_sub(place, by, order) model_add(place, 0)
@@ -36,26 +42,32 @@
 static uint64_t model_load(const void *place);
 static uint64_t model_add(const void *place, uint64_t by);
 static bool model_exchange(const uint64_t *place, uint64_t *old, uint64_t new);
-#include HEADER
+static void model_store(const void *place, uint64_t value);
+static int model_lock(void), model_unlock(void);
+#include SOURCE
 
 enum { PROCESSES = 4, GROUPS = 2, LINES = 1 + GROUPS, CALLS = 3, LONGEST = 400 };
 
 /* ---- models */
 
 /* The calls of each process, in order: a send or a take of group 1 or 2 (s, t, u), the same until a moment (S, T, U), or now
- * (m, n); a send that is exhausted at its third try (w); a send of vahepito.h with a notification after it (r), or, as a
- * fault, before it (e); a close (c). */
+ * (m, n); two sends or takes at once (b, k); a send that is refused memory at its third try (w); as a fault, a send with a notification before
+ * it (e); a close (c). */
 struct model {
     const char *calls[PROCESSES];
     int capacity, groups, life, wakes_for_nothing;
-    int places; /* of each line; 0 if each call finds a place, and is answered in one step */
+    bool has_turns; /* whether a call is answered in its second step */
+    bool looks; /* whether a send looks at the counts first */
 };
 
 static const struct model *model;
 
 /* ---- a process, step by step */
 
-enum kind { DONE, LOAD, ADD, EXCHANGE, SLEEP, WAKE, TRY_SEND, TRY_TAKE, TURN_SEND, TURN_TAKE, CLOSE };
+enum kind {
+    DONE, LOAD, ADD, EXCHANGE, SLEEP, WAKE, TRY_SEND, TRY_TAKE, TURN_SEND, TURN_TAKE, CLOSE, LOOK_SENT, LOOK_TAKEN, LOOK_CLOSED, MARK_CLOSED,
+    LOCK, UNLOCK
+};
 
 struct step {
     enum kind kind;
@@ -77,7 +89,11 @@ static struct node *nodes;
 static uint32_t node_count, node_room;
 static uint32_t first_nodes[PROCESSES][CALLS + 1];
 
-static vahepito_waits waits;
+static vahepito_queue queue;
+static union {
+    vahepito_internal_part part;
+    char bytes[sizeof(vahepito_internal_part) + (1 + GROUPS) * sizeof(vahepito_internal_handle)];
+} one;
 static uint64_t results[LONGEST];
 static int result_count, result_at, tries, group_of_take;
 static struct step next_step;
@@ -91,14 +107,16 @@ static uint64_t result_of(struct step step) {
 
 /* LINES if it is none of a model's lines. */
 static int line_of(const void *place) {
-    const vahepito_internal_line *line = place;
-    if (line == &waits.senders) return 0;
-    return line >= waits.groups && line < waits.groups + GROUPS ? 1 + (int)(line - waits.groups) : LINES;
+    const vahepito_internal_line *const line = place;
+    if (line == &queue.senders) return 0;
+    return line >= queue.receivers && line < queue.receivers + GROUPS ? 1 + (int)(line - queue.receivers) : LINES;
 }
 
-/* Only the first two groups have processes: the lines of the others are empty, and so are those of calls that wait to be served. */
+/* The lines of calls that wait to be served are empty, each seat is free, and the row is not narrow. */
 static uint64_t model_load(const void *place) {
     const int line = line_of(place);
+    if (place == &queue.is_closed) return result_of((struct step){LOOK_CLOSED, 0, 0, 0, false});
+    if (place == &queue.special) return model->looks ? WAS_FULL : 0;
     return line >= LINES ? 0 : result_of((struct step){LOAD, line, 0, 0, false});
 }
 
@@ -113,6 +131,16 @@ static bool model_exchange(const uint64_t *place, uint64_t *old, uint64_t new) {
     return is_same;
 }
 
+/* Any other store is of a seat, or of the hint that there was no room. */
+static void model_store(const void *place, uint64_t value) {
+    (void)value;
+    if (place == &queue.is_closed) (void)result_of((struct step){MARK_CLOSED, 0, 0, 0, false});
+    if (place == &queue.seats[1].is_taken) queue.seats[1].is_taken = 0;
+}
+
+static int model_lock(void) { return (int)result_of((struct step){LOCK, 0, 0, 0, false}); }
+static int model_unlock(void) { return (int)result_of((struct step){UNLOCK, 0, 0, 0, false}); }
+
 long model_futex(long number, ...) {
     va_list rest;
     va_start(rest, number);
@@ -125,59 +153,107 @@ long model_futex(long number, ...) {
     return errno ? -1 : 0;
 }
 
-/* The library. One caller is exhausted at the third try. */
-static vahepito_call callers[] = {VAHEPITO_CALL(NULL), VAHEPITO_CALL(NULL)};
-#define EXHAUSTED (&callers[0])
-#define MINE (&callers[1])
+/* The library. */
+static bool is_exhausted;
 
-uint32_t vahepito_call_send(vahepito_call *call, const uint64_t *words, size_t count, uint64_t *place) {
-    (void)words, (void)count, (void)place;
-    if (call == EXHAUSTED && tries++ > 1) return VAHEPITO_WORN;
+uint32_t vahepito_try_send_words(vahepito_pass *sender, const uint64_t *words, size_t count, uint64_t *place, uint32_t *served) {
+    (void)sender, (void)words, (void)count, (void)served;
+    *place = 0;
+    if (is_exhausted && tries++ > 1) return VAHEPITO_WORN;
     return (uint32_t)result_of((struct step){TRY_SEND, 0, 0, 0, false});
 }
 
-uint32_t vahepito_call_take(vahepito_call *call, uint32_t group, vahepito_item *item, uint64_t *total) {
-    (void)call, (void)item, (void)total;
-    return (uint32_t)result_of((struct step){TRY_TAKE, (int)group, 0, 0, false});
+uint32_t vahepito_try_send(vahepito_pass *sender, uint64_t word, uint64_t *place, uint32_t *served) {
+    return vahepito_try_send_words(sender, &word, 1, place, served);
 }
 
-uint32_t vahepito_call_close(vahepito_call *call, uint64_t *total) {
-    (void)call, (void)total;
+uint64_t vahepito_accepted(vahepito_look *look) {
+    (void)look;
+    return result_of((struct step){LOOK_SENT, 0, 0, 0, false});
+}
+
+uint64_t vahepito_taken(vahepito_look *look, uint32_t group) {
+    (void)look;
+    return result_of((struct step){LOOK_TAKEN, (int)group, 0, 0, false});
+}
+
+/* Memory for a further queue is refused. */
+uint32_t vahepito_open_words(const vahepito_config *config, uint32_t groups, uint32_t words, vahepito_pass *senders, size_t sender_count,
+                             vahepito_pass *receivers, size_t receiver_count) {
+    (void)config, (void)groups, (void)words, (void)senders, (void)sender_count, (void)receivers, (void)receiver_count;
+    return VAHEPITO_NO_MEMORY;
+}
+
+uint32_t vahepito_observe(vahepito_pass *pass, vahepito_raw **observer) { return (void)pass, (void)observer, VAHEPITO_NO_MEMORY; }
+uint32_t vahepito_drop(vahepito_pass *pass) { return (void)pass, VAHEPITO_DONE; }
+
+#undef vahepito_free
+void vahepito_free(vahepito_raw *raw) { (void)raw; }
+uint32_t vahepito_is_shut(vahepito_look *look) { return (void)look, 0; }
+uint32_t vahepito_version(void) { return VAHEPITO_VERSION; }
+void vahepito_sizes(size_t *config, size_t *pass, size_t *item, size_t *words_item) { (void)config, (void)pass, (void)item, (void)words_item; }
+size_t vahepito_call_size(void) { return 0; }
+
+uint32_t vahepito_try_take_words(vahepito_pass *receiver, vahepito_item *item, uint64_t *total, uint32_t *served) {
+    (void)receiver, (void)item, (void)served;
+    *total = 0;
+    return (uint32_t)result_of((struct step){TRY_TAKE, group_of_take, 0, 0, false});
+}
+
+uint32_t vahepito_try_take(vahepito_pass *receiver, vahepito_word_item *item, uint64_t *total, uint32_t *served) {
+    memset(item, 0, sizeof *item);
+    return vahepito_try_take_words(receiver, NULL, total, served);
+}
+
+uint32_t vahepito_begin_close(vahepito_pass *sender) { return (void)sender, VAHEPITO_BEGUN; }
+
+uint32_t vahepito_turn_close(vahepito_pass *sender, uint64_t *total, uint32_t *served) {
+    (void)sender, (void)total, (void)served;
     return (uint32_t)result_of((struct step){CLOSE, 0, 0, 0, false});
 }
 
-uint32_t vahepito_call_turn_close(vahepito_call *call, uint64_t *total) {
-    (void)call, (void)total;
-    return VAHEPITO_SHUT;
-}
-
-uint32_t vahepito_call_turn_send(vahepito_call *call, uint64_t *place) {
-    (void)call, (void)place;
+uint32_t vahepito_turn_send(vahepito_pass *sender, uint64_t *place, uint32_t *served) {
+    (void)sender, (void)place, (void)served;
     return (uint32_t)result_of((struct step){TURN_SEND, 0, 0, 0, false});
 }
 
-uint32_t vahepito_call_turn_take(vahepito_call *call, vahepito_item *item, uint64_t *total) {
-    (void)call, (void)item, (void)total;
+uint32_t vahepito_turn_take_words(vahepito_pass *receiver, vahepito_item *item, uint64_t *total, uint32_t *served) {
+    (void)receiver, (void)item, (void)total, (void)served;
     return (uint32_t)result_of((struct step){TURN_TAKE, group_of_take, 0, 0, false});
+}
+
+/* The queue as each call finds it: what is a model's state isn't in it. */
+static void reset(void) {
+    memset(&queue, 0, offsetof(vahepito_queue, seats) + 2 * sizeof *queue.seats);
+    queue.config.capacity = (uint32_t)model->capacity;
+    queue.groups = (uint32_t)model->groups;
+    queue.words = queue.places = 1;
+    queue.stride = sizeof(vahepito_internal_handle);
+    queue.has_bound = true;
+    queue.first = queue.last = queue.at[0] = queue.at[1] = &one.part;
+    vahepito_internal_own = sizeof *queue.seats;
 }
 
 /* The code of the call. */
 static uint32_t make_call(char call) {
     static const struct timespec some_time = {1, 0};
-    static const uint64_t word = 1;
-    uint64_t place;
+    static const uint64_t words[2] = {1, 2};
+    vahepito_item items[2];
+    reset();
     group_of_take = 1 + (call == 'u' || call == 'U');
+    is_exhausted = call == 'w';
+    tries = 0;
     switch (call) {
-    case 's': return vahepito_send(&waits, MINE, 1, NULL);
-    case 'S': return vahepito_send_until(&waits, MINE, 1, &some_time, NULL);
-    case 'm': return vahepito_send_now(&waits, MINE, 1, NULL);
-    case 'w': return tries = 0, vahepito_send(&waits, EXHAUSTED, 1, NULL);
-    case 'r': if (vahepito_call_send(MINE, &word, 1, &place) == VAHEPITO_ACCEPTED) vahepito_notify_item(&waits); return VAHEPITO_DONE;
-    case 'e': return vahepito_notify_item(&waits), vahepito_call_send(MINE, &word, 1, &place);
-    case 't': case 'u': return vahepito_take(&waits, MINE, (uint32_t)group_of_take, NULL, NULL);
-    case 'T': case 'U': return vahepito_take_until(&waits, MINE, (uint32_t)group_of_take, NULL, &some_time, NULL);
-    case 'n': return vahepito_take_now(&waits, MINE, 1, NULL, NULL);
-    case 'c': return vahepito_close(&waits, MINE, NULL);
+    case 's': case 'w': return vahepito_send(&queue, 1, NULL);
+    case 'S': return vahepito_send_until(&queue, 1, &some_time, NULL);
+    case 'm': return vahepito_send_now(&queue, 1, NULL);
+    case 'b': return vahepito_send_many(&queue, words, 2, NULL, NULL);
+    case 'e': return vahepito_internal_notify_items(&queue, 1), vahepito_internal_attempt_send(&(vahepito_internal_send_request){&queue, words, 1, 0, 0});
+    case 't': case 'u': return vahepito_take(&queue, (uint32_t)group_of_take, NULL, NULL);
+    case 'T': case 'U': return vahepito_take_until(&queue, (uint32_t)group_of_take, NULL, &some_time, NULL);
+    case 'n': return vahepito_take_now(&queue, 1, NULL, NULL);
+    case 'k': return vahepito_take_many(&queue, 1, items, 2, NULL, NULL, NULL);
+    case 'c': return vahepito_close(&queue, NULL);
     default: abort();
     }
 }
@@ -227,8 +303,9 @@ struct state {
     uint64_t counts[LINES];
     uint32_t nodes[PROCESSES];
     uint8_t sleeps[PROCESSES], woken_for_nothing[PROCESSES];
-    uint8_t sent, taken[GROUPS], closed, in_use[LINES]; /* the places that calls have */
-    bool is_refused; /* a call returned BUSY */
+    uint8_t sent, taken[GROUPS], closed, is_marked;
+    bool is_unanswered; /* a call returned before its answer */
+    uint8_t has_lock; /* which process, from 1 */
 };
 
 static struct state *states, *left;
@@ -294,7 +371,7 @@ static void advance(struct state state, int process, uint64_t result) {
     uint64_t code = VAHEPITO_DONE;
     state.sleeps[process] = AWAKE;
     state.nodes[process] = node_after(state.nodes[process], result, &code);
-    state.is_refused |= code == VAHEPITO_BUSY;
+    state.is_unanswered |= code == VAHEPITO_WAITING;
     reach(&state);
 }
 
@@ -307,26 +384,6 @@ static uint32_t load_before(uint32_t node) {
 
 static bool sleeps_in(const struct state *state, int process, int line) {
     return state->sleeps[process] == ASLEEP && nodes[state->nodes[process]].step.line == line;
-}
-
-/* Whether a call that begins in this line finds no free place. */
-static bool is_full(const struct state *state, int line) { return model->places != 0 && state->in_use[line] == model->places; }
-
-/* Whether the last call of this process returned BUSY, and no place is free still. */
-static bool waits_for_place(const struct state *state, int process) {
-    const struct node *node = &nodes[state->nodes[process]];
-    const bool begins = node->step.kind == TRY_SEND || node->step.kind == TRY_TAKE || node->step.kind == CLOSE;
-    return begins && node->result == VAHEPITO_BUSY && is_full(state, node->step.line);
-}
-
-/* A try: of a model with places, its begin. */
-static void begin(struct state next, int process, int line, uint32_t code) {
-    if (is_full(&next, line)) {
-        if (!waits_for_place(&next, process)) advance(next, process, VAHEPITO_BUSY);
-    } else {
-        next.in_use[line] += model->places != 0;
-        advance(next, process, model->places != 0 ? VAHEPITO_WAITING : code);
-    }
 }
 
 /* The states after one step of this process. */
@@ -368,48 +425,39 @@ static void search_after(const struct state *state, int process) {
         if (none || step.value != 1) advance(next, process, 0);
         break;
     }
-    case TRY_SEND: {
-        const uint32_t code = model->places == 0 ? try_send(&next) : VAHEPITO_WAITING;
-        begin(next, process, 0, code);
-        break;
-    }
-    case TRY_TAKE: {
-        const uint32_t code = model->places == 0 ? try_take(&next, step.line) : VAHEPITO_WAITING;
-        begin(next, process, step.line, code);
-        break;
-    }
+    case TRY_SEND:
     case TURN_SEND: {
-        const uint32_t code = try_send(&next);
-        next.in_use[0]--;
+        const uint32_t code = model->has_turns && step.kind == TRY_SEND ? VAHEPITO_WAITING : try_send(&next);
         advance(next, process, code);
         break;
     }
+    case TRY_TAKE:
     case TURN_TAKE: {
-        const uint32_t code = try_take(&next, step.line);
-        next.in_use[step.line]--;
+        const uint32_t code = model->has_turns && step.kind == TRY_TAKE ? VAHEPITO_WAITING : try_take(&next, step.line);
         advance(next, process, code);
         break;
     }
-    case CLOSE:
-        if (!is_full(state, 0)) next.closed = 1, advance(next, process, VAHEPITO_WAITING);
-        else if (!waits_for_place(state, process)) advance(next, process, VAHEPITO_BUSY);
+    case LOOK_SENT: advance(next, process, state->sent); break;
+    case LOOK_TAKEN: advance(next, process, state->taken[step.line - 1]); break;
+    case LOOK_CLOSED: advance(next, process, state->is_marked); break;
+    case MARK_CLOSED: next.is_marked = 1, advance(next, process, 0); break;
+    case LOCK:
+        if (state->has_lock == 0) next.has_lock = (uint8_t)(process + 1), advance(next, process, 0);
         break;
+    case UNLOCK: next.has_lock = 0, advance(next, process, 0); break;
+    case CLOSE: next.closed = 1, advance(next, process, VAHEPITO_SHUT); break;
     }
 }
 
-/* Whether a call returned BUSY; or no process makes a step, though the try of a process that sleeps would find something, or a
- * process waits for a place, or the counts of a line aren't the number of those that sleep there. */
+/* Whether a call returned before its answer; or no process makes a step, though the try of a process that sleeps would find something, or the counts of a line aren't the number of
+ * those that sleep there. */
 static bool is_wrong(const struct state *state) {
     uint64_t sleeping[LINES] = {0};
     bool is_missed = false;
-    if (state->is_refused) return true;
+    if (state->is_unanswered) return true;
     for (int process = 0; process < PROCESSES; process++) {
         const struct step *step = &nodes[state->nodes[process]].step;
         if (step->kind == DONE) continue;
-        if (waits_for_place(state, process)) {
-            is_missed = true;
-            continue;
-        }
         if (state->sleeps[process] != ASLEEP) return false;
         sleeping[step->line] += VAHEPITO_INTERNAL_ONE_WAITING;
         is_missed |= state->closed || (step->line == 0 ? room(state) > 0 : state->taken[step->line - 1] < state->sent);
@@ -441,20 +489,24 @@ static bool search(const struct model *it) {
 }
 
 static const struct model models[] = {
-    {{"t", "s", "", ""}, 1, 1, 9, 1, 0},    {{"T", "s", "s", ""}, 2, 1, 9, 1, 0},  {{"t", "t", "ss", ""}, 2, 1, 9, 0, 0},
-    {{"t", "t", "s", "s"}, 2, 1, 9, 0, 0},  {{"t", "T", "ss", ""}, 2, 1, 9, 0, 0}, {{"t", "T", "s", "n"}, 2, 1, 9, 0, 0},
-    {{"t", "t", "r", "r"}, 2, 1, 9, 0, 0},  {{"t", "t", "sc", ""}, 2, 1, 9, 0, 0}, {{"t", "u", "s", ""}, 1, 2, 9, 0, 0},
-    {{"tt", "uu", "ss", ""}, 1, 2, 9, 0, 0}, {{"tt", "ss", "", ""}, 1, 1, 9, 1, 0}, {{"tt", "s", "s", ""}, 1, 1, 9, 0, 0},
-    {{"tt", "S", "ss", ""}, 1, 1, 9, 0, 0}, {{"tt", "w", "ss", ""}, 1, 1, 9, 0, 0}, {{"ms", "s", "c", ""}, 1, 1, 9, 0, 0},
-    {{"ms", "s", "s", "t"}, 1, 1, 1, 0, 0}, {{"tc", "ss", "S", ""}, 1, 1, 9, 0, 0}, {{"c", "ss", "s", "t"}, 1, 1, 9, 0, 0},
-    {{"t", "t", "c", "s"}, 1, 1, 9, 0, 0},  {{"t", "T", "T", "s"}, 2, 1, 9, 0, 0},  {{"tt", "w", "s", "s"}, 1, 1, 9, 0, 0},
-    {{"t", "U", "u", "s"}, 1, 2, 9, 0, 0}, {{"tt", "u", "ss", ""}, 1, 2, 9, 1, 0},
-    {{"tt", "s", "s", ""}, 1, 1, 9, 0, 1}, {{"t", "t", "ss", ""}, 1, 1, 9, 0, 1}, {{"t", "c", "s", ""}, 1, 1, 9, 0, 1},
+    {{"t", "s", "", ""}, 1, 1, 9, 1, false, false},    {{"T", "s", "s", ""}, 2, 1, 9, 1, false, false},  {{"t", "t", "ss", ""}, 2, 1, 9, 0, false, false},
+    {{"t", "t", "s", "s"}, 2, 1, 9, 0, false, false},  {{"t", "T", "ss", ""}, 2, 1, 9, 0, false, false}, {{"t", "T", "s", "n"}, 2, 1, 9, 0, false, false},
+    {{"t", "t", "b", ""}, 2, 1, 9, 0, false, false},   {{"t", "t", "b", "s"}, 3, 1, 9, 0, false, false}, {{"t", "T", "b", ""}, 1, 1, 9, 0, false, true},
+    {{"k", "s", "b", ""}, 1, 1, 9, 0, false, false},  {{"k", "s", "s", ""}, 2, 1, 9, 0, false, true},   {{"k", "t", "b", ""}, 1, 1, 9, 0, false, false},
+    {{"bs", "s", "k", ""}, 2, 1, 9, 0, false, false},  {{"t", "t", "sc", ""}, 2, 1, 9, 0, false, false},  {{"t", "u", "s", ""}, 1, 2, 9, 0, false, false},
+    {{"tt", "uu", "ss", ""}, 1, 2, 9, 0, false, false}, {{"tt", "ss", "", ""}, 1, 1, 9, 1, false, false}, {{"tt", "s", "s", ""}, 1, 1, 9, 0, false, false},
+    {{"tt", "S", "ss", ""}, 1, 1, 9, 0, false, false}, {{"tt", "w", "ss", ""}, 1, 1, 9, 0, false, false}, {{"ms", "s", "c", ""}, 1, 1, 9, 0, false, false},
+    {{"ms", "s", "s", "t"}, 1, 1, 1, 0, false, false}, {{"tc", "ss", "S", ""}, 1, 1, 9, 0, false, false}, {{"c", "ss", "s", "t"}, 1, 1, 9, 0, false, false},
+    {{"t", "t", "c", "s"}, 1, 1, 9, 0, false, false},  {{"t", "T", "T", "s"}, 2, 1, 9, 0, false, false},  {{"tt", "w", "s", "s"}, 1, 1, 9, 0, false, false},
+    {{"t", "U", "u", "s"}, 1, 2, 9, 0, false, false},  {{"tt", "u", "ss", ""}, 1, 2, 9, 1, false, false},
+    {{"tt", "s", "s", ""}, 1, 1, 9, 0, true, false},  {{"t", "t", "ss", ""}, 1, 1, 9, 0, true, false},  {{"t", "c", "s", ""}, 1, 1, 9, 0, true, false},
+    {{"tt", "s", "s", ""}, 1, 1, 9, 0, false, true},   {{"tt", "S", "ss", ""}, 1, 1, 9, 0, false, true},  {{"tt", "uu", "ss", ""}, 1, 2, 9, 0, false, true},
+    {{"ms", "s", "c", ""}, 1, 1, 9, 0, false, true},   {{"c", "ss", "s", ""}, 1, 1, 9, 0, false, true},
 };
 
 int main(int count, char **words) {
     const bool faults = count > 1 && strcmp(words[1], "--faults") == 0;
-    const struct model early = {{"t", "e", "", ""}, 1, 1, 9, 0, 0};
+    const struct model early = {{"t", "e", "", ""}, 1, 1, 9, 0, false, false};
     size_t all = 0;
     bool found = false;
     for (size_t at = 0; at < sizeof models / sizeof *models && !found; at++) {

@@ -2,8 +2,8 @@
  * allocations is counted and can be refused.
  *
  * An opening that is refused memory says so, whichever of its allocations that is, leaves the handles empty and keeps
- * nothing. No later call takes memory. The last handle frees all, and none before it frees the queue. Of a queue behind one
- * pointer vahepito_free does, and nothing else frees or takes any. */
+ * nothing. No later call takes memory, but one for an observer, and a send of vahepito.h that needs a further queue. The last handle or
+ * observer frees all, and none before it frees the queue. Of a queue behind one pointer vahepito_free does, and nothing else frees or takes any. */
 #include "handles.h"
 
 #include <errno.h>
@@ -131,17 +131,29 @@ static void use_queue(uint32_t groups) {
     check(vahepito_begin_take(&receivers[2]) == VAHEPITO_BEGUN, "begun");
     check(asked == opening && blocks == kept, "no call takes memory or frees any");
 
+    vahepito_look look = {(vahepito_raw *)passes};
+    refused = asked + 1;
+    check(vahepito_observe(&senders[0], &look.queue) == VAHEPITO_NO_MEMORY && !look.queue && blocks == kept, "want of memory is told");
+    refused = 0;
+    const int is_observed = groups == MOST_GROUPS;
+    if (is_observed) check(vahepito_observe(&receivers[2], &look.queue) == VAHEPITO_DONE && blocks > kept, "an observer takes memory");
+
     /* One of them has a call that was begun. */
+    const long last = asked;
     for (uint32_t k = 0; k < count; k++) {
         check(blocks > 0, "the queue is there as long as a handle is");
         check(vahepito_drop(&passes[k]) == VAHEPITO_DONE && !passes[k].live, "a pass is let go");
     }
-    check(asked == opening, "no drop takes memory");
-    check(blocks == 0, "the last handle frees the queue");
+    if (is_observed) {
+        check(vahepito_accepted(&look) == 3 && vahepito_taken(&look, 2) == 3 && vahepito_is_shut(&look) == 1, "the queue is there as long as an observer is");
+        vahepito_free(look.queue);
+    }
+    check(asked == last, "no drop and no look takes memory");
+    check(blocks == 0, "the last handle or observer frees the queue");
 }
 
 /* A queue behind one pointer: its calls with each answer, by two callers. */
-static void call_by_pointer(vahepito_queue *queue, uint32_t groups) {
+static void call_by_pointer(vahepito_raw *queue, uint32_t groups) {
     vahepito_call one = VAHEPITO_CALL(queue), other = VAHEPITO_CALL(queue);
     const uint64_t words[2] = {7, 8};
     vahepito_item item = {0};
@@ -168,7 +180,7 @@ static void call_by_pointer(vahepito_queue *queue, uint32_t groups) {
 
 static void use_pointer(uint32_t groups) {
     const vahepito_config config = {SENDERS, RECEIVERS, 2, 8, 3, 3};
-    vahepito_queue *queue = NULL;
+    vahepito_raw *queue = NULL;
     uint32_t code;
     for (refused = 1;; refused++) {
         asked = 0;
@@ -185,7 +197,44 @@ static void use_pointer(uint32_t groups) {
     check(asked == opening && blocks == 0, "the free frees the queue");
 }
 
+/* The queue of vahepito.h: its opening, and the further queue that a send needs, each refused each of its allocations. */
+static void use_row(void) {
+    vahepito_attributes attributes = VAHEPITO_ATTRIBUTES;
+    vahepito_queue *queue;
+    vahepito_item item;
+    uint64_t place = 9;
+    uint32_t code;
+    attributes.capacity = 4, attributes.groups = 2, attributes.places = RECEIVERS, attributes.life = 2;
+    for (refused = 1;; refused++) {
+        asked = 0;
+        code = vahepito_create_as(&attributes, &queue);
+        if (asked < refused) break;
+        check(code == VAHEPITO_NO_MEMORY && queue == NULL && blocks == 0, "want of memory is told, and nothing is kept");
+    }
+    check(code == VAHEPITO_DONE, "the queue is opened where nothing is refused");
+    const long kept = blocks;
+    for (uint64_t number = 0; number < 2; number++) {
+        asked = 0;
+        check(vahepito_send(queue, number, &place) == VAHEPITO_ACCEPTED && place == number && asked == 0, "a send takes no memory");
+    }
+    for (refused = 1;; refused++) {
+        asked = 0;
+        code = vahepito_send(queue, 2, &place);
+        if (asked < refused) break;
+        check(code == VAHEPITO_NO_MEMORY && place == 0 && blocks == kept, "a send that needs a further queue is refused, and nothing has changed");
+    }
+    refused = 0;
+    check(code == VAHEPITO_ACCEPTED && place == 2 && blocks > kept, "and then it is accepted");
+    for (uint32_t group = 1; group <= 2; group++)
+        for (uint64_t number = 0; number < 3; number++)
+            check(vahepito_take(queue, group, &item, NULL) == VAHEPITO_GOT && item.words[0] == number && item.place == number, "each group takes all");
+    check(blocks == kept, "the queue that both groups have left is freed");
+    vahepito_destroy(queue, NULL, NULL);
+    check(blocks == 0, "and in the end all");
+}
+
 int main(void) {
+    use_row();
     for (uint32_t groups = 1; groups <= 8; groups++) use_pointer(groups);
     for (uint32_t groups = 1; groups <= MOST_GROUPS; groups++) use_queue(groups);
     printf("%s\n", "all memory is free");

@@ -12,10 +12,7 @@ enum { THREADS = 4, ROUNDS = 500, CAPACITY = 3, BUFFERS = CAPACITY + 2 };
 static vahepito_queue *queue;
 static pthread_t threads[THREADS];
 
-static void open_for(uint32_t capacity) {
-    const vahepito_config config = {THREADS, THREADS, capacity, 64, (uint64_t)1 << 48, UINT32_MAX};
-    check(vahepito_new(&config, 1, 1, &queue) == VAHEPITO_DONE, "the queue is opened");
-}
+static void open_for(uint32_t capacity) { queue = opened(capacity, 1); }
 
 static void start(void *(*body)(void *)) {
     for (int k = 0; k < THREADS; k++) check(!pthread_create(&threads[k], NULL, body, k % 2 ? &threads[k] : NULL), "a thread starts");
@@ -23,7 +20,7 @@ static void start(void *(*body)(void *)) {
 
 static void join_and_free(void) {
     for (int k = 0; k < THREADS; k++) check(!pthread_join(threads[k], NULL), "a thread ends");
-    vahepito_free(queue);
+    vahepito_destroy(queue, NULL, NULL);
 }
 
 /* ---- a close: half of the threads send until it is closed, and half take until the end */
@@ -31,14 +28,13 @@ static void join_and_free(void) {
 static int summary, is_closed;
 
 static void *reads_summary(void *sends) {
-    vahepito_call mine = VAHEPITO_CALL(queue);
     uint32_t code;
     if (sends) {
-        while ((code = vahepito_send(&waits, &mine, 7, NULL)) == VAHEPITO_ACCEPTED) {}
+        while ((code = vahepito_send(queue, 7, NULL)) == VAHEPITO_ACCEPTED) {}
         check(code == VAHEPITO_CLOSED && summary == 42, "what was written before the close is seen after a send that is refused");
-        check(vahepito_close(&waits, &mine, NULL) == VAHEPITO_ALREADY, "it was closed");
+        check(vahepito_close(queue, NULL) == VAHEPITO_ALREADY, "it was closed");
     } else {
-        while ((code = vahepito_take(&waits, &mine, 1, NULL, NULL)) == VAHEPITO_GOT) {}
+        while ((code = vahepito_take(queue, 1, NULL, NULL)) == VAHEPITO_GOT) {}
         check(code == VAHEPITO_ENDED && summary == 42, "and after the end");
     }
     return NULL;
@@ -46,30 +42,27 @@ static void *reads_summary(void *sends) {
 
 /* The same with tries, of a queue that is full; and half of them wait. */
 static void *is_refused(void *closes) {
-    vahepito_call mine = VAHEPITO_CALL(queue);
     uint32_t code;
-    do code = closes ? vahepito_send_now(&waits, &mine, 7, NULL) : vahepito_send(&waits, &mine, 7, NULL);
+    do code = closes ? vahepito_send_now(queue, 7, NULL) : vahepito_send(queue, 7, NULL);
     while (code == VAHEPITO_FULL);
     check(code == VAHEPITO_CLOSED && summary == 42, "and by a try");
     return NULL;
 }
 
 static void *closes_too(void *unused) {
-    vahepito_call mine = VAHEPITO_CALL(queue);
     while (__atomic_load_n(&is_closed, __ATOMIC_RELAXED) == 0) sched_yield();
-    check(vahepito_close(&waits, &mine, NULL) == VAHEPITO_ALREADY && summary == 42, "and after a further close");
+    check(vahepito_close(queue, NULL) == VAHEPITO_ALREADY && summary == 42, "and after a further close");
     return unused;
 }
 
 static void closes(void *(*body)(void *), int items) {
     open_for(CAPACITY);
-    vahepito_call mine = VAHEPITO_CALL(queue);
     summary = is_closed = 0;
-    for (int k = 0; k < CAPACITY && items == 0; k++) check(vahepito_send(&waits, &mine, 1, NULL) == VAHEPITO_ACCEPTED, "it is full");
+    for (int k = 0; k < CAPACITY && items == 0; k++) check(vahepito_send(queue, 1, NULL) == VAHEPITO_ACCEPTED, "it is full");
     start(body);
-    for (int k = 0; k < items; k++) check(vahepito_send(&waits, &mine, 1, NULL) == VAHEPITO_ACCEPTED, "an item is sent");
+    for (int k = 0; k < items; k++) check(vahepito_send(queue, 1, NULL) == VAHEPITO_ACCEPTED, "an item is sent");
     summary = 42;
-    check(vahepito_close(&waits, &mine, NULL) == VAHEPITO_SHUT, "the queue is closed");
+    check(vahepito_close(queue, NULL) == VAHEPITO_SHUT, "the queue is closed");
     __atomic_store_n(&is_closed, 1, __ATOMIC_RELAXED);
     join_and_free();
 }
@@ -79,11 +72,10 @@ static void closes(void *(*body)(void *), int items) {
 static uint64_t counter;
 
 static void *counts(void *unused) {
-    vahepito_call mine = VAHEPITO_CALL(queue);
     for (int k = 0; k < ROUNDS; k++) {
-        check(vahepito_send(&waits, &mine, 1, NULL) == VAHEPITO_ACCEPTED, "the lock is taken");
+        check(vahepito_send(queue, 1, NULL) == VAHEPITO_ACCEPTED, "the lock is taken");
         counter++;
-        check(vahepito_take(&waits, &mine, 1, NULL, NULL) == VAHEPITO_GOT, "and given back");
+        check(vahepito_take(queue, 1, NULL, NULL) == VAHEPITO_GOT, "and given back");
     }
     return unused;
 }
@@ -95,9 +87,8 @@ static struct {
 } buffers[BUFFERS];
 
 static void *reads_buffers(void *unused) {
-    vahepito_call mine = VAHEPITO_CALL(queue);
     vahepito_item item;
-    for (uint64_t number = 0; vahepito_take(&waits, &mine, 1, &item, NULL) == VAHEPITO_GOT; number++)
+    for (uint64_t number = 0; vahepito_take(queue, 1, &item, NULL) == VAHEPITO_GOT; number++)
         for (int k = 0; k < 4; k++) check(buffers[item.words[0]].numbers[k] == number, "a buffer is as it was filled");
     return unused;
 }
@@ -105,15 +96,14 @@ static void *reads_buffers(void *unused) {
 static void lends_buffers(void) {
     pthread_t reader;
     open_for(CAPACITY);
-    vahepito_call mine = VAHEPITO_CALL(queue);
     check(!pthread_create(&reader, NULL, reads_buffers, NULL), "a thread starts");
     for (uint64_t number = 0; number < ROUNDS; number++) {
         for (int k = 0; k < 4; k++) buffers[number % BUFFERS].numbers[k] = number;
-        check(vahepito_send(&waits, &mine, number % BUFFERS, NULL) == VAHEPITO_ACCEPTED, "a buffer is lent");
+        check(vahepito_send(queue, number % BUFFERS, NULL) == VAHEPITO_ACCEPTED, "a buffer is lent");
     }
-    check(vahepito_close(&waits, &mine, NULL) == VAHEPITO_SHUT, "the queue is closed");
+    check(vahepito_close(queue, NULL) == VAHEPITO_SHUT, "the queue is closed");
     check(!pthread_join(reader, NULL), "a thread ends");
-    vahepito_free(queue);
+    vahepito_destroy(queue, NULL, NULL);
 }
 
 int main(void) {

@@ -10,6 +10,7 @@
 #define _POSIX_C_SOURCE 200809L
 #endif
 #include "checks.h"
+#include "vahepito_raw.h"
 
 #include <pthread.h>
 #include <signal.h>
@@ -27,11 +28,30 @@ _Static_assert(offsetof(vahepito_config, life) == 16 && offsetof(vahepito_config
 enum { SENDING = 32, TAKING = 32, GROUPS = 2 };
 
 static uint64_t items = 300;
-static vahepito_queue *queue;
+static vahepito_raw *queue;
 
 static void open_for(uint32_t senders, uint32_t receivers, uint32_t capacity, uint64_t life, uint32_t per_sender) {
     const vahepito_config config = {senders, receivers, capacity, 64, life, per_sender};
     check(vahepito_new(&config, GROUPS, 2, &queue) == VAHEPITO_DONE && queue, "a queue is opened");
+}
+
+/* Turns until it is answered. */
+static uint32_t finish_send(vahepito_call *call, uint64_t *place) {
+    uint32_t code;
+    while ((code = vahepito_call_turn_send(call, place)) == VAHEPITO_WAITING) (void)sched_yield();
+    return code;
+}
+
+static uint32_t finish_take(vahepito_call *call, vahepito_item *item, uint64_t *total) {
+    uint32_t code;
+    while ((code = vahepito_call_turn_take(call, item, total)) == VAHEPITO_WAITING) (void)sched_yield();
+    return code;
+}
+
+static uint32_t finish_close(vahepito_call *call, uint64_t *total) {
+    uint32_t code;
+    while ((code = vahepito_call_turn_close(call, total)) == VAHEPITO_WAITING) (void)sched_yield();
+    return code;
 }
 
 /* ---- openings that are refused */
@@ -52,7 +72,7 @@ static void refused_openings(void) {
     };
     static int any;
     for (size_t at = 0; at < sizeof wrong / sizeof *wrong; at++) {
-        queue = (vahepito_queue *)&any;
+        queue = (vahepito_raw *)&any;
         check(vahepito_new(&wrong[at].config, wrong[at].groups, wrong[at].words, &queue) == wrong[at].code, "the first fault is told");
         check(queue == NULL, "and there is no queue");
     }
@@ -112,6 +132,17 @@ static void refused_calls(vahepito_call *call, enum state state) {
     }
 }
 
+/* What looks find, by a caller and by a copy of the pointer. */
+static void looks(const vahepito_call *call, uint64_t accepted, uint64_t taken, uint32_t shut) {
+    vahepito_look look = {queue};
+    check(vahepito_accepted(&look) == accepted && vahepito_call_accepted(call) == accepted, "so many were accepted");
+    for (uint32_t group = 1; group <= GROUPS; group++)
+        check(vahepito_taken(&look, group) == taken && vahepito_call_taken(call, group) == taken, "each group has taken so many");
+    check(vahepito_taken(&look, 0) == 0 && vahepito_taken(&look, GROUPS + 1) == 0 && vahepito_call_taken(call, UINT32_MAX) == 0, "no such group");
+    check(vahepito_is_shut(&look) == shut && vahepito_call_is_shut(call) == shut, "closed, or not");
+    check(look.queue == queue && call->queue == queue, "nothing has changed");
+}
+
 /* The answers of a caller that is alone. */
 static void each_answer(void) {
     vahepito_item item;
@@ -120,10 +151,12 @@ static void each_answer(void) {
     vahepito_call call = VAHEPITO_CALL(queue), other = VAHEPITO_CALL(queue);
     call.place = UINT32_MAX; /* any number is right */
     refused_calls(&call, NO_TICKET);
+    looks(&call, 0, 0, 0);
     check(vahepito_call_take(&call, 1, &item, &number) == VAHEPITO_EMPTY && number == 0 && item.count == 0, "empty");
     check(vahepito_call_send(&call, five, 1, &number) == VAHEPITO_ACCEPTED && number == 0 && call.served == 1, "accepted");
     check(vahepito_call_send(&other, five, 2, &number) == VAHEPITO_ACCEPTED && number == 1, "accepted of another caller");
     check(vahepito_call_send(&call, five, 1, &number) == VAHEPITO_FULL && number == 0, "full");
+    looks(&call, 2, 0, 0);
     for (uint32_t group = 1; group <= GROUPS; group++) {
         check(vahepito_call_take(&call, group, &item, &number) == VAHEPITO_GOT && number == 0, "each group gets an item");
         check(item.place == 0 && item.sender == 1 && item.number == 1 && item.count == 1 && item.words[0] == 11 && item.words[1] == 0, "of one word");
@@ -132,10 +165,12 @@ static void each_answer(void) {
     }
     check(vahepito_call_send(&call, five, 1, &number) == VAHEPITO_ACCEPTED && number == 2, "accepted");
     check(vahepito_call_take(&call, 1, &item, &number) == VAHEPITO_GOT && vahepito_call_take(&call, 2, &item, &number) == VAHEPITO_GOT, "taken");
+    looks(&call, 3, 3, 0);
     check(vahepito_call_send(&call, five, 1, &number) == VAHEPITO_SPENT && number == 0, "spent");
     check(vahepito_call_send(&call, five, 1, &number) == VAHEPITO_WORN && number == 0, "worn");
     check(vahepito_call_close(&call, &number) == VAHEPITO_SHUT && number == 3, "shut");
     check(vahepito_call_close(&other, &number) == VAHEPITO_ALREADY && number == 3, "already");
+    looks(&call, 3, 3, 1);
     check(vahepito_call_take(&call, 2, &item, &number) == VAHEPITO_ENDED && number == 3 && item.count == 0, "ended");
     refused_calls(&call, NO_TICKET);
     vahepito_free(queue);
@@ -173,11 +208,11 @@ static void *call_on(void *kind) {
         uint32_t code;
         if (*(const char *)kind == 's') {
             code = vahepito_call_send(&mine, five, 1, &number);
-            if (code == VAHEPITO_WAITING) code = vahepito_finish_send(&mine, NULL);
+            if (code == VAHEPITO_WAITING) code = finish_send(&mine, &number);
             check(code == VAHEPITO_ACCEPTED || code == VAHEPITO_FULL || code == VAHEPITO_CLOSED || code == VAHEPITO_BUSY, "a send is answered");
         } else {
             code = vahepito_call_take(&mine, 1, &item, &number);
-            if (code == VAHEPITO_WAITING) code = vahepito_finish_take(&mine, NULL, NULL);
+            if (code == VAHEPITO_WAITING) code = finish_take(&mine, &item, &number);
             check(code == VAHEPITO_GOT || code == VAHEPITO_EMPTY || code == VAHEPITO_ENDED || code == VAHEPITO_BUSY, "a take is answered");
         }
     }
@@ -197,7 +232,10 @@ static void let_continue(void) {
 
 static void *send_one(void *unused) {
     vahepito_call mine = VAHEPITO_CALL(queue);
-    const uint32_t code = vahepito_send_now(&waits, &mine, 1, NULL);
+    uint64_t place;
+    uint32_t code;
+    while ((code = vahepito_call_send(&mine, five, 1, &place)) == VAHEPITO_BUSY) (void)sched_yield();
+    if (code == VAHEPITO_WAITING) code = finish_send(&mine, &place);
     check(code == VAHEPITO_ACCEPTED || code == VAHEPITO_FULL, "a send waits for a place");
     return unused;
 }
@@ -249,7 +287,6 @@ static void with_stopped(enum state state, uint32_t places) {
         call = moved;
         refused_calls(&call, NO_TICKET);
     }
-    check_no_call_waits();
     vahepito_free(queue);
 }
 
@@ -257,14 +294,13 @@ static void with_stopped(enum state state, uint32_t places) {
 
 static uint64_t places_of[MOST_THREADS];
 
-/* Half of the threads wait by vahepito_wait.h, and half try until there is room, or an item. The last one that sends closes, and
+/* The threads try until there is room, or an item. The last one that sends closes, and
  * each one that takes at its end. Returns whether this close was the first. */
 static uint64_t closes(vahepito_call *mine) {
     uint64_t total = 0;
     uint32_t code;
     while ((code = vahepito_call_close(mine, &total)) == VAHEPITO_BUSY) (void)sched_yield();
-    if (code == VAHEPITO_WAITING) code = vahepito_finish_close(mine, &total);
-    vahepito_notify_all(&waits);
+    if (code == VAHEPITO_WAITING) code = finish_close(mine, &total);
     check(code == VAHEPITO_SHUT || code == VAHEPITO_ALREADY, "a close is answered");
     return code == VAHEPITO_SHUT;
 }
@@ -277,16 +313,11 @@ static void *sends(void *at) {
     for (uint64_t number = 1, place = 0; number <= items; number++) {
         const uint64_t words[2] = {item_of(thread, number), ~number};
         uint32_t code;
-        if (thread % 2 == 0) {
-            code = vahepito_send_words(&waits, &mine, words, 2, &place);
-        } else {
-            do {
-                code = vahepito_call_send(&mine, words, 2, &place);
-                if (code == VAHEPITO_WAITING) code = vahepito_finish_send(&mine, &place);
-                if (code == VAHEPITO_FULL || code == VAHEPITO_BUSY) (void)sched_yield();
-            } while (code == VAHEPITO_FULL || code == VAHEPITO_BUSY);
-            if (code == VAHEPITO_ACCEPTED) vahepito_notify_item(&waits);
-        }
+        do {
+            code = vahepito_call_send(&mine, words, 2, &place);
+            if (code == VAHEPITO_WAITING) code = finish_send(&mine, &place);
+            if (code == VAHEPITO_FULL || code == VAHEPITO_BUSY) (void)sched_yield();
+        } while (code == VAHEPITO_FULL || code == VAHEPITO_BUSY);
         check(code == VAHEPITO_ACCEPTED, "a send is accepted in the end");
         check(number == 1 || place > places_of[thread], "places rise");
         places_of[thread] = place;
@@ -305,16 +336,11 @@ static void *takes(void *at) {
     vahepito_item item;
     for (;;) {
         uint32_t code;
-        if (thread % 4 < 2) {
-            code = vahepito_take(&waits, &mine, group, &item, &total);
-        } else {
-            do {
-                code = vahepito_call_take(&mine, group, &item, &total);
-                if (code == VAHEPITO_WAITING) code = vahepito_finish_take(&mine, &item, &total);
-                if (code == VAHEPITO_EMPTY || code == VAHEPITO_BUSY) (void)sched_yield();
-            } while (code == VAHEPITO_EMPTY || code == VAHEPITO_BUSY);
-            if (code == VAHEPITO_GOT) vahepito_notify_room(&waits);
-        }
+        do {
+            code = vahepito_call_take(&mine, group, &item, &total);
+            if (code == VAHEPITO_WAITING) code = finish_take(&mine, &item, &total);
+            if (code == VAHEPITO_EMPTY || code == VAHEPITO_BUSY) (void)sched_yield();
+        } while (code == VAHEPITO_EMPTY || code == VAHEPITO_BUSY);
         if (code == VAHEPITO_ENDED) break;
         const uint32_t sender = (uint32_t)(item.words[0] >> 32);
         const uint64_t number = (uint32_t)item.words[0];
@@ -347,7 +373,6 @@ static void many_threads(uint32_t places, uint32_t capacity) {
         free(taken[group]);
     }
     check(shuts == 1, "one close closed it");
-    check_no_call_waits();
     vahepito_free(queue);
 }
 

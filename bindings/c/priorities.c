@@ -7,13 +7,11 @@
  * is none. Only calls that wait for neither room nor an item are made. */
 #define _GNU_SOURCE
 #include "checks.h"
-#include "vahepito_wait.h"
 
 #include <pthread.h>
 #include <stdio.h>
 #include <stdlib.h>
 
-static const vahepito_config config = {4, 4, 64, 64, (uint64_t)1 << 48, UINT32_MAX};
 static const long LONGEST = 50000000, ALL = 1500000000; /* nanoseconds */
 
 static vahepito_queue *queue;
@@ -25,17 +23,16 @@ static long now(void) {
     return time.tv_sec * 1000000000L + time.tv_nsec;
 }
 
-static void send_and_take(vahepito_call *call) {
+static void send_and_take(void) {
     vahepito_item item;
-    const uint32_t sent = vahepito_send_now(&waits, call, 1, NULL);
+    const uint32_t sent = vahepito_send_now(queue, 1, NULL);
     check(sent == VAHEPITO_ACCEPTED || sent == VAHEPITO_FULL, "a send is accepted, or finds the queue full");
-    const uint32_t taken = vahepito_take_now(&waits, call, 1, &item, NULL);
+    const uint32_t taken = vahepito_take_now(queue, 1, &item, NULL);
     check(taken == VAHEPITO_GOT || taken == VAHEPITO_EMPTY, "a take gets an item, or finds none");
 }
 
 static void *ordinary(void *unused) {
-    vahepito_call call = VAHEPITO_CALL(queue);
-    while (!__atomic_load_n(&is_over, __ATOMIC_RELAXED)) send_and_take(&call);
+    while (!__atomic_load_n(&is_over, __ATOMIC_RELAXED)) send_and_take();
     return unused;
 }
 
@@ -44,7 +41,7 @@ int main(void) {
     CPU_ZERO(&one);
     CPU_SET(sched_getcpu(), &one);
     check(sched_setaffinity(0, sizeof one, &one) == 0, "the threads stay on one processor");
-    check(vahepito_new(&config, 1, 1, &queue) == VAHEPITO_DONE, "a queue is opened");
+    queue = opened(64, 1);
     pthread_t thread;
     check(pthread_create(&thread, NULL, ordinary, NULL) == 0, "a thread starts");
     const struct sched_param first = {1}, last = {0};
@@ -52,20 +49,19 @@ int main(void) {
         puts("SKIPPED: this process may not use SCHED_FIFO");
         return 77;
     }
-    vahepito_call call = VAHEPITO_CALL(queue);
     long longest = 0, pairs = 0;
     for (const long end = now() + ALL; now() < end; pairs++) {
         const struct timespec pause = {0, 300000};
         nanosleep(&pause, NULL);
         const long begin = now();
-        send_and_take(&call);
+        send_and_take();
         const long took = now() - begin;
         if (took > longest) longest = took;
     }
     pthread_setschedparam(pthread_self(), SCHED_OTHER, &last);
     __atomic_store_n(&is_over, 1, __ATOMIC_RELAXED);
     pthread_join(thread, NULL);
-    vahepito_free(queue);
+    vahepito_destroy(queue, NULL, NULL);
     fprintf(stderr, "C: priorities: %ld pairs, the longest took %.1f ms\n", pairs, (double)longest / 1e6);
     if (longest >= LONGEST) return 1;
     puts("no pair took 50 ms");

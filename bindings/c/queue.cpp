@@ -42,14 +42,14 @@ void one_thread() {
     vahepito::receiver<int> receiver = std::move(receivers[0]);
     check(receiver.take() == -7, "it is as it was sent");
     check(!receiver.try_take() && !receiver.ended() && !receiver.take_until(soon()), "there is none");
-    check(code_of([](auto &it) { it.take(); }, receivers[0]) == VAHEPITO_NO_PASS, "a receiver that was moved from takes nothing");
+    check(code_of([](auto &it) { it.take(); }, receivers[0]) == vahepito::moved, "a receiver that was moved from takes nothing");
     { vahepito::sender<int> other = std::move(sender); }
-    check(code_of([](auto &it) { it.send(1); }, sender) == VAHEPITO_NO_PASS && !sender.close(), "nor does a sender send");
+    check(code_of([](auto &it) { it.send(1); }, sender) == vahepito::moved && !sender.close(), "nor does a sender send");
     check(copy.send(9), "a queue with a sender is open");
     vahepito::receiver<int> second = receiver;
     { auto last = std::move(copy); }
     check(second.take() == 9 && !receiver.take() && receiver.ended(), "the last sender closes it");
-    config.capacity = 0;
+    config.capacity = 4097;
     check(code_of([](auto &it) { vahepito::open<int>(it); }, config) == VAHEPITO_BAD_CAPACITY, "an opening is refused");
     config.capacity = 1;
     auto [closing, left] = vahepito::open<pair>(config);
@@ -64,7 +64,7 @@ std::uint64_t many_threads() {
     vahepito::config config;
     config.capacity = 3;
     config.groups = 2;
-    config.senders = config.receivers = 3;
+    config.places = 3;
     auto [first, receivers] = vahepito::open<pair>(config);
     std::atomic<std::uint64_t> taken{0};
     std::vector<std::thread> threads;

@@ -23,31 +23,11 @@ static void await_stage(int number) {
 
 static void next_stage(void) { __atomic_fetch_add(&stage, 1, __ATOMIC_RELAXED); }
 
-static void sends(vahepito_queue *queue) {
-    const uint64_t word = 3;
-    uint64_t place;
-    vahepito_call mine = VAHEPITO_CALL(queue);
-    uint32_t code = vahepito_call_send(&mine, &word, 1, &place);
-    while (code == VAHEPITO_WAITING) code = vahepito_call_turn_send(&mine, &place);
-    check(code == VAHEPITO_ACCEPTED, "an item is sent");
-}
+static void sends(vahepito_queue *queue) { check(vahepito_send(queue, 3, NULL) == VAHEPITO_ACCEPTED, "an item is sent"); }
 
-static uint32_t takes(vahepito_queue *queue) {
-    vahepito_item item;
-    uint64_t total;
-    vahepito_call mine = VAHEPITO_CALL(queue);
-    uint32_t code = vahepito_call_take(&mine, 1, &item, &total);
-    while (code == VAHEPITO_WAITING) code = vahepito_call_turn_take(&mine, &item, &total);
-    return code;
-}
+static uint32_t takes(vahepito_queue *queue) { return vahepito_take_now(queue, 1, NULL, NULL); }
 
-static void closes(vahepito_queue *queue) {
-    uint64_t total;
-    vahepito_call mine = VAHEPITO_CALL(queue);
-    uint32_t code = vahepito_call_close(&mine, &total);
-    while (code == VAHEPITO_WAITING) code = vahepito_call_turn_close(&mine, &total);
-    check(code == VAHEPITO_SHUT, "the queue is closed");
-}
+static void closes(vahepito_queue *queue) { check(vahepito_close(queue, NULL) == VAHEPITO_SHUT, "the queue is closed"); }
 
 static void *writes(void *unused) {
     if (is("items")) await_stage(1);
@@ -91,16 +71,14 @@ static void *reads(void *unused) {
 }
 
 int main(int count, char **words) {
-    const vahepito_config config = {4, 4, 1, 64, (uint64_t)1 << 48, UINT32_MAX};
-    vahepito_config larger = config;
     void *(*const bodies[3])(void *) = {writes, writes_nothing, reads};
     pthread_t threads[3];
     race = count > 1 ? words[1] : "";
-    if (is("items")) larger.capacity = 4;
-    check(vahepito_new(&larger, 1, 1, &first) == VAHEPITO_DONE && vahepito_new(&config, 1, 1, &second) == VAHEPITO_DONE, "they are opened");
+    first = opened(is("items") ? 4 : 1, 1);
+    second = opened(1, 1);
     for (int k = 0; k < 3; k++) check(!pthread_create(&threads[k], NULL, bodies[k], NULL), "a thread starts");
     for (int k = 0; k < 3; k++) check(!pthread_join(threads[k], NULL), "a thread ends");
-    vahepito_free(first);
-    vahepito_free(second);
+    vahepito_destroy(first, NULL, NULL);
+    vahepito_destroy(second, NULL, NULL);
     return 0;
 }

@@ -46,6 +46,14 @@ static uint32_t try_take_words(vahepito_pass *pass, struct told *told) {
     return vahepito_try_take_words(pass, &told->words, &told->number, &told->served);
 }
 static uint32_t group(vahepito_pass *pass, struct told *told) { return vahepito_group(pass, &told->group); }
+static uint32_t observe(vahepito_pass *pass, struct told *told) {
+    vahepito_look look = {(vahepito_raw *)told};
+    const uint32_t code = vahepito_observe(pass, &look.queue);
+    check((look.queue != NULL) == (code == VAHEPITO_DONE), "there is an observer, or none");
+    if (look.queue) check(vahepito_accepted(&look) == 0 && vahepito_taken(&look, 1) == 0 && vahepito_is_shut(&look) == 0, "nothing has returned");
+    vahepito_free(look.queue);
+    return code;
+}
 static uint32_t drop(vahepito_pass *pass, struct told *told) { return (void)told, vahepito_drop(pass); }
 
 #define NO VAHEPITO_NO_PASS
@@ -78,6 +86,7 @@ static const struct row {
     {"turn_take_words", turn_take_words, NUMBER | WORDS, {NO, SIDE, SIDE, SIDE, NOT, VAHEPITO_EMPTY}},
     {"try_take_words", try_take_words, NUMBER | WORDS, {NO, SIDE, SIDE, SIDE, VAHEPITO_EMPTY, BUSY}},
     {"group", group, GROUP, {NO, SIDE, SIDE, SIDE, DONE, BUSY}},
+    {"observe", observe, 0, {NO, DONE, DONE, DONE, DONE, DONE}},
     {"drop", drop, 0, {NO, DONE, DONE, DONE, DONE, DONE}},
 };
 enum { CALLS = sizeof rows / sizeof rows[0] };
@@ -149,7 +158,7 @@ static void call_in(const struct row *row, enum state state) {
     const uint32_t code = row->call(pass, &told), refused = NO <= code && code <= NOT;
     holds(code == row->codes[state], state, "a call tells its code");
     wrote_nothing(row, state, &told);
-    if (refused) is_as_before(state, pass);
+    if (refused || row->call == observe) is_as_before(state, pass);
     if (row->call == drop) holds(!pass->live && vahepito_drop(pass) == NO, state, "a handle whose pass went is empty");
     for (int k = 0; k < 2; k++) {
         vahepito_pass *left = k == 0 ? &sender : &receiver;

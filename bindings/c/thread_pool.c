@@ -1,10 +1,10 @@
 /* A thread pool: four threads run the tasks that one thread submits, and end when there are no more. It counts primes.
  *
- *     cc -O2 -pthread thread_pool.c libvahepito.a libvahepito_heap.a -o thread_pool && ./thread_pool
+ *     cc -O2 -pthread thread_pool.c libvahepito_queue.a libvahepito.a libvahepito_heap.a -o thread_pool && ./thread_pool
  *
  * A task is a pointer to a function and its arguments, and the queue's item is the pointer to it. A submitting thread waits if
  * 64 tasks wait. A task must not submit a further one to its own pool: if all threads did, they would wait for each other. */
-#include <vahepito_wait.h>
+#include <vahepito.h>
 
 #include <pthread.h>
 #include <stdio.h>
@@ -18,15 +18,13 @@ struct task {
 
 struct pool {
     vahepito_queue *queue;
-    vahepito_waits waits;
     pthread_t threads[THREADS];
 };
 
 static void *run_tasks(void *at) {
     struct pool *pool = at;
-    vahepito_call mine = VAHEPITO_CALL(pool->queue);
     vahepito_item item;
-    while (vahepito_take(&pool->waits, &mine, 1, &item, NULL) == VAHEPITO_GOT) {
+    while (vahepito_take(pool->queue, 1, &item, NULL) == VAHEPITO_GOT) {
         struct task *task = (struct task *)(uintptr_t)item.words[0];
         task->run(task);
     }
@@ -42,29 +40,23 @@ static void count_primes(struct task *task) {
 }
 
 int main(void) {
-    static struct pool pool; /* all zero: no thread waits */
+    static struct pool pool;
     static struct task tasks[TASKS];
-    const vahepito_config config = {
-        .senders = 1, .receivers = THREADS, .capacity = 64, .bound = 64, .life = (uint64_t)1 << 48, .per_sender = UINT32_MAX,
-    };
-    uint32_t code = vahepito_check_version();
-    if (code == VAHEPITO_DONE) code = vahepito_new(&config, 1, 1, &pool.queue);
-    if (code != VAHEPITO_DONE) {
-        fprintf(stderr, "the pool isn't opened: %s\n", vahepito_text(code));
+    if (!(pool.queue = vahepito_create(64))) {
+        fprintf(stderr, "the pool isn't opened\n");
         return 1;
     }
     for (int at = 0; at < THREADS; at++)
         if (pthread_create(&pool.threads[at], NULL, run_tasks, &pool) != 0) return 1;
-    vahepito_call mine = VAHEPITO_CALL(pool.queue);
     for (int at = 0; at < TASKS; at++) {
         tasks[at] = (struct task){count_primes, UP_TO / TASKS * at, UP_TO / TASKS * (at + 1), 0};
-        if (vahepito_send(&pool.waits, &mine, (uintptr_t)&tasks[at], NULL) != VAHEPITO_ACCEPTED) return 1;
+        if (vahepito_send(pool.queue, (uintptr_t)&tasks[at], NULL) != VAHEPITO_ACCEPTED) return 1;
     }
-    vahepito_close(&pool.waits, &mine, NULL);
+    vahepito_close(pool.queue, NULL);
 
     int primes = 0;
     for (int at = 0; at < THREADS; at++) pthread_join(pool.threads[at], NULL);
-    vahepito_free(pool.queue);
+    vahepito_destroy(pool.queue, NULL, NULL);
     for (int at = 0; at < TASKS; at++) primes += tasks[at].primes;
     printf("%d primes below %d\n", primes, UP_TO);
     return 0;

@@ -1,17 +1,23 @@
-/* Vahepito for C: a FIFO queue that threads share, from many senders to many receivers.
+/* Vahepito for C: a first-in, first-out queue that threads share, from many senders to many receivers.
  *
- * Link libvahepito.a, and after it libvahepito_heap.a (memory comes from malloc, realloc and free).
+ *     vahepito_queue *queue = vahepito_create(64);                  room for 64 items, for all threads
+ *     vahepito_send(queue, 7, NULL);                              waits for room
+ *     vahepito_item item;
+ *     vahepito_take(queue, 1, &item, NULL);                       waits for an item: item.words[0] is 7
+ *     vahepito_close(queue, NULL);                                takes come to the end
+ *     vahepito_destroy(queue, NULL, NULL);                        after the last call
  *
- * vahepito_new opens a queue and gives one pointer to it, which all threads share. vahepito_free frees the queue. Between the
- * two any number of threads send, take and close. A thread makes its calls by a vahepito_call of its own: this struct has
- * the queue's pointer, and the call that waits for its answer, if there is one.
+ * Link libvahepito_queue.a, and after it libvahepito.a and libvahepito_heap.a (memory comes from malloc, posix_memalign, realloc and free). The
+ * calls are for Linux: a thread that waits parks on a futex.
  *
- *     vahepito_queue *queue;                                      for all threads
- *     if (vahepito_new(&config, 1, 1, &queue) != VAHEPITO_DONE) ..
- *
- *     vahepito_call mine = VAHEPITO_CALL(queue);                  in each thread
- *     uint32_t code = vahepito_call_send(&mine, &word, 1, &place);
- *     while (code == VAHEPITO_WAITING) code = vahepito_call_turn_send(&mine, &place);
+ *     call                     waits until
+ *     vahepito_send            the item is accepted, or will never be
+ *     vahepito_take            there is an item, or the queue has ended
+ *     .._until                 the same, or until a moment: then FULL, or EMPTY
+ *     .._now                   waits for neither: FULL, or EMPTY, if there is no room or no item now
+ *     vahepito_send_words, .._until, .._now        the same sends, of items of several words
+ *     vahepito_send_many       all these items are accepted, or until a moment
+ *     vahepito_take_many       there is an item, or until a moment; and takes those that are there
  *
  * Receivers form groups. A group gets every item once, by one of its takes; and every group gets every item, from the first
  * one on, at its own pace. A take says for which group it is:
@@ -24,61 +30,44 @@
  *
  * An item takes up room until each group has taken it. An item has one to four words of 64 bits.
  *
- * A queue has places for calls: `senders` places for sends and closes, and for each group `receivers` places for its takes. A
- * call occupies one place until it is answered. A call looks once at each place of its kind, and returns BUSY if none was
- * free when it looked. So BUSY is temporary if each call is turned to its end. With fewer threads than places it is rare.
+ * **Waits.** A call tries for about 10 microseconds, in which it spins and yields the processor, and then parks. A parked call takes no
+ * processor time; the call that makes room or an item wakes it. Each call, those whose names end in _now too, also waits for its answer while
+ * another thread serves its side: it spins and yields for about 20 microseconds, and then parks. So a thread of high priority lets the
+ * thread that it waits for run. A signal ends no wait, and no call is a cancellation point. A moment is one of CLOCK_MONOTONIC, as
+ * clock_gettime gives it and vahepito_after computes it; NULL is none.
  *
- * No call blocks: if its answer is not there yet, it returns WAITING. The vahepito_call then has a call that waits, a ticket,
- * and the caller decides how to pass the time (sched_yield, a back-off) before the next turn. vahepito_wait.h has calls that
- * do this, and that wait for room or an item. The turn that finds its place first in line serves other calls too, at most `bound`
- * of them. So turn every ticket to its end: if it is abandoned, the calls of its kind that came before it are answered, those
- * after it may never be, its place is lost, and the queue can't be freed.
+ * **It isn't used up.** The queue is a row of proved queues. Each of these accepts a number of items; then it is closed, and a further one
+ * follows, which takes memory, and for which other sends wait. If memory is refused, the send returns NO_MEMORY, and may be repeated.
  *
- * No call but vahepito_new takes memory.
- *
- * Each call takes effect at one moment between its begin and its return: this is proved of the order of the queue's atomic
- * steps. That these steps have the order of the clock isn't, nor what they do to other memory. Tests look for the following:
+ * Each call takes effect at one moment between its begin and its return. This is proved of the order of the atomic steps of the queues
+ * of the row, and of rows that keep two rules (docs/MODEL.md, "A row of queues"); that this code keeps them is tested. That the steps have
+ * the order of the clock isn't proved, nor what they do to other memory. Tests look for the following:
  * - A take that begins after a send has returned finds the item, unless another take of its group took it; and a send that
  *   begins after takes have returned finds the room that they made. "After" is by any order that the program has: on one
  *   thread, by a join, a lock, or a flag that is stored with release and loaded with acquire. On x86-64 any flag will do, and so
- *   does the clock: no step is pending when a call returns. On aarch64 the last store of a call may be pending then, and a call's first
- *   loads may come before a load without acquire that is before the call.
+ *   does the clock.
  * - Memory written before a send is seen after the take of its item. So a word may be a pointer.
  * - Memory written before a close that returns SHUT is seen after a take that returns ENDED, a send that returns CLOSED, and a close
  *   that returns ALREADY.
  * - What a thread reads or writes before a take of the item `place`, in any group, comes before all that another thread does after
  *   the send which is accepted as the item `place` + `capacity`. So a queue may count buffers that are in use, and a queue of
  *   capacity 1 may be a lock: a send takes it, and a take gives it back.
- * Of memory no clause says this. It holds because of these steps, of which each stores on the left what is loaded on the right
- * (docs/ALGORITHM.md has them):
- *     the caller stores the link to its request           the call that serves it loads the link
- *     a send links its item, a close its mark             a take loads the link: it gets the item, or ENDED
- *     a close stores `shut`                               a send or a close loads it: CLOSED, ALREADY
- *     a take adds one to `passed` of the item before      a send loads `passed` when it uses that memory again: ACCEPTED
- *     the call that serves stores that there is an answer the caller loads this, and returns
- * In the strict archive all of them are sequentially consistent (on aarch64 `stlr`, `ldar`, and `ldaxr` with `stlxr`), so that a store
- * synchronises with the load that finds it. In the relaxed archive some of the stores are plain moves of x86-64, whose stores
- * become visible in the order of the program, and whose loads stay in order.
- * A call waits for at most one service of each call of its kind before it, and then may serve `bound` calls itself. This is proved, in steps
- * of the threads whose calls came before: no other thread can hold a call up. That the system runs these threads isn't.
+ * The head of vahepito_raw.h says which steps order it.
+ *
+ * **What a word points to** is the sender's until its send returns ACCEPTED, and the receiver's once its take returns GOT. If a send returns
+ * another code, the sender keeps it. vahepito_destroy passes the items that are left in the queue to a function of the caller's.
  *
  * The caller must do the following, and nothing checks it:
- * - A vahepito_call is made by VAHEPITO_CALL, of a queue that vahepito_new opened. Any number of them may be made, at any time, with
- *   no memory taken. Each one is given to one call at a time. It may go to another thread: by a mutex, a thread's start or
- *   join, or a sequentially consistent atomic. Different ones may be used by different threads at once.
- * - While a vahepito_call has a ticket, its bytes are not changed, and no copy of it is used. It may be moved to another place, and
- *   the old place is then not used. When it has no ticket it may be copied.
- * - vahepito_free is called once, with the pointer that vahepito_new gave. By then all calls have returned, each
- *   ticket was turned to its end, and no call comes later. All this comes before vahepito_free by an order that the program
- *   has: joins, a lock or a flag.
- * - No other pointer is NULL, every out-parameter is an initialised variable, the pointers of one call point to different
- *   variables, and of an array there are as many elements as the count says.
- * - No call is made from a signal handler, or from the forked child of a process with threads.
- * - malloc, realloc and free are one allocator's.
+ * - vahepito_destroy is called once. By then all calls have returned, and no call comes later: by joins, a lock or a flag.
+ * - No pointer is NULL but those that may be, the pointers of one call point to different variables, and of an array there are as many
+ *   elements as the count says. Each out-parameter but that of vahepito_create_as may be NULL, and needs no value before; it is written, with
+ *   0 if the code gives it no meaning.
+ * - No call is made from a signal handler, or from the forked child of a process with threads, and no thread is cancelled asynchronously
+ *   in a call.
+ * - malloc, posix_memalign, realloc and free are one allocator's.
  *
- * Every call writes its out-parameters, with 0 in each field that its code gives no meaning.
- *
- * The library must serve this header: vahepito_check_version checks it, at a program's start.
+ * vahepito_raw.h has calls of the proved library itself, none of which waits: for those who poll, with a ticket for a call that waits for its
+ * answer. Names that begin with vahepito_internal_ or VAHEPITO_INTERNAL_ are the headers' own.
  *
  * If the thread sanitizer is on, the calls announce to it what they order: the library isn't built for the sanitizer, which sees
  * none of its steps. With VAHEPITO_VALGRIND defined before this header they announce it to valgrind's helgrind and DRD instead (the file
@@ -91,53 +80,20 @@
 #include <stdbool.h>
 #include <stddef.h>
 #include <stdint.h>
+#include <time.h>
 
 #ifdef __cplusplus
 extern "C" {
 #endif
 
+struct timespec;
+
 /* The version of this header, 0.4.0: a million times the first of its three numbers, a thousand times the second, and the
  * third. */
 #define VAHEPITO_VERSION 4000
 
-/* The configuration of a queue. The bytes after per_sender are not read. */
-typedef struct {
-    uint32_t senders;    /* 1 to 64: places for sends and closes */
-    uint32_t receivers;  /* 1 to 64: places for takes, in each group */
-    uint32_t capacity;   /* 1 to 4096: how many items the queue holds at once */
-    uint32_t bound;      /* 1 to 1024: how many calls one turn serves at most: 64 does for all (below) */
-    uint64_t life;       /* 1 to 2^48: how many items it accepts in all */
-    uint32_t per_sender; /* 1 to 2^32 - 1: how many sends are begun at one place at most */
-} vahepito_config;
-
-/* The bound is the greatest number of waiting calls of its kind (sends and closes, or takes of one group) that one thread
- * serves in a row, before it hands over to the next in line. If it is below about a quarter of the places, and there
- * are more threads than processors, the next is often a thread that doesn't run at the moment, and all other calls of its
- * kind wait until it does. 64 is right for every queue, as no kind has more places. The higher it is, the more calls one call may
- * serve before it returns; with 1 a call serves only its own. */
-
-/* An open queue. */
+/* A queue, for all threads. */
 typedef struct vahepito_queue vahepito_queue;
-
-/* What the library keeps of a call that waits. */
-typedef struct {
-    void *at;
-    bool live;
-} vahepito_pass;
-
-#define VAHEPITO_PASS_EMPTY {NULL, false}
-
-/* A caller's own: the queue, and its ticket, if there is one. A kept vahepito_call looks first where it found a free place the
- * last time; so keep one for each thread. */
-typedef struct {
-    vahepito_queue *queue;
-    vahepito_pass waiting; /* waiting.live: whether there is a ticket. It is read, and not written */
-    uint32_t place;        /* where it looks first */
-    uint32_t served;       /* how many calls the last turn served, 0 if there was none */
-} vahepito_call;
-
-/* What a vahepito_call is initialised with. */
-#define VAHEPITO_CALL(queue) {(queue), VAHEPITO_PASS_EMPTY, 0, 0}
 
 /* How many words an item has at most. */
 #define VAHEPITO_MOST_WORDS 4
@@ -145,43 +101,33 @@ typedef struct {
 /* An item that was taken. */
 typedef struct {
     uint64_t place;  /* which of the accepted items it is, from 0 */
-    uint32_t sender; /* at which sender's place it was sent, from 1 */
-    uint32_t number; /* which of the sends at that place it is, from 1 */
+    uint32_t sender; /* at which place it was sent, from 1; no thread's number */
+    uint32_t number; /* which of the sends at that place it is, from 1, in one queue of the row */
     size_t count;    /* how many words were sent, from 1 */
     uint64_t words[VAHEPITO_MOST_WORDS]; /* the words that were sent, and 0 after them */
 } vahepito_item;
 
 /* The codes that calls return. Each call lists its own, and returns it as uint32_t, which has one size for every compiler; the size
- * of an enum depends on the compiler and its options. `switch ((enum vahepito_code)code)` lets the compiler say which codes are missing. */
+ * of an enum depends on the compiler and its options. `switch ((enum vahepito_code)code)` lets the compiler say which codes are missing.
+ * vahepito_raw.h has further ones. */
 enum vahepito_code {
     /* it was done */
     VAHEPITO_DONE = 0,
 
-    /* an opening: the first field of the configuration that is out of its range */
+    /* an opening: the first number that is out of its range */
     VAHEPITO_BAD_SENDERS = 1,
     VAHEPITO_BAD_RECEIVERS = 2,
     VAHEPITO_BAD_CAPACITY = 3,
     VAHEPITO_BAD_BOUND = 4,
     VAHEPITO_BAD_LIFE = 5,
     VAHEPITO_BAD_PER_SENDER = 6,
-    /* an opening: memory was refused */
+    /* an opening, a send: memory was refused; nothing has changed */
     VAHEPITO_NO_MEMORY = 7,
-
-    /* the call could not be made, and nothing has changed */
-    VAHEPITO_NO_PASS = 9,     /* a turn: there is no ticket */
-    VAHEPITO_WRONG_SIDE = 10, /* a turn: the ticket is that of the other side */
-    VAHEPITO_BUSY = 11,       /* no place was free, or the caller has a ticket */
-    VAHEPITO_NOT_BEGUN = 12,  /* a turn: the ticket is that of another call of its side */
-    VAHEPITO_WORN = 13,       /* each sender's place that was free has begun as many sends as it may */
-
-    /* on the way */
-    VAHEPITO_WAITING = 15, /* its answer is not there yet: turn again */
 
     /* the answer of a send */
     VAHEPITO_ACCEPTED = 17, /* the item is the place-th that was accepted, from 0 */
     VAHEPITO_FULL = 18,     /* not accepted: `capacity` items were not known to be taken by every group */
     VAHEPITO_CLOSED = 19,   /* not accepted: the queue was closed */
-    VAHEPITO_SPENT = 20,    /* not accepted: the queue has accepted `life` items */
 
     /* the answer of a close */
     VAHEPITO_SHUT = 21,    /* this close closed the queue, and `total` items were accepted before it */
@@ -192,149 +138,117 @@ enum vahepito_code {
     VAHEPITO_EMPTY = 24, /* there was none for its group */
     VAHEPITO_ENDED = 25, /* the queue is closed and its group has taken all of the `total` items */
 
-    /* vahepito_new: the number of groups is not from 1 to 8; a take: there is no such group */
+    /* an opening: the number of groups is not from 1 to 8; a take: there is no such group */
     VAHEPITO_BAD_GROUPS = 26,
 
-    /* vahepito_check_version: the library doesn't serve this header */
+    /* an opening: the library doesn't serve this header */
     VAHEPITO_BAD_VERSION = 27,
 
-    /* the number of words is not from 1 to 4: of vahepito_new, or of a send */
+    /* the number of words is not from 1 to 4: of an opening, or of a send */
     VAHEPITO_BAD_WORDS = 28,
     /* a send: an item of this queue has fewer words; nothing has changed */
     VAHEPITO_LONG = 29
 };
 
-/* The name of a code, without VAHEPITO_ before it. */
-static inline const char *vahepito_name(uint32_t code) {
-    switch (code) {
-    case VAHEPITO_DONE: return "DONE";
-    case VAHEPITO_BAD_SENDERS: return "BAD_SENDERS";
-    case VAHEPITO_BAD_RECEIVERS: return "BAD_RECEIVERS";
-    case VAHEPITO_BAD_CAPACITY: return "BAD_CAPACITY";
-    case VAHEPITO_BAD_BOUND: return "BAD_BOUND";
-    case VAHEPITO_BAD_LIFE: return "BAD_LIFE";
-    case VAHEPITO_BAD_PER_SENDER: return "BAD_PER_SENDER";
-    case VAHEPITO_NO_MEMORY: return "NO_MEMORY";
-    case VAHEPITO_NO_PASS: return "NO_PASS";
-    case VAHEPITO_WRONG_SIDE: return "WRONG_SIDE";
-    case VAHEPITO_BUSY: return "BUSY";
-    case VAHEPITO_NOT_BEGUN: return "NOT_BEGUN";
-    case VAHEPITO_WORN: return "WORN";
-    case VAHEPITO_WAITING: return "WAITING";
-    case VAHEPITO_ACCEPTED: return "ACCEPTED";
-    case VAHEPITO_FULL: return "FULL";
-    case VAHEPITO_CLOSED: return "CLOSED";
-    case VAHEPITO_SPENT: return "SPENT";
-    case VAHEPITO_SHUT: return "SHUT";
-    case VAHEPITO_ALREADY: return "ALREADY";
-    case VAHEPITO_GOT: return "GOT";
-    case VAHEPITO_EMPTY: return "EMPTY";
-    case VAHEPITO_ENDED: return "ENDED";
-    case VAHEPITO_BAD_GROUPS: return "BAD_GROUPS";
-    case VAHEPITO_BAD_VERSION: return "BAD_VERSION";
-    case VAHEPITO_BAD_WORDS: return "BAD_WORDS";
-    case VAHEPITO_LONG: return "LONG";
-    default: return "no code";
-    }
+/* The name of a code, without VAHEPITO_ before it; and what it says, in a sentence without its full stop. Any thread may call. */
+const char *vahepito_name(uint32_t code);
+const char *vahepito_text(uint32_t code);
+
+/* What an opening may choose. A program changes fields of VAHEPITO_ATTRIBUTES, which is a queue for 64 items of one word with one group. */
+typedef struct {
+    uint32_t version;    /* VAHEPITO_VERSION */
+    uint32_t capacity;   /* how many items the queue holds at once: 1 to 4096, or 0: any number, as memory allows */
+    uint32_t groups;     /* of receivers: 1 to 8; 0 is 1 */
+    uint32_t words;      /* how many words an item has at most: 1 to 4; 0 is 1 */
+    uint32_t places;     /* how many calls are under way at once, which others wait for: 1 to 64; 0 is 64. With fewer a queue needs less memory */
+    uint32_t bound;      /* how many waiting calls one call serves before it hands over to the next: 1 to 1024; 0 is 64, which is right */
+    uint32_t per_sender; /* for tests: after how many sends of a place a further queue follows; 0 is 2^32 - 1 */
+    uint64_t life;       /* for tests: after how many items a further queue follows: 1 to 2^48; 0 is 2^48 */
+} vahepito_attributes;
+
+#define VAHEPITO_ATTRIBUTES {VAHEPITO_VERSION, 64, 1, 1, 0, 0, 0, 0}
+
+/* Opens a queue. Any thread may call.
+ * DONE: *queue is the pointer. BAD_VERSION, BAD_SENDERS to BAD_PER_SENDER, BAD_GROUPS, BAD_WORDS, NO_MEMORY: *queue is NULL. (BAD_SENDERS is of `places`.) */
+uint32_t vahepito_create_as(const vahepito_attributes *attributes, vahepito_queue **queue);
+
+/* Opens a queue of this capacity (0: any number), else as VAHEPITO_ATTRIBUTES says. NULL if it isn't opened. Any thread may call. */
+static inline vahepito_queue *vahepito_create(uint32_t capacity) {
+    vahepito_attributes attributes = VAHEPITO_ATTRIBUTES;
+    vahepito_queue *queue;
+    attributes.capacity = capacity;
+    (void)vahepito_create_as(&attributes, &queue);
+    return queue;
 }
 
-/* What a code says, in a sentence without its full stop. */
-static inline const char *vahepito_text(uint32_t code) {
-    switch (code) {
-    case VAHEPITO_DONE: return "it was done";
-    case VAHEPITO_BAD_SENDERS: return "the number of places for sends is not from 1 to 64";
-    case VAHEPITO_BAD_RECEIVERS: return "the number of places for takes is not from 1 to 64";
-    case VAHEPITO_BAD_CAPACITY: return "the capacity is not from 1 to 4096";
-    case VAHEPITO_BAD_BOUND: return "the bound is not from 1 to 1024";
-    case VAHEPITO_BAD_LIFE: return "the life is not from 1 to 2^48";
-    case VAHEPITO_BAD_PER_SENDER: return "a place for sends may begin none";
-    case VAHEPITO_NO_MEMORY: return "memory was refused";
-    case VAHEPITO_NO_PASS: return "the vahepito_call has no ticket";
-    case VAHEPITO_WRONG_SIDE: return "the ticket is that of a call of the other side";
-    case VAHEPITO_BUSY: return "no place was free, or the vahepito_call has a ticket";
-    case VAHEPITO_NOT_BEGUN: return "the ticket is that of another call of its side";
-    case VAHEPITO_WORN: return "each place for sends that was free has begun as many as it may";
-    case VAHEPITO_WAITING: return "the answer is not there yet";
-    case VAHEPITO_ACCEPTED: return "the item was accepted";
-    case VAHEPITO_FULL: return "there was no room";
-    case VAHEPITO_CLOSED: return "the queue is closed";
-    case VAHEPITO_SPENT: return "the queue has accepted as many items as it may";
-    case VAHEPITO_SHUT: return "this call closed the queue";
-    case VAHEPITO_ALREADY: return "the queue was closed before";
-    case VAHEPITO_GOT: return "an item was taken";
-    case VAHEPITO_EMPTY: return "there was no item";
-    case VAHEPITO_ENDED: return "the queue is closed, and the group has taken all its items";
-    case VAHEPITO_BAD_GROUPS: return "there is no such group, or there are not 1 to 8";
-    case VAHEPITO_BAD_VERSION: return "the library does not serve this header";
-    case VAHEPITO_BAD_WORDS: return "the number of words is not from 1 to 4";
-    case VAHEPITO_LONG: return "an item of this queue has fewer words";
-    default: return "there is no such code";
-    }
-}
+/* Sends an item of one word, and waits for room. Any thread may call, as for all calls below.
+ * ACCEPTED with the place. CLOSED: not accepted, and nothing will be. NO_MEMORY: not accepted; a further queue of the row could not be opened. */
+uint32_t vahepito_send(vahepito_queue *queue, uint64_t word, uint64_t *place);
 
-/* The version of the library, as VAHEPITO_VERSION is that of the header. This call is the same in every version. Any thread
- * may call. */
-uint32_t vahepito_version(void);
+/* The same until this moment. ACCEPTED, CLOSED, NO_MEMORY as above. FULL: the moment has come, and at the last try there was no room. */
+uint32_t vahepito_send_until(vahepito_queue *queue, uint64_t word, const struct timespec *moment, uint64_t *place);
 
-/* How many bytes a vahepito_config, a vahepito_pass, an item of one word (of the Rust crate alone) and a vahepito_item have for
- * the library. Only a library with this header's first two numbers may be asked. Any thread may call. */
-void vahepito_sizes(size_t *config, size_t *pass, size_t *item, size_t *words_item);
+/* The same without a wait for room. ACCEPTED, CLOSED, NO_MEMORY as above. FULL: there is none. */
+uint32_t vahepito_send_now(vahepito_queue *queue, uint64_t word, uint64_t *place);
 
-/* How many bytes a vahepito_call has for the library. Otherwise as vahepito_sizes. */
-size_t vahepito_call_size(void);
+/* The same three of an item of `count` words, which are copied. ACCEPTED, CLOSED, NO_MEMORY as above. BAD_WORDS, LONG: no such item is sent. */
+uint32_t vahepito_send_words(vahepito_queue *queue, const uint64_t *words, size_t count, uint64_t *place);
 
-/* Whether the library that is linked serves this header. A library serves the headers of its own version, and of those with the same
- * first two numbers and an earlier third one: so a later patch may come in its place. The sizes above have to be the same. A
- * program asks once, before its first opening; if this is BAD_VERSION, it makes no other call but these above. Any thread may call.
- * DONE, BAD_VERSION. */
-static inline uint32_t vahepito_check_version(void) {
-    size_t config = 0, pass = 0, item = 0, words_item = 0;
-    const uint32_t version = vahepito_version();
-    if (version / 1000 != VAHEPITO_VERSION / 1000 || version < VAHEPITO_VERSION) return VAHEPITO_BAD_VERSION;
-    vahepito_sizes(&config, &pass, &item, &words_item);
-    return config == sizeof(vahepito_config) && pass == sizeof(vahepito_pass) && words_item == sizeof(vahepito_item) &&
-                   vahepito_call_size() == sizeof(vahepito_call)
-               ? VAHEPITO_DONE
-               : VAHEPITO_BAD_VERSION;
-}
+/* ACCEPTED, FULL, CLOSED, NO_MEMORY, BAD_WORDS, LONG. */
+uint32_t vahepito_send_words_until(vahepito_queue *queue, const uint64_t *words, size_t count, const struct timespec *moment, uint64_t *place);
 
-/* Opens a queue of this number of groups, 1 to 8, whose items have at most this number of words, 1 to 4. Any thread may call.
- * DONE: *queue is the pointer. BAD_SENDERS to BAD_PER_SENDER, then BAD_GROUPS, then BAD_WORDS, then NO_MEMORY: *queue is NULL. */
-uint32_t vahepito_new(const vahepito_config *config, uint32_t groups, uint32_t words, vahepito_queue **queue);
+/* ACCEPTED, FULL, CLOSED, NO_MEMORY, BAD_WORDS, LONG. */
+uint32_t vahepito_send_words_now(vahepito_queue *queue, const uint64_t *words, size_t count, uint64_t *place);
 
-/* Frees a queue, and not what the words of items in it point to. Any thread may call, once all calls have returned and no ticket is
- * left, as said above. Of NULL nothing is freed: the macro of this name looks for it, as the library's own function doesn't. */
-void vahepito_free(vahepito_queue *queue);
+/* Sends `count` items of one word each, one after another, and waits for room until this moment, or not at all if it is {0, 0}. Each item is a
+ * send of its own, and others' items may come between them. The receivers are woken once, for all of them.
+ * ACCEPTED: all were. FULL, CLOSED, NO_MEMORY: as above, and the first `sent` were accepted. */
+uint32_t vahepito_send_many(vahepito_queue *queue, const uint64_t *words, size_t count, const struct timespec *moment, size_t *sent);
 
-/* A send of `count` words, which are copied. The thread that has the vahepito_call calls, as for all calls below.
- * ACCEPTED with the place, FULL, CLOSED, SPENT. WAITING: turn.
- * BAD_WORDS, LONG: no such item is sent. BUSY: no place was free, or `call` has a ticket. WORN: each sender's place that was
- * free has begun `per_sender` sends. Nothing has changed by these four. */
-uint32_t vahepito_call_send(vahepito_call *call, const uint64_t *words, size_t count, uint64_t *place);
+/* Takes an item for this group, from 1, and waits until there is one. GOT with the item; ENDED with the total: there will be
+ * none any more. BAD_GROUPS: there is no such group. */
+uint32_t vahepito_take(vahepito_queue *queue, uint32_t group, vahepito_item *item, uint64_t *total);
 
-/* One turn of a send that waits.
- * ACCEPTED with the place, FULL, CLOSED, SPENT: the ticket is used up. WAITING: turn again.
- * NO_PASS: there is no ticket. NOT_BEGUN, WRONG_SIDE: it is that of a close, of a take. Nothing has changed by these three. */
-uint32_t vahepito_call_turn_send(vahepito_call *call, uint64_t *place);
+/* The same until this moment. GOT, ENDED, BAD_GROUPS as above. EMPTY: the moment has come, and at the last try there was no item. */
+uint32_t vahepito_take_until(vahepito_queue *queue, uint32_t group, vahepito_item *item, const struct timespec *moment, uint64_t *total);
 
-/* A take for this group, from 1.
- * GOT with the item, EMPTY, ENDED with the total. WAITING: turn.
- * BAD_GROUPS: there is no such group. BUSY: no place was free, or `call` has a ticket. Nothing has changed by these two. */
-uint32_t vahepito_call_take(vahepito_call *call, uint32_t group, vahepito_item *item, uint64_t *total);
+/* The same without a wait for an item. GOT, ENDED, BAD_GROUPS as above. EMPTY: there is none. */
+uint32_t vahepito_take_now(vahepito_queue *queue, uint32_t group, vahepito_item *item, uint64_t *total);
 
-/* One turn of a take that waits.
- * GOT with the item, EMPTY, ENDED with the total: the ticket is used up. WAITING: turn again.
- * NO_PASS: there is no ticket. WRONG_SIDE: it is that of a send or a close. Nothing has changed by these two. */
-uint32_t vahepito_call_turn_take(vahepito_call *call, vahepito_item *item, uint64_t *total);
+/* Takes up to `most` items, one after another: waits for the first one until this moment, or not at all if it is {0, 0}, and takes those that
+ * are there then. Senders are woken once, for all of them. GOT: `count` items, at least one. ENDED, EMPTY, BAD_GROUPS: as above; EMPTY too if
+ * `most` is 0. */
+uint32_t vahepito_take_many(vahepito_queue *queue, uint32_t group, vahepito_item *items, size_t most, const struct timespec *moment, size_t *count, uint64_t *total);
 
-/* A close of the queue: nothing is accepted after it, and takes come to the end once their group has taken what was accepted.
- * SHUT, ALREADY with the total. WAITING: turn. BUSY: no place was free, or `call` has a ticket; nothing has changed. */
-uint32_t vahepito_call_close(vahepito_call *call, uint64_t *total);
+/* Closes the queue: nothing is accepted after it, and takes come to the end once they have taken what was accepted. All calls that
+ * wait are woken. SHUT, ALREADY with the total. */
+uint32_t vahepito_close(vahepito_queue *queue, uint64_t *total);
 
-/* One turn of a close that waits.
- * SHUT, ALREADY with the total: the ticket is used up. WAITING: turn again.
- * NO_PASS: there is no ticket. NOT_BEGUN, WRONG_SIDE: it is that of a send, of a take. Nothing has changed by these three. */
-uint32_t vahepito_call_turn_close(vahepito_call *call, uint64_t *total);
+/* Whether a close has returned, or has had its effect. */
+bool vahepito_is_closed(vahepito_queue *queue);
+
+/* How many items the queue holds: those that the slowest group hasn't taken. It was so at some moment of the call, but for items of
+ * calls that are under way. */
+uint64_t vahepito_length(vahepito_queue *queue);
+
+/* How many items the queue holds at most; 0: any number. */
+uint32_t vahepito_capacity(const vahepito_queue *queue);
+
+/* A file descriptor for poll, select and epoll, which is readable while a take for this group may find something, or the end; of group 0: while a
+ * send may find room, or the close. Once it is readable call vahepito_take_now (vahepito_send_now) until that returns EMPTY (FULL), which
+ * makes it unreadable. The descriptor is the queue's, is one for each group, and is closed by vahepito_destroy; nothing is read from it, and nothing
+ * written. -1 with errno: EINVAL, there is no such group; otherwise as of eventfd. */
+int vahepito_descriptor(vahepito_queue *queue, uint32_t group);
+
+/* What an item that is left in a queue is given to, with its group. */
+typedef void vahepito_leftover(void *with, uint32_t group, const vahepito_item *item);
+
+/* Frees a queue, once all calls have returned. Before that it gives each item that a group hasn't taken to `left`, for this group, in order. `left`
+ * may be NULL: then what the words of such items point to isn't freed. Of NULL nothing is freed. */
+void vahepito_destroy(vahepito_queue *queue, vahepito_leftover *left, void *with);
+
+/* The moment that comes after these nanoseconds. */
+struct timespec vahepito_after(uint64_t nanoseconds);
 
 /* Announcements to the thread sanitizer, or to helgrind and DRD, of what the head of this file says of memory. */
 #if defined(VAHEPITO_UNTOLD)
@@ -394,7 +308,7 @@ static inline uint64_t vahepito_internal_key(uint64_t of, uint64_t kind, uint64_
     return vahepito_internal_mix(vahepito_internal_mix(vahepito_internal_mix(0, of), kind), about);
 }
 
-static inline void *vahepito_internal_begun_at(const vahepito_queue *queue, uint64_t kind, uint64_t about) {
+static inline void *vahepito_internal_begun_at(const void *queue, uint64_t kind, uint64_t about) {
     return &vahepito_internal_begun[vahepito_internal_key((uintptr_t)queue, kind, about) % VAHEPITO_INTERNAL_SLOTS];
 }
 
@@ -405,7 +319,7 @@ static inline uint64_t vahepito_internal_hash(const uint64_t *words, size_t coun
 }
 
 /* The opening of a queue, 0 if it isn't known; and the queue's capacity, in the upper half, and its groups. */
-static inline uint64_t vahepito_internal_opening(const vahepito_queue *queue, uint64_t *shape) {
+static inline uint64_t vahepito_internal_opening(const void *queue, uint64_t *shape) {
     const size_t at = vahepito_internal_key((uintptr_t)queue, 0, 0) % VAHEPITO_INTERNAL_SLOTS;
     const uint64_t opened = __atomic_load_n(&vahepito_internal_opened[at], __ATOMIC_RELAXED);
     const uint64_t found = __atomic_load_n(&vahepito_internal_shapes[at], __ATOMIC_RELAXED);
@@ -413,26 +327,26 @@ static inline uint64_t vahepito_internal_opening(const vahepito_queue *queue, ui
     return (opened ^ (uintptr_t)queue) << 16 == 0 && opened >> 48 == found >> 48 ? opened : 0;
 }
 
-static inline void vahepito_internal_open(const vahepito_queue *queue, uint64_t capacity, uint64_t groups) {
+static inline void vahepito_internal_open(const void *queue, uint64_t capacity, uint64_t groups) {
     const size_t at = vahepito_internal_key((uintptr_t)queue, 0, 0) % VAHEPITO_INTERNAL_SLOTS;
     const uint64_t number = __atomic_fetch_add(&vahepito_internal_openings, 1, __ATOMIC_RELAXED) % 65535 + 1;
     __atomic_store_n(&vahepito_internal_shapes[at], number << 48 | capacity << 32 | groups, __ATOMIC_RELAXED);
     __atomic_store_n(&vahepito_internal_opened[at], number << 48 | (uint64_t)(uintptr_t)queue << 16 >> 16, __ATOMIC_RELAXED);
 }
 
-static inline void vahepito_internal_forget(const vahepito_queue *queue) {
+static inline void vahepito_internal_forget(const void *queue) {
     uint64_t shape;
     if (vahepito_internal_opening(queue, &shape))
         __atomic_store_n(&vahepito_internal_opened[vahepito_internal_key((uintptr_t)queue, 0, 0) % VAHEPITO_INTERNAL_SLOTS], 0, __ATOMIC_RELAXED);
 }
 
 /* Before a call. */
-static inline void vahepito_internal_begins(const vahepito_queue *queue, uint64_t kind, uint64_t about) {
+static inline void vahepito_internal_begins(const void *queue, uint64_t kind, uint64_t about) {
     vahepito_internal_release(vahepito_internal_begun_at(queue, kind, about));
 }
 
 /* After a call that was done at this place. */
-static inline void vahepito_internal_was_done(const vahepito_queue *queue, uint64_t kind, uint64_t place) {
+static inline void vahepito_internal_was_done(const void *queue, uint64_t kind, uint64_t place) {
     uint64_t shape;
     const uint64_t opening = vahepito_internal_opening(queue, &shape), key = vahepito_internal_key(opening, kind, place);
     if (opening == 0) return;
@@ -441,7 +355,7 @@ static inline void vahepito_internal_was_done(const vahepito_queue *queue, uint6
 }
 
 /* After a call that comes after the one of this kind at this place. */
-static inline void vahepito_internal_comes_after(const vahepito_queue *queue, uint64_t kind, uint64_t about, uint64_t place) {
+static inline void vahepito_internal_comes_after(const void *queue, uint64_t kind, uint64_t about, uint64_t place) {
     uint64_t shape;
     const uint64_t opening = vahepito_internal_opening(queue, &shape), key = vahepito_internal_key(opening, kind, place);
     if (opening != 0 && __atomic_load_n(&vahepito_internal_marks[key % VAHEPITO_INTERNAL_SLOTS], __ATOMIC_RELAXED) == key)
@@ -451,21 +365,21 @@ static inline void vahepito_internal_comes_after(const vahepito_queue *queue, ui
 }
 
 /* After a send or a close. */
-static inline uint32_t vahepito_internal_answered(const vahepito_queue *queue, uint32_t code, uint64_t place) {
+static inline uint32_t vahepito_internal_answered(const void *queue, uint32_t code, uint64_t place) {
     if (code == VAHEPITO_CLOSED || code == VAHEPITO_ALREADY)
         vahepito_internal_acquire(vahepito_internal_begun_at(queue, VAHEPITO_INTERNAL_END, 0));
     if (code == VAHEPITO_ACCEPTED) {
         uint64_t shape;
         const uint64_t opening = vahepito_internal_opening(queue, &shape), groups = opening ? shape & 15 : 8, capacity = shape >> 32;
         vahepito_internal_was_done(queue, VAHEPITO_INTERNAL_ITEM, place);
-        for (uint64_t group = 1; group <= groups && (opening == 0 || place >= capacity); group++)
+        for (uint64_t group = 1; group <= groups && (opening == 0 || (capacity != 0 && place >= capacity)); group++)
             vahepito_internal_comes_after(queue, group, 0, place - capacity);
     }
     return code;
 }
 
 /* After a take; its group is 0 if it isn't known. */
-static inline uint32_t vahepito_internal_took(const vahepito_queue *queue, uint32_t group, uint32_t code, const vahepito_item *item) {
+static inline uint32_t vahepito_internal_took(const void *queue, uint32_t group, uint32_t code, const vahepito_item *item) {
     if (code == VAHEPITO_ENDED) vahepito_internal_acquire(vahepito_internal_begun_at(queue, VAHEPITO_INTERNAL_END, 0));
     if (code == VAHEPITO_GOT) {
         vahepito_internal_comes_after(queue, VAHEPITO_INTERNAL_ITEM, vahepito_internal_hash(item->words, item->count), item->place);
@@ -474,63 +388,119 @@ static inline uint32_t vahepito_internal_took(const vahepito_queue *queue, uint3
     return code;
 }
 
-static inline uint32_t vahepito_internal_new(const vahepito_config *config, uint32_t groups, uint32_t words, vahepito_queue **queue) {
-    const uint32_t code = vahepito_new(config, groups, words, queue);
-    if (code == VAHEPITO_DONE) vahepito_internal_open(*queue, config->capacity, groups);
+static inline uint32_t vahepito_internal_create_as(const vahepito_attributes *attributes, vahepito_queue **queue) {
+    const uint32_t code = vahepito_create_as(attributes, queue);
+    if (code == VAHEPITO_DONE) vahepito_internal_open(*queue, attributes->capacity, attributes->groups ? attributes->groups : 1);
     return code;
 }
 
-static inline uint32_t vahepito_internal_call_send(vahepito_call *call, const uint64_t *words, size_t count, uint64_t *place) {
-    vahepito_internal_begins(call->queue, VAHEPITO_INTERNAL_ITEM, vahepito_internal_hash(words, count));
-    const uint32_t code = vahepito_call_send(call, words, count, place);
-    return vahepito_internal_answered(call->queue, code, *place);
+static inline vahepito_queue *vahepito_internal_create(uint32_t capacity) {
+    vahepito_queue *const queue = vahepito_create(capacity);
+    if (queue) vahepito_internal_open(queue, capacity, 1);
+    return queue;
 }
 
-static inline uint32_t vahepito_internal_call_turn_send(vahepito_call *call, uint64_t *place) {
-    const uint32_t code = vahepito_call_turn_send(call, place);
-    return vahepito_internal_answered(call->queue, code, *place);
+#define VAHEPITO_INTERNAL_SENDS(words, count, call)                                                     \
+    uint64_t number;                                                                                    \
+    vahepito_internal_begins(queue, VAHEPITO_INTERNAL_ITEM, vahepito_internal_hash(words, count));      \
+    const uint32_t code = call;                                                                         \
+    if (place) *place = number;                                                                         \
+    return vahepito_internal_answered(queue, code, number)
+
+static inline uint32_t vahepito_internal_send(vahepito_queue *queue, uint64_t word, uint64_t *place) {
+    VAHEPITO_INTERNAL_SENDS(&word, 1, vahepito_send(queue, word, &number));
 }
 
-static inline uint32_t vahepito_internal_call_take(vahepito_call *call, uint32_t group, vahepito_item *item, uint64_t *total) {
-    vahepito_internal_begins(call->queue, group, 0);
-    const uint32_t code = vahepito_call_take(call, group, item, total);
-    return vahepito_internal_took(call->queue, group, code, item);
+static inline uint32_t vahepito_internal_send_until(vahepito_queue *queue, uint64_t word, const struct timespec *moment, uint64_t *place) {
+    VAHEPITO_INTERNAL_SENDS(&word, 1, vahepito_send_until(queue, word, moment, &number));
 }
 
-static inline uint32_t vahepito_internal_call_turn_take(vahepito_call *call, vahepito_item *item, uint64_t *total) {
-    const uint32_t code = vahepito_call_turn_take(call, item, total);
-    return vahepito_internal_took(call->queue, 0, code, item);
+static inline uint32_t vahepito_internal_send_now(vahepito_queue *queue, uint64_t word, uint64_t *place) {
+    VAHEPITO_INTERNAL_SENDS(&word, 1, vahepito_send_now(queue, word, &number));
 }
 
-static inline uint32_t vahepito_internal_call_close(vahepito_call *call, uint64_t *total) {
-    vahepito_internal_begins(call->queue, VAHEPITO_INTERNAL_END, 0);
-    const uint32_t code = vahepito_call_close(call, total);
-    return vahepito_internal_answered(call->queue, code, 0);
+static inline uint32_t vahepito_internal_send_words(vahepito_queue *queue, const uint64_t *words, size_t count, uint64_t *place) {
+    VAHEPITO_INTERNAL_SENDS(words, count, vahepito_send_words(queue, words, count, &number));
 }
 
-static inline uint32_t vahepito_internal_call_turn_close(vahepito_call *call, uint64_t *total) {
-    const uint32_t code = vahepito_call_turn_close(call, total);
-    return vahepito_internal_answered(call->queue, code, 0);
+static inline uint32_t vahepito_internal_send_words_until(vahepito_queue *queue, const uint64_t *words, size_t count,
+                                                          const struct timespec *moment, uint64_t *place) {
+    VAHEPITO_INTERNAL_SENDS(words, count, vahepito_send_words_until(queue, words, count, moment, &number));
 }
 
-#define vahepito_new vahepito_internal_new
-#define vahepito_call_send vahepito_internal_call_send
-#define vahepito_call_turn_send vahepito_internal_call_turn_send
-#define vahepito_call_take vahepito_internal_call_take
-#define vahepito_call_turn_take vahepito_internal_call_turn_take
-#define vahepito_call_close vahepito_internal_call_close
-#define vahepito_call_turn_close vahepito_internal_call_turn_close
-#endif
+static inline uint32_t vahepito_internal_send_words_now(vahepito_queue *queue, const uint64_t *words, size_t count, uint64_t *place) {
+    VAHEPITO_INTERNAL_SENDS(words, count, vahepito_send_words_now(queue, words, count, &number));
+}
 
-static inline void vahepito_internal_free(vahepito_queue *queue) {
-    if (!queue) return;
-#if defined(VAHEPITO_TOLD)
+/* A batch doesn't return its places: so its items come after all takes that were begun. */
+static inline uint32_t vahepito_internal_send_many(vahepito_queue *queue, const uint64_t *words, size_t count, const struct timespec *moment,
+                                                   size_t *sent) {
+    size_t done = 0;
+    for (size_t at = 0; at < count; at++) vahepito_internal_begins(queue, VAHEPITO_INTERNAL_ITEM, vahepito_internal_hash(&words[at], 1));
+    const uint32_t code = vahepito_send_many(queue, words, count, moment, &done);
+    for (uint64_t group = 1; group <= 8 && done > 0; group++) vahepito_internal_acquire(vahepito_internal_begun_at(queue, group, 0));
+    if (sent) *sent = done;
+    return code == VAHEPITO_CLOSED ? vahepito_internal_answered(queue, code, 0) : code;
+}
+
+#define VAHEPITO_INTERNAL_TAKES(call)                       \
+    vahepito_item got;                                      \
+    vahepito_internal_begins(queue, group, 0);              \
+    const uint32_t code = call;                             \
+    if (item) *item = got;                                  \
+    return vahepito_internal_took(queue, group, code, &got)
+
+static inline uint32_t vahepito_internal_take(vahepito_queue *queue, uint32_t group, vahepito_item *item, uint64_t *total) {
+    VAHEPITO_INTERNAL_TAKES(vahepito_take(queue, group, &got, total));
+}
+
+static inline uint32_t vahepito_internal_take_until(vahepito_queue *queue, uint32_t group, vahepito_item *item,
+                                                    const struct timespec *moment, uint64_t *total) {
+    VAHEPITO_INTERNAL_TAKES(vahepito_take_until(queue, group, &got, moment, total));
+}
+
+static inline uint32_t vahepito_internal_take_now(vahepito_queue *queue, uint32_t group, vahepito_item *item, uint64_t *total) {
+    VAHEPITO_INTERNAL_TAKES(vahepito_take_now(queue, group, &got, total));
+}
+
+static inline uint32_t vahepito_internal_take_many(vahepito_queue *queue, uint32_t group, vahepito_item *items, size_t most,
+                                                   const struct timespec *moment, size_t *count, uint64_t *total) {
+    size_t got = 0;
+    vahepito_internal_begins(queue, group, 0);
+    const uint32_t code = vahepito_take_many(queue, group, items, most, moment, &got, total);
+    for (size_t at = 0; at < got; at++) (void)vahepito_internal_took(queue, group, VAHEPITO_GOT, &items[at]);
+    if (count) *count = got;
+    return got > 0 ? code : vahepito_internal_took(queue, group, code, NULL);
+}
+
+static inline uint32_t vahepito_internal_close(vahepito_queue *queue, uint64_t *total) {
+    vahepito_internal_begins(queue, VAHEPITO_INTERNAL_END, 0);
+    return vahepito_internal_answered(queue, vahepito_close(queue, total), 0);
+}
+
+static inline void vahepito_internal_destroy(vahepito_queue *queue, vahepito_leftover *left, void *with) {
     vahepito_internal_forget(queue);
-#endif
-    vahepito_free(queue);
+    vahepito_destroy(queue, left, with);
 }
 
-#define vahepito_free vahepito_internal_free
+#undef VAHEPITO_INTERNAL_SENDS
+#undef VAHEPITO_INTERNAL_TAKES
+#define vahepito_create_as vahepito_internal_create_as
+#define vahepito_create vahepito_internal_create
+#define vahepito_send vahepito_internal_send
+#define vahepito_send_until vahepito_internal_send_until
+#define vahepito_send_now vahepito_internal_send_now
+#define vahepito_send_words vahepito_internal_send_words
+#define vahepito_send_words_until vahepito_internal_send_words_until
+#define vahepito_send_words_now vahepito_internal_send_words_now
+#define vahepito_send_many vahepito_internal_send_many
+#define vahepito_take vahepito_internal_take
+#define vahepito_take_until vahepito_internal_take_until
+#define vahepito_take_now vahepito_internal_take_now
+#define vahepito_take_many vahepito_internal_take_many
+#define vahepito_close vahepito_internal_close
+#define vahepito_destroy vahepito_internal_destroy
+#endif
 
 #ifdef __cplusplus
 }

@@ -1,5 +1,5 @@
 /* Prints whether the library that is linked is the one of the header, and both versions. */
-#include "vahepito.h"
+#include "vahepito_raw.h"
 
 #include <stdio.h>
 

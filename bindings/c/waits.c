@@ -8,6 +8,8 @@
 #ifndef _POSIX_C_SOURCE
 #define _POSIX_C_SOURCE 200809L
 #endif
+#include "vahepito_queue.c" /* whose lines it looks into */
+
 #include "checks.h"
 
 #include <pthread.h>
@@ -19,27 +21,17 @@ enum { EACH = 4, MANY = 32 };
 
 static uint64_t items = 250;
 static vahepito_queue *queue;
-static vahepito_call senders[MANY], receivers[MANY]; /* one for each thread */
+static char senders[MANY], receivers[MANY]; /* a place in memory for each thread */
 static pthread_t sending[MANY], taking[MANY];
 
-static void open_with(const vahepito_config *config, uint32_t groups) {
-    const vahepito_call fresh = VAHEPITO_CALL(NULL);
-    check(vahepito_new(config, groups, 1, &queue) == VAHEPITO_DONE, "the queue is opened");
-    for (int k = 0; k < MANY; k++) {
-        senders[k] = receivers[k] = fresh;
-        senders[k].queue = receivers[k].queue = queue;
-    }
-}
+static void open_for(uint32_t capacity) { queue = opened(capacity, 1); }
 
-static void open_for(uint32_t capacity, uint64_t life, uint32_t per_sender) {
-    const vahepito_config config = {EACH, EACH, capacity, 2, life, per_sender};
-    open_with(&config, 1);
-}
-
+/* No call is in a line, or was notified and isn't, and none is parked or has a seat. How many calls ended beside parked ones is any number. */
 static void free_queue(void) {
-    for (int k = 0; k < MANY; k++) check(!senders[k].waiting.live && !receivers[k].waiting.live, "no call has left a ticket");
-    vahepito_free(queue);
-    check_no_call_waits();
+    check(queue->senders.counts == 0 && queue->served.waiting == 0, "no send waits");
+    for (int k = 0; k < MOST_GROUPS; k++) check(queue->receivers[k].counts == 0, "no take waits");
+    for (uint32_t k = 1; k <= queue->places; k++) check(!queue->seats[k].is_taken, "no call has a seat");
+    vahepito_destroy(queue, NULL, NULL);
 }
 
 static void start(pthread_t *thread, void *(*body)(void *), void *with) {
@@ -47,7 +39,7 @@ static void start(pthread_t *thread, void *(*body)(void *), void *with) {
 }
 
 static void *send_all(void *mine) {
-    send_up_to(queue, (uint32_t)((vahepito_call *)mine - senders), items);
+    send_up_to(queue, (uint32_t)((char *)mine - senders), items);
     return NULL;
 }
 
@@ -60,13 +52,13 @@ static void *take_all(void *mine) {
 static void room_for_one(void) {
     struct taker takers[EACH] = {0};
     uint64_t total, got = 0, sum = 0;
-    open_for(1, (uint64_t)1 << 48, UINT32_MAX);
+    open_for(1);
     for (int k = 0; k < EACH; k++) {
         start(&taking[k], take_all, &takers[k]);
         start(&sending[k], send_all, &senders[k]);
     }
     for (int k = 0; k < EACH; k++) check(!pthread_join(sending[k], NULL), "a sender ends");
-    check(vahepito_close(&waits, &senders[0], &total) == VAHEPITO_SHUT && total == EACH * items, "all were accepted");
+    check(vahepito_close(queue, &total) == VAHEPITO_SHUT && total == EACH * items, "all were accepted");
     for (int k = 0; k < EACH; k++) {
         check(!pthread_join(taking[k], NULL), "a receiver ends");
         check(takers[k].total == total, "the end tells the total");
@@ -77,16 +69,16 @@ static void room_for_one(void) {
     free_queue();
 }
 
-static void *is_told_closed(void *sender) {
+static void *is_told_closed(void *unused) {
     uint64_t place = 99;
-    check(vahepito_send(&waits, sender, 2, &place) == VAHEPITO_CLOSED && place == 0, "a send that waits is told the close");
-    return NULL;
+    check(vahepito_send(queue, 2, &place) == VAHEPITO_CLOSED && place == 0, "a send that waits is told the close");
+    return unused;
 }
 
-static void *is_told_ended(void *receiver) {
+static void *is_told_ended(void *unused) {
     uint64_t total = 99;
-    check(vahepito_take(&waits, receiver, 1, NULL, &total) == VAHEPITO_ENDED && total == 0, "a take that waits is told the end");
-    return NULL;
+    check(vahepito_take(queue, 1, NULL, &total) == VAHEPITO_ENDED && total == 0, "a take that waits is told the end");
+    return unused;
 }
 
 static void sleep_for(uint64_t milliseconds) {
@@ -101,62 +93,49 @@ static void let_them_sleep(void) { sleep_for(20); }
 static void close_over_senders(void) {
     vahepito_item item;
     uint64_t total;
-    open_for(1, (uint64_t)1 << 48, UINT32_MAX);
-    check(vahepito_send(&waits, &senders[0], 1, NULL) == VAHEPITO_ACCEPTED, "there is room for one");
+    open_for(1);
+    check(vahepito_send(queue, 1, NULL) == VAHEPITO_ACCEPTED, "there is room for one");
     for (int k = 1; k < EACH; k++) start(&sending[k], is_told_closed, &senders[k]);
     let_them_sleep();
-    check(vahepito_close(&waits, &senders[0], &total) == VAHEPITO_SHUT && total == 1, "it is closed while they wait");
+    check(vahepito_close(queue, &total) == VAHEPITO_SHUT && total == 1, "it is closed while they wait");
     for (int k = 1; k < EACH; k++) check(!pthread_join(sending[k], NULL), "a sender ends");
-    check(vahepito_take(&waits, &receivers[0], 1, &item, NULL) == VAHEPITO_GOT && item.words[0] == 1, "what was accepted can be taken");
-    check(vahepito_take(&waits, &receivers[0], 1, &item, &total) == VAHEPITO_ENDED && total == 1, "and then it ends");
+    check(vahepito_take(queue, 1, &item, NULL) == VAHEPITO_GOT && item.words[0] == 1, "what was accepted can be taken");
+    check(vahepito_take(queue, 1, &item, &total) == VAHEPITO_ENDED && total == 1, "and then it ends");
     free_queue();
 }
 
 /* Four wait for an item, and a sender closes. */
 static void close_over_receivers(void) {
-    open_for(1, (uint64_t)1 << 48, UINT32_MAX);
+    open_for(1);
     for (int k = 0; k < EACH; k++) start(&taking[k], is_told_ended, &receivers[k]);
     let_them_sleep();
-    check(vahepito_close(&waits, &senders[0], NULL) == VAHEPITO_SHUT, "it is closed while they wait");
+    check(vahepito_close(queue, NULL) == VAHEPITO_SHUT, "it is closed while they wait");
     for (int k = 0; k < EACH; k++) check(!pthread_join(taking[k], NULL), "a receiver ends");
     free_queue();
 }
 
 /* What a call can't be made for: the out-parameters are 0 then, whatever they were. */
 static void refusals(void) {
-    const uint64_t words[2] = {1, 2};
+    const uint64_t words[5] = {1, 2, 3, 4, 5};
     const struct timespec moment = vahepito_after((uint64_t)100 << 30);
     vahepito_item item = {9, 9, 9, 9, {9}};
     uint64_t number = 99;
-    open_for(1, 2, UINT32_MAX);
-    check(vahepito_take(&waits, &receivers[0], 0, &item, &number) == VAHEPITO_BAD_GROUPS && number == 0, "groups begin with 1");
+    open_for(1);
+    check(vahepito_take(queue, 0, &item, &number) == VAHEPITO_BAD_GROUPS && number == 0, "groups begin with 1");
     check(item.count == 0 && item.words[0] == 0, "and there is no item");
-    check(vahepito_take_until(&waits, &receivers[0], 2, NULL, &moment, NULL) == VAHEPITO_BAD_GROUPS, "this queue has one");
-    check(vahepito_take_now(&waits, &receivers[0], UINT32_MAX, NULL, NULL) == VAHEPITO_BAD_GROUPS, "and no more");
+    check(vahepito_take_until(queue, 2, NULL, &moment, NULL) == VAHEPITO_BAD_GROUPS, "this queue has one");
+    check(vahepito_take_now(queue, UINT32_MAX, NULL, NULL) == VAHEPITO_BAD_GROUPS, "and no more");
     number = 99;
-    check(vahepito_send_words(&waits, &senders[0], words, 0, &number) == VAHEPITO_BAD_WORDS && number == 0, "no word is no item");
-    check(vahepito_send_words_until(&waits, &senders[0], words, 2, &moment, NULL) == VAHEPITO_LONG, "one is all in this queue");
-    check(vahepito_send_words_now(&waits, &senders[0], words, 2, NULL) == VAHEPITO_LONG, "in each call");
-    check(vahepito_finish_send(&senders[0], &number) == VAHEPITO_NO_PASS && number == 0, "no send is finished that doesn't wait");
-    check(vahepito_finish_close(&senders[0], NULL) == VAHEPITO_NO_PASS, "nor a close");
-    check(vahepito_finish_take(&receivers[0], &item, NULL) == VAHEPITO_NO_PASS, "nor a take");
-    check(vahepito_send(&waits, &senders[0], 5, &number) == VAHEPITO_ACCEPTED && number == 0, "a send is accepted");
-    check(vahepito_take(&waits, &receivers[1], 1, &item, NULL) == VAHEPITO_GOT && item.words[0] == 5, "and taken");
-    check(vahepito_send(&waits, &senders[1], 7, &number) == VAHEPITO_ACCEPTED && number == 1, "the last of its life");
-    check(vahepito_take(&waits, &receivers[1], 1, NULL, NULL) == VAHEPITO_GOT, "is taken");
-    check(vahepito_send(&waits, &senders[1], 8, &number) == VAHEPITO_SPENT && number == 0, "and then it is spent");
-    free_queue();
-}
-
-/* With one place that may begin three sends, a send waits for room until they are used up, and a close is still made. */
-static void worn_while_it_waits(void) {
-    const vahepito_config config = {1, 1, 1, 64, (uint64_t)1 << 48, 3};
-    uint64_t number = 99;
-    open_with(&config, 1);
-    check(vahepito_send(&waits, &senders[0], 1, NULL) == VAHEPITO_ACCEPTED, "there is room for one");
-    check(vahepito_send(&waits, &senders[0], 2, &number) == VAHEPITO_WORN && number == 0, "each try counts");
-    check(vahepito_close(&waits, &senders[0], &number) == VAHEPITO_SHUT && number == 1, "a close is made when it is worn");
-    check(vahepito_close(&waits, &senders[1], &number) == VAHEPITO_ALREADY && number == 1, "once");
+    check(vahepito_send_words(queue, words, 0, &number) == VAHEPITO_BAD_WORDS && number == 0, "no word is no item");
+    check(vahepito_send_words_until(queue, words, 2, &moment, NULL) == VAHEPITO_LONG, "one is all in this queue");
+    check(vahepito_send_words_now(queue, words, 2, NULL) == VAHEPITO_LONG, "in each call");
+    check(vahepito_send(queue, 5, &number) == VAHEPITO_ACCEPTED && number == 0, "a send is accepted");
+    for (int round = 0; round < 2; round++) {
+        check(vahepito_send_words(queue, words, 0, &number) == VAHEPITO_BAD_WORDS && vahepito_send_words(queue, words, 5, NULL) == VAHEPITO_BAD_WORDS, "no such item");
+        check(vahepito_send_words(queue, words, 2, &number) == VAHEPITO_LONG && number == 0, "waits for room");
+        check(vahepito_send_now(queue, 6, &number) == VAHEPITO_FULL && number == 0, "which there isn't");
+    }
+    check(vahepito_take(queue, 1, &item, NULL) == VAHEPITO_GOT && item.words[0] == 5, "and taken");
     free_queue();
 }
 
@@ -166,49 +145,49 @@ static uint64_t nanoseconds(clockid_t clock) {
     return (uint64_t)now.tv_sec * 1000000000u + (uint64_t)now.tv_nsec;
 }
 
-static void *sends_second(void *sender) {
-    check(vahepito_send(&waits, sender, 2, NULL) == VAHEPITO_ACCEPTED, "a send that waits is accepted");
-    return NULL;
+static void *sends_second(void *unused) {
+    check(vahepito_send(queue, 2, NULL) == VAHEPITO_ACCEPTED, "a send that waits is accepted");
+    return unused;
 }
 
 /* A send that waits for room begins few sends, however long it waits: at most nine until it has parked and was woken once. The
  * first item was sent at the same place. */
 static void tries_are_few(void) {
     vahepito_item item;
-    open_for(1, (uint64_t)1 << 48, UINT32_MAX);
-    check(vahepito_send(&waits, &senders[0], 1, NULL) == VAHEPITO_ACCEPTED, "there is room for one");
+    open_for(1);
+    check(vahepito_send(queue, 1, NULL) == VAHEPITO_ACCEPTED, "there is room for one");
     start(&sending[1], sends_second, &senders[1]);
     sleep_for(300);
-    check(vahepito_take(&waits, &receivers[0], 1, &item, NULL) == VAHEPITO_GOT && item.words[0] == 1, "the first is taken");
+    check(vahepito_take(queue, 1, &item, NULL) == VAHEPITO_GOT && item.words[0] == 1, "the first is taken");
     check(!pthread_join(sending[1], NULL), "a sender ends");
-    check(vahepito_take(&waits, &receivers[0], 1, &item, NULL) == VAHEPITO_GOT && item.words[0] == 2, "and the second");
+    check(vahepito_take(queue, 1, &item, NULL) == VAHEPITO_GOT && item.words[0] == 2, "and the second");
     check(item.number <= 10, "few sends were begun for it");
     free_queue();
 }
 
-static void *takes_one(void *receiver) {
-    static uint64_t used;
+static void *takes_one(void *used_before) {
+    uint64_t *const used = used_before;
     const uint64_t before = nanoseconds(CLOCK_THREAD_CPUTIME_ID);
-    check(vahepito_take(&waits, receiver, 1, NULL, NULL) == VAHEPITO_GOT, "a take that waits gets an item");
-    used = nanoseconds(CLOCK_THREAD_CPUTIME_ID) - before;
-    return &used;
+    check(vahepito_take(queue, 1, NULL, NULL) == VAHEPITO_GOT, "a take that waits gets an item");
+    *used = nanoseconds(CLOCK_THREAD_CPUTIME_ID) - before;
+    return used;
 }
 
 /* A call that waits uses no processor time. */
 static void waiting_is_parking(void) {
-    void *used;
-    open_for(1, (uint64_t)1 << 48, UINT32_MAX);
-    start(&taking[0], takes_one, &receivers[0]);
+    uint64_t used = 0;
+    open_for(1);
+    start(&taking[0], takes_one, &used);
     sleep_for(500);
-    check(vahepito_send(&waits, &senders[0], 1, NULL) == VAHEPITO_ACCEPTED, "there is room");
-    check(!pthread_join(taking[0], &used), "a receiver ends");
-    check(*(uint64_t *)used < 100000000, "it slept");
+    check(vahepito_send(queue, 1, NULL) == VAHEPITO_ACCEPTED, "there is room");
+    check(!pthread_join(taking[0], NULL), "a receiver ends");
+    check(used < 100000000, "it slept");
     free_queue();
 }
 
 static void *takes_to_its_end(void *receiver) {
     vahepito_item item;
-    check(vahepito_take(&waits, receiver, 1, &item, NULL) == VAHEPITO_GOT && item.words[0] == 7, "a take gets its item all the same");
+    check(vahepito_take(queue, 1, &item, NULL) == VAHEPITO_GOT && item.words[0] == 7, "a take gets its item all the same");
     (void)pthread_setcancelstate(PTHREAD_CANCEL_DISABLE, NULL);
     return receiver;
 }
@@ -221,12 +200,12 @@ static void signals_and_cancellation(void) {
     void *result;
     action.sa_handler = does_nothing;
     check(sigaction(SIGUSR1, &action, NULL) == 0, "there is a handler, after which no call begins anew");
-    open_for(1, (uint64_t)1 << 48, UINT32_MAX);
+    open_for(1);
     start(&taking[0], takes_to_its_end, &receivers[0]);
     let_them_sleep();
     check(!pthread_kill(taking[0], SIGUSR1) && !pthread_cancel(taking[0]), "it is disturbed");
     let_them_sleep();
-    check(vahepito_send(&waits, &senders[0], 7, NULL) == VAHEPITO_ACCEPTED, "there is room");
+    check(vahepito_send(queue, 7, NULL) == VAHEPITO_ACCEPTED, "there is room");
     check(!pthread_join(taking[0], &result) && result == &receivers[0], "it goes on after its call");
     free_queue();
 }
@@ -237,25 +216,25 @@ static void moments(void) {
     struct timespec moment = vahepito_after(0);
     vahepito_item item = {9, 9, 9, 9, {9}};
     uint64_t number = 99, from = nanoseconds(CLOCK_MONOTONIC);
-    open_for(1, (uint64_t)1 << 48, UINT32_MAX);
-    check(vahepito_take_until(&waits, &receivers[0], 1, &item, &moment, &number) == VAHEPITO_EMPTY, "the moment is over");
+    open_for(1);
+    check(vahepito_take_until(queue, 1, &item, &moment, &number) == VAHEPITO_EMPTY, "the moment is over");
     check(item.words[0] == 0 && number == 0, "and there is no item");
-    check(vahepito_take_until(&waits, &receivers[0], 1, NULL, &wrong, NULL) == VAHEPITO_EMPTY, "no such moment comes");
+    check(vahepito_take_until(queue, 1, NULL, &wrong, NULL) == VAHEPITO_EMPTY, "no such moment comes");
     moment = vahepito_after(30000000);
-    check(vahepito_take_until(&waits, &receivers[0], 1, &item, &moment, NULL) == VAHEPITO_EMPTY, "no item comes");
+    check(vahepito_take_until(queue, 1, &item, &moment, NULL) == VAHEPITO_EMPTY, "no item comes");
     check(nanoseconds(CLOCK_MONOTONIC) - from >= 30000000, "until the moment");
-    check(vahepito_send_until(&waits, &senders[0], 1, &moment, &number) == VAHEPITO_ACCEPTED && number == 0, "there is room");
-    check(vahepito_send_now(&waits, &senders[0], 2, &number) == VAHEPITO_FULL && number == 0, "for one");
+    check(vahepito_send_until(queue, 1, &moment, &number) == VAHEPITO_ACCEPTED && number == 0, "there is room");
+    check(vahepito_send_now(queue, 2, &number) == VAHEPITO_FULL && number == 0, "for one");
     moment = vahepito_after(30000000);
     from = nanoseconds(CLOCK_MONOTONIC);
-    check(vahepito_send_until(&waits, &senders[1], 2, &moment, NULL) == VAHEPITO_FULL, "no room comes");
+    check(vahepito_send_until(queue, 2, &moment, NULL) == VAHEPITO_FULL, "no room comes");
     check(nanoseconds(CLOCK_MONOTONIC) - from >= 20000000, "until the moment");
     moment = vahepito_after((uint64_t)100 << 30);
     start(&sending[1], sends_second, &senders[1]);
     let_them_sleep();
-    check(vahepito_take_now(&waits, &receivers[0], 1, &item, NULL) == VAHEPITO_GOT && item.words[0] == 1, "there is one");
-    check(vahepito_take_until(&waits, &receivers[0], 1, &item, &moment, NULL) == VAHEPITO_GOT && item.words[0] == 2, "and one comes");
-    check(vahepito_take_now(&waits, &receivers[0], 1, NULL, NULL) == VAHEPITO_EMPTY, "and no more");
+    check(vahepito_take_now(queue, 1, &item, NULL) == VAHEPITO_GOT && item.words[0] == 1, "there is one");
+    check(vahepito_take_until(queue, 1, &item, &moment, NULL) == VAHEPITO_GOT && item.words[0] == 2, "and one comes");
+    check(vahepito_take_now(queue, 1, NULL, NULL) == VAHEPITO_EMPTY, "and no more");
     check(!pthread_join(sending[1], NULL), "a sender ends");
     free_queue();
 }
@@ -264,7 +243,6 @@ static void moments(void) {
  * with fewer places than threads.
  * Now and then a thread pauses for so long that others park. */
 struct worker {
-    vahepito_call *call;
     uint64_t got, sum;
     uint32_t group;
     bool has_time;
@@ -280,9 +258,9 @@ static void *sends_in_time(void *at) {
         uint32_t code = VAHEPITO_FULL;
         while (mine->has_time && code == VAHEPITO_FULL) {
             const struct timespec soon = vahepito_after(50000);
-            code = vahepito_send_until(&waits, mine->call, body, &soon, NULL);
+            code = vahepito_send_until(queue, body, &soon, NULL);
         }
-        if (!mine->has_time) code = vahepito_send(&waits, mine->call, body, NULL);
+        if (!mine->has_time) code = vahepito_send(queue, body, NULL);
         check(code == VAHEPITO_ACCEPTED, "a send is accepted in the end");
         pauses(body);
     }
@@ -294,7 +272,7 @@ static void *takes_in_time(void *at) {
     vahepito_item item;
     for (;;) {
         const struct timespec soon = vahepito_after(50000);
-        const uint32_t code = mine->has_time ? vahepito_take_until(&waits, mine->call, mine->group, &item, &soon, NULL) : vahepito_take(&waits, mine->call, mine->group, &item, NULL);
+        const uint32_t code = mine->has_time ? vahepito_take_until(queue, mine->group, &item, &soon, NULL) : vahepito_take(queue, mine->group, &item, NULL);
         if (code == VAHEPITO_ENDED) return NULL;
         check(code == VAHEPITO_GOT || (mine->has_time && code == VAHEPITO_EMPTY), "a take gets an item, or its time is over");
         if (code == VAHEPITO_GOT) mine->got++, mine->sum += item.words[0];
@@ -303,18 +281,19 @@ static void *takes_in_time(void *at) {
 }
 
 static void many_threads(void) {
-    const vahepito_config config = {MANY / 4, MANY / 8, 3, 64, (uint64_t)1 << 48, UINT32_MAX};
+    vahepito_attributes attributes = VAHEPITO_ATTRIBUTES;
     static struct worker sends[MANY], takes[MANY];
     uint64_t got[2] = {0, 0}, sum[2] = {0, 0};
-    open_with(&config, 2);
+    attributes.places = MANY / 4, attributes.capacity = 3, attributes.groups = 2;
+    check(vahepito_create_as(&attributes, &queue) == VAHEPITO_DONE, "the queue is opened");
     for (int k = 0; k < MANY; k++) {
-        sends[k] = (struct worker){&senders[k], 0, 0, 0, k % 2 == 0};
-        takes[k] = (struct worker){&receivers[k], 0, 0, k / (MANY / 2) + 1, k % 2 == 0};
+        sends[k] = (struct worker){0, 0, 0, k % 2 == 0};
+        takes[k] = (struct worker){0, 0, k / (MANY / 2) + 1, k % 2 == 0};
         start(&taking[k], takes_in_time, &takes[k]);
         start(&sending[k], sends_in_time, &sends[k]);
     }
     for (int k = 0; k < MANY; k++) check(!pthread_join(sending[k], NULL), "a sender ends");
-    check(vahepito_close(&waits, &senders[0], NULL) == VAHEPITO_SHUT, "the queue is closed");
+    check(vahepito_close(queue, NULL) == VAHEPITO_SHUT, "the queue is closed");
     for (int k = 0; k < MANY; k++) {
         check(!pthread_join(taking[k], NULL), "a receiver ends");
         got[k / (MANY / 2)] += takes[k].got;
@@ -329,7 +308,6 @@ int main(int count, char **words) {
     if (count > 1) items = strtoull(words[1], NULL, 10);
     alarm(120);
     refusals();
-    worn_while_it_waits();
     tries_are_few();
     waiting_is_parking();
     signals_and_cancellation();

@@ -1,0 +1,281 @@
+/* The row of a queue: small limits, so that a queue is used up after a few items and a further one follows, by many threads; a queue without a
+ * bound; no memory for a further queue; what is left at the end; batches; and descriptors for poll.
+ *
+ *     rows [ITEMS]
+ *
+ * It ends with status 0 if each group got each item once, each sender's in their order and with rising places, there were never more items than
+ * the capacity, all memory but a few queues was freed on the way, and each call returned what it has to. ITEMS (300) is how many each of 8
+ * threads sends. With RECORD defined it writes a log for `ccq judge` of the queue with one group. */
+#include "vahepito_queue.c" /* whose parts it looks into */
+
+#include "checks.h"
+
+#include <poll.h>
+#include <pthread.h>
+
+enum { SENDING = 8, TAKING = 4, GROUPS_AT_MOST = 3 };
+
+static uint64_t items = 300;
+static vahepito_queue *queue;
+static int64_t inside; /* how many items are accepted and not taken by the first group, as the threads count them: too few of them */
+static uint64_t place_counts[SENDING * 4096];
+
+struct shape {
+    uint32_t capacity, groups, places, per_sender;
+    uint64_t life;
+};
+
+static void open_as(const struct shape *shape) {
+    vahepito_attributes attributes = VAHEPITO_ATTRIBUTES;
+    attributes.capacity = shape->capacity, attributes.groups = shape->groups, attributes.places = shape->places;
+    attributes.per_sender = shape->per_sender, attributes.life = shape->life;
+    check(vahepito_create_as(&attributes, &queue) == VAHEPITO_DONE && queue, "the queue is opened");
+}
+
+/* ---- many threads */
+
+static void *sends(void *at) {
+    const uint32_t thread = *(const uint32_t *)at;
+    uint64_t last = 0;
+    for (uint64_t number = 1; number <= items; number++) {
+        uint64_t place;
+        uint32_t code = VAHEPITO_FULL;
+        while (thread % 3 == 1 && (code = vahepito_send_now(queue, item_of(thread, number), &place)) == VAHEPITO_FULL) sched_yield();
+        while (thread % 3 == 2 && code == VAHEPITO_FULL) {
+            const struct timespec soon = vahepito_after(50000);
+            code = vahepito_send_until(queue, item_of(thread, number), &soon, &place);
+        }
+        if (thread % 3 == 0) code = vahepito_send(queue, item_of(thread, number), &place);
+        check(code == VAHEPITO_ACCEPTED, "a send is accepted in the end");
+        check(number == 1 || place > last, "places rise");
+        check(place < SENDING * items && __atomic_fetch_add(&place_counts[place], 1, __ATOMIC_RELAXED) == 0, "each place is given once");
+        const int64_t now = __atomic_add_fetch(&inside, 1, __ATOMIC_SEQ_CST);
+        const uint32_t capacity = vahepito_capacity(queue);
+        check(capacity == 0 || now <= (int64_t)capacity, "there are never more items than the capacity");
+        last = place;
+    }
+    return NULL;
+}
+
+struct worker {
+    uint32_t group, number;
+    uint64_t got, sum, total;
+};
+
+static void *takes(void *at) {
+    struct worker *const mine = at;
+    uint64_t last[SENDING] = {0}, last_place = 0;
+    vahepito_item got[5];
+    for (;;) {
+        size_t count = 1;
+        /* It is counted before it is taken, so that the count is never too high. */
+        if (mine->group == 1) __atomic_sub_fetch(&inside, 1, __ATOMIC_SEQ_CST);
+        const uint32_t code = mine->number == 3 && mine->group != 1 ? vahepito_take_many(queue, mine->group, got, 5, NULL, &count, &mine->total)
+                                                                     : vahepito_take(queue, mine->group, got, &mine->total);
+        if (code == VAHEPITO_ENDED) return NULL;
+        check(code == VAHEPITO_GOT && count > 0 && count <= 5, "a take gets an item, or is told the end");
+        for (size_t k = 0; k < count; k++) {
+            const uint32_t thread = (uint32_t)(got[k].words[0] >> 32);
+            const uint64_t number = (uint32_t)got[k].words[0];
+            check(thread < SENDING && number > last[thread], "each thread's items come in order");
+            check(mine->got == 0 || got[k].place > last_place, "places rise");
+            last[thread] = number, last_place = got[k].place, mine->got++, mine->sum += number;
+        }
+    }
+}
+
+static uint64_t parts_kept(void) {
+    uint64_t count = 0;
+    for (const vahepito_internal_part *part = queue->first; part; part = part->next) count++;
+    for (const vahepito_internal_part *part = queue->retired; part; part = part->next) count++;
+    return count;
+}
+
+static void many_threads(const struct shape *shape) {
+    pthread_t sending[SENDING], taking[GROUPS_AT_MOST * TAKING];
+    static uint32_t numbers[SENDING];
+    struct worker workers[GROUPS_AT_MOST * TAKING] = {{0, 0, 0, 0, 0}};
+    uint64_t total;
+    open_as(shape);
+    memset(place_counts, 0, sizeof place_counts);
+    inside = 0;
+    for (uint32_t k = 0; k < shape->groups * TAKING; k++) {
+        workers[k].group = k / TAKING + 1, workers[k].number = k % TAKING;
+        check(!pthread_create(&taking[k], NULL, takes, &workers[k]), "a thread starts");
+    }
+    for (uint32_t k = 0; k < SENDING; k++) {
+        numbers[k] = k;
+        check(!pthread_create(&sending[k], NULL, sends, &numbers[k]), "a thread starts");
+    }
+    for (uint32_t k = 0; k < SENDING; k++) check(!pthread_join(sending[k], NULL), "a sender ends");
+    check(!vahepito_is_closed(queue) && vahepito_close(queue, &total) == VAHEPITO_SHUT && total == SENDING * items, "all were accepted");
+    check(vahepito_is_closed(queue) && vahepito_close(queue, &total) == VAHEPITO_ALREADY && total == SENDING * items, "it is closed once");
+    uint64_t got[GROUPS_AT_MOST] = {0}, sum[GROUPS_AT_MOST] = {0};
+    for (uint32_t k = 0; k < shape->groups * TAKING; k++) {
+        check(!pthread_join(taking[k], NULL), "a receiver ends");
+        check(workers[k].total == total, "the end tells the total");
+        got[k / TAKING] += workers[k].got, sum[k / TAKING] += workers[k].sum;
+    }
+    for (uint32_t group = 0; group < shape->groups; group++)
+        check(got[group] == total && sum[group] == SENDING * (items * (items + 1) / 2), "each group got each item once");
+    const uint64_t opened_in_all = queue->last->number + 1;
+    const uint64_t life = shape->life ? shape->life : UINT64_MAX;
+    check(life == UINT64_MAX || opened_in_all >= total / life, "there were many queues");
+    check(parts_kept() <= 20 && parts_kept() <= opened_in_all, "of which few are left");
+    check(vahepito_length(queue) == 0, "nothing is left");
+    check(vahepito_send(queue, 1, NULL) == VAHEPITO_CLOSED, "and nothing is accepted");
+    for (uint32_t k = 1; k <= queue->places; k++) check(!queue->seats[k].is_taken, "no call has a seat");
+    check(queue->senders.counts == 0 && queue->receivers[0].counts == 0, "and none is in a line");
+    vahepito_destroy(queue, NULL, NULL);
+}
+
+/* ---- one thread */
+
+/* The bound over several queues: sends are refused when `capacity` items are there, in whichever queues of the row. */
+static void bound_over_queues(uint32_t capacity, uint32_t per_sender, uint64_t life, uint32_t groups) {
+    const struct shape shape = {capacity, groups, 1, per_sender, life};
+    uint64_t dice = capacity * 7 + life, sent = 0, taken[GROUPS_AT_MOST] = {0};
+    vahepito_item item;
+    open_as(&shape);
+    for (int step = 0; step < 3000; step++) {
+        const uint32_t kind = roll(&dice, groups + 1);
+        uint64_t least = taken[0];
+        for (uint32_t group = 1; group < groups; group++)
+            if (taken[group] < least) least = taken[group];
+        if (kind == 0) {
+            uint64_t place;
+            const uint32_t code = vahepito_send_now(queue, sent, &place);
+            check(code == (sent - least < capacity ? VAHEPITO_ACCEPTED : VAHEPITO_FULL), "there is room, or there is none");
+            if (code == VAHEPITO_ACCEPTED) check(place == sent++, "places have no gap");
+        } else {
+            const uint32_t code = vahepito_take_now(queue, kind, &item, NULL);
+            check(code == (taken[kind - 1] < sent ? VAHEPITO_GOT : VAHEPITO_EMPTY), "there is an item, or there is none");
+            if (code == VAHEPITO_GOT) check(item.words[0] == taken[kind - 1] && item.place == taken[kind - 1], "in order"), taken[kind - 1]++;
+        }
+        least = taken[0];
+        for (uint32_t group = 1; group < groups; group++)
+            if (taken[group] < least) least = taken[group];
+        check(vahepito_length(queue) == sent - least, "the length is that of the slowest group");
+    }
+    check(queue->last->number > 5, "in many queues");
+    vahepito_destroy(queue, NULL, NULL);
+}
+
+static uint64_t left_count, left_sum, left_groups;
+
+static void is_left(void *with, uint32_t group, const vahepito_item *item) {
+    check(with == &left_count, "it comes with what was given");
+    left_count++, left_sum += item->words[0], left_groups += group;
+}
+
+/* A queue without a bound grows, and what is left in it goes to a function. */
+static void no_bound(void) {
+    const struct shape shape = {0, 2, 0, 0, 100};
+    vahepito_item item;
+    open_as(&shape);
+    check(vahepito_capacity(queue) == 0, "it has no bound");
+    for (uint64_t number = 1; number <= 1000; number++) check(vahepito_send_now(queue, number, NULL) == VAHEPITO_ACCEPTED, "there is always room");
+    check(vahepito_length(queue) == 1000, "they are all there");
+    for (uint64_t number = 1; number <= 990; number++) check(vahepito_take_now(queue, 2, &item, NULL) == VAHEPITO_GOT && item.words[0] == number, "in order");
+    left_count = left_sum = left_groups = 0;
+    vahepito_destroy(queue, is_left, &left_count);
+    check(left_count == 1010 && left_sum == 500500 + 9955 && left_groups == 1000 + 20, "what each group had left was given, for its group");
+    queue = vahepito_create(0);
+    check(queue != NULL, "a queue without a bound is opened");
+    for (uint64_t number = 0; number < 20000; number++) check(vahepito_send(queue, number, NULL) == VAHEPITO_ACCEPTED, "there is always room");
+    check(queue->last->number > 2, "in several queues");
+    for (uint64_t number = 0; number < 20000; number++) check(vahepito_take_now(queue, 1, &item, NULL) == VAHEPITO_GOT && item.words[0] == number, "in order");
+    check(parts_kept() <= 2, "and those that are done with are freed");
+    vahepito_destroy(queue, NULL, NULL);
+}
+
+/* Batches: as many as there is room for, and as many as there are. */
+static void batches(void) {
+    const struct timespec now = {0, 0}, soon = vahepito_after(20000000);
+    const uint64_t words[6] = {1, 2, 3, 4, 5, 6};
+    vahepito_item got[6];
+    size_t count = 99;
+    uint64_t total = 99;
+    queue = opened(4, 1);
+    check(vahepito_send_many(queue, words, 0, &now, &count) == VAHEPITO_ACCEPTED && count == 0, "none are none");
+    check(vahepito_send_many(queue, words, 6, &now, &count) == VAHEPITO_FULL && count == 4, "four have room");
+    check(vahepito_send_many(queue, words, 1, &soon, &count) == VAHEPITO_FULL && count == 0, "and no more, until the moment");
+    check(vahepito_take_many(queue, 1, got, 3, NULL, &count, &total) == VAHEPITO_GOT && count == 3 && total == 0, "three are taken");
+    check(got[0].words[0] == 1 && got[1].words[0] == 2 && got[2].words[0] == 3 && got[2].place == 2, "in order");
+    check(vahepito_take_many(queue, 1, got, 6, NULL, &count, NULL) == VAHEPITO_GOT && count == 1 && got[0].words[0] == 4, "and what is left");
+    check(vahepito_take_many(queue, 1, got, 6, &now, &count, NULL) == VAHEPITO_EMPTY && count == 0, "and then none");
+    check(vahepito_take_many(queue, 1, got, 0, NULL, &count, NULL) == VAHEPITO_EMPTY && count == 0, "none are none");
+    check(vahepito_take_many(queue, 2, got, 6, NULL, &count, &total) == VAHEPITO_BAD_GROUPS && count == 0 && total == 0, "there is one group");
+    check(vahepito_send_many(queue, words, 2, NULL, &count) == VAHEPITO_ACCEPTED && count == 2, "two have room");
+    check(vahepito_close(queue, &total) == VAHEPITO_SHUT && total == 6, "it is closed");
+    check(vahepito_send_many(queue, words, 2, NULL, &count) == VAHEPITO_CLOSED && count == 0, "nothing is accepted then");
+    check(vahepito_take_many(queue, 1, got, 6, NULL, &count, &total) == VAHEPITO_GOT && count == 2 && total == 0, "what was accepted is taken");
+    check(vahepito_take_many(queue, 1, got, 6, NULL, &count, &total) == VAHEPITO_ENDED && count == 0 && total == 6, "and then it ends");
+    vahepito_destroy(queue, NULL, NULL);
+}
+
+static bool is_readable(int place, int milliseconds) {
+    struct pollfd it = {place, POLLIN, 0};
+    return poll(&it, 1, milliseconds) == 1;
+}
+
+static void *polls(void *unused) {
+    const int place = vahepito_descriptor(queue, 1);
+    uint64_t expected = 0;
+    vahepito_item item;
+    for (;;) {
+        uint32_t code;
+        check(is_readable(place, 60000), "a descriptor gets readable");
+        while ((code = vahepito_take_now(queue, 1, &item, NULL)) == VAHEPITO_GOT) check(item.words[0] == expected++, "in order");
+        if (code == VAHEPITO_ENDED) break;
+    }
+    check(expected == 5000, "each item was found");
+    return unused;
+}
+
+/* A descriptor is readable when there is something; and a thread that polls misses nothing. */
+static void descriptors(void) {
+    pthread_t thread;
+    queue = opened(1, 1);
+    const int item = vahepito_descriptor(queue, 1), room = vahepito_descriptor(queue, 0);
+    check(item >= 0 && room >= 0 && item != room && vahepito_descriptor(queue, 1) == item, "there are two");
+    check(vahepito_descriptor(queue, 2) == -1 && errno == EINVAL, "and no more");
+    check(vahepito_take_now(queue, 1, NULL, NULL) == VAHEPITO_EMPTY && !is_readable(item, 0), "after a take that found nothing it isn't readable");
+    check(vahepito_send_now(queue, 1, NULL) == VAHEPITO_ACCEPTED && is_readable(item, 0), "after a send it is");
+    check(vahepito_send_now(queue, 2, NULL) == VAHEPITO_FULL && !is_readable(room, 0), "there is no room");
+    check(vahepito_take_now(queue, 1, NULL, NULL) == VAHEPITO_GOT && is_readable(room, 0), "and then there is");
+    check(vahepito_take_now(queue, 1, NULL, NULL) == VAHEPITO_EMPTY && !is_readable(item, 0), "and no item");
+    check(!pthread_create(&thread, NULL, polls, NULL), "a thread starts");
+    for (uint64_t number = 0; number < 5000;) {
+        const uint32_t code = vahepito_send_now(queue, number, NULL);
+        if (code == VAHEPITO_ACCEPTED) number++;
+        else check(code == VAHEPITO_FULL && is_readable(room, 60000), "room comes");
+    }
+    check(vahepito_close(queue, NULL) == VAHEPITO_SHUT, "it is closed");
+    check(!pthread_join(thread, NULL), "a thread ends");
+    check(is_readable(item, 0) && is_readable(room, 0), "and then both are readable");
+    vahepito_destroy(queue, NULL, NULL);
+}
+
+int main(int count, char **words) {
+    static const struct shape shapes[] = {
+        {1, 1, 1, 5, 7}, {3, 1, 2, 5, 7}, {64, 1, 8, 5, 7}, {4, 2, 2, 5, 7}, {16, 3, 4, 2, 3},   {5, 1, 3, 1, 1},
+        {0, 1, 2, 5, 7}, {0, 3, 0, 5, 7}, {8, 1, 1, 3, 0},  {2, 2, 8, 0, 2}, {4096, 1, 0, 0, 9}, {8, 2, 0, 0, 0},
+    };
+    size_t at = 0;
+    if (count > 1) items = strtoull(words[1], NULL, 10);
+    check(items <= 4096, "so many items");
+    alarm(120);
+    for (uint32_t groups = 1; groups <= 3; groups++) {
+        bound_over_queues(1, 5, 7, groups);
+        bound_over_queues(3, 5, 7, groups);
+        bound_over_queues(9, 2, 3, groups);
+        bound_over_queues(20, 1, 1, groups);
+    }
+    no_bound();
+    batches();
+    descriptors();
+    for (; at < sizeof shapes / sizeof *shapes; at++) many_threads(&shapes[at]);
+    printf("%zu rows\n", at);
+    return 0;
+}

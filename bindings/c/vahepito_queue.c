@@ -1,0 +1,1050 @@
+/* Vahepito for C, the queue of vahepito.h: a row of proved queues, and the calls that wait. `make` compiles this file into
+ * libvahepito_queue.a and into the shared library; a program may also compile it with its own files. A thread that waits parks on a
+ * futex, so it is for Linux.
+ *
+ * A row. A vahepito_queue has a row of the proved library's queues, whose calls are made by handles (handles.h). Sends are at the last one, and each group is at one of them. A queue that
+ * is used up (a place may begin no further send, or its life is over), or is full and the row has no bound, is closed, and a further one
+ * follows. A take that finds the end of its queue continues at the next one. So two rules hold:
+ *
+ * 1. a send or a close at a queue begins after a close of the queue before it has returned;
+ * 2. a take of a group at a queue begins after a take of that group at the queue before has found the end.
+ *
+ * Accepted, Got and Empty of any queue are answers of the row, Closed and Ended of the last one alone. That such a row is one queue, linearizable and
+ * first in, first out, is proved of the proved queues (`rows_are_linearizable` of the crate cc_row). That this file keeps the rules is tested.
+ * It keeps them by a lock: the last queue is closed and the next one appended under the lock, and a group continues under the lock.
+ *
+ * The bound. While all groups are at the last queue, its own capacity is the row's. While some group is at an earlier queue, the row is
+ * `narrow`: then each send is made under the lock, after a look at the counts. So Full is returned only if `capacity` items were in the row.
+ *
+ * Seats. A call takes a seat and then reads at which queue it is. A seat has one sender, and one receiver of each group, of each queue of the row, so
+ * that one thread at a time uses them. A queue that all groups have left is freed once each seat was seen
+ * free after that: a call that takes its seat later reads a later queue. A call that parks for room or an item has no seat, nor has one that waits
+ * for the lock: so a thread that has the lock may wait for a seat.
+ *
+ * Why no wake-up is lost. The senders wait in one line, and the receivers of each group in another. A line has two counts in
+ * one word: `waiting`, the calls in line that aren't notified, and `notified`, the notifications that no call has used.
+ *
+ *     a call that waits                            a call that notifies
+ *     join      waiting + 1                        make      its send or its take returns
+ *     look      try                                check     is waiting 0? then that is all
+ *     park      sleep while notified is 0          notify    waiting - 1 and notified + 1, in one step
+ *     leave     notified - 1                       wake      one call that sleeps
+ *     retry     and if there is nothing, join again
+ *
+ * A call whose look succeeds leaves by waiting - 1, or if that is 0 by notified - 1. A call whose time is over leaves by
+ * notified - 1 and tries once more, or if that is 0 by waiting - 1. A call whose try is refused (there is no memory, say)
+ * notifies the next. A call that has made several notifies as many, in one step, and all that wait if there are fewer.
+ *
+ * The claim: when no thread makes a step any more, no call is parked while its try would take something. Suppose that call w
+ * is, and let e be the last moment with nothing to take. So w joined before e, and every try that begins after e succeeds.
+ * 1. At the end `notified` is 0. Otherwise, since it last rose from 0, no call went to sleep, so each notification woke a call
+ *    that slept (w was there), which used one: as many were used as were made.
+ * 2. After e `waiting` was never 0. Otherwise let s be the last such moment. A call that joins after s finds something at its
+ *    look, and leaves by waiting - 1; all other steps only lower `waiting`. So it is 0 at the end, though w is in line.
+ * 3. So each thing that was made after e made a notification. By 1 and 2 each of these was used by a call that left by
+ *    notified - 1 and tried after e. That call took something, or notified another one. So as many things were taken after e
+ *    as were made, and none is left.
+ * It uses that make and check of one thread, and join and look of another, have one order that all threads agree on: all
+ * accesses to the counts are sequentially consistent, and so are the library's steps. vahepito_internal_in_order has what that takes on
+ * each machine. The program interleavings.c runs the code of this file in every interleaving
+ * of small models, and finds a lost wake-up if one of the steps is wrong. */
+#ifndef _POSIX_C_SOURCE
+#define _POSIX_C_SOURCE 200809L
+#endif
+#ifndef VAHEPITO_UNTOLD
+#define VAHEPITO_UNTOLD /* the callers' own files announce their calls */
+#endif
+#include "handles.h"
+
+#include <errno.h>
+#include <limits.h>
+#include <linux/futex.h>
+#include <pthread.h>
+#include <sched.h>
+#include <stdlib.h>
+#include <string.h>
+#include <sys/eventfd.h>
+#include <sys/syscall.h>
+#include <time.h>
+#include <unistd.h>
+
+/* As <unistd.h> declares it, which does so only with some feature macros. */
+extern long syscall(long number, ...);
+
+/* How many rounds a call spins or yields until it parks: in a line for room or an item, and until it is answered or has a place. */
+#ifndef VAHEPITO_ROUNDS
+#define VAHEPITO_ROUNDS 12
+#endif
+#ifndef VAHEPITO_SERVED_ROUNDS
+#define VAHEPITO_SERVED_ROUNDS 16
+#endif
+
+/* A row without a bound begins with a queue of the least capacity, and each further one has four times as much, up to the most. */
+enum { SEATS = 64, MOST_GROUPS = 8, LEAST_CAPACITY = 64, MOST_CAPACITY = 4096, NARROW = 1, WAS_FULL = 2 };
+
+/* What a try of a send returns if the row is narrow: no code of the library. */
+#define VAHEPITO_INTERNAL_NARROW UINT32_MAX
+
+/* ---- lines of calls that wait */
+
+/* A line of calls that wait: `notified` in the lower half of the word, and `waiting` in the upper half. */
+typedef struct {
+    uint64_t counts;
+} vahepito_internal_line;
+
+#define VAHEPITO_INTERNAL_ONE_WAITING ((uint64_t)1 << 32)
+
+/* The calls of a side that are parked until they are answered or have a place, and how many calls of the side ended while there
+ * were any. */
+typedef struct {
+    uint32_t waiting, ended;
+} vahepito_internal_served;
+
+static long vahepito_internal_futex(const void *word, int operation, uint32_t value, const struct timespec *time) {
+    const int errno_before = errno;
+    const long done = syscall(SYS_futex, word, operation | FUTEX_PRIVATE_FLAG, value, time, NULL, FUTEX_BITSET_MATCH_ANY);
+    const long answer = done < 0 ? -errno : done;
+    errno = errno_before;
+    return answer;
+}
+
+/* Changes the counts, if they are these; else gives what they are. */
+static inline bool vahepito_internal_change(vahepito_internal_line *line, uint64_t *counts, uint64_t next) {
+    return __atomic_compare_exchange_n(&line->counts, counts, next, 0, __ATOMIC_SEQ_CST, __ATOMIC_SEQ_CST);
+}
+
+/* Between the library's accesses of a call and one of the counts: the two have the order of the program. For x86-64 and aarch64
+ * compilers agree how a sequentially consistent access is written, and no fence is needed: when a call returns, none of
+ * its stores is pending on x86-64, and on aarch64 they are `stlr`, after which `ldar` and `ldaxr` wait. For other machines, where
+ * the library's compiler and this one may differ, it is a fence. */
+static inline void vahepito_internal_in_order(void) {
+#if !defined(__x86_64__) && !defined(__aarch64__)
+    __atomic_thread_fence(__ATOMIC_SEQ_CST);
+#endif
+}
+
+/* Notifies this number of calls of the line, or all if there are fewer. */
+static void vahepito_internal_notify_some(vahepito_internal_line *line, uint64_t counts, uint32_t most) {
+    while (counts >= VAHEPITO_INTERNAL_ONE_WAITING) {
+        const uint64_t waiting = counts >> 32, chosen = waiting < most ? waiting : most;
+        const uint64_t next = counts - chosen * VAHEPITO_INTERNAL_ONE_WAITING + chosen;
+        if (!vahepito_internal_change(line, &counts, next)) continue;
+        (void)vahepito_internal_futex(&line->counts, FUTEX_WAKE, chosen < INT_MAX ? (uint32_t)chosen : INT_MAX, NULL);
+        return;
+    }
+}
+
+static __attribute__((noinline, cold)) void vahepito_internal_notify(vahepito_internal_line *line, uint32_t most) {
+    vahepito_internal_notify_some(line, __atomic_load_n(&line->counts, __ATOMIC_SEQ_CST), most);
+}
+
+/* Whether a call of the line isn't notified. */
+static inline bool vahepito_internal_has_waiting(const vahepito_internal_line *line) {
+    return __builtin_expect(__atomic_load_n(&line->counts, __ATOMIC_SEQ_CST) >= VAHEPITO_INTERNAL_ONE_WAITING, 0);
+}
+
+/* Leaves the line after a look that succeeded. */
+static void vahepito_internal_leave(vahepito_internal_line *line) {
+    uint64_t counts = __atomic_load_n(&line->counts, __ATOMIC_SEQ_CST), next;
+    do next = counts >= VAHEPITO_INTERNAL_ONE_WAITING ? counts - VAHEPITO_INTERNAL_ONE_WAITING : counts - 1;
+    while (!vahepito_internal_change(line, &counts, next));
+}
+
+/* Sleeps in the line until there is a notification, or until this moment, and leaves it. Returns whether it used one. */
+static bool vahepito_internal_park(vahepito_internal_line *line, const struct timespec *moment) {
+    uint64_t counts = __atomic_load_n(&line->counts, __ATOMIC_SEQ_CST);
+    bool is_over = false;
+    for (;;) {
+        const bool is_notified = (uint32_t)counts != 0;
+        if (is_notified || is_over) {
+            const uint64_t next = is_notified ? counts - 1 : counts - VAHEPITO_INTERNAL_ONE_WAITING;
+            if (vahepito_internal_change(line, &counts, next)) return is_notified;
+        } else {
+            const long answer = vahepito_internal_futex(&line->counts, FUTEX_WAIT_BITSET, 0, moment);
+            is_over = answer == -ETIMEDOUT || answer == -EINVAL;
+            counts = __atomic_load_n(&line->counts, __ATOMIC_SEQ_CST);
+        }
+    }
+}
+
+/* How a call passes the time until its next turn, or until it looks for a free place again: it spins, gives the processor to another
+ * thread, and then parks, with those of its side if their line is given. */
+typedef struct {
+    uint32_t round;
+    vahepito_internal_served *line;
+} vahepito_internal_backoff;
+
+/* The hint of a thread that spins: on aarch64 as Rust's std has it. */
+static inline void vahepito_internal_pause(void) {
+#if defined(__x86_64__)
+    __builtin_ia32_pause();
+#elif defined(__aarch64__)
+    __asm__ volatile("isb" ::: "memory");
+#else
+    __asm__ volatile("" ::: "memory");
+#endif
+}
+
+/* Before a look: a call that is about to park counts itself, and a call that ends after this changes `ended`. */
+static uint32_t vahepito_internal_stand(vahepito_internal_backoff *backoff) {
+    if (!backoff->line || backoff->round < VAHEPITO_SERVED_ROUNDS) return 0;
+    if (backoff->round++ == VAHEPITO_SERVED_ROUNDS) {
+        (void)__atomic_fetch_add(&backoff->line->waiting, 1, __ATOMIC_SEQ_CST);
+        vahepito_internal_in_order();
+    }
+    return __atomic_load_n(&backoff->line->ended, __ATOMIC_SEQ_CST);
+}
+
+/* After a look that found nothing. */
+static void vahepito_internal_rest(vahepito_internal_backoff *backoff, uint32_t ended) {
+    const struct timespec time = {0, 1000000};
+    if (backoff->round < 7) {
+        for (uint32_t spin = (uint32_t)1 << backoff->round++; spin > 0; spin--) vahepito_internal_pause();
+    } else if (!backoff->line || backoff->round < VAHEPITO_SERVED_ROUNDS) {
+        backoff->round++;
+        (void)sched_yield();
+    } else if (backoff->round > VAHEPITO_SERVED_ROUNDS) {
+        (void)vahepito_internal_futex(&backoff->line->ended, FUTEX_WAIT, ended, &time);
+    }
+}
+
+/* After the last look. */
+static void vahepito_internal_go_on(const vahepito_internal_backoff *backoff) {
+    if (backoff->line && backoff->round > VAHEPITO_SERVED_ROUNDS)
+        (void)__atomic_fetch_sub(&backoff->line->waiting, 1, __ATOMIC_SEQ_CST);
+}
+
+/* Wakes the calls that are parked until they have an answer or a seat, after a call. */
+static void vahepito_internal_wake_served(vahepito_internal_served *line) {
+    (void)__atomic_fetch_add(&line->ended, 1, __ATOMIC_SEQ_CST);
+    (void)vahepito_internal_futex(&line->ended, FUTEX_WAKE, INT_MAX, NULL);
+}
+
+/* Makes a call, whose code is `code`, again and again while `again` holds, and passes the time in between. */
+#define VAHEPITO_INTERNAL_UNTIL(line, code, call, again)                   \
+    do {                                                                   \
+        vahepito_internal_backoff backoff = {0, line};                     \
+        for (;;) {                                                         \
+            const uint32_t ended = vahepito_internal_stand(&backoff);      \
+            code = call;                                                   \
+            if (!(again)) break;                                           \
+            vahepito_internal_rest(&backoff, ended);                       \
+        }                                                                  \
+        vahepito_internal_go_on(&backoff);                                 \
+    } while (0)
+
+/* ---- the queue */
+
+/* A handle, in a line of the cache of its own. */
+typedef struct {
+    vahepito_pass pass;
+} __attribute__((aligned(64))) vahepito_internal_handle;
+
+/* A proved queue of the row. */
+typedef struct vahepito_internal_part {
+    vahepito_raw *observer; /* for looks at the counts */
+    struct vahepito_internal_part *next;
+    uint64_t number; /* the first one of all has 0 */
+    uint64_t base;   /* how many items the queues before it accepted */
+    uint64_t unseen; /* of one that all groups have left: the seats that weren't seen free since then */
+    vahepito_internal_handle handles[]; /* by seats: the senders, and then the receivers of each group */
+} vahepito_internal_part;
+
+typedef struct {
+    uint32_t is_taken;
+} __attribute__((aligned(64))) vahepito_internal_seat;
+
+/* A descriptor that is readable while a take of a group, or a send, may find something; or -1. A call that finds nothing arms it, and looks once
+ * more; a call that makes something writes into it, if it is armed. */
+typedef struct {
+    int place;
+    uint32_t is_armed;
+} vahepito_internal_bell;
+
+struct vahepito_queue {
+    vahepito_config config;
+    uint32_t groups, words, places; /* how many seats there are */
+    size_t stride;                  /* the bytes of a side's handles in a queue of the row */
+    bool has_bound, is_closed;
+    bool has_bells;   /* whether some bell isn't -1 */
+    uint32_t special; /* NARROW: some group isn't at the last queue, and there is a bound. WAS_FULL: a send found no room; so a send looks first */
+    vahepito_internal_part *last, *at[MOST_GROUPS];
+    pthread_mutex_t lock;                   /* for `is_closed`, NARROW, the queues, and the two lists of them */
+    vahepito_internal_part *first, *retired; /* those that some group is at, and all behind them; those that are done with */
+    vahepito_internal_bell bells[1 + MOST_GROUPS];
+    vahepito_internal_served served; /* the calls that are parked until they have an answer or a seat */
+    vahepito_internal_line senders __attribute__((aligned(64)));
+    vahepito_internal_line receivers[MOST_GROUPS] __attribute__((aligned(64)));
+    vahepito_internal_seat seats[1 + SEATS]; /* the first one is never free, nor are those after `places` further ones */
+};
+
+/* The seat at which a thread looks first, from 1 (0: it has none yet), as the bytes from the queue's first seat on; and how many threads have one. */
+static __thread size_t vahepito_internal_own __attribute__((tls_model("initial-exec")));
+static uint32_t vahepito_internal_threads;
+
+static inline bool vahepito_internal_try_seat(vahepito_internal_seat *seat) { return __atomic_exchange_n(&seat->is_taken, 1, __ATOMIC_SEQ_CST) == 0; }
+
+/* The number of a seat, or 0 if none is free. */
+static uint32_t vahepito_internal_enter(vahepito_queue *queue) {
+    if (vahepito_internal_own == 0)
+        vahepito_internal_own = (1 + __atomic_fetch_add(&vahepito_internal_threads, 1, __ATOMIC_RELAXED) % SEATS) * sizeof(vahepito_internal_seat);
+    for (uint32_t k = 0; k < queue->places; k++) {
+        const uint32_t number = 1 + ((uint32_t)(vahepito_internal_own / sizeof(vahepito_internal_seat)) - 1 + k) % queue->places;
+        vahepito_internal_seat *const seat = &queue->seats[number];
+        if (__atomic_load_n(&seat->is_taken, __ATOMIC_RELAXED) == 0 && vahepito_internal_try_seat(seat)) return number;
+    }
+    return 0;
+}
+
+/* The number of a seat, once one is free. */
+static __attribute__((noinline)) uint32_t vahepito_internal_sit(vahepito_queue *queue) {
+    uint32_t seat;
+    VAHEPITO_INTERNAL_UNTIL(&queue->served, seat, vahepito_internal_enter(queue), seat == 0);
+    return seat;
+}
+
+static inline uint32_t vahepito_internal_number(const vahepito_queue *queue, const vahepito_internal_seat *seat) { return (uint32_t)(seat - queue->seats); }
+
+static inline void vahepito_internal_stand_up(vahepito_queue *queue, uint32_t seat) { __atomic_store_n(&queue->seats[seat].is_taken, 0, __ATOMIC_RELEASE); }
+
+/* The handle that a seat has of a queue: of its sender, or of the receiver of a group from 1. */
+static inline vahepito_pass *vahepito_internal_pass(vahepito_internal_part *part, const vahepito_queue *queue, uint32_t side, uint32_t seat) {
+    return &part->handles[side * queue->places + seat - 1].pass;
+}
+
+/* The same of the seat at these bytes: a handle has as many as a seat. */
+static inline vahepito_pass *vahepito_internal_own_pass(vahepito_internal_part *part, const vahepito_queue *queue, uint32_t side, size_t own) {
+    return (vahepito_pass *)(void *)((char *)part + (offsetof(vahepito_internal_part, handles) - sizeof(vahepito_internal_handle)) + (side == 0 ? 0 : side * queue->stride) + own);
+}
+
+_Static_assert(sizeof(vahepito_internal_seat) == sizeof(vahepito_internal_handle), "a handle has as many bytes as a seat");
+
+_Static_assert(offsetof(vahepito_word_item, sender) == offsetof(vahepito_item, sender) && offsetof(vahepito_word_item, number) == offsetof(vahepito_item, number),
+               "an item of one word begins as an item of words");
+_Static_assert(offsetof(vahepito_word_item, body) == offsetof(vahepito_item, count) && sizeof(size_t) == sizeof(uint64_t), "and has its body where that has the count");
+
+static inline vahepito_internal_part *vahepito_internal_load(vahepito_internal_part *const *place) {
+    vahepito_internal_part *part;
+    __atomic_load(place, &part, __ATOMIC_SEQ_CST);
+    return part;
+}
+
+static inline bool vahepito_internal_is_closed(const vahepito_queue *queue) { return __atomic_load_n(&queue->is_closed, __ATOMIC_SEQ_CST); }
+
+static void vahepito_internal_lock(vahepito_queue *queue) { (void)pthread_mutex_lock(&queue->lock); }
+static void vahepito_internal_unlock(vahepito_queue *queue) { (void)pthread_mutex_unlock(&queue->lock); }
+
+/* ---- bells */
+
+static void vahepito_internal_ring(vahepito_internal_bell *bell) {
+    const uint64_t one = 1;
+    const int errno_before = errno;
+    const int place = __atomic_load_n(&bell->place, __ATOMIC_SEQ_CST);
+    if (place >= 0) (void)syscall(SYS_write, place, &one, sizeof one);
+    errno = errno_before;
+}
+
+static __attribute__((noinline, cold)) void vahepito_internal_ring_if_armed(vahepito_internal_bell *bell) {
+    if (__atomic_load_n(&bell->is_armed, __ATOMIC_SEQ_CST) != 0 && __atomic_exchange_n(&bell->is_armed, 0, __ATOMIC_SEQ_CST) != 0)
+        vahepito_internal_ring(bell);
+}
+
+/* After a try that found nothing. Returns whether to try again. */
+static bool vahepito_internal_arm(vahepito_internal_bell *bell) {
+    uint64_t count;
+    const int errno_before = errno, place = __atomic_load_n(&bell->place, __ATOMIC_SEQ_CST);
+    if (place < 0) return false;
+    (void)syscall(SYS_read, place, &count, sizeof count);
+    errno = errno_before;
+    (void)__atomic_exchange_n(&bell->is_armed, 1, __ATOMIC_SEQ_CST);
+    return true;
+}
+
+/* ---- notifications, of which the rare parts are functions of their own */
+
+static __attribute__((noinline, cold)) void vahepito_internal_serve(vahepito_queue *queue) { vahepito_internal_wake_served(&queue->served); }
+
+static inline void vahepito_internal_notify_served(vahepito_queue *queue) {
+    if (__builtin_expect(__atomic_load_n(&queue->served.waiting, __ATOMIC_SEQ_CST) != 0, 0)) vahepito_internal_serve(queue);
+}
+
+static __attribute__((noinline, cold)) void vahepito_internal_ring_for_items(vahepito_queue *queue) {
+    for (uint32_t group = 1; group <= queue->groups; group++) vahepito_internal_ring_if_armed(&queue->bells[group]);
+}
+
+/* After this number of sends that were accepted: wakes as many receivers of each group. */
+static inline void vahepito_internal_notify_items(vahepito_queue *queue, uint32_t count) {
+    vahepito_internal_in_order();
+    for (uint32_t group = queue->groups; group-- > 0;)
+        if (vahepito_internal_has_waiting(&queue->receivers[group])) vahepito_internal_notify(&queue->receivers[group], count);
+    if (__builtin_expect(__atomic_load_n(&queue->has_bells, __ATOMIC_SEQ_CST), 0)) vahepito_internal_ring_for_items(queue);
+}
+
+static __attribute__((noinline, cold)) void vahepito_internal_notify_senders(vahepito_queue *queue, uint32_t count) { vahepito_internal_notify(&queue->senders, count); }
+static __attribute__((noinline, cold)) void vahepito_internal_ring_for_room(vahepito_queue *queue) { vahepito_internal_ring_if_armed(&queue->bells[0]); }
+
+/* After this number of takes that got an item: wakes as many senders. */
+static inline void vahepito_internal_notify_room(vahepito_queue *queue, uint32_t count) {
+    vahepito_internal_in_order();
+    if (vahepito_internal_has_waiting(&queue->senders)) vahepito_internal_notify_senders(queue, count);
+    if (__builtin_expect(__atomic_load_n(&queue->has_bells, __ATOMIC_SEQ_CST), 0)) vahepito_internal_ring_for_room(queue);
+}
+
+/* After a close: wakes all that wait. A descriptor stays readable then. */
+static void vahepito_internal_notify_all(vahepito_queue *queue) {
+    vahepito_internal_in_order();
+    vahepito_internal_notify(&queue->senders, UINT32_MAX);
+    for (uint32_t group = 0; group < queue->groups; group++) vahepito_internal_notify(&queue->receivers[group], UINT32_MAX);
+    if (!__atomic_load_n(&queue->has_bells, __ATOMIC_SEQ_CST)) return;
+    for (uint32_t group = 0; group <= queue->groups; group++) vahepito_internal_ring_if_armed(&queue->bells[group]);
+}
+
+/* ---- the row */
+
+static void vahepito_internal_free_part(const vahepito_queue *queue, vahepito_internal_part *part) {
+    vahepito_free(part->observer);
+    for (uint32_t k = 0; k < (1 + queue->groups) * queue->places; k++) (void)vahepito_drop(&part->handles[k].pass);
+    free(part);
+}
+
+/* A further queue of the row; NULL if there is no memory. */
+static vahepito_internal_part *vahepito_internal_append(vahepito_queue *queue, uint32_t *code) {
+    vahepito_pass passes[(1 + MOST_GROUPS) * SEATS];
+    const size_t count = (1 + (size_t)queue->groups) * queue->places;
+    void *memory = NULL;
+    memset(passes, 0, sizeof passes);
+    *code = vahepito_open_words(&queue->config, queue->groups, queue->words, passes, queue->places, passes + queue->places, count - queue->places);
+    if (*code != VAHEPITO_DONE) return NULL;
+    *code = VAHEPITO_NO_MEMORY;
+    vahepito_raw *observer = NULL;
+    if (posix_memalign(&memory, 64, sizeof(vahepito_internal_part) + count * sizeof(vahepito_internal_handle)) == 0) *code = vahepito_observe(&passes[0], &observer);
+    if (*code != VAHEPITO_DONE) {
+        for (size_t k = 0; k < count; k++) (void)vahepito_drop(&passes[k]);
+        return free(memory), NULL;
+    }
+    vahepito_internal_part *const part = memory;
+    part->observer = observer;
+    part->next = NULL;
+    part->number = part->base = part->unseen = 0;
+    for (size_t k = 0; k < count; k++) part->handles[k].pass = passes[k];
+    return part;
+}
+
+/* Frees the queues that all groups have left, as far as no call may use them. Under the lock. */
+static void vahepito_internal_retire(vahepito_queue *queue) {
+    uint64_t least = queue->last->number;
+    for (uint32_t group = 0; group < queue->groups; group++)
+        if (queue->at[group]->number < least) least = queue->at[group]->number;
+    while (queue->first->number < least) {
+        vahepito_internal_part *const part = queue->first;
+        queue->first = part->next;
+        part->next = queue->retired;
+        part->unseen = UINT64_MAX >> (SEATS - queue->places);
+        queue->retired = part;
+    }
+    uint64_t are_free = 0;
+    if (queue->retired)
+        for (uint32_t seat = 0; seat < SEATS; seat++)
+            are_free |= (uint64_t)(__atomic_load_n(&queue->seats[1 + seat].is_taken, __ATOMIC_SEQ_CST) == 0) << seat;
+    for (vahepito_internal_part **place = &queue->retired; *place;) {
+        vahepito_internal_part *const part = *place;
+        if ((part->unseen &= ~are_free) == 0) {
+            *place = part->next;
+            vahepito_internal_free_part(queue, part);
+        } else {
+            place = &part->next;
+        }
+    }
+}
+
+/* Whether all groups are at the last queue. Under the lock. */
+static bool vahepito_internal_is_together(const vahepito_queue *queue) {
+    for (uint32_t group = 0; group < queue->groups; group++)
+        if (queue->at[group] != queue->last) return false;
+    return true;
+}
+
+/* How many items the row has: how many the slowest group has before it. The last queue's count is loaded first, so that there were as many at
+ * that moment. Under the lock. */
+static uint64_t vahepito_internal_length(const vahepito_queue *queue) {
+    vahepito_look look = {queue->last->observer};
+    const uint64_t accepted = queue->last->base + vahepito_accepted(&look);
+    uint64_t most = 0;
+    for (uint32_t group = 0; group < queue->groups; group++) {
+        look.queue = queue->at[group]->observer;
+        const uint64_t taken = queue->at[group]->base + vahepito_taken(&look, group + 1);
+        if (taken < accepted && accepted - taken > most) most = accepted - taken;
+    }
+    return most;
+}
+
+/* Closes the last queue, in a seat that it takes. Under the lock. */
+static uint32_t vahepito_internal_close_last(vahepito_queue *queue, uint64_t *total) {
+    const uint32_t seat = vahepito_internal_sit(queue);
+    vahepito_pass *const pass = vahepito_internal_pass(queue->last, queue, 0, seat);
+    uint32_t code, served;
+    (void)vahepito_begin_close(pass);
+    VAHEPITO_INTERNAL_UNTIL(&queue->served, code, vahepito_turn_close(pass, total, &served), code == VAHEPITO_WAITING);
+    *total += queue->last->base;
+    vahepito_internal_stand_up(queue, seat);
+    vahepito_internal_notify_served(queue);
+    return code;
+}
+
+/* After the queue of this number refused a send: sends continue at the next one, which is appended if that was the last. DONE; CLOSED;
+ * NO_MEMORY. */
+static __attribute__((noinline)) uint32_t vahepito_internal_next_for_senders(vahepito_queue *queue, uint64_t number) {
+    uint32_t code = VAHEPITO_DONE;
+    vahepito_internal_lock(queue);
+    if (vahepito_internal_is_closed(queue)) {
+        code = VAHEPITO_CLOSED;
+    } else if (queue->last->number == number) {
+        if (!queue->has_bound && queue->config.capacity < MOST_CAPACITY) queue->config.capacity *= 4;
+        vahepito_internal_part *const next = vahepito_internal_append(queue, &code);
+        if (next) {
+            (void)vahepito_internal_close_last(queue, &next->base);
+            next->number = number + 1;
+            queue->last->next = next;
+            if (queue->has_bound) (void)__atomic_fetch_or(&queue->special, NARROW, __ATOMIC_SEQ_CST);
+            __atomic_store_n(&queue->last, next, __ATOMIC_SEQ_CST);
+            vahepito_internal_retire(queue);
+        }
+    }
+    vahepito_internal_unlock(queue);
+    return code;
+}
+
+/* After a take of this group found the end of the queue of this number: the group continues at the next one. Returns whether there is one. */
+static __attribute__((noinline)) bool vahepito_internal_next_for_group(vahepito_queue *queue, uint32_t group, uint64_t number) {
+    bool is_there = true;
+    vahepito_internal_lock(queue);
+    vahepito_internal_part *const at = queue->at[group - 1];
+    if (at->number == number) {
+        is_there = at->next != NULL;
+        if (is_there) {
+            __atomic_store_n(&queue->at[group - 1], at->next, __ATOMIC_SEQ_CST);
+            if (vahepito_internal_is_together(queue)) (void)__atomic_fetch_and(&queue->special, ~(uint32_t)NARROW, __ATOMIC_SEQ_CST);
+            vahepito_internal_retire(queue);
+        }
+    }
+    vahepito_internal_unlock(queue);
+    return is_there;
+}
+
+/* ---- sends */
+
+/* A send: its words, whether it may wait for room, and until when; and the place that it gets. */
+typedef struct {
+    vahepito_queue *queue;
+    const uint64_t *words;
+    size_t count;
+    uint64_t place;
+    uint64_t number; /* of the queue that refused it */
+} vahepito_internal_send_request;
+
+/* Whether the counts of this queue say that it was full at a moment at which no close had returned: the close is looked for last. */
+static bool vahepito_internal_is_full(const vahepito_queue *queue, const vahepito_internal_part *part) {
+    vahepito_look look = {part->observer};
+    const uint64_t accepted = vahepito_accepted(&look);
+    for (uint32_t group = 1; group <= queue->groups; group++)
+        if (vahepito_taken(&look, group) + queue->config.capacity <= accepted)
+            return !vahepito_internal_is_closed(queue);
+    return false;
+}
+
+/* After a try of a send at this queue, in this seat, with this code: until it is answered. */
+static uint32_t vahepito_internal_after_send(vahepito_internal_send_request *it, uint32_t seat, vahepito_internal_part *part, uint32_t code) {
+    vahepito_queue *const queue = it->queue;
+    vahepito_pass *const pass = vahepito_internal_pass(part, queue, 0, seat);
+    uint32_t served;
+    if (code == VAHEPITO_WAITING)
+        VAHEPITO_INTERNAL_UNTIL(&queue->served, code, vahepito_turn_send(pass, &it->place, &served), code == VAHEPITO_WAITING);
+    if (code == VAHEPITO_ACCEPTED) it->place += part->base;
+    else if (code == VAHEPITO_FULL) (void)__atomic_fetch_or(&queue->special, WAS_FULL, __ATOMIC_RELAXED);
+    it->number = part->number;
+    return code;
+}
+
+/* A send at the last queue, in this seat: after a look at the counts, if there was no room. */
+static uint32_t vahepito_internal_send_by(vahepito_internal_send_request *it, uint32_t seat, vahepito_internal_part *part) {
+    vahepito_queue *const queue = it->queue;
+    uint32_t served;
+    if ((__atomic_load_n(&queue->special, __ATOMIC_RELAXED) & WAS_FULL) != 0) {
+        if (queue->has_bound && vahepito_internal_is_full(queue, part)) return it->place = 0, VAHEPITO_FULL;
+        (void)__atomic_fetch_and(&queue->special, ~(uint32_t)WAS_FULL, __ATOMIC_RELAXED);
+    }
+    return vahepito_internal_after_send(it, seat, part, vahepito_try_send_words(vahepito_internal_pass(part, queue, 0, seat), it->words, it->count, &it->place, &served));
+}
+
+/* The same of this one call, in a seat that it takes. */
+static uint32_t vahepito_internal_seated_send(vahepito_internal_send_request *it) {
+    const uint32_t seat = vahepito_internal_sit(it->queue);
+    vahepito_internal_part *const part = vahepito_internal_load(&it->queue->last);
+    uint32_t code = VAHEPITO_INTERNAL_NARROW;
+    if ((__atomic_load_n(&it->queue->special, __ATOMIC_SEQ_CST) & NARROW) == 0) code = vahepito_internal_send_by(it, seat, part);
+    vahepito_internal_stand_up(it->queue, seat);
+    return code;
+}
+
+/* A send while the row is narrow, under the lock. NARROW: it isn't any more. */
+static uint32_t vahepito_internal_narrow_send(vahepito_internal_send_request *it) {
+    vahepito_queue *const queue = it->queue;
+    uint32_t code = VAHEPITO_INTERNAL_NARROW;
+    vahepito_internal_lock(queue);
+    if (vahepito_internal_is_closed(queue)) {
+        code = VAHEPITO_CLOSED;
+    } else if ((__atomic_load_n(&queue->special, __ATOMIC_SEQ_CST) & NARROW) != 0) {
+        code = VAHEPITO_FULL;
+        if (vahepito_internal_length(queue) < queue->config.capacity) {
+            const uint32_t seat = vahepito_internal_sit(queue);
+            code = vahepito_internal_send_by(it, seat, queue->last);
+            vahepito_internal_stand_up(queue, seat);
+        }
+    }
+    vahepito_internal_unlock(queue);
+    return code;
+}
+
+/* After a call of a send with this code, the rest of its try: ACCEPTED, FULL, CLOSED, BAD_WORDS, LONG, NO_MEMORY. */
+static uint32_t vahepito_internal_further_send(vahepito_internal_send_request *it, uint32_t code) {
+    for (;;) {
+        if (code == VAHEPITO_INTERNAL_NARROW) code = vahepito_internal_narrow_send(it);
+        vahepito_internal_notify_served(it->queue);
+        if (code == VAHEPITO_WORN || code == VAHEPITO_SPENT || code == VAHEPITO_CLOSED || (code == VAHEPITO_FULL && !it->queue->has_bound))
+            code = vahepito_internal_next_for_senders(it->queue, it->number);
+        else if (code != VAHEPITO_INTERNAL_NARROW)
+            return code;
+        if (code == VAHEPITO_CLOSED || code == VAHEPITO_NO_MEMORY) return code;
+        code = vahepito_internal_seated_send(it);
+    }
+}
+
+/* One try of a send. */
+static uint32_t vahepito_internal_attempt_send(vahepito_internal_send_request *it) { return vahepito_internal_further_send(it, vahepito_internal_seated_send(it)); }
+
+/* ---- takes */
+
+/* A take: its group; and the item and the total that it gets. */
+typedef struct {
+    vahepito_queue *queue;
+    uint32_t group;
+    vahepito_item *item;
+    uint64_t total;
+    uint64_t number; /* of the queue that has ended */
+} vahepito_internal_take_request;
+
+/* After a try of a take at this queue, in this seat, with this code: until it is answered. */
+static uint32_t vahepito_internal_after_take(vahepito_internal_take_request *it, uint32_t seat, vahepito_internal_part *part, uint32_t code) {
+    vahepito_pass *const pass = vahepito_internal_pass(part, it->queue, it->group, seat);
+    uint32_t served;
+    if (code == VAHEPITO_WAITING)
+        VAHEPITO_INTERNAL_UNTIL(&it->queue->served, code, vahepito_turn_take_words(pass, it->item, &it->total, &served), code == VAHEPITO_WAITING);
+    if (code == VAHEPITO_GOT) it->item->place += part->base;
+    else if (code == VAHEPITO_ENDED) it->total += part->base, it->number = part->number;
+    vahepito_internal_stand_up(it->queue, seat);
+    return code;
+}
+
+/* A take at the queue that the group is at, in a seat. */
+static uint32_t vahepito_internal_seated_take(vahepito_internal_take_request *it) {
+    const uint32_t seat = vahepito_internal_sit(it->queue);
+    vahepito_internal_part *const part = vahepito_internal_load(&it->queue->at[it->group - 1]);
+    uint32_t served;
+    return vahepito_internal_after_take(it, seat, part, vahepito_try_take_words(vahepito_internal_pass(part, it->queue, it->group, seat), it->item, &it->total, &served));
+}
+
+/* After a call of a take with this code, the rest of its try: GOT, EMPTY, ENDED. */
+static uint32_t vahepito_internal_further_take(vahepito_internal_take_request *it, uint32_t code) {
+    for (;;) {
+        vahepito_internal_notify_served(it->queue);
+        if (code != VAHEPITO_ENDED || !vahepito_internal_next_for_group(it->queue, it->group, it->number)) return code;
+        code = vahepito_internal_seated_take(it);
+    }
+}
+
+/* One try of a take. */
+static uint32_t vahepito_internal_attempt_take(vahepito_internal_take_request *it) { return vahepito_internal_further_take(it, vahepito_internal_seated_take(it)); }
+
+/* ---- waits */
+
+/* A try, of a send or of a take. */
+static uint32_t vahepito_internal_attempt(uint32_t nothing, void *request) {
+    return nothing == VAHEPITO_FULL ? vahepito_internal_attempt_send((vahepito_internal_send_request *)request)
+                                    : vahepito_internal_attempt_take((vahepito_internal_take_request *)request);
+}
+
+/* Tries until a try finds something, or until this moment; `nothing` is FULL of a send, or EMPTY of a take. A try that finds nothing again
+ * costs a look at the counts. */
+static uint32_t vahepito_internal_wait(vahepito_internal_line *line, void *request, uint32_t nothing, const struct timespec *moment) {
+    vahepito_internal_backoff backoff = {0, NULL};
+    uint32_t code;
+    for (uint32_t round = 1; round < VAHEPITO_ROUNDS; round++) {
+        vahepito_internal_rest(&backoff, 0);
+        if ((code = vahepito_internal_attempt(nothing, request)) != nothing) return code;
+    }
+    do {
+        (void)__atomic_fetch_add(&line->counts, VAHEPITO_INTERNAL_ONE_WAITING, __ATOMIC_SEQ_CST);
+        vahepito_internal_in_order();
+        code = vahepito_internal_attempt(nothing, request);
+        if (code != nothing) {
+            vahepito_internal_leave(line);
+        } else {
+            if (!vahepito_internal_park(line, moment)) return code;
+            code = vahepito_internal_attempt(nothing, request);
+        }
+    } while (code == nothing);
+    if (code != VAHEPITO_ACCEPTED && code != VAHEPITO_GOT) vahepito_internal_notify(line, 1);
+    return code;
+}
+
+static const struct timespec vahepito_internal_now = {0, 0};
+
+/* After a try that found nothing: waits until this moment, or arms the descriptor and tries once more. */
+static __attribute__((noinline)) uint32_t vahepito_internal_again(vahepito_queue *queue, uint32_t group, void *request, uint32_t nothing, const struct timespec *moment) {
+    vahepito_internal_bell *const bell = &queue->bells[group];
+    uint32_t code;
+    if (!moment || moment->tv_sec != 0 || moment->tv_nsec != 0)
+        return vahepito_internal_wait(group == 0 ? &queue->senders : &queue->receivers[group - 1], request, nothing, moment);
+    if (!__atomic_load_n(&queue->has_bells, __ATOMIC_SEQ_CST) || !vahepito_internal_arm(bell)) return nothing;
+    code = vahepito_internal_attempt(nothing, request);
+    if (code != nothing) vahepito_internal_ring_if_armed(bell);
+    return code;
+}
+
+/* The rest of a send whose first try was made in this seat with this code; with seat 0, none was made. */
+static __attribute__((noinline)) uint32_t vahepito_internal_rest_of_send(vahepito_internal_send_request it, const struct timespec *moment, uint64_t *place,
+                                                                         uint32_t seat, vahepito_internal_part *part, uint32_t code) {
+    if (seat != 0) {
+        code = vahepito_internal_after_send(&it, seat, part, code);
+        vahepito_internal_stand_up(it.queue, seat);
+    } else if (it.count - 1 >= it.queue->words) {
+        /* Whether there is room isn't looked at then. */
+        code = it.count - 1 < VAHEPITO_MOST_WORDS ? VAHEPITO_LONG : VAHEPITO_BAD_WORDS;
+    } else {
+        code = vahepito_internal_seated_send(&it);
+    }
+    code = vahepito_internal_further_send(&it, code);
+    if (code == VAHEPITO_FULL) code = vahepito_internal_again(it.queue, 0, &it, VAHEPITO_FULL, moment);
+    if (code == VAHEPITO_ACCEPTED) vahepito_internal_notify_items(it.queue, 1);
+    if (place) *place = it.place;
+    return code;
+}
+
+/* A send. Its first try is here, if the thread's own seat is free, and there is nothing special. */
+static inline __attribute__((always_inline)) uint32_t vahepito_internal_send(vahepito_queue *queue, const uint64_t *words, size_t count, bool is_one,
+                                                                             const struct timespec *moment, uint64_t *place) {
+    const size_t own = vahepito_internal_own;
+    vahepito_internal_seat *const seat = (vahepito_internal_seat *)(void *)((char *)queue->seats + own);
+    uint32_t code, served;
+    uint64_t number;
+    if (__builtin_expect(vahepito_internal_try_seat(seat), 1)) {
+        vahepito_internal_part *const part = vahepito_internal_load(&queue->last);
+        if (__builtin_expect(__atomic_load_n(&queue->special, __ATOMIC_SEQ_CST) == 0, 1)) {
+            vahepito_pass *const pass = vahepito_internal_own_pass(part, queue, 0, own);
+            code = is_one ? vahepito_try_send(pass, *words, &number, &served) : vahepito_try_send_words(pass, words, count, &number, &served);
+            if (__builtin_expect(code == VAHEPITO_ACCEPTED, 1)) {
+                number += part->base;
+                __atomic_store_n(&seat->is_taken, 0, __ATOMIC_RELEASE);
+                vahepito_internal_notify_served(queue);
+                vahepito_internal_notify_items(queue, 1);
+                if (place) *place = number;
+                return VAHEPITO_ACCEPTED;
+            }
+            return vahepito_internal_rest_of_send((vahepito_internal_send_request){queue, words, count, number, 0}, moment, place, vahepito_internal_number(queue, seat), part, code);
+        }
+        __atomic_store_n(&seat->is_taken, 0, __ATOMIC_RELEASE);
+    }
+    return vahepito_internal_rest_of_send((vahepito_internal_send_request){queue, words, count, 0, 0}, moment, place, 0, NULL, 0);
+}
+
+uint32_t vahepito_send(vahepito_queue *queue, uint64_t word, uint64_t *place) {
+    return vahepito_internal_send(queue, &word, 1, true, NULL, place);
+}
+
+uint32_t vahepito_send_until(vahepito_queue *queue, uint64_t word, const struct timespec *moment, uint64_t *place) {
+    return vahepito_internal_send(queue, &word, 1, true, moment, place);
+}
+
+uint32_t vahepito_send_now(vahepito_queue *queue, uint64_t word, uint64_t *place) {
+    return vahepito_internal_send(queue, &word, 1, true, &vahepito_internal_now, place);
+}
+
+uint32_t vahepito_send_words(vahepito_queue *queue, const uint64_t *words, size_t count, uint64_t *place) {
+    return vahepito_internal_send(queue, words, count, false, NULL, place);
+}
+
+uint32_t vahepito_send_words_until(vahepito_queue *queue, const uint64_t *words, size_t count, const struct timespec *moment, uint64_t *place) {
+    return vahepito_internal_send(queue, words, count, false, moment, place);
+}
+
+uint32_t vahepito_send_words_now(vahepito_queue *queue, const uint64_t *words, size_t count, uint64_t *place) {
+    return vahepito_internal_send(queue, words, count, false, &vahepito_internal_now, place);
+}
+
+uint32_t vahepito_send_many(vahepito_queue *queue, const uint64_t *words, size_t count, const struct timespec *moment, size_t *sent) {
+    uint32_t code = VAHEPITO_ACCEPTED, unsaid = 0;
+    size_t at = 0;
+    while (at < count) {
+        vahepito_internal_send_request request = {queue, &words[at], 1, 0, 0};
+        code = vahepito_internal_attempt_send(&request);
+        if (code == VAHEPITO_FULL) {
+            if (unsaid > 0) vahepito_internal_notify_items(queue, unsaid);
+            unsaid = 0;
+            code = vahepito_internal_again(queue, 0, &request, VAHEPITO_FULL, moment);
+        }
+        if (code != VAHEPITO_ACCEPTED) break;
+        at++;
+        if (++unsaid == INT_MAX) vahepito_internal_notify_items(queue, unsaid), unsaid = 0;
+    }
+    if (unsaid > 0) vahepito_internal_notify_items(queue, unsaid);
+    if (sent) *sent = at;
+    return code;
+}
+
+/* The rest of a take whose first try was made in this seat with this code; with seat 0, none was made. */
+static __attribute__((noinline)) uint32_t vahepito_internal_rest_of_take(vahepito_internal_take_request it, const struct timespec *moment, uint64_t *total,
+                                                                         uint32_t seat, vahepito_internal_part *part, uint32_t code) {
+    if (code != VAHEPITO_BAD_GROUPS) {
+        code = seat != 0 ? vahepito_internal_after_take(&it, seat, part, code) : vahepito_internal_seated_take(&it);
+        code = vahepito_internal_further_take(&it, code);
+        if (code == VAHEPITO_EMPTY) code = vahepito_internal_again(it.queue, it.group, &it, VAHEPITO_EMPTY, moment);
+        if (code == VAHEPITO_GOT) vahepito_internal_notify_room(it.queue, 1);
+    }
+    if (code != VAHEPITO_GOT) memset(it.item, 0, sizeof *it.item);
+    if (total) *total = it.total;
+    return code;
+}
+
+/* A take. Its first try is here, if the thread's own seat is free. */
+static inline __attribute__((always_inline)) uint32_t vahepito_internal_take(vahepito_queue *queue, uint32_t group, vahepito_item *item,
+                                                                             const struct timespec *moment, uint64_t *total) {
+    const size_t own = vahepito_internal_own;
+    vahepito_internal_seat *const seat = (vahepito_internal_seat *)(void *)((char *)queue->seats + own);
+    uint32_t code = VAHEPITO_BAD_GROUPS, served;
+    vahepito_item unused;
+    uint64_t number;
+    if (!item) item = &unused;
+    if (__builtin_expect(group - 1 < queue->groups, 1)) {
+        code = VAHEPITO_EMPTY;
+        if (__builtin_expect(vahepito_internal_try_seat(seat), 1)) {
+            vahepito_internal_part *const part = vahepito_internal_load(&queue->at[group - 1]);
+            vahepito_pass *const pass = vahepito_internal_own_pass(part, queue, group, own);
+            const bool is_one = queue->words == 1;
+            /* An item of one word begins as an item of words does, and has its body where that has the count. */
+            code = is_one ? vahepito_try_take(pass, (vahepito_word_item *)(void *)item, &number, &served) : vahepito_try_take_words(pass, item, &number, &served);
+            if (__builtin_expect(code == VAHEPITO_GOT, 1)) {
+                if (is_one) item->words[0] = item->count, item->count = 1, item->words[1] = item->words[2] = item->words[3] = 0;
+                item->place += part->base;
+                __atomic_store_n(&seat->is_taken, 0, __ATOMIC_RELEASE);
+                vahepito_internal_notify_served(queue);
+                vahepito_internal_notify_room(queue, 1);
+                if (total) *total = 0;
+                return VAHEPITO_GOT;
+            }
+            return vahepito_internal_rest_of_take((vahepito_internal_take_request){queue, group, item, number, 0}, moment, total, vahepito_internal_number(queue, seat), part, code);
+        }
+    }
+    return vahepito_internal_rest_of_take((vahepito_internal_take_request){queue, group, item, 0, 0}, moment, total, 0, NULL, code);
+}
+
+uint32_t vahepito_take(vahepito_queue *queue, uint32_t group, vahepito_item *item, uint64_t *total) {
+    return vahepito_internal_take(queue, group, item, NULL, total);
+}
+
+uint32_t vahepito_take_until(vahepito_queue *queue, uint32_t group, vahepito_item *item, const struct timespec *moment, uint64_t *total) {
+    return vahepito_internal_take(queue, group, item, moment, total);
+}
+
+uint32_t vahepito_take_now(vahepito_queue *queue, uint32_t group, vahepito_item *item, uint64_t *total) {
+    return vahepito_internal_take(queue, group, item, &vahepito_internal_now, total);
+}
+
+uint32_t vahepito_take_many(vahepito_queue *queue, uint32_t group, vahepito_item *items, size_t most, const struct timespec *moment, size_t *count, uint64_t *total) {
+    vahepito_internal_take_request request = {queue, group, items, 0, 0};
+    uint32_t code = group - 1 < queue->groups ? VAHEPITO_EMPTY : VAHEPITO_BAD_GROUPS;
+    size_t got = 0;
+    for (; code != VAHEPITO_BAD_GROUPS && got < most; got++) {
+        request.item = &items[got];
+        code = vahepito_internal_attempt_take(&request);
+        if (code == VAHEPITO_EMPTY && got == 0) code = vahepito_internal_again(queue, group, &request, VAHEPITO_EMPTY, moment);
+        if (code != VAHEPITO_GOT) break;
+    }
+    if (got > 0) vahepito_internal_notify_room(queue, got < INT_MAX ? (uint32_t)got : INT_MAX), code = VAHEPITO_GOT;
+    if (count) *count = got;
+    if (total) *total = code == VAHEPITO_ENDED ? request.total : 0;
+    return code;
+}
+
+/* ---- the queue as a whole */
+
+uint32_t vahepito_close(vahepito_queue *queue, uint64_t *total) {
+    uint64_t number = 0;
+    vahepito_internal_lock(queue);
+    const uint32_t code = vahepito_internal_close_last(queue, &number);
+    __atomic_store_n(&queue->is_closed, true, __ATOMIC_SEQ_CST);
+    vahepito_internal_unlock(queue);
+    vahepito_internal_notify_all(queue);
+    if (total) *total = number;
+    return code;
+}
+
+bool vahepito_is_closed(vahepito_queue *queue) {
+    vahepito_internal_lock(queue);
+    const bool is_closed = vahepito_internal_is_closed(queue);
+    vahepito_internal_unlock(queue);
+    return is_closed;
+}
+
+uint64_t vahepito_length(vahepito_queue *queue) {
+    vahepito_internal_lock(queue);
+    const uint64_t length = vahepito_internal_length(queue);
+    vahepito_internal_unlock(queue);
+    return length;
+}
+
+uint32_t vahepito_capacity(const vahepito_queue *queue) { return queue->has_bound ? queue->config.capacity : 0; }
+
+int vahepito_descriptor(vahepito_queue *queue, uint32_t group) {
+    if (group > queue->groups) return errno = EINVAL, -1;
+    vahepito_internal_lock(queue);
+    vahepito_internal_bell *const bell = &queue->bells[group];
+    /* It begins readable: so its first reader tries, finds nothing, and arms it. */
+    int place = bell->place;
+    if (place < 0 && (place = eventfd(1, EFD_NONBLOCK | EFD_CLOEXEC)) >= 0) {
+        __atomic_store_n(&bell->place, place, __ATOMIC_SEQ_CST);
+        __atomic_store_n(&queue->has_bells, true, __ATOMIC_SEQ_CST);
+    }
+    vahepito_internal_unlock(queue);
+    return place;
+}
+
+static uint32_t vahepito_internal_or(uint32_t number, uint32_t other) { return number ? number : other; }
+
+static void vahepito_internal_begin(vahepito_queue *queue, const vahepito_attributes *attributes) {
+    memset(queue, 0, sizeof *queue);
+    queue->has_bound = attributes->capacity != 0;
+    queue->config.capacity = vahepito_internal_or(attributes->capacity, LEAST_CAPACITY);
+    queue->places = queue->config.senders = queue->config.receivers = vahepito_internal_or(attributes->places, SEATS);
+    queue->config.bound = vahepito_internal_or(attributes->bound, 64);
+    queue->config.life = attributes->life ? attributes->life : (uint64_t)1 << 48;
+    queue->config.per_sender = vahepito_internal_or(attributes->per_sender, UINT32_MAX);
+    queue->stride = queue->places * sizeof(vahepito_internal_handle);
+    queue->groups = vahepito_internal_or(attributes->groups, 1);
+    queue->words = vahepito_internal_or(attributes->words, 1);
+    for (uint32_t bell = 0; bell <= MOST_GROUPS; bell++) queue->bells[bell].place = -1;
+    for (uint32_t seat = 0; seat <= SEATS; seat++) queue->seats[seat].is_taken = seat == 0 || seat > queue->places;
+}
+
+uint32_t vahepito_create_as(const vahepito_attributes *attributes, vahepito_queue **opened) {
+    void *memory = NULL;
+    uint32_t code;
+    *opened = NULL;
+    if (attributes->version / 1000 != VAHEPITO_VERSION / 1000 || attributes->version > VAHEPITO_VERSION) return VAHEPITO_BAD_VERSION;
+    if (vahepito_check_version() != VAHEPITO_DONE) return VAHEPITO_BAD_VERSION;
+    if (attributes->places > SEATS) return VAHEPITO_BAD_SENDERS;
+    if (attributes->groups > MOST_GROUPS) return VAHEPITO_BAD_GROUPS;
+    if (posix_memalign(&memory, 64, sizeof(vahepito_queue)) != 0) return VAHEPITO_NO_MEMORY;
+    vahepito_queue *const queue = memory;
+    vahepito_internal_begin(queue, attributes);
+    queue->first = queue->last = vahepito_internal_append(queue, &code);
+    if (!queue->first) return free(queue), code;
+    if (pthread_mutex_init(&queue->lock, NULL) != 0) return vahepito_internal_free_part(queue, queue->first), free(queue), VAHEPITO_NO_MEMORY;
+    for (uint32_t group = 0; group < queue->groups; group++) queue->at[group] = queue->first;
+    *opened = queue;
+    return VAHEPITO_DONE;
+}
+
+/* What each group has left goes to `left`. */
+static void vahepito_internal_drain(vahepito_queue *queue, vahepito_leftover *left, void *with) {
+    vahepito_item item;
+    for (uint32_t group = 1; group <= queue->groups; group++) {
+        vahepito_internal_take_request request = {queue, group, &item, 0, 0};
+        while (vahepito_internal_attempt_take(&request) == VAHEPITO_GOT) left(with, group, &item);
+    }
+}
+
+void vahepito_destroy(vahepito_queue *queue, vahepito_leftover *left, void *with) {
+    if (!queue) return;
+    if (left) vahepito_internal_drain(queue, left, with);
+    for (vahepito_internal_part *part = queue->first, *next; part; part = next) next = part->next, vahepito_internal_free_part(queue, part);
+    for (vahepito_internal_part *part = queue->retired, *next; part; part = next) next = part->next, vahepito_internal_free_part(queue, part);
+    for (uint32_t bell = 0; bell <= MOST_GROUPS; bell++)
+        if (queue->bells[bell].place >= 0) (void)syscall(SYS_close, queue->bells[bell].place);
+    (void)pthread_mutex_destroy(&queue->lock);
+    free(queue);
+}
+
+const char *vahepito_name(uint32_t code) {
+    switch (code) {
+    case VAHEPITO_DONE: return "DONE";
+    case VAHEPITO_BAD_SENDERS: return "BAD_SENDERS";
+    case VAHEPITO_BAD_RECEIVERS: return "BAD_RECEIVERS";
+    case VAHEPITO_BAD_CAPACITY: return "BAD_CAPACITY";
+    case VAHEPITO_BAD_BOUND: return "BAD_BOUND";
+    case VAHEPITO_BAD_LIFE: return "BAD_LIFE";
+    case VAHEPITO_BAD_PER_SENDER: return "BAD_PER_SENDER";
+    case VAHEPITO_NO_MEMORY: return "NO_MEMORY";
+    case VAHEPITO_NO_PASS: return "NO_PASS";
+    case VAHEPITO_WRONG_SIDE: return "WRONG_SIDE";
+    case VAHEPITO_BUSY: return "BUSY";
+    case VAHEPITO_NOT_BEGUN: return "NOT_BEGUN";
+    case VAHEPITO_WORN: return "WORN";
+    case VAHEPITO_WAITING: return "WAITING";
+    case VAHEPITO_ACCEPTED: return "ACCEPTED";
+    case VAHEPITO_FULL: return "FULL";
+    case VAHEPITO_CLOSED: return "CLOSED";
+    case VAHEPITO_SPENT: return "SPENT";
+    case VAHEPITO_SHUT: return "SHUT";
+    case VAHEPITO_ALREADY: return "ALREADY";
+    case VAHEPITO_GOT: return "GOT";
+    case VAHEPITO_EMPTY: return "EMPTY";
+    case VAHEPITO_ENDED: return "ENDED";
+    case VAHEPITO_BAD_GROUPS: return "BAD_GROUPS";
+    case VAHEPITO_BAD_VERSION: return "BAD_VERSION";
+    case VAHEPITO_BAD_WORDS: return "BAD_WORDS";
+    case VAHEPITO_LONG: return "LONG";
+    default: return "no code";
+    }
+}
+
+const char *vahepito_text(uint32_t code) {
+    switch (code) {
+    case VAHEPITO_DONE: return "it was done";
+    case VAHEPITO_BAD_SENDERS: return "the number of places for sends is not from 1 to 64";
+    case VAHEPITO_BAD_RECEIVERS: return "the number of places for takes is not from 1 to 64";
+    case VAHEPITO_BAD_CAPACITY: return "the capacity is not from 1 to 4096";
+    case VAHEPITO_BAD_BOUND: return "the bound is not from 1 to 1024";
+    case VAHEPITO_BAD_LIFE: return "the life is not from 1 to 2^48";
+    case VAHEPITO_BAD_PER_SENDER: return "a place for sends may begin none";
+    case VAHEPITO_NO_MEMORY: return "memory was refused";
+    case VAHEPITO_NO_PASS: return "the vahepito_call has no ticket";
+    case VAHEPITO_WRONG_SIDE: return "the ticket is that of a call of the other side";
+    case VAHEPITO_BUSY: return "no place was free, or the vahepito_call has a ticket";
+    case VAHEPITO_NOT_BEGUN: return "the ticket is that of another call of its side";
+    case VAHEPITO_WORN: return "each place for sends that was free has begun as many as it may";
+    case VAHEPITO_WAITING: return "the answer is not there yet";
+    case VAHEPITO_ACCEPTED: return "the item was accepted";
+    case VAHEPITO_FULL: return "there was no room";
+    case VAHEPITO_CLOSED: return "the queue is closed";
+    case VAHEPITO_SPENT: return "the queue has accepted as many items as it may";
+    case VAHEPITO_SHUT: return "this call closed the queue";
+    case VAHEPITO_ALREADY: return "the queue was closed before";
+    case VAHEPITO_GOT: return "an item was taken";
+    case VAHEPITO_EMPTY: return "there was no item";
+    case VAHEPITO_ENDED: return "the queue is closed, and the group has taken all its items";
+    case VAHEPITO_BAD_GROUPS: return "there is no such group, or there are not 1 to 8";
+    case VAHEPITO_BAD_VERSION: return "the library does not serve this header";
+    case VAHEPITO_BAD_WORDS: return "the number of words is not from 1 to 4";
+    case VAHEPITO_LONG: return "an item of this queue has fewer words";
+    default: return "there is no such code";
+    }
+}
+
+struct timespec vahepito_after(uint64_t nanoseconds) {
+    struct timespec moment;
+    (void)clock_gettime(CLOCK_MONOTONIC, &moment);
+    nanoseconds += (uint64_t)moment.tv_nsec;
+    moment.tv_sec += (time_t)(nanoseconds / 1000000000u);
+    moment.tv_nsec = (long)(nanoseconds % 1000000000u);
+    return moment;
+}
