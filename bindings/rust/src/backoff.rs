@@ -42,13 +42,3 @@ pub fn let_ahead() {
         spin_loop();
     }
 }
-
-/// Does turns until one of them is answered.
-#[inline(never)]
-pub fn turn_until<T>(mut turn: impl FnMut() -> Option<T>) -> T {
-    loop {
-        if let Some(answer) = FOR_OTHERS.try_until(&mut turn) {
-            return answer;
-        }
-    }
-}

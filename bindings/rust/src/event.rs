@@ -23,8 +23,9 @@
 //! links a call that waits. The item, the room or the close that the call made is never pending then: a mark comes behind a send's item
 //! and behind a close, a take makes room by an addition, and these are locked instructions. On aarch64 the last store of a call may
 //! be pending when the call returns, but a load of `waiting` behind it is later in that order (`stlr`, `ldar`).
-//! The other accesses, of the counts of items and of a seat's flag, need no more than acquire and release: a look at counts
-//! that finds nothing takes each seat once, so that it comes before or after each holder of the seat.
+//! A seat is taken by a sequentially consistent exchange, and a look at counts that finds nothing loads each seat's flag so, until
+//! the seat was free once. So the look comes after a holder of the seat, and sees what that has counted; or before, and then the
+//! holder's *check* comes after the look's *stand*. The other accesses to seats and counts need no more than acquire and release.
 //!
 //! **The claim.** When nobody makes a step any more, there isn't at once a waiter in line and something
 //! for its try to take.
@@ -98,13 +99,14 @@
 //! An item's drop on an error that a call returned, or on what it took, is the caller's.
 //!
 //! `tests/wakeups.rs` searches all interleavings of these steps in small models, and finds the lost wake-up
-//! if one of them is left out.
+//! if one of them is left out; `tests/looks.rs` does the same for a look at the counts of seats.
 use crate::backoff::{FOR_OTHERS, Rounds};
 use std::any::Any;
 use std::cell::RefCell;
 use std::collections::BTreeMap;
 use std::iter;
 use std::mem::{forget, replace, swap, take};
+use std::ops::Deref;
 use std::panic::{AssertUnwindSafe, catch_unwind, resume_unwind};
 use std::sync::atomic::{AtomicBool, AtomicUsize, Ordering};
 use std::sync::{Arc, Mutex, MutexGuard, PoisonError};
@@ -185,7 +187,23 @@ impl Line {
 /// There are some if futures were forgotten.
 impl Drop for Line {
     fn drop(&mut self) {
-        drop_each(take(&mut self.wakers).into_values());
+        if !self.wakers.is_empty() {
+            drop_each(take(&mut self.wakers).into_values());
+        }
+    }
+}
+
+/// It has a cache line for itself: waiters write a line of waiters, and each call of its side reads what is near.
+#[derive(Default)]
+#[repr(align(64))]
+pub struct Apart<T>(T);
+
+impl<T> Deref for Apart<T> {
+    type Target = T;
+
+    #[inline]
+    fn deref(&self) -> &T {
+        &self.0
     }
 }
 
@@ -197,10 +215,8 @@ pub struct Ticket {
     notifications: u64,
 }
 
-/// A line in which callers wait. It has a cache line for itself, since waiters write it, and each call of its side
-/// reads what is near.
+/// A line in which callers wait.
 #[derive(Default)]
-#[repr(align(64))]
 pub struct Event {
     /// Twice the length of the line, and 1; or 0 if no waiter was ever in it.
     waiting: AtomicUsize,

@@ -42,9 +42,9 @@ fn a_channel_is_cheap_in_memory() {
     let small = bytes("channel::<u64>(1)", || channel::<u64>(1));
     assert!(small < sixteen, "{small}");
     let rendezvous = bytes("channel::<u64>(0)", || channel::<u64>(0));
-    assert!(rendezvous < 3 * KB / 2, "{rendezvous}");
+    assert!(rendezvous < 7 * KB / 4, "{rendezvous}");
     let timer = bytes("never::<u64>()", never::<u64>);
-    assert!(timer < 3 * KB / 2, "{timer}");
+    assert!(timer < KB / 4, "{timer}");
     let of_words = bytes("channel::<[u64; 4]>(1)", || channel::<[u64; 4]>(1));
     assert!(of_words < sixteen, "{of_words}");
     let large = bytes("channel::<[u8; 65536]>(1)", || channel::<[u8; 65536]>(1));

@@ -5,12 +5,13 @@ mod rounds;
 
 use polling::{Woken, poll};
 use rounds::rounds;
+use std::panic::{AssertUnwindSafe, catch_unwind};
 use std::pin::pin;
 use std::sync::Arc;
 use std::task::{Context, Poll, Wake};
 use std::thread;
 use std::time::{Duration, Instant};
-use vahepito::{RecvError, SendError, channel};
+use vahepito::{RecvError, RecvFuture, SendError, SendFuture, channel};
 
 struct Unpark(thread::Thread);
 
@@ -212,9 +213,15 @@ fn a_task_leaves_a_long_line_at_once() {
     assert!(again + left < Duration::from_secs(5));
 }
 
-/// A future that is done takes and sends nothing any more, at any capacity, and each further poll is pending.
+/// Whether a poll of this future, which is done, panics.
+fn panics_if_polled<F: Future + Unpin>(future: &mut F) -> bool {
+    let poll = AssertUnwindSafe(|| drop(poll(future, &Arc::default())));
+    catch_unwind(poll).is_err()
+}
+
+/// A future that is done takes and sends nothing any more, at any capacity, and each further poll panics.
 #[test]
-fn a_future_that_is_done_stays_so() {
+fn a_future_that_is_done_panics_if_it_is_polled() {
     let woken = Arc::new(Woken::default());
     for capacity in [0, 1, 4] {
         let (sender, receiver) = channel(capacity).unwrap();
@@ -236,8 +243,7 @@ fn a_future_that_is_done_stays_so() {
         let is_sent = poll(&mut second, &woken).is_ready();
         assert_eq!(is_sent, capacity != 0);
         for _ in 0..3 {
-            assert_eq!(poll(&mut takes, &woken), Poll::Pending);
-            assert_eq!(poll(&mut sends, &woken), Poll::Pending);
+            assert!(panics_if_polled(&mut takes) && panics_if_polled(&mut sends));
         }
         assert_eq!(receiver.try_recv(), Ok(2));
         assert!(receiver.try_recv().unwrap_err().is_empty());
@@ -249,7 +255,13 @@ fn a_future_that_is_done_stays_so() {
         assert_eq!(poll(&mut sends, &woken), Poll::Ready(Err(SendError(3))));
         assert_eq!(poll(&mut takes, &woken), Poll::Ready(Err(RecvError)));
         assert!(takes.is_terminated() && sends.is_terminated());
-        assert_eq!(poll(&mut sends, &woken), Poll::Pending);
-        assert_eq!(poll(&mut takes, &woken), Poll::Pending);
+        assert!(panics_if_polled(&mut takes) && panics_if_polled(&mut sends));
     }
+}
+
+/// A future of a take has the handle, or a reference, and its place in line; one of a send has the item, too.
+#[test]
+fn futures_are_small() {
+    assert!(size_of::<RecvFuture<'static, [u64; 9]>>() <= 48);
+    assert!(size_of::<SendFuture<'static, [u64; 9]>>() <= 96);
 }

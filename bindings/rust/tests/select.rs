@@ -489,7 +489,7 @@ fn futures_meet() {
     assert_eq!(poll(&mut take, &takes), Poll::Pending);
     sender.send(4).unwrap();
     assert_eq!(poll(&mut take, &takes), Poll::Ready(Ok(4)));
-    assert_eq!(poll(&mut take, &takes), Poll::Pending, "it is done");
+    assert!(take.is_terminated());
     let mut send = sender.send_async(5);
     assert_eq!(poll(&mut send, &sends), Poll::Pending);
     let before = times(&sends);

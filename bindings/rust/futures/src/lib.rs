@@ -1,4 +1,4 @@
-//! A [`Stream`] of what a receiver of a [`vahepito`] channel takes, and a [`Sink`] that sends.
+//! A [`Stream`] of what a receiver of a [`vahepito`] channel takes, a [`Sink`] that sends, and its futures as [`FusedFuture`]s.
 //!
 //! ```
 //! use vahepito_futures::{RecvStream, SendSink};
@@ -11,6 +11,7 @@
 //! ```
 #![deny(missing_docs, unsafe_code)]
 
+use futures_core::future::FusedFuture;
 use futures_core::stream::{FusedStream, Stream};
 use futures_sink::Sink;
 use std::pin::Pin;
@@ -91,9 +92,9 @@ impl<T: 'static> Sink<T> for SendSink<T> {
 
     /// # Errors
     ///
-    /// The sink is closed: the item is handed back.
+    /// The sink is closed, or the item before isn't sent yet, since `poll_ready` wasn't called: the item is handed back.
     fn start_send(mut self: Pin<&mut Self>, item: T) -> Result<(), SendError<T>> {
-        let Some(sender) = &self.sender else {
+        let (Some(sender), None) = (&self.sender, &self.sends) else {
             return Err(SendError(item));
         };
         self.sends = Some(sender.clone().into_send_async(item));
@@ -119,5 +120,40 @@ impl<T: 'static> Sink<T> for SendSink<T> {
         let sent = ready!(self.as_mut().poll_flush(context));
         self.sender = None;
         Poll::Ready(sent)
+    }
+}
+
+/// A future of the crate as a [`FusedFuture`], for `futures::select!` without a `fuse()`.
+///
+/// ```
+/// use futures_core::future::FusedFuture;
+/// use vahepito_futures::Fused;
+///
+/// let (_sender, receiver) = vahepito::channel::<u32>(16)?;
+/// let takes = Fused(receiver.recv_async());
+/// assert!(!takes.is_terminated());
+/// # Ok::<(), vahepito::OpenError>(())
+/// ```
+#[derive(Debug)]
+#[must_use = "a future does nothing unless it is polled"]
+pub struct Fused<F>(pub F);
+
+impl<F: Future + Unpin> Future for Fused<F> {
+    type Output = F::Output;
+
+    fn poll(mut self: Pin<&mut Self>, context: &mut Context<'_>) -> Poll<F::Output> {
+        Pin::new(&mut self.0).poll(context)
+    }
+}
+
+impl<T> FusedFuture for Fused<RecvFuture<'_, T>> {
+    fn is_terminated(&self) -> bool {
+        self.0.is_terminated()
+    }
+}
+
+impl<T> FusedFuture for Fused<SendFuture<'_, T>> {
+    fn is_terminated(&self) -> bool {
+        self.0.is_terminated()
     }
 }

@@ -1,4 +1,5 @@
 //! Streams and sinks, polled by hand and by a thread.
+use futures_core::future::FusedFuture;
 use futures_core::stream::{FusedStream, Stream};
 use futures_sink::Sink;
 use std::future::poll_fn;
@@ -7,7 +8,7 @@ use std::sync::Arc;
 use std::task::{Context, Poll, Wake, Waker};
 use std::thread;
 use vahepito::{SendError, channel};
-use vahepito_futures::{RecvStream, SendSink};
+use vahepito_futures::{Fused, RecvStream, SendSink};
 
 struct Unpark(thread::Thread);
 
@@ -66,6 +67,22 @@ fn a_sink_tells_that_the_channel_is_closed() {
     let mut sink = SendSink::from(sender);
     drop(receiver);
     Pin::new(&mut sink).start_send('a').unwrap();
+    let early = Pin::new(&mut sink).start_send('b');
+    assert_eq!(
+        early,
+        Err(SendError('b')),
+        "the first one is still being sent"
+    );
     let told = block_on(poll_fn(|context| Pin::new(&mut sink).poll_flush(context)));
     assert_eq!(told, Err(SendError('a')));
+}
+
+#[test]
+fn a_fused_future_says_whether_it_is_done() {
+    let (sender, receiver) = channel(1).unwrap();
+    let (mut sends, mut takes) = (Fused(sender.send_async('a')), Fused(receiver.recv_async()));
+    assert!(!sends.is_terminated() && !takes.is_terminated());
+    assert_eq!(block_on(&mut sends), Ok(()));
+    assert_eq!(block_on(&mut takes), Ok('a'));
+    assert!(sends.is_terminated() && takes.is_terminated());
 }

@@ -10,14 +10,15 @@
 //! **Order of locks**: the list of groups, all seats, the row, a line. A holder of a seat makes one call of the queue, and
 //! takes no other lock; that of a row takes the row's lock. User code (an item's drop or copy, a waker) runs while none is held.
 use super::body::{Copies, Parcel, Unsent, words_of};
-use super::flavor::Flavor;
 use super::pool::{Pass, Pool, SeatGuard};
+use super::rendezvous::Rendezvous;
 use super::row::{Row, Shape};
-use super::side::Shared;
-use crate::event::{Event, Panics, Try, WHEN_NOTIFIED, drop_each, ignore_panics, lock, soon};
+use super::side::{Shared, Source};
+use crate::event::{
+    Apart, Event, Panics, Try, WHEN_NOTIFIED, drop_each, ignore_panics, lock, soon,
+};
 use crate::queue::handle::{self, Handle, code, hands_over, has_taken, unexpected};
 use crate::queue::{Config, OpenError};
-use std::collections::BTreeMap;
 use std::iter;
 use std::mem::take;
 use std::sync::atomic::{AtomicBool, AtomicUsize, Ordering};
@@ -26,8 +27,10 @@ use std::sync::{Mutex, OnceLock, Weak};
 /// A side of the channel: its senders, or a group of receivers.
 pub struct Side {
     /// The line in which its calls wait: for room, or for items.
-    pub line: Event,
+    pub line: Apart<Event>,
     pub seats: Pool,
+    /// Whether the last try of a take found no item: then the next one looks first, since a look costs less than a take in vain.
+    found_none: AtomicBool,
     /// Whether it has lost its last handle. The list of groups is locked until the channel is closed, or goes on without it.
     lost: AtomicBool,
 }
@@ -36,8 +39,9 @@ impl Side {
     /// With these passes of a queue of this number of groups.
     fn new(handles: Vec<Handle>, shares: usize) -> Side {
         Side {
-            line: Event::default(),
+            line: Apart::default(),
             seats: Pool::new(handles, shares),
+            found_none: AtomicBool::new(false),
             lost: AtomicBool::new(false),
         }
     }
@@ -48,33 +52,49 @@ impl Side {
     }
 }
 
+/// That the last send found no room: then the next one looks first, since a look costs less than a send in vain.
+pub const WAS_FULL: usize = 1;
+/// That a place is reserved.
+pub const RESERVED: usize = 2;
+
 pub struct Core<T> {
     /// The configuration of its queue; of a row, that of the first one.
     pub config: Config,
     pub copies: Option<Copies<T>>,
-    /// The locks or the clock that it has in place of queues.
-    pub flavor: Option<Flavor<T>>,
+    /// The locks that it has in place of queues, if it has capacity 0.
+    pub rendezvous: Option<Rendezvous<T>>,
     /// Its queues, if they are a row.
     pub row: Option<Row>,
     pub senders: Side,
     pub groups: Box<[Side]>,
-    /// The part that the handles of each side share, once it has a first one.
-    pub handles: Box<[OnceLock<Weak<Shared<T>>>]>,
+    /// The part that the senders share, once there is a first one.
+    pub sender: OnceLock<Weak<Shared<T>>>,
+    /// The part that the receivers of each group share, once it has a first one.
+    pub receivers: Box<[OnceLock<Weak<Source<T>>>]>,
     closed: AtomicBool,
     /// The groups that the queue has, in its order. A further queue takes its place under this lock. Of a row all groups.
     pub in_queue: Mutex<Vec<usize>>,
-    /// How much room is reserved for selected sends. It grows under the lock of the groups. Of a row with a limit it is
-    /// 1 for good, so that each send asks for room: see [`limit`](super::limit).
-    pub reserved: AtomicUsize,
-    /// The items of selected takes, by numbers, until they are handed over. By it this is `Send` and `Sync` if items are
-    /// `Send`.
-    pub kept: Mutex<BTreeMap<u64, T>>,
+    /// Hints that a send reads first: [`WAS_FULL`]; and [`RESERVED`], once for each place that is reserved for a selected send.
+    /// That grows under the lock of the groups. Of a row with a limit it is there for good, so that each send asks for
+    /// room: see [`limit`](super::limit).
+    pub hints: AtomicUsize,
+    /// The items of selected takes, until they are handed over. By it this is `Send` and `Sync` if items are `Send`.
+    kept: Mutex<Kept<T>>,
 }
 
-/// Items are kept if selected operations were forgotten.
+/// Items by numbers. There are some at the end if selected operations were forgotten.
+struct Kept<T> {
+    /// The number of the last one.
+    last: u64,
+    items: Vec<(u64, T)>,
+}
+
 impl<T> Drop for Core<T> {
     fn drop(&mut self) {
-        drop_each(take(&mut *lock(&self.kept)).into_values());
+        let kept = take(&mut lock(&self.kept).items);
+        if !kept.is_empty() {
+            drop_each(kept.into_iter().map(|it| it.1));
+        }
     }
 }
 
@@ -95,19 +115,21 @@ impl<T> Core<T> {
         let (row, sides) = Row::open(shape, limit, groups, words_of(copies))?;
         let mut core = Core::new(shape.first, copies, None, sides);
         core.row = Some(row);
-        *core.reserved.get_mut() = limit.is_some().into();
+        if limit.is_some() {
+            *core.hints.get_mut() = RESERVED;
+        }
         Ok(core)
     }
 
-    /// A channel without a queue.
-    pub fn flavor(config: Config, flavor: Flavor<T>) -> Core<T> {
-        Core::new(config, None, Some(flavor), vec![vec![], vec![]])
+    /// A channel of capacity 0.
+    pub fn of_rendezvous(config: Config) -> Core<T> {
+        Core::new(config, None, Some(Rendezvous::new()), vec![vec![], vec![]])
     }
 
     fn new(
         config: Config,
         copies: Option<Copies<T>>,
-        flavor: Option<Flavor<T>>,
+        rendezvous: Option<Rendezvous<T>>,
         sides: Vec<Vec<Handle>>,
     ) -> Core<T> {
         let shares = sides.len() - 1;
@@ -117,15 +139,19 @@ impl<T> Core<T> {
         Core {
             config,
             copies,
-            flavor,
+            rendezvous,
             row: None,
             senders,
-            handles: (0..=groups.len()).map(|_| OnceLock::new()).collect(),
+            sender: OnceLock::new(),
+            receivers: groups.iter().map(|_| OnceLock::new()).collect(),
             closed: AtomicBool::new(false),
             in_queue: Mutex::new((1..=groups.len()).collect()),
             groups,
-            reserved: AtomicUsize::new(0),
-            kept: Mutex::default(),
+            hints: AtomicUsize::new(0),
+            kept: Mutex::new(Kept {
+                last: 0,
+                items: vec![],
+            }),
         }
     }
 
@@ -160,9 +186,6 @@ impl<T> Core<T> {
 
     /// How many items this group hasn't taken; for the senders, some group that has receivers.
     pub fn len(&self, side: usize) -> usize {
-        if let Some(Flavor::Timer(timer)) = &self.flavor {
-            return timer.len();
-        }
         let sent = self.senders.seats.count();
         let taken = match side {
             0 => self.alive().map(|group| group.seats.count()).min(),
@@ -177,10 +200,17 @@ impl<T> Core<T> {
     /// for a further queue, nobody notifies when there is.
     #[inline]
     pub fn try_send(&self, item: &mut Unsent<T>) -> Try<bool> {
-        let mut seat = self.senders.seats.take();
-        if self.reserved.load(Ordering::Relaxed) != 0 {
-            return self.send_beside_reserved(item, seat);
+        let seat = self.senders.seats.take();
+        let hints = self.hints.load(Ordering::SeqCst);
+        if hints != 0 {
+            return self.send_with_hints(item, seat, hints);
         }
+        self.send_or_again(item, seat)
+    }
+
+    /// Sends by this seat. If the queue refuses, it tries once more.
+    #[inline]
+    pub fn send_or_again(&self, item: &mut Unsent<T>, mut seat: SeatGuard) -> Try<bool> {
         match self.send_by(&mut seat, item) {
             code::ACCEPTED => drop(seat),
             code => return self.send_again(item, code, seat),
@@ -226,7 +256,10 @@ impl<T> Core<T> {
         let is_stale = shares != self.alive().count();
         match code {
             code::CLOSED => self.set_closed(),
-            code::FULL if !is_stale => return Err(WHEN_NOTIFIED),
+            code::FULL if !is_stale => {
+                self.hints.fetch_or(WAS_FULL, Ordering::Relaxed);
+                return Err(WHEN_NOTIFIED);
+            }
             code::FULL | code::SPENT | code::WORN => {}
             code => unexpected(code),
         }
@@ -248,7 +281,7 @@ impl<T> Core<T> {
     /// Takes an item of the queue for a group; of a row, of the seat's queue. Gives the code if there is none, or no queue.
     #[inline]
     pub fn take(&self, group: usize) -> Result<Parcel<T>, u32> {
-        if self.flavor.is_some() {
+        if self.rendezvous.is_some() {
             return Err(code::EMPTY);
         }
         let mut seat = self.groups[group - 1].seats.take();
@@ -270,8 +303,14 @@ impl<T> Core<T> {
     /// Tries to take an item for a group. Gives None at the end of the channel.
     #[inline]
     pub fn try_recv(&self, group: usize) -> Try<Option<Parcel<T>>> {
-        if let Some(flavor) = &self.flavor {
-            return flavor.try_recv(&self.closed);
+        if let Some(rendezvous) = &self.rendezvous {
+            let item = rendezvous.try_take()?;
+            return Ok(item.map(|item| Parcel::pack(item, None)));
+        }
+        let found_none = &self.groups[group - 1].found_none;
+        if found_none.load(Ordering::Relaxed) {
+            self.seems_to_have_item(group)?;
+            found_none.store(false, Ordering::Relaxed);
         }
         match self.take(group) {
             Ok(parcel) => Ok(Some(parcel)),
@@ -285,7 +324,10 @@ impl<T> Core<T> {
     #[inline(never)]
     fn recv_after(&self, group: usize, code: u32) -> Try<Option<Parcel<T>>> {
         match (code, &self.row) {
-            (code::EMPTY, _) => return Err(WHEN_NOTIFIED),
+            (code::EMPTY, _) => {
+                self.side(group).found_none.store(true, Ordering::Relaxed);
+                return Err(WHEN_NOTIFIED);
+            }
             (code::ENDED, Some(row)) => return self.take_in_row(row, group),
             (code::ENDED, None) => self.set_closed(),
             (code, _) => unexpected(code),
@@ -296,9 +338,17 @@ impl<T> Core<T> {
     /// Keeps the item of a selected take, under the number that this returns.
     pub fn keep(&self, item: T) -> u64 {
         let mut kept = lock(&self.kept);
-        let number = kept.last_key_value().map_or(0, |(last, _)| last + 1);
-        kept.insert(number, item);
+        kept.last += 1;
+        let number = kept.last;
+        kept.items.push((number, item));
         number
+    }
+
+    /// The item that is kept under this number.
+    pub fn take_kept(&self, number: u64) -> Option<T> {
+        let mut kept = lock(&self.kept);
+        let at = kept.items.iter().rposition(|it| it.0 == number)?;
+        Some(kept.items.swap_remove(at).1)
     }
 
     #[allow(unsafe_code)]
@@ -321,8 +371,8 @@ impl<T> Core<T> {
     }
 
     fn close_queue(&self) -> bool {
-        if let Some(flavor) = &self.flavor {
-            return flavor.close(&self.closed);
+        if let Some(rendezvous) = &self.rendezvous {
+            return !rendezvous.close(&self.closed);
         }
         if let Some(row) = &self.row {
             return self.close_row(row);
@@ -339,7 +389,7 @@ impl<T> Core<T> {
     fn notify_all(&self, panics: &mut Panics) {
         let sides = iter::once(&self.senders).chain(&self.groups);
         sides.for_each(|it| it.line.notify_all(panics));
-        if let Some(rendezvous) = self.rendezvous() {
+        if let Some(rendezvous) = &self.rendezvous {
             rendezvous.wake_all(panics);
         }
     }

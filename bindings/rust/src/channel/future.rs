@@ -2,12 +2,13 @@
 //! is served, but none is left begun between two polls: it would stop its side. A poll waits for nothing else: with
 //! capacity 0 it is posted, as [`rendezvous`](super::rendezvous) says.
 //!
-//! **Fused**: a poll after the call is done is pending, for ever, and does nothing.
+//! **A poll after the call is done** panics, as that of an async block does.
 //!
 //! **Panics of wakers** that are dropped end in the poll that is done, whose result would be lost; another poll
 //! raises the first of them again at its end, and so does the drop of a future.
 use super::body::{Parcel, Unsent};
 use super::rendezvous::TakerState;
+use super::side::Source;
 use super::{Receiver, RecvError, SendError, Sender};
 use crate::event::{Event, Panics, Ticket, Try};
 use std::borrow::Cow;
@@ -54,31 +55,52 @@ impl Place {
     }
 }
 
-/// One poll of a future by this call, which keeps the panics of wakers.
-fn poll_once<R>(is_done: &mut bool, call: impl FnOnce(&mut Panics) -> Poll<R>) -> Poll<R> {
-    if *is_done {
-        return Poll::Pending;
+/// How far the call of a future is.
+enum State<M> {
+    /// It waits in line, or hasn't begun.
+    InLine(Place),
+    /// The channel has capacity 0: how far it is there.
+    Meets(M),
+    Done,
+}
+
+impl<M: Default> State<M> {
+    fn new(meets: bool) -> State<M> {
+        if meets {
+            State::Meets(M::default())
+        } else {
+            State::InLine(Place::default())
+        }
     }
-    let mut panics = Panics::default();
-    let polled = call(&mut panics);
-    *is_done = polled.is_ready();
-    if !*is_done {
-        panics.raise();
+
+    fn is_done(&self) -> bool {
+        matches!(self, State::Done)
     }
-    polled
+
+    /// One poll by this call, which keeps the panics of wakers. After it the future is done, if it is ready.
+    fn poll<R>(&mut self, call: impl FnOnce(&mut Self, &mut Panics) -> Poll<R>) -> Poll<R> {
+        assert!(!self.is_done(), "the future is done, and was polled again");
+        let mut panics = Panics::default();
+        let polled = call(self, &mut panics);
+        if polled.is_pending() {
+            panics.raise();
+        } else {
+            *self = State::Done;
+        }
+        polled
+    }
 }
 
 /// A take: see [`recv_async`](crate::Receiver::recv_async).
 ///
-/// It is fused: once a poll was ready, each further poll is pending, and nothing wakes its task.
+/// # Panics
+///
+/// It was ready, and is polled again.
 #[must_use = "a future does nothing unless it is polled"]
 pub struct RecvFuture<'a, T> {
     /// It borrows the receiver, or has it.
     receiver: Cow<'a, Receiver<T>>,
-    is_done: bool,
-    place: Place,
-    /// How far it is, on a channel of capacity 0.
-    taker: TakerState,
+    state: State<TakerState>,
 }
 
 // No item is pinned.
@@ -86,14 +108,10 @@ impl<T> Unpin for RecvFuture<'_, T> {}
 
 impl<'a, T> RecvFuture<'a, T> {
     pub(super) fn new(receiver: Cow<'a, Receiver<T>>) -> Self {
-        let is_timer = receiver.core().is_timer();
-        assert!(!is_timer, "a timer has no future: use the runtime's");
-        RecvFuture {
-            receiver,
-            is_done: false,
-            place: Place::default(),
-            taker: TakerState::Idle,
-        }
+        let has_moments = matches!(&*receiver.0, Source::Timer(timer) if timer.capacity() != 0);
+        assert!(!has_moments, "a timer has no future: use the runtime's");
+        let state = State::new(receiver.rendezvous().is_some());
+        RecvFuture { receiver, state }
     }
 
     /// Whether a poll was ready, as `is_terminated` of a `FusedFuture` says.
@@ -109,14 +127,12 @@ impl<'a, T> RecvFuture<'a, T> {
     /// assert_eq!(poll(context), Poll::Pending);
     /// sender.send('a').unwrap();
     /// assert_eq!(poll(context), Poll::Ready(Ok('a')));
-    /// sender.send('b').unwrap();
-    /// assert_eq!(poll(context), Poll::Pending); // it takes one item
     /// assert!(takes.is_terminated());
     /// # Ok::<(), vahepito::OpenError>(())
     /// ```
     #[must_use]
     pub fn is_terminated(&self) -> bool {
-        self.is_done
+        self.state.is_done()
     }
 }
 
@@ -125,28 +141,44 @@ impl<T> Future for RecvFuture<'_, T> {
 
     fn poll(mut self: Pin<&mut Self>, context: &mut Context<'_>) -> Poll<Self::Output> {
         let (this, waker) = (&mut *self, context.waker());
-        poll_once(&mut this.is_done, |panics| {
-            let receiver = &this.receiver;
-            if let Some(rendezvous) = receiver.core().rendezvous() {
-                let taken = receiver.poll_met(rendezvous, &mut this.taker, waker, panics);
-                return taken.map(|item| item.ok_or(RecvError));
-            }
-            let (line, is_empty) = (receiver.0.line(), receiver.is_empty());
-            let attempt = || receiver.try_take();
-            let taken = this.place.poll(line, waker, panics, is_empty, attempt);
-            taken.map(|parcel| parcel.map(Parcel::unpack).ok_or(RecvError))
+        let receiver = &this.receiver;
+        this.state.poll(|state, panics| {
+            let place = match (state, receiver.rendezvous()) {
+                (State::Meets(taker), Some(rendezvous)) => {
+                    let taken = receiver.poll_met(rendezvous, taker, waker, panics);
+                    return taken.map(|item| item.ok_or(RecvError));
+                }
+                (State::InLine(place), _) => place,
+                _ => unreachable!("it isn't done, and meets where it may"),
+            };
+            let line = receiver.line();
+            let taken = match &*receiver.0 {
+                Source::Channel(shared) => {
+                    let attempt = || shared.try_take();
+                    let taken = place.poll(line, waker, panics, receiver.is_empty(), attempt);
+                    taken.map(|parcel| parcel.map(Parcel::unpack))
+                }
+                Source::Timer(timer) => {
+                    let taken = place.poll(line, waker, panics, false, || timer.try_take());
+                    taken.map(|moment| moment.map(|it| timer.item_of(it)))
+                }
+            };
+            taken.map(|item| item.ok_or(RecvError))
         })
     }
 }
 
 impl<T> Drop for RecvFuture<'_, T> {
     fn drop(&mut self) {
-        let (core, mut panics) = (self.receiver.core(), Panics::default());
-        self.place.leave(self.receiver.0.line(), &mut panics);
-        if let Some(rendezvous) = core.rendezvous() {
-            if let Some(item) = rendezvous.leave(take(&mut self.taker), &mut panics) {
-                core.give_back_item(rendezvous, item);
+        let (receiver, mut panics) = (&*self.receiver, Panics::default());
+        match (&mut self.state, receiver.rendezvous(), &*receiver.0) {
+            (State::InLine(place), ..) => place.leave(receiver.line(), &mut panics),
+            (State::Meets(taker), Some(rendezvous), Source::Channel(shared)) => {
+                if let Some(item) = rendezvous.leave(take(taker), &mut panics) {
+                    shared.core.give_back_item(rendezvous, item);
+                }
             }
+            _ => {}
         }
         panics.raise();
     }
@@ -156,17 +188,17 @@ fmt_by_text! { impl<T> Debug for RecvFuture<'_, T>: _ => "RecvFuture { .. }" }
 
 /// A send: see [`send_async`](crate::Sender::send_async).
 ///
-/// It is fused: once a poll was ready, each further poll is pending, and nothing wakes its task.
+/// # Panics
+///
+/// It was ready, and is polled again.
 #[must_use = "a future does nothing unless it is polled"]
 pub struct SendFuture<'a, T> {
     /// It borrows the sender, or has it.
     sender: Cow<'a, Sender<T>>,
-    is_done: bool,
-    place: Place,
     /// None once the item is handed back, or posted.
     item: Option<Unsent<T>>,
-    /// The number of the item that is posted, on a channel of capacity 0.
-    offer: Option<u64>,
+    /// With capacity 0 it has the number of the item, once that is posted.
+    state: State<Option<u64>>,
 }
 
 // No item is pinned.
@@ -174,12 +206,11 @@ impl<T> Unpin for SendFuture<'_, T> {}
 
 impl<'a, T> SendFuture<'a, T> {
     pub(super) fn new(sender: Cow<'a, Sender<T>>, item: Unsent<T>) -> Self {
+        let state = State::new(sender.core().rendezvous.is_some());
         SendFuture {
             sender,
-            is_done: false,
-            place: Place::default(),
             item: Some(item),
-            offer: None,
+            state,
         }
     }
 
@@ -195,13 +226,12 @@ impl<'a, T> SendFuture<'a, T> {
     /// let context = &mut Context::from_waker(Waker::noop());
     /// assert_eq!(Pin::new(&mut sends).poll(context), Poll::Ready(Ok(())));
     /// assert!(sends.is_terminated());
-    /// assert_eq!(Pin::new(&mut sends).poll(context), Poll::Pending);
     /// assert!(receiver.try_iter().eq(['a']));
     /// # Ok::<(), vahepito::OpenError>(())
     /// ```
     #[must_use]
     pub fn is_terminated(&self) -> bool {
-        self.is_done
+        self.state.is_done()
     }
 }
 
@@ -210,18 +240,22 @@ impl<T> Future for SendFuture<'_, T> {
 
     fn poll(mut self: Pin<&mut Self>, context: &mut Context<'_>) -> Poll<Self::Output> {
         let (this, waker) = (&mut *self, context.waker());
-        poll_once(&mut this.is_done, |panics| {
-            let (sender, item) = (&this.sender, &mut this.item);
-            if let Some(rendezvous) = sender.core().rendezvous() {
-                let item = || item.take().expect("the item isn't sent yet").into_inner();
-                return sender.poll_posted(rendezvous, item, &mut this.offer, waker, panics);
-            }
+        let (sender, item) = (&this.sender, &mut this.item);
+        this.state.poll(|state, panics| {
+            let place = match (state, &sender.core().rendezvous) {
+                (State::Meets(offer), Some(rendezvous)) => {
+                    let item = || item.take().expect("the item isn't sent yet").into_inner();
+                    return sender.poll_posted(rendezvous, item, offer, waker, panics);
+                }
+                (State::InLine(place), _) => place,
+                _ => unreachable!("it isn't done, and meets where it may"),
+            };
             let (line, is_full) = (sender.0.line(), sender.is_full());
             let attempt = || match item {
                 Some(item) => sender.core().try_send(item),
                 None => Ok(false),
             };
-            let sent = this.place.poll(line, waker, panics, is_full, attempt);
+            let sent = place.poll(line, waker, panics, is_full, attempt);
             sent.map(|is_sent| match item.take() {
                 Some(item) if !is_sent => Err(SendError(item.into_inner())),
                 _ => Ok(()),
@@ -233,12 +267,13 @@ impl<T> Future for SendFuture<'_, T> {
 impl<T> Drop for SendFuture<'_, T> {
     fn drop(&mut self) {
         let mut panics = Panics::default();
-        self.place.leave(self.sender.0.line(), &mut panics);
-        if let (Some(rendezvous), Some(offer)) =
-            (self.sender.core().rendezvous(), self.offer.take())
-        {
-            let item = rendezvous.withdraw(offer, &mut panics);
-            panics.run_each(item, drop);
+        match (&mut self.state, &self.sender.core().rendezvous) {
+            (State::InLine(place), _) => place.leave(self.sender.0.line(), &mut panics),
+            (State::Meets(offer), Some(rendezvous)) => {
+                let item = offer.and_then(|it| rendezvous.withdraw(it, &mut panics));
+                panics.run_each(item, drop);
+            }
+            _ => {}
         }
         panics.run_each(self.item.take(), drop);
         panics.raise();

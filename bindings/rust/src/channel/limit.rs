@@ -5,15 +5,14 @@
 //! it has a seat: that is its reservation. Room that isn't used is given back.
 //!
 //! **No room** is reported only if there was none at some moment of the call. The call reads how many items were given room, and
-//! then takes each of the senders' seats once: at that moment `m` each of these items is accepted, or reserved. Then it takes each
-//! seat of a group once: each item that was taken before `m` is counted by then. If the difference is the limit, and no room was
+//! then waits until each of the senders' seats was free once: at that moment `m` each of these items is accepted, or reserved. Then it
+//! waits so for each seat of a group: each item that was taken before `m` is counted by then. If the difference is the limit, and no room was
 //! given back meanwhile, the channel was full at `m`. Else the call tries again.
 //!
 //! The counts of given room alone don't say so: of two takes the later one may have counted its item, and the earlier one not yet.
 use super::body::Unsent;
 use super::core::{Core, Side};
 use super::pool::SeatGuard;
-use super::reserve::wait_for_holders;
 use super::row::Row;
 use crate::event::{Try, WHEN_NOTIFIED, lock};
 use crate::queue::handle::code;
@@ -106,9 +105,9 @@ impl<T> Core<T> {
         if self.alive().all(has_room) {
             return Ok(());
         }
-        wait_for_holders(&self.senders.seats);
+        self.senders.seats.wait_for_holders();
         let is_full = self.alive().any(|group| {
-            wait_for_holders(&group.seats);
+            group.seats.wait_for_holders();
             !has_room(group)
         });
         let is_same = given_back == limit.given_back.load(Ordering::SeqCst);

@@ -6,7 +6,6 @@ use super::rounds::rounds;
 use super::row_tests::small_shape;
 use super::select::Begun;
 use super::*;
-use crate::backoff::turn_until;
 use std::collections::{HashSet, VecDeque};
 use std::sync::atomic::{AtomicU64, AtomicUsize, Ordering};
 use std::thread;
@@ -435,7 +434,9 @@ struct Clock {
 impl Clock {
     fn start(&self) {
         self.ready.fetch_add(1, Ordering::SeqCst);
-        turn_until(|| (self.ready.load(Ordering::SeqCst) >= THREADS).then_some(()));
+        while self.ready.load(Ordering::SeqCst) < THREADS {
+            thread::yield_now();
+        }
     }
 
     fn now(&self) -> u64 {

@@ -5,8 +5,9 @@ mod texts;
 mod body;
 mod core;
 mod error;
-mod flavor;
 mod future;
+#[cfg(test)]
+mod judged;
 mod limit;
 #[cfg(test)]
 mod linear;
@@ -42,8 +43,6 @@ pub use timer::{after, at, never, tick};
 
 use self::body::Copies;
 use self::core::Core;
-use self::flavor::Flavor;
-use self::rendezvous::Rendezvous;
 use self::row::Shape;
 use self::side::Shared;
 use crate::queue::{Config, OpenError};
@@ -82,16 +81,16 @@ fn of_capacity<T>(
 /// The first handles of a channel of one group.
 fn pair<T>(core: Core<T>) -> (Sender<T>, Receiver<T>) {
     let core = Arc::new(core);
-    let sender = Sender(Shared::new(core.clone(), 0));
-    (sender, Receiver(Shared::new(core, 1)))
+    let receiver = Receiver(Shared::of_group(&core, 1));
+    (Sender(Shared::of_senders(core)), receiver)
 }
 
 /// The first handles of a channel.
 fn handles<T>(core: Core<T>) -> (Sender<T>, Vec<Receiver<T>>) {
     let core = Arc::new(core);
-    let receiver = |group| Receiver(Shared::new(core.clone(), group));
+    let receiver = |group| Receiver(Shared::of_group(&core, group));
     let receivers = (1..=core.groups.len()).map(receiver).collect();
-    (Sender(Shared::new(core, 0)), receivers)
+    (Sender(Shared::of_senders(core)), receivers)
 }
 
 /// Opens a channel of items of one type, and gives its first sender and its first receiver.
@@ -130,7 +129,7 @@ fn handles<T>(core: Core<T>) -> (Sender<T>, Vec<Receiver<T>>) {
 #[doc(alias("mpsc", "mpmc", "sync_channel"))]
 pub fn channel<T>(capacity: usize) -> Result<(Sender<T>, Receiver<T>), OpenError> {
     Ok(pair(match capacity {
-        0 => Core::flavor(config(0), Flavor::Rendezvous(Rendezvous::new())),
+        0 => Core::of_rendezvous(config(0)),
         _ => of_capacity(capacity, 1, None)?,
     }))
 }

@@ -5,8 +5,8 @@
 //! caller that finds none free tries a few times more, and then parks: see [`event`](crate::event).
 #![allow(unsafe_code)]
 
-use crate::backoff::{FOR_OWN_SIDE, turn_until};
-use crate::event::{Event, Panics, soon, wait};
+use crate::backoff::FOR_OWN_SIDE;
+use crate::event::{Apart, Event, Panics, soon, wait};
 use crate::queue::handle::Handle;
 use std::cell::{Cell, UnsafeCell};
 use std::sync::OnceLock;
@@ -60,9 +60,9 @@ pub struct Pool {
     /// How many seats there are up to the last one that an item went through.
     used: AtomicUsize,
     /// The line in which callers wait for a free seat.
-    free: Event,
+    free: Apart<Event>,
     /// The line in which callers wait until another one has served their call, or handed over to it.
-    served: Event,
+    served: Apart<Event>,
 }
 
 /// A seat that is taken, until the drop.
@@ -145,8 +145,8 @@ impl Pool {
         Pool {
             seats: (1..).zip(handles).map(seat).collect(),
             used: AtomicUsize::new(0),
-            free: Event::default(),
-            served: Event::default(),
+            free: Apart::default(),
+            served: Apart::default(),
         }
     }
 
@@ -173,7 +173,7 @@ impl Pool {
     #[inline]
     fn try_take(&self, at: usize) -> Option<SeatGuard<'_>> {
         let seat = self.seat(at);
-        let taken = seat.taken.swap(true, Ordering::Acquire);
+        let taken = seat.taken.swap(true, Ordering::SeqCst);
         (!taken).then(|| SeatGuard { pool: self, seat })
     }
 
@@ -203,14 +203,33 @@ impl Pool {
         (0..self.seats.len()).filter_map(|at| self.try_take(at))
     }
 
-    /// Takes each seat once it is free.
-    pub fn take_each(&self) -> impl Iterator<Item = SeatGuard<'_>> {
-        let take = |at| turn_until(|| self.try_take(at));
-        (0..self.seats.len()).map(take)
+    /// Waits until each seat was free once. So whoever had a seat has counted what went through it; and whoever takes a seat after
+    /// that sees what this thread did before.
+    #[inline]
+    pub fn wait_for_holders(&self) {
+        let held = self
+            .seats
+            .iter()
+            .filter(|it| it.taken.load(Ordering::SeqCst));
+        held.for_each(|it| self.wait_for(it));
     }
 
-    /// Takes all seats, each once it is free.
+    /// Waits until this seat was free once, in line.
+    #[cold]
+    fn wait_for(&self, seat: &Seat) {
+        let is_free = || {
+            let is_taken = seat.taken.load(Ordering::SeqCst);
+            (!is_taken).then_some(()).ok_or_else(soon)
+        };
+        wait(&self.free, FOR_OWN_SIDE, None, is_free).expect("it waits without end");
+    }
+
+    /// Takes all seats, each once it is free. It waits in line for one whose holder doesn't run.
     pub fn take_all(&self) -> Vec<SeatGuard<'_>> {
-        self.take_each().collect()
+        let take = |at| {
+            let attempt = || self.try_take(at).ok_or_else(soon);
+            wait(&self.free, FOR_OWN_SIDE, None, attempt).expect("it waits without end")
+        };
+        (0..self.seats.len()).map(take).collect()
     }
 }

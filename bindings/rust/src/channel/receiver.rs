@@ -2,13 +2,15 @@
 use super::body::Parcel;
 use super::core::Core;
 use super::future::RecvFuture;
-use super::side::Shared;
+use super::rendezvous::Rendezvous;
+use super::side::{Shared, Source};
 use super::{RecvError, RecvTimeoutError, TryRecvError};
-use crate::event::Try;
+use crate::backoff::FOR_OTHERS;
+use crate::event::{Event, wait};
 use std::borrow::Cow;
 use std::convert::identity;
 use std::iter::FusedIterator;
-use std::sync::Arc;
+use std::sync::{Arc, Weak};
 use std::time::{Duration, Instant};
 
 /// A receiver of a channel, which [`channel`](crate::channel()) or [`groups`](crate::groups()) opens.
@@ -29,16 +31,23 @@ use std::time::{Duration, Instant};
 /// assert_eq!((receiver.recv(), other.recv()), (Ok(1), Ok(2))); // each item goes to one of them
 /// # Ok::<(), vahepito::OpenError>(())
 /// ```
-pub struct Receiver<T>(pub(super) Arc<Shared<T>>);
+pub struct Receiver<T>(pub(super) Arc<Source<T>>);
 
 impl<T> Receiver<T> {
-    pub(super) fn core(&self) -> &Arc<Core<T>> {
-        &self.0.core
+    /// The line in which its calls wait.
+    pub(super) fn line(&self) -> &Event {
+        match &*self.0 {
+            Source::Channel(shared) => shared.line(),
+            Source::Timer(timer) => &timer.line,
+        }
     }
 
-    /// Tries to take an item. Gives None at the end of the channel.
-    pub(super) fn try_take(&self) -> Try<Option<Parcel<T>>> {
-        self.core().try_recv(self.group())
+    /// The locks of its channel, if that has capacity 0.
+    pub(super) fn rendezvous(&self) -> Option<&Rendezvous<T>> {
+        match &*self.0 {
+            Source::Channel(shared) => shared.core.rendezvous.as_ref(),
+            Source::Timer(_) => None,
+        }
     }
 
     /// Takes an item, if there is one. It doesn't wait for an item; but if another thread serves the
@@ -61,32 +70,48 @@ impl<T> Receiver<T> {
     /// # Ok::<(), vahepito::OpenError>(())
     /// ```
     pub fn try_recv(&self) -> Result<T, TryRecvError> {
-        match self.try_take() {
-            Ok(Some(parcel)) => Ok(parcel.unpack()),
-            Ok(None) => Err(TryRecvError::Disconnected),
-            Err(_) => Err(TryRecvError::Empty),
+        match &*self.0 {
+            Source::Channel(shared) => match shared.try_take() {
+                Ok(Some(parcel)) => Ok(parcel.unpack()),
+                Ok(None) => Err(TryRecvError::Disconnected),
+                Err(_) => Err(TryRecvError::Empty),
+            },
+            Source::Timer(timer) => match timer.try_take() {
+                Ok(Some(moment)) => Ok(timer.item_of(moment)),
+                Ok(None) => Err(TryRecvError::Disconnected),
+                Err(_) => Err(TryRecvError::Empty),
+            },
         }
     }
 
     /// Takes an item, and waits for one until this moment.
     #[inline]
     fn recv_until<E>(&self, until: Option<Instant>, or: fn(RecvTimeoutError) -> E) -> Result<T, E> {
-        match self.core().take(self.group()) {
-            Ok(parcel) => Ok(parcel.unpack()),
-            Err(_) => self.wait_for_item(until).map_err(or),
+        if let Source::Channel(Shared { core, side }) = &*self.0 {
+            if let Ok(parcel) = core.take(*side) {
+                return Ok(parcel.unpack());
+            }
         }
+        self.wait_for_item(until).map_err(or)
     }
 
     #[inline(never)]
     fn wait_for_item(&self, until: Option<Instant>) -> Result<T, RecvTimeoutError> {
-        if let Some(rendezvous) = self.core().rendezvous() {
-            return self.meet_until(rendezvous, until);
-        }
-        match self.0.wait(until, || self.try_take()) {
-            Some(Some(parcel)) => Ok(parcel.unpack()),
-            Some(None) => Err(RecvTimeoutError::Disconnected),
-            None => Err(RecvTimeoutError::Timeout),
-        }
+        let taken = match &*self.0 {
+            Source::Channel(shared) => {
+                if let Some(rendezvous) = &shared.core.rendezvous {
+                    return self.meet_until(rendezvous, until);
+                }
+                let taken = shared.wait(until, || shared.try_take());
+                taken.map(|parcel| parcel.map(Parcel::unpack))
+            }
+            Source::Timer(timer) => {
+                let taken = wait(&timer.line, FOR_OTHERS, until, || timer.try_take());
+                taken.map(|moment| moment.map(|it| timer.item_of(it)))
+            }
+        };
+        let taken = taken.ok_or(RecvTimeoutError::Timeout)?;
+        taken.ok_or(RecvTimeoutError::Disconnected)
     }
 
     /// Takes an item, and waits while there is none. It parks after a few tries.
@@ -257,7 +282,10 @@ impl<T> Receiver<T> {
     /// # Ok::<(), vahepito::OpenError>(())
     /// ```
     pub fn close(&self) -> bool {
-        self.core().close()
+        match &*self.0 {
+            Source::Channel(shared) => shared.core.close(),
+            Source::Timer(timer) => timer.close(),
+        }
     }
 
     /// Whether the channel is closed: by a call, by the drop of all senders, or by that of all receivers. It may
@@ -273,7 +301,10 @@ impl<T> Receiver<T> {
     /// ```
     #[must_use]
     pub fn is_closed(&self) -> bool {
-        self.core().is_closed()
+        match &*self.0 {
+            Source::Channel(shared) => shared.core.is_closed(),
+            Source::Timer(timer) => timer.is_closed(),
+        }
     }
 
     /// How many items there are that its group hasn't taken. While other threads send and take, the number is
@@ -288,7 +319,10 @@ impl<T> Receiver<T> {
     /// ```
     #[must_use]
     pub fn len(&self) -> usize {
-        self.core().len(self.group())
+        match &*self.0 {
+            Source::Channel(Shared { core, side }) => core.len(*side),
+            Source::Timer(timer) => timer.len(),
+        }
     }
 
     /// Whether [`len`](Receiver::len) is 0.
@@ -317,7 +351,7 @@ impl<T> Receiver<T> {
     /// ```
     #[must_use]
     pub fn is_full(&self) -> bool {
-        Some(self.len()) == self.core().capacity()
+        Some(self.len()) == self.capacity()
     }
 
     /// How many items the channel may hold; None if it has no bound.
@@ -329,7 +363,10 @@ impl<T> Receiver<T> {
     /// ```
     #[must_use]
     pub fn capacity(&self) -> Option<usize> {
-        self.core().capacity()
+        match &*self.0 {
+            Source::Channel(shared) => shared.core.capacity(),
+            Source::Timer(timer) => Some(timer.capacity()),
+        }
     }
 
     /// Whether both receivers are of one channel. They may be of different groups.
@@ -343,7 +380,10 @@ impl<T> Receiver<T> {
     /// ```
     #[must_use]
     pub fn same_channel(&self, other: &Receiver<T>) -> bool {
-        Arc::ptr_eq(self.core(), other.core())
+        match (&*self.0, &*other.0) {
+            (Source::Channel(one), Source::Channel(other)) => Arc::ptr_eq(&one.core, &other.core),
+            _ => Arc::ptr_eq(&self.0, &other.0),
+        }
     }
 
     /// Its group, from 1. A channel of [`channel`](crate::channel()) has one.
@@ -355,7 +395,10 @@ impl<T> Receiver<T> {
     /// ```
     #[must_use]
     pub fn group(&self) -> usize {
-        self.0.side
+        match &*self.0 {
+            Source::Channel(shared) => shared.side,
+            Source::Timer(_) => 1,
+        }
     }
 
     /// How many receivers its group has.
@@ -369,7 +412,7 @@ impl<T> Receiver<T> {
     /// ```
     #[must_use]
     pub fn receiver_count(&self) -> usize {
-        self.core().count(self.group())
+        Arc::strong_count(&self.0)
     }
 
     /// How many senders the channel has.
@@ -383,7 +426,10 @@ impl<T> Receiver<T> {
     /// ```
     #[must_use]
     pub fn sender_count(&self) -> usize {
-        self.core().count(0)
+        match &*self.0 {
+            Source::Channel(shared) => shared.core.sender_count(),
+            Source::Timer(_) => 0,
+        }
     }
 
     /// A receiver that doesn't keep the channel open, nor its group from being lost.
@@ -399,8 +445,10 @@ impl<T> Receiver<T> {
     /// ```
     #[must_use]
     pub fn downgrade(&self) -> WeakReceiver<T> {
-        let (core, group) = (self.core().clone(), self.group());
-        WeakReceiver { core, group }
+        WeakReceiver(match &*self.0 {
+            Source::Channel(Shared { core, side }) => WeakSource::Channel(core.clone(), *side),
+            Source::Timer(_) => WeakSource::Timer(Arc::downgrade(&self.0)),
+        })
     }
 }
 
@@ -414,9 +462,12 @@ impl<T> Clone for Receiver<T> {
 fmt_by_text! { impl<T> Debug for Receiver<T>: _ => "Receiver { .. }" }
 
 /// A receiver that keeps neither the channel nor its group: see [`Receiver::downgrade`].
-pub struct WeakReceiver<T> {
-    core: Arc<Core<T>>,
-    group: usize,
+pub struct WeakReceiver<T>(WeakSource<T>);
+
+/// The channel with the group; or the timer.
+enum WeakSource<T> {
+    Channel(Arc<Core<T>>, usize),
+    Timer(Weak<Source<T>>),
 }
 
 impl<T> WeakReceiver<T> {
@@ -432,14 +483,20 @@ impl<T> WeakReceiver<T> {
     /// ```
     #[must_use]
     pub fn upgrade(&self) -> Option<Receiver<T>> {
-        self.core.shared(self.group).map(Receiver)
+        let source = match &self.0 {
+            WeakSource::Channel(core, group) => core.upgrade_receiver(*group),
+            WeakSource::Timer(source) => source.upgrade(),
+        };
+        source.map(Receiver)
     }
 }
 
 impl<T> Clone for WeakReceiver<T> {
     fn clone(&self) -> WeakReceiver<T> {
-        let (core, group) = (self.core.clone(), self.group);
-        WeakReceiver { core, group }
+        WeakReceiver(match &self.0 {
+            WeakSource::Channel(core, group) => WeakSource::Channel(core.clone(), *group),
+            WeakSource::Timer(source) => WeakSource::Timer(source.clone()),
+        })
     }
 }
 

@@ -34,7 +34,7 @@
 //!
 //! **Order of locks**: the lines, by their address; the pairs; a waiter. User code runs while none is held.
 use super::core::Core;
-use super::select::Begun;
+use super::select::{Begun, Case as _};
 use super::{Receiver, RecvTimeoutError, SendError, SendTimeoutError, Sender, TrySendError};
 use crate::event::{Panics, Try, WHEN_NOTIFIED, ignore_panics, lock, poll_until};
 use std::collections::{BTreeMap, VecDeque};
@@ -543,7 +543,7 @@ impl<T> Receiver<T> {
                     let waiter = Waiter::new(waker.clone());
                     let Some((_, begun)) = meet_or_post(&[(0, rendezvous, TAKES)], &waiter) else {
                         *taker = TakerState::Posted(waiter);
-                        self.core().senders.line.notify_one();
+                        self.notify_posted();
                         return Poll::Pending;
                     };
                     panics.run_each(waiter.take_waker(), drop);

@@ -1,17 +1,17 @@
 //! Room that is reserved for selected sends, and the looks of a select: see [`select`](super::select).
+//!
+//! **A look counts by seats, and not by the queue's own words.** The queue's count of accepted items may miss one that can be taken
+//! already, and its count of taken items may have one whose place isn't free yet. So a look at these two that finds nothing could
+//! come before a refused send that finds no room. A look by seats that finds nothing loads each seat's flag, and waits for the
+//! holders that there are: so its answer is the queue's at some moment of the call.
 use super::body::Unsent;
-use super::core::{Core, Side};
+use super::core::{Core, RESERVED, Side, WAS_FULL};
 use super::pool::{Pool, SeatGuard};
 use crate::event::{Try, WHEN_NOTIFIED, lock};
 use crate::queue::handle::code;
 use std::sync::atomic::Ordering;
 use std::thread;
 use std::time::Duration;
-
-/// Waits until whoever has a seat has counted what went through it.
-pub fn wait_for_holders(seats: &Pool) {
-    seats.take_each().for_each(drop);
-}
 
 impl<T> Core<T> {
     /// Whether there seems to be an item for this group, or none will come. If it says no, there was none at
@@ -21,7 +21,7 @@ impl<T> Core<T> {
         let taken = self.side(group).seats.count();
         let has_item = || taken < self.senders.seats.count();
         if !has_item() {
-            wait_for_holders(&self.senders.seats);
+            self.senders.seats.wait_for_holders();
         }
         if has_item() || self.is_closed() {
             Ok(())
@@ -37,14 +37,35 @@ impl<T> Core<T> {
             return self.row_seems_to_have_room(row);
         }
         self.has_room_beside(0)?;
-        let reserved = self.reserved.load(Ordering::SeqCst);
-        if reserved == 0 || self.has_room_beside(reserved).is_ok() {
+        if self.reserved() == 0 || self.has_room_beside(self.reserved()).is_ok() {
             return Ok(());
         }
-        // Not while a selected send is on its way: its item may be taken before its place is counted down.
         let _in_queue = lock(&self.in_queue);
-        let _seats = self.senders.seats.take_all();
-        self.has_room_beside(self.reserved.load(Ordering::SeqCst))
+        self.has_room_beside_reserved(0)
+    }
+
+    /// How many places are reserved.
+    fn reserved(&self) -> usize {
+        self.hints.load(Ordering::SeqCst) / RESERVED
+    }
+
+    /// Whether there is room beside the reserved places, of which these are the caller's, or none will come. If it says no, there
+    /// was none at some moment of this call. The caller has the lock of the groups, so nothing more is reserved meanwhile.
+    ///
+    /// A selected send counts its item, then its place down, and then gives its seat back. So no item is overlooked here. And none is
+    /// counted beside its place, if as many places are reserved after each seat was free once.
+    fn has_room_beside_reserved(&self, own: usize) -> Try<()> {
+        loop {
+            let reserved = self.reserved();
+            let has_room = self.has_room_beside(reserved.saturating_sub(own));
+            if has_room.is_ok() {
+                return has_room;
+            }
+            self.senders.seats.wait_for_holders();
+            if reserved == self.reserved() {
+                return has_room;
+            }
+        }
     }
 
     /// Whether there is room beside these reserved places, or none will come. If it says no, there was none at
@@ -59,7 +80,7 @@ impl<T> Core<T> {
         let is_full = self.alive().any(|Side { seats, .. }| {
             // The look without the seats is cheaper.
             is_full(seats) && {
-                wait_for_holders(seats);
+                seats.wait_for_holders();
                 is_full(seats)
             }
         });
@@ -72,21 +93,19 @@ impl<T> Core<T> {
 
     /// Reserves room for one send. Returns whether it has; if not, the channel is closed.
     ///
-    /// It counts the place first, so that each send that begins now waits for the lock, and leaves the place free. Else
-    /// other sends would take the room while this takes their seats.
+    /// It counts the place first, and then waits until each of the senders' seats was free once. A send that had a seat before
+    /// has counted its item then. One that takes a seat later sees that a place is reserved, and waits for the lock.
     pub fn reserve(&self) -> Try<bool> {
         if let Some(row) = &self.row {
             return self.reserve_in_row(row);
         }
-        self.seems_to_have_room()?;
+        self.has_room_beside(0)?;
         let _in_queue = lock(&self.in_queue);
-        self.reserved.fetch_add(1, Ordering::SeqCst);
-        let _seats = self.senders.seats.take_all();
-        // A selected send that was on its way before has counted its place down.
-        let others = self.reserved.load(Ordering::SeqCst) - 1;
-        let has_room = self.has_room_beside(others).map(|()| !self.is_closed());
+        self.hints.fetch_add(RESERVED, Ordering::SeqCst);
+        self.senders.seats.wait_for_holders();
+        let has_room = self.has_room_beside_reserved(1).map(|()| !self.is_closed());
         if has_room != Ok(true) {
-            self.reserved.fetch_sub(1, Ordering::SeqCst);
+            self.hints.fetch_sub(RESERVED, Ordering::SeqCst);
         }
         has_room
     }
@@ -95,7 +114,7 @@ impl<T> Core<T> {
     pub fn give_back_room(&self) {
         match &self.row {
             Some(row) => row.give_back_room(),
-            None => drop(self.reserved.fetch_sub(1, Ordering::SeqCst)),
+            None => drop(self.hints.fetch_sub(RESERVED, Ordering::SeqCst)),
         }
         self.senders.line.notify_one();
     }
@@ -109,8 +128,7 @@ impl<T> Core<T> {
             let mut seat = self.senders.seats.take();
             let code = self.send_by(&mut seat, item);
             if code == code::ACCEPTED {
-                // While the seat is taken, so that nobody counts both the item and its room.
-                self.reserved.fetch_sub(1, Ordering::SeqCst);
+                self.hints.fetch_sub(RESERVED, Ordering::SeqCst);
                 drop(seat);
                 self.notify_item();
                 return true;
@@ -127,25 +145,41 @@ impl<T> Core<T> {
         }
     }
 
-    /// Tries to send while room is reserved for others, without this seat: no other send is on its way then. In a row with a
-    /// limit it tries to send by this seat.
+    /// Tries to send by this seat, with these hints: looks first whether there is room.
     #[cold]
     #[inline(never)]
-    pub fn send_beside_reserved<'a>(
+    pub fn send_with_hints<'a>(
         &'a self,
         item: &mut Unsent<T>,
         seat: SeatGuard<'a>,
+        hints: usize,
     ) -> Try<bool> {
         if let Some(row) = &self.row {
             return self.send_within_limit(row, item, seat);
         }
+        if hints & WAS_FULL != 0 {
+            self.has_room_beside(0)?;
+            self.hints.fetch_and(!WAS_FULL, Ordering::Relaxed);
+        }
+        if hints < RESERVED {
+            return self.send_or_again(item, seat);
+        }
         drop(seat);
+        self.send_beside_reserved(item)
+    }
+
+    /// Tries to send while room is reserved for others, under the lock of the groups: so nobody else does, and no more room is
+    /// reserved meanwhile.
+    fn send_beside_reserved(&self, item: &mut Unsent<T>) -> Try<bool> {
         let in_queue = lock(&self.in_queue);
-        let mut seats = self.senders.seats.take_all();
-        self.has_room_beside(self.reserved.load(Ordering::SeqCst))?;
-        let mut seat = seats.swap_remove(0);
+        if self.reserved() == 0 {
+            // By now sends don't wait for the lock.
+            drop(in_queue);
+            return self.try_send(item);
+        }
+        self.has_room_beside_reserved(0)?;
+        let mut seat = self.senders.seats.take();
         let code = self.send_by(&mut seat, item);
-        drop(seats);
         drop(in_queue);
         if code != code::ACCEPTED {
             return self.send_again(item, code, seat);

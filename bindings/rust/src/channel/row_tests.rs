@@ -18,7 +18,7 @@ pub fn small_shape(places: [u32; 2], life: u64, per_sender: u32) -> Shape {
 }
 
 /// Places, items, and sends of each sender.
-const SMALL: [([u32; 2], u64, u32); 6] = [
+pub const SMALL: [([u32; 2], u64, u32); 6] = [
     ([1, 1], 1 << 48, u32::MAX),
     ([1, 2], 1 << 48, u32::MAX),
     ([3, 2], 1 << 48, u32::MAX),
@@ -28,7 +28,7 @@ const SMALL: [([u32; 2], u64, u32); 6] = [
 ];
 
 /// A row of small queues, with this limit.
-fn small<T>(which: ([u32; 2], u64, u32), limit: Option<usize>) -> (Sender<T>, Receiver<T>) {
+pub fn small<T>(which: ([u32; 2], u64, u32), limit: Option<usize>) -> (Sender<T>, Receiver<T>) {
     let (places, life, per_sender) = which;
     pair(Core::open_row(&small_shape(places, life, per_sender), limit, 1, None).unwrap())
 }

@@ -12,26 +12,27 @@
 //! the item. The channel keeps it until [`SelectedOperation::recv`] hands it over.
 //!
 //! **A selected send has its room**, since its item may come after the selection. `Core::reserve` counts a place
-//! as reserved, and then takes all the senders' seats: no send is on its way then. If the place isn't free it
-//! counts it down again. Each other send sees by its seat that places are reserved; it then takes all seats too,
-//! and leaves those places free. So items and reserved places together are never more than the capacity, and
+//! as reserved, and then waits until each of the senders' seats was free once: no send that hasn't seen it is on its way then. If
+//! the place isn't free it counts it down again. Each other send sees by its seat that places are reserved; it then sends under a
+//! lock, and leaves those places free. So items and reserved places together are never more than the capacity, and
 //! [`SelectedOperation::send`] finds room without waiting. A send that gives its place back notifies one that waits for room. In a
 //! [`row`](super::row) of queues a place is counted, and no seat is taken for it: see [`limit`](super::limit).
 //!
 //! **Room and items are counted here**, not asked of the queue: a send and a take each count by their seat,
-//! give it back, and then look whether somebody waits. A look takes each of those seats, and gives it back. A
-//! holder before that has counted; a holder after that sees the waiter in line. So a look that finds nothing
+//! give it back, and then look whether somebody waits. A look that finds nothing waits until each of those seats was free once, which
+//! is a load of each, and counts again. A holder before that has counted; a holder after that sees the waiter in line. So a look that finds nothing
 //! is the look of [`event`](crate::event)'s argument: at some moment of it there was nothing.
-use super::flavor::Flavor;
 use super::rendezvous::{Meets, SENDS, TAKES, Waiter, meet_or_post, try_meet};
+use super::side::Source;
 use super::{
     ReadyTimeoutError, Receiver, RecvError, SelectTimeoutError, SendError, Sender, TryReadyError,
     TrySelectError,
 };
 use crate::backoff::FOR_OTHERS;
-use crate::event::{Event, Panics, Parker, Ticket, Try, lock};
+use crate::event::{Event, Panics, Parker, Ticket, Try};
+use std::cell::Cell;
 use std::hash::{BuildHasher, Hasher, RandomState};
-use std::ops::Deref;
+use std::ops::{Deref, DerefMut};
 use std::ptr::addr_eq;
 use std::sync::Arc;
 use std::time::{Duration, Instant};
@@ -40,6 +41,8 @@ use std::time::{Duration, Instant};
 pub enum Begun {
     /// The channel keeps the item under this number.
     Kept(u64),
+    /// The moment of a timer has come.
+    Due(Instant),
     /// A place is reserved.
     Room,
     /// It has met another, in this pair.
@@ -50,7 +53,7 @@ pub enum Begun {
     Nothing,
 }
 
-/// An operation of a select. If its channel has capacity 0, it is begun and looked at by [`Meets`].
+/// An operation of a select.
 pub trait Case {
     /// The line in which one waits for it.
     fn line(&self) -> &Event;
@@ -68,28 +71,38 @@ pub trait Case {
 
 impl<T> Case for Receiver<T> {
     fn line(&self) -> &Event {
-        self.0.line()
+        self.line()
     }
 
     fn rendezvous(&self) -> Option<(&dyn Meets, usize)> {
-        Some((self.core().rendezvous()?, TAKES))
+        Some((self.rendezvous()?, TAKES))
     }
 
     fn notify_posted(&self) {
-        self.core().senders.line.notify_one();
+        if let Source::Channel(shared) = &*self.0 {
+            shared.core.senders.line.notify_one();
+        }
     }
 
     fn begin(&self) -> Try<Begun> {
-        let taken = self.try_take()?;
-        Ok(taken.map_or(Begun::Closed, |parcel| {
-            Begun::Kept(self.core().keep(parcel.unpack()))
-        }))
+        if let Some(rendezvous) = self.rendezvous() {
+            return try_meet(rendezvous, TAKES);
+        }
+        Ok(match &*self.0 {
+            Source::Channel(shared) => shared.try_take()?.map_or(Begun::Closed, |parcel| {
+                Begun::Kept(shared.core.keep(parcel.unpack()))
+            }),
+            Source::Timer(timer) => timer.try_take()?.map_or(Begun::Closed, Begun::Due),
+        })
     }
 
     fn look(&self) -> Try<()> {
-        match &self.core().flavor {
-            Some(Flavor::Timer(timer)) => timer.look(),
-            _ => self.core().seems_to_have_item(self.group()),
+        match &*self.0 {
+            Source::Channel(shared) => match &shared.core.rendezvous {
+                Some(rendezvous) => rendezvous.look(TAKES),
+                None => shared.core.seems_to_have_item(shared.side),
+            },
+            Source::Timer(timer) => timer.look(),
         }
     }
 
@@ -101,9 +114,10 @@ impl<T> Case for Receiver<T> {
 impl<T> Receiver<T> {
     /// The item of a selected take.
     pub(super) fn completed(&self, begun: Begun) -> Result<T, RecvError> {
-        let item = match (begun, self.core().rendezvous()) {
-            (Begun::Met(pair), Some(rendezvous)) => rendezvous.take(pair),
-            (Begun::Kept(number), _) => lock(&self.core().kept).remove(&number),
+        let item = match (begun, &*self.0) {
+            (Begun::Kept(number), Source::Channel(shared)) => shared.core.take_kept(number),
+            (Begun::Met(pair), _) => self.rendezvous().and_then(|it| it.take(pair)),
+            (Begun::Due(moment), Source::Timer(timer)) => Some(timer.item_of(moment)),
             _ => None,
         };
         item.ok_or(RecvError)
@@ -116,7 +130,7 @@ impl<T> Case for Sender<T> {
     }
 
     fn rendezvous(&self) -> Option<(&dyn Meets, usize)> {
-        Some((self.core().rendezvous()?, SENDS))
+        Some((self.core().rendezvous.as_ref()?, SENDS))
     }
 
     fn notify_posted(&self) {
@@ -124,16 +138,22 @@ impl<T> Case for Sender<T> {
     }
 
     fn begin(&self) -> Try<Begun> {
+        if let Some(rendezvous) = &self.core().rendezvous {
+            return try_meet(rendezvous, SENDS);
+        }
         let has_room = self.core().reserve()?;
         Ok(if has_room { Begun::Room } else { Begun::Closed })
     }
 
     fn look(&self) -> Try<()> {
-        self.core().seems_to_have_room()
+        match &self.core().rendezvous {
+            Some(rendezvous) => rendezvous.look(SENDS),
+            None => self.core().seems_to_have_room(),
+        }
     }
 
     fn give_up(&self, begun: Begun) {
-        match (begun, self.core().rendezvous()) {
+        match (begun, &self.core().rendezvous) {
             (Begun::Met(pair), Some(rendezvous)) => drop(rendezvous.give_up(pair)),
             (Begun::Room, _) => self.core().give_back_room(),
             _ => {}
@@ -144,7 +164,7 @@ impl<T> Case for Sender<T> {
 impl<T> Sender<T> {
     /// Sends by a selected send.
     fn complete(&self, begun: Begun, item: T, until: Option<Instant>) -> Result<(), SendError<T>> {
-        match (begun, self.core().rendezvous()) {
+        match (begun, &self.core().rendezvous) {
             (Begun::Met(pair), Some(rendezvous)) => rendezvous.send(pair, item).or_else(|item| {
                 // The take gave the pair up: the send waits for another one, as long as its select would have.
                 let sent = self.meet_until(rendezvous, item, until);
@@ -212,17 +232,21 @@ pub struct Entry<R> {
 
 impl<R: Deref<Target: Case>> Entry<R> {
     /// Begins it, or only looks.
+    #[inline]
     fn attempt(&self, begins: bool) -> Try<Begun> {
-        match self.case.rendezvous() {
-            Some((channel, side)) if begins => try_meet(channel, side),
-            Some((channel, side)) => channel.look(side).map(|()| Begun::Nothing),
-            None if begins => self.case.begin(),
-            None => self.case.look().map(|()| Begun::Nothing),
+        if begins {
+            self.case.begin()
+        } else {
+            self.case.look().map(|()| Begun::Nothing)
         }
     }
 
     /// Whether what has begun is for good, with capacity 0: see [`Meets::wait_for_pair`].
+    #[inline]
     fn wait_for_pair(&self, begun: &Begun, until: Option<Instant>) -> bool {
+        if !matches!(begun, Begun::Met(_)) {
+            return true;
+        }
         let rendezvous = self.case.rendezvous();
         rendezvous.is_none_or(|(channel, side)| channel.wait_for_pair(begun, side, until))
     }
@@ -244,9 +268,19 @@ fn try_each<R: Deref<Target: Case>>(
     Err(moment)
 }
 
-/// A random number below this one: each such hasher has random keys of its own.
+thread_local! {
+    /// The state of this thread's random numbers, from random keys.
+    static RANDOM: Cell<u64> = Cell::new(RandomState::new().build_hasher().finish() | 1);
+}
+
+/// A random number below this one, by Marsaglia's xorshift.
 fn random_below(limit: usize) -> usize {
-    RandomState::new().build_hasher().finish() as usize % limit
+    let mut random = RANDOM.get();
+    random ^= random << 13;
+    random ^= random >> 7;
+    random ^= random << 17;
+    RANDOM.set(random);
+    (random >> 32) as usize % limit
 }
 
 /// Waits until one of several operations is ready, and makes it, or says which it is.
@@ -373,11 +407,64 @@ impl<'a> Select<'a> {
     }
 }
 
+/// A list of operations: up to four of them need no memory.
+#[derive(Clone)]
+enum Entries<R> {
+    None,
+    Few([Entry<R>; 4], usize),
+    Many(Vec<Entry<R>>),
+}
+
+impl<R: Copy> Entries<R> {
+    #[inline]
+    fn push(&mut self, entry: Entry<R>) {
+        match self {
+            Entries::None => *self = Entries::Few([entry; 4], 1),
+            Entries::Few(few, count) if *count < few.len() => {
+                few[*count] = entry;
+                *count += 1;
+            }
+            Entries::Few(few, _) => *self = Entries::Many([&few[..], &[entry]].concat()),
+            Entries::Many(many) => many.push(entry),
+        }
+    }
+
+    fn remove(&mut self, place: usize) {
+        let mut all = self.to_vec();
+        all.remove(place);
+        *self = Entries::Many(all);
+    }
+}
+
+impl<R> Deref for Entries<R> {
+    type Target = [Entry<R>];
+
+    #[inline]
+    fn deref(&self) -> &[Entry<R>] {
+        match self {
+            Entries::None => &[],
+            Entries::Few(few, count) => &few[..*count],
+            Entries::Many(many) => many,
+        }
+    }
+}
+
+impl<R> DerefMut for Entries<R> {
+    #[inline]
+    fn deref_mut(&mut self) -> &mut [Entry<R>] {
+        match self {
+            Entries::None => &mut [],
+            Entries::Few(few, count) => &mut few[..*count],
+            Entries::Many(many) => many,
+        }
+    }
+}
+
 /// The operations of a select.
 #[doc(hidden)]
 #[derive(Clone)]
 pub struct Cases<R> {
-    entries: Vec<Entry<R>>,
+    entries: Entries<R>,
     next: usize,
     is_biased: bool,
 }
@@ -386,7 +473,7 @@ impl<R: Copy + Deref<Target: Case>> Cases<R> {
     #[must_use]
     pub fn new(is_biased: bool) -> Cases<R> {
         Cases {
-            entries: vec![],
+            entries: Entries::None,
             next: 0,
             is_biased,
         }
@@ -406,11 +493,22 @@ impl<R: Copy + Deref<Target: Case>> Cases<R> {
         begins: bool,
     ) -> Option<(Entry<R>, Begun)> {
         self.shuffle();
+        let done = self.try_once(until, begins);
+        done.or_else(|| self.park(until, begins))
+    }
+
+    /// Parks until one is done, or until this moment, after a few further tries.
+    #[cold]
+    fn park(&self, until: Option<Instant>, begins: bool) -> Option<(Entry<R>, Begun)> {
         let is_over = || until.is_some_and(|until| until <= Instant::now());
+        // A try of a single operation says itself that it wasn't ready at some moment.
+        if self.entries.len() == 1 && is_over() {
+            return None;
+        }
         // Those that may meet another are posted at once, so that the other finds them.
         let posts = begins && self.entries.iter().any(|it| it.case.rendezvous().is_some());
-        let mut done = self.try_once(until, begins);
-        if done.is_none() && !posts {
+        let mut done = None;
+        if !posts {
             let attempt = || match self.try_once(until, begins) {
                 None if !is_over() => None,
                 tried => Some(tried),

@@ -58,7 +58,7 @@ impl<T> Sender<T> {
     /// # Ok::<(), vahepito::OpenError>(())
     /// ```
     pub fn try_send(&self, item: T) -> Result<(), TrySendError<T>> {
-        if let Some(rendezvous) = self.core().rendezvous() {
+        if let Some(rendezvous) = &self.core().rendezvous {
             return rendezvous.try_send(item);
         }
         let mut item = self.pack(item);
@@ -75,7 +75,7 @@ impl<T> Sender<T> {
     /// Sends, and waits for room until this moment.
     #[inline]
     fn send_until(&self, item: T, until: Option<Instant>) -> Sent<T> {
-        if let Some(rendezvous) = self.core().rendezvous() {
+        if let Some(rendezvous) = &self.core().rendezvous {
             return self.meet_until(rendezvous, item, until);
         }
         let mut item = self.pack(item);
@@ -308,7 +308,7 @@ impl<T> Sender<T> {
     /// ```
     #[must_use]
     pub fn sender_count(&self) -> usize {
-        self.core().count(0)
+        self.core().sender_count()
     }
 
     /// How many receivers the channel has, of all groups together.
@@ -322,7 +322,7 @@ impl<T> Sender<T> {
     #[must_use]
     pub fn receiver_count(&self) -> usize {
         let groups = 1..=self.core().groups.len();
-        groups.map(|group| self.core().count(group)).sum()
+        groups.map(|group| self.core().receiver_count(group)).sum()
     }
 
     /// A sender that doesn't keep the channel open.
@@ -366,7 +366,7 @@ impl<T> WeakSender<T> {
     /// ```
     #[must_use]
     pub fn upgrade(&self) -> Option<Sender<T>> {
-        self.0.shared(0).map(Sender)
+        self.0.upgrade_sender().map(Sender)
     }
 }
 

@@ -1,9 +1,11 @@
 //! The parts that the handles of both sides have in common: their count, the end of a side, and the wait.
+use super::body::Parcel;
 use super::core::{Core, Side};
-use crate::backoff::{FOR_OTHERS, let_ahead, turn_until};
-use crate::event::{Event, Try, lock, wait};
+use super::timer::Timer;
+use crate::backoff::{FOR_OTHERS, let_ahead};
+use crate::event::{Event, Try, lock, soon, wait};
 use std::panic::RefUnwindSafe;
-use std::sync::{Arc, Weak};
+use std::sync::{Arc, OnceLock, Weak};
 use std::time::Instant;
 
 /// The least capacity with which a side goes ahead: a smaller channel is full or empty before, and below 8 this
@@ -23,16 +25,44 @@ impl<T> Drop for Shared<T> {
     }
 }
 
+/// The part that the receivers of a group share, or those of a timer.
+pub enum Source<T> {
+    Channel(Shared<T>),
+    Timer(Timer<T>),
+}
+
 // Each call leaves the channel as it is to be, also one that unwinds.
 impl<T> RefUnwindSafe for Core<T> {}
 
+/// Notes the part that the handles of a side share, for the first of them.
+fn note<S>(handles: &OnceLock<Weak<S>>, shared: &Arc<S>) {
+    let first = handles.set(Arc::downgrade(shared));
+    assert!(first.is_ok(), "the side has a first handle already");
+}
+
 impl<T> Shared<T> {
-    /// For the first handle of this side.
-    pub fn new(core: Arc<Core<T>>, side: usize) -> Arc<Shared<T>> {
-        let shared = Arc::new(Shared { core, side });
-        let first = shared.core.handles[side].set(Arc::downgrade(&shared));
-        assert!(first.is_ok(), "the side has a first handle already");
+    /// For the first sender.
+    pub fn of_senders(core: Arc<Core<T>>) -> Arc<Shared<T>> {
+        let shared = Arc::new(Shared { core, side: 0 });
+        note(&shared.core.sender, &shared);
         shared
+    }
+
+    /// For the first receiver of this group.
+    pub fn of_group(core: &Arc<Core<T>>, side: usize) -> Arc<Source<T>> {
+        let shared = Shared {
+            core: core.clone(),
+            side,
+        };
+        let source = Arc::new(Source::Channel(shared));
+        note(&core.receivers[side - 1], &source);
+        source
+    }
+
+    /// Tries to take an item, if it is a group. Gives None at the end of the channel.
+    #[inline]
+    pub fn try_take(&self) -> Try<Option<Parcel<T>>> {
+        self.core.try_recv(self.side)
     }
 
     /// The line in which the side's calls wait.
@@ -56,18 +86,38 @@ impl<T> Shared<T> {
 
 impl<T> Core<T> {
     /// The part that this side's handles share, if one is left.
-    pub fn shared(&self, side: usize) -> Option<Arc<Shared<T>>> {
-        let shared = self.handles[side].get().and_then(Weak::upgrade);
+    fn upgrade<S>(&self, handles: &OnceLock<Weak<S>>, side: usize) -> Option<Arc<S>> {
+        let shared = handles.get().and_then(Weak::upgrade);
         if shared.is_none() {
-            // Another thread may be dropping the last one: this waits until all is done that comes of it.
-            turn_until(|| self.side(side).is_lost().then_some(()));
+            // Another thread may be dropping the last one, which then wakes the side's line: this waits until all is done that
+            // comes of it. Nobody else waits there any more, so it takes away no notification.
+            let side = self.side(side);
+            let is_lost = || side.is_lost().then_some(()).ok_or_else(soon);
+            wait(&side.line, FOR_OTHERS, None, is_lost).expect("it waits without end");
             drop(lock(&self.in_queue));
         }
         shared
     }
 
-    /// How many handles this side has.
-    pub fn count(&self, side: usize) -> usize {
-        self.handles[side].get().map_or(0, Weak::strong_count)
+    /// The part that the senders share, if one is left.
+    pub fn upgrade_sender(&self) -> Option<Arc<Shared<T>>> {
+        self.upgrade(&self.sender, 0)
+    }
+
+    /// The part that the receivers of this group share, if one is left.
+    pub fn upgrade_receiver(&self, group: usize) -> Option<Arc<Source<T>>> {
+        self.upgrade(&self.receivers[group - 1], group)
+    }
+
+    /// How many senders there are.
+    pub fn sender_count(&self) -> usize {
+        self.sender.get().map_or(0, Weak::strong_count)
+    }
+
+    /// How many receivers this group has.
+    pub fn receiver_count(&self, group: usize) -> usize {
+        self.receivers[group - 1]
+            .get()
+            .map_or(0, Weak::strong_count)
     }
 }

@@ -67,7 +67,7 @@ fn several_items_are_five() {
             sender.send(item).unwrap();
             assert_eq!(receiver.recv(), Ok(item));
         }
-        for side in [&sender.core().senders, receiver.core().side(1)] {
+        for side in [&sender.core().senders, sender.core().side(1)] {
             assert_eq!(side.seats.check_ahead(), several, "{items}");
         }
     }

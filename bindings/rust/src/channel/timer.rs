@@ -1,9 +1,8 @@
-//! Timers, and a receiver that has no item. None has a thread: a call that waits parks until the moment.
-use super::core::Core;
-use super::flavor::Flavor;
-use super::side::Shared;
-use super::{Receiver, config};
-use crate::event::{Try, WHEN_NOTIFIED, lock};
+//! Timers, and a receiver that has no item. None has a queue or a thread: a call that waits parks until the moment.
+use super::Receiver;
+use super::side::Source;
+use crate::event::{Event, Panics, Try, WHEN_NOTIFIED, lock};
+use std::sync::atomic::{AtomicBool, Ordering};
 use std::sync::{Arc, Mutex};
 use std::time::{Duration, Instant};
 
@@ -13,16 +12,20 @@ pub struct Timer<T> {
     due: Mutex<Option<Instant>>,
     every: Option<Duration>,
     item: Option<fn(Instant) -> T>,
+    closed: AtomicBool,
+    /// The line of those that wait for the moment, or for a close.
+    pub line: Event,
 }
 
 impl<T> Timer<T> {
-    /// Takes the item if its moment has come. The next one comes a period after it, or, if a whole period
-    /// has passed, after now.
-    pub fn try_take(&self) -> Try<T> {
+    /// Takes the moment if it has come. The next one comes a period after it, or, if a whole period
+    /// has passed, after now. Gives None if the timer is closed.
+    pub fn try_take(&self) -> Try<Option<Instant>> {
+        if self.is_closed() {
+            return Ok(None);
+        }
         let mut due = lock(&self.due);
-        let (Some(at), Some(item)) = (*due, self.item) else {
-            return Err(WHEN_NOTIFIED);
-        };
+        let at = due.ok_or(WHEN_NOTIFIED)?;
         let now = Instant::now();
         if now < at {
             return Err(Some(at));
@@ -32,25 +35,43 @@ impl<T> Timer<T> {
             from.checked_add(every)
         };
         *due = self.every.and_then(next);
-        Ok(item(at))
+        Ok(Some(at))
     }
 
-    /// Whether there is an item.
+    /// The item of a moment that was taken.
+    pub fn item_of(&self, moment: Instant) -> T {
+        self.item.expect("a timer without items has no moment")(moment)
+    }
+
+    /// Whether there is an item, or none will come.
     pub fn look(&self) -> Try<()> {
         match *lock(&self.due) {
+            _ if self.is_closed() => Ok(()),
             None => Err(WHEN_NOTIFIED),
             Some(at) if Instant::now() < at => Err(Some(at)),
             Some(_) => Ok(()),
         }
     }
 
-    pub fn has_item(&self) -> bool {
-        self.item.is_some()
+    pub fn capacity(&self) -> usize {
+        self.item.is_some().into()
     }
 
-    #[cold]
     pub fn len(&self) -> usize {
-        usize::from(self.look().is_ok())
+        let is_due = |at| at <= Instant::now();
+        lock(&self.due).is_some_and(is_due).into()
+    }
+
+    pub fn is_closed(&self) -> bool {
+        self.closed.load(Ordering::SeqCst)
+    }
+
+    pub fn close(&self) -> bool {
+        let was_open = !self.closed.swap(true, Ordering::SeqCst);
+        let mut panics = Panics::default();
+        self.line.notify_all(&mut panics);
+        panics.raise();
+        was_open
     }
 }
 
@@ -59,11 +80,13 @@ fn timer<T>(
     every: Option<Duration>,
     item: Option<fn(Instant) -> T>,
 ) -> Receiver<T> {
-    let capacity = usize::from(item.is_some());
-    let due = Mutex::new(due);
-    let timer = Timer { due, every, item };
-    let core = Core::flavor(config(capacity), Flavor::Timer(timer));
-    Receiver(Shared::new(Arc::new(core), 1))
+    Receiver(Arc::new(Source::Timer(Timer {
+        due: Mutex::new(due),
+        every,
+        item,
+        closed: AtomicBool::new(false),
+        line: Event::default(),
+    })))
 }
 
 /// A receiver with one item, which is there at this moment, and is the moment. Then it is empty for ever.
