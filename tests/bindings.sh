@@ -55,6 +55,10 @@ fi
 limit=600 step 'Rust: tests' cargo "${options[@]}" test
 limit=600 step 'Rust: tests with the feature strict' env "VAHEPITO_ROUNDS=${VAHEPITO_ROUNDS:-25}" cargo "${options[@]}" test "${chosen[@]}" --features strict
 limit=600 step 'Rust: tests with the feature unproved' env "VAHEPITO_ROUNDS=${VAHEPITO_ROUNDS:-5}" cargo "${options[@]}" test "${chosen[@]}" --features unproved
+mkdir "$room/logs"
+step 'Rust: calls over rows of queues are recorded' env "VAHEPITO_LOGS=$room/logs" "VAHEPITO_ROUNDS=${VAHEPITO_ROUNDS:-50}" \
+    cargo "${options[@]}" test --lib judged -- --ignored
+step 'Rust: the recorded calls are judged' "$top/tests/judged_rows.py" "$room/logs"
 step 'Rust: the recorder' cargo "${options[@]}" test --manifest-path record/Cargo.toml
 step 'Rust: the recorder with stops' cargo "${options[@]}" test --manifest-path record/Cargo.toml --all-features --lib
 step 'Rust: the feature unproved is warned of' bash -c "cargo check --locked --offline --features unproved 2>&1 | grep 'warning: .* nothing is proved'"
@@ -90,6 +94,10 @@ if compgen -G "$registry/futures-core-*" >/dev/null && compgen -G "$registry/fut
     cp -r futures "$room/futures" && sed -i "s:path = \"\.\.\":path = \"$PWD\":" "$room/futures/Cargo.toml"
     step 'Rust: streams and sinks' cargo --config 'source.crates-io.replace-with = "debian"' \
         --config "source.debian.directory = \"$registry\"" --quiet --offline test --manifest-path "$room/futures/Cargo.toml"
+    # Its package needs the crate as a registry would have it.
+    step 'Rust: the package of streams and sinks is made' cargo --config 'source.crates-io.replace-with = "debian"' \
+        --config "source.debian.directory = \"$registry\"" --config "patch.crates-io.vahepito.path = \"$PWD\"" --quiet --offline \
+        package --no-verify --allow-dirty --manifest-path "$room/futures/Cargo.toml"
 else
     skip 'Rust: streams and sinks' "librust-futures-core-dev or librust-futures-sink-dev is not on this machine"
 fi
@@ -126,7 +134,7 @@ fi
 # The crate as a stranger has it: a copy of its folder, its package, and the repository as a dependency by git.
 mkdir "$room/copy" && tar c --exclude=./target . | tar x -C "$room/copy"
 step 'Rust: the package is made, and compiles' cargo "${options[@]}" package --allow-dirty
-package=$(echo "$CARGO_TARGET_DIR"/package/vahepito-*.crate)
+package=$(echo "$CARGO_TARGET_DIR"/package/vahepito-[0-9]*.crate)
 tar xzf "$package" -C "$room"
 package=$room/$(basename "$package" .crate)
 export CARGO_TARGET_DIR=$room/of_package

@@ -24,21 +24,34 @@ CALLS = 300
 # What the crate's user writes, and the most instructions that it may cost.
 IN_RUST = {
     "send and recv of a word": ("let (s, r) = channel::<u64>(64)?;", "s.send(i).unwrap(); assert_eq!(r.recv(), Ok(i));", 758),
-    "try_send and try_recv of a word": ("let (s, r) = channel::<u64>(64)?;", "s.try_send(i).unwrap(); assert_eq!(r.try_recv(), Ok(i));", 760),
+    "try_send and try_recv of a word": ("let (s, r) = channel::<u64>(64)?;", "s.try_send(i).unwrap(); assert_eq!(r.try_recv(), Ok(i));", 796),
     "four words": ("let (s, r) = channel::<[u64; 4]>(64)?;", "s.send([i; 4]).unwrap(); assert_eq!(r.recv(), Ok([i; 4]));", 1094),
     "two groups": ("let (s, r) = groups::<u64>(64, 2)?;", "s.send(i).unwrap(); for r in &r { assert_eq!(r.recv(), Ok(i)); }", 1321),
-    "a refused try_send": ("let (s, _r) = channel::<u64>(1)?; s.send(0).unwrap();", "assert!(s.try_send(i).is_err());", 445),
+    "a refused try_send": ("let (s, _r) = channel::<u64>(1)?; s.send(0).unwrap();", "assert!(s.try_send(i).is_err());", 246),
+    "the same with 4,096 places": (
+        "let (s, _r) = channel::<u64>(4096)?; (0..4096).for_each(|i| s.send(i).unwrap());", "assert!(s.try_send(i).is_err());", 246,
+    ),
+    "an empty try_recv": ("let (_s, r) = channel::<u64>(64)?;", "assert!(r.try_recv().is_err() && i < calls);", 180),
+    "send, and a select that takes": (
+        "let (s, r) = channel::<u64>(64)?;", "s.send(i).unwrap(); select! { recv(r) -> it => assert_eq!(it, Ok(i)) }", 1200,
+    ),
+    "a select that sends, and recv": (
+        "let (s, r) = channel::<u64>(64)?;", "select! { send(s, i) -> it => it.unwrap() } assert_eq!(r.recv(), Ok(i));", 1373,
+    ),
+    "after and its drop": ("", "let r = after(std::time::Duration::from_secs(100)); assert!(r.len() as u64 <= i);", 425),
+    "never and its drop": ("", "let r = never::<u64>(); assert!(r.len() as u64 <= i);", 328),
 }
-# The pairs of the program in C: by handles, as the Rust crate makes them, and by one pointer. The pointer's has 106 more: each call
-# looks for a free place, takes it by an exchange and gives it back by a store, and an item has room for four words. The turns
-# are the same.
-# The last number is how many of these may be locked: two exchanges of a tail, a mark, and an addition; and for each of the pointer's
-# calls two more, by which it takes a place and gives it back.
+# The pairs of the program in C: by handles, as the Rust crate makes them, by one pointer, and the calls that wait. The pointer's has 106 more: each call
+# looks for a free place, takes it by an exchange and gives it back by a store, and an item has room for four words. The calls that wait take a seat, and
+# make a call by its handle. The turns are the same.
+# The last number is how many of these may be locked: two exchanges of a tail, a mark, and an addition; for each of the pointer's
+# calls two more, by which it takes a place and gives it back; and for each call that waits one, by which it takes a seat.
 IN_C = {
-    "vahepito_try_send and vahepito_try_take": ("handles", 550, 4),
+    "vahepito_try_send and vahepito_try_take": ("handles", 552, 4),
     "vahepito_call_send and vahepito_call_take": ("pointer", 657, 8),
+    "vahepito_send and vahepito_take": ("waits", 682, 6),
 }
-RUST = """use vahepito::{channel, groups};
+RUST = """use vahepito::{after, channel, groups, never, select};
 
 fn main() -> Result<(), Box<dyn std::error::Error>> {
     let args: Vec<String> = std::env::args().collect();
@@ -69,7 +82,7 @@ static int by_handles(uint64_t calls) {
 }
 
 static int by_pointer(uint64_t calls) {
-    vahepito_queue *queue;
+    vahepito_raw *queue;
     if (vahepito_new(&config, 1, 1, &queue) != VAHEPITO_DONE) return 1;
     vahepito_call sends = VAHEPITO_CALL(queue), takes = VAHEPITO_CALL(queue);
     for (uint64_t i = 0; i < calls; i++) {
@@ -81,9 +94,20 @@ static int by_pointer(uint64_t calls) {
     return 0;
 }
 
+static int by_waits(uint64_t calls) {
+    vahepito_queue *queue = vahepito_create(64);
+    if (!queue) return 1;
+    for (uint64_t i = 0; i < calls; i++) {
+        vahepito_item item;
+        if (vahepito_send(queue, i, NULL) != VAHEPITO_ACCEPTED) return 2;
+        if (vahepito_take(queue, 1, &item, NULL) != VAHEPITO_GOT || item.words[0] != i) return 3;
+    }
+    return 0;
+}
+
 int main(int count, char **args) {
     if (count != 3) return 4;
-    return (args[1][0] == 'h' ? by_handles : by_pointer)(strtoull(args[2], NULL, 10));
+    return (args[1][0] == 'h' ? by_handles : args[1][0] == 'p' ? by_pointer : by_waits)(strtoull(args[2], NULL, 10));
 }
 """
 
@@ -110,11 +134,11 @@ def build_rust(room):
 
 
 def build_c(room):
-    """The program with both pairs of IN_C."""
+    """The program with the pairs of IN_C."""
     source, program = os.path.join(room, "pair.c"), os.path.join(room, "pair")
     with open(source, "w") as file:
         file.write(C)
-    subprocess.run(["cc", "-O2", "-no-pie", "-I", f"{TOP}/bindings/c", source, *archives(), "-pthread", "-o", program], check=True)
+    subprocess.run(["cc", "-O2", "-no-pie", "-I", f"{TOP}/bindings/c", source, f"{TOP}/bindings/c/vahepito_queue.c", *archives(), "-pthread", "-o", program], check=True)
     return program
 
 
