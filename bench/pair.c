@@ -23,7 +23,7 @@ static uint64_t by_handles(uint64_t pairs) {
 }
 
 static uint64_t by_pointer(uint64_t pairs) {
-    vahepito_queue *queue;
+    vahepito_raw *queue;
     if (vahepito_new(&config, 1, 1, &queue) != VAHEPITO_DONE) return 1;
     vahepito_call sends = VAHEPITO_CALL(queue), takes = VAHEPITO_CALL(queue);
     uint64_t place, total, wrong = 0;

@@ -1,12 +1,12 @@
-/* The calls of vahepito_wait.h, compared with a ring that threads share by a pthread mutex with two condition variables.
+/* The calls of vahepito.h, compared with a ring that threads share by a pthread mutex with two condition variables.
  *
- *     cc -O2 -pthread -I bindings/c bench/waits.c bindings/rust/lib/x86_64-unknown-linux-gnu/libvahepito{,_heap}.a -o /tmp/waits
+ *     cc -O2 -pthread -I bindings/c bench/waits.c bindings/c/vahepito_queue.c bindings/rust/lib/x86_64-unknown-linux-gnu/libvahepito{,_heap}.a -o /tmp/waits
  *     /tmp/waits [ROUNDS]
  *
  * A round (of 15) measures either queue once, in an order that changes. It prints the table of docs/BENCH.md: medians of the
  * rounds, with quartiles. Capacity 64. */
 #define _GNU_SOURCE
-#include "vahepito_wait.h"
+#include "vahepito.h"
 
 #include <pthread.h>
 #include <stdatomic.h>
@@ -29,26 +29,21 @@ static void sleep_for(uint64_t nanoseconds) {
 
 /* ---- the two queues: a number of threads on either side */
 
-static vahepito_waits waits;
 static vahepito_queue *queue;
-static vahepito_call senders[MOST], receivers[MOST];
 
 static pthread_mutex_t lock = PTHREAD_MUTEX_INITIALIZER;
 static pthread_cond_t has_item = PTHREAD_COND_INITIALIZER, has_room = PTHREAD_COND_INITIALIZER;
 static uint64_t ring[CAPACITY], sent, taken;
 static bool is_closed, is_mutex;
 
-static void open_queue(uint32_t threads) {
-    const vahepito_config config = {threads, threads, CAPACITY, 64, (uint64_t)1 << 48, UINT32_MAX};
+static void open_queue(void) {
     sent = taken = 0, is_closed = false;
-    if (is_mutex) return;
-    if (vahepito_new(&config, 1, 1, &queue) != VAHEPITO_DONE) abort();
-    for (int at = 0; at < MOST; at++) senders[at] = receivers[at] = (vahepito_call)VAHEPITO_CALL(queue);
+    if (!is_mutex && !(queue = vahepito_create(CAPACITY))) abort();
 }
 
-static void send(int thread, uint64_t body) {
+static void send(uint64_t body) {
     if (!is_mutex) {
-        if (vahepito_send(&waits, &senders[thread], body, NULL) != VAHEPITO_ACCEPTED) abort();
+        if (vahepito_send(queue, body, NULL) != VAHEPITO_ACCEPTED) abort();
         return;
     }
     pthread_mutex_lock(&lock);
@@ -58,10 +53,10 @@ static void send(int thread, uint64_t body) {
     pthread_cond_signal(&has_item);
 }
 
-static bool take(int thread, uint64_t *body) {
+static bool take(uint64_t *body) {
     if (!is_mutex) {
         vahepito_item item;
-        const uint32_t code = vahepito_take(&waits, &receivers[thread], 1, &item, NULL);
+        const uint32_t code = vahepito_take(queue, 1, &item, NULL);
         *body = item.words[0];
         return code == VAHEPITO_GOT;
     }
@@ -76,7 +71,7 @@ static bool take(int thread, uint64_t *body) {
 
 static void close_queue(void) {
     if (!is_mutex) {
-        vahepito_close(&waits, &senders[0], NULL);
+        vahepito_close(queue, NULL);
         return;
     }
     pthread_mutex_lock(&lock);
@@ -86,7 +81,7 @@ static void close_queue(void) {
 }
 
 static void free_queue(void) {
-    if (!is_mutex) vahepito_free(queue);
+    if (!is_mutex) vahepito_destroy(queue, NULL, NULL);
 }
 
 /* ---- what is measured */
@@ -96,24 +91,24 @@ static uint64_t times[PACED];
 static atomic_bool stop;
 static _Atomic uint64_t passed, used;
 
-static void *take_paced(void *thread) {
+static void *take_paced(void *unused) {
     uint64_t from;
     const uint64_t before = now(CLOCK_THREAD_CPUTIME_ID);
-    for (int at = 0; take(*(int *)thread, &from); at++) times[at] = now(CLOCK_MONOTONIC) - from;
+    for (int at = 0; take(&from); at++) times[at] = now(CLOCK_MONOTONIC) - from;
     atomic_fetch_add(&used, now(CLOCK_THREAD_CPUTIME_ID) - before);
-    return NULL;
+    return unused;
 }
 
-static void *take_all(void *thread) {
+static void *take_all(void *unused) {
     uint64_t body, count = 0;
-    while (take(*(int *)thread, &body)) count++;
+    while (take(&body)) count++;
     atomic_fetch_add(&passed, count);
-    return NULL;
+    return unused;
 }
 
-static void *send_all(void *thread) {
-    for (uint64_t body = 0; !atomic_load_explicit(&stop, memory_order_relaxed); body++) send(*(int *)thread, body);
-    return NULL;
+static void *send_all(void *unused) {
+    for (uint64_t body = 0; !atomic_load_explicit(&stop, memory_order_relaxed); body++) send(body);
+    return unused;
 }
 
 static int by_size(const void *one, const void *other) {
@@ -121,17 +116,15 @@ static int by_size(const void *one, const void *other) {
     return a < b ? -1 : a > b;
 }
 
-static int numbers[MOST] = {0, 1, 2, 3, 4, 5, 6, 7};
-
 /* An item a millisecond: p50 and p99 from before its send to after its take, and the receiver's processor time for each. */
 static void paced(double *cells) {
     static double sorted[PACED];
     used = 0;
-    open_queue(1);
-    pthread_create(&taking[0], NULL, take_paced, &numbers[0]);
+    open_queue();
+    pthread_create(&taking[0], NULL, take_paced, NULL);
     sleep_for(2000000);
     for (int at = 0; at < PACED; at++) {
-        send(0, now(CLOCK_MONOTONIC));
+        send(now(CLOCK_MONOTONIC));
         sleep_for(1000000);
     }
     close_queue();
@@ -144,8 +137,8 @@ static void paced(double *cells) {
 
 /* Eight receivers of an empty queue: thousandths of a processor, each. */
 static void idle(double *cells) {
-    open_queue(MOST);
-    for (int at = 0; at < MOST; at++) pthread_create(&taking[at], NULL, take_all, &numbers[at]);
+    open_queue();
+    for (int at = 0; at < MOST; at++) pthread_create(&taking[at], NULL, take_all, NULL);
     sleep_for(20000000);
     const uint64_t before = now(CLOCK_PROCESS_CPUTIME_ID);
     sleep_for(200000000);
@@ -159,11 +152,11 @@ static void idle(double *cells) {
 static double burst(int threads) {
     passed = 0;
     stop = false;
-    open_queue((uint32_t)threads);
+    open_queue();
     const uint64_t before = now(CLOCK_MONOTONIC);
     for (int at = 0; at < threads; at++) {
-        pthread_create(&taking[at], NULL, take_all, &numbers[at]);
-        pthread_create(&sending[at], NULL, send_all, &numbers[at]);
+        pthread_create(&taking[at], NULL, take_all, NULL);
+        pthread_create(&sending[at], NULL, send_all, NULL);
     }
     sleep_for(100000000);
     stop = true;
@@ -174,13 +167,25 @@ static double burst(int threads) {
     return (double)(now(CLOCK_MONOTONIC) - before) / (double)passed;
 }
 
-enum { CELLS = 7 };
+/* One thread that sends and takes: nanoseconds a pair. */
+static double alone(void) {
+    enum { PAIRS = 100000 };
+    uint64_t body;
+    open_queue();
+    const uint64_t before = now(CLOCK_THREAD_CPUTIME_ID);
+    for (int at = 0; at < PAIRS; at++) send(1), take(&body);
+    const uint64_t after = now(CLOCK_THREAD_CPUTIME_ID);
+    free_queue();
+    return (double)(after - before) / PAIRS;
+}
+
+enum { CELLS = 8 };
 static double cells[2][CELLS][MOST_ROUNDS];
 
 int main(int count, char **words) {
     static const char *names[CELLS] = {
         "a take that waits, p50, us", "the same, p99, us", "its processor time, us", "8 that wait for nothing, thousandths of a processor",
-        "1/1, ns an item", "4/4, ns an item", "8/8, ns an item",
+        "1/1, ns an item", "4/4, ns an item", "8/8, ns an item", "one thread, ns a pair",
     };
     const int rounds = count > 1 && atoi(words[1]) < MOST_ROUNDS ? atoi(words[1]) : 15;
     for (int round = 0; round < rounds; round++)
@@ -188,10 +193,10 @@ int main(int count, char **words) {
             double made[CELLS];
             is_mutex = (turn + round) % 2;
             paced(made), idle(made);
-            made[4] = burst(1), made[5] = burst(4), made[6] = burst(8);
+            made[4] = burst(1), made[5] = burst(4), made[6] = burst(8), made[7] = alone();
             for (int cell = 0; cell < CELLS; cell++) cells[is_mutex][cell][round] = made[cell];
         }
-    printf("| | `vahepito_wait.h` | mutex and condition variables |\n|---|---|---|\n");
+    printf("| | `vahepito.h` | mutex and condition variables |\n|---|---|---|\n");
     for (int cell = 0; cell < CELLS; cell++) {
         printf("| %s |", names[cell]);
         for (int queue = 0; queue < 2; queue++) {

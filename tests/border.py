@@ -1,6 +1,6 @@
 #!/usr/bin/env python3
 """Compares what crosses the border of the static library, which is written down four times: in crates/cc_capi and
-crates/cc_passes; in the headers bindings/c/vahepito.h and, for the exports that the Rust crate calls, bindings/c/handles.h;
+crates/cc_passes; in the headers bindings/c/vahepito_raw.h and, for the exports that the Rust crate calls, bindings/c/handles.h;
 in the crate bindings/rust; and in bench/peers/src/exports.rs.
 
     tests/border.py
@@ -23,6 +23,7 @@ STRUCTS = [
     # The crate has the items as arrays of words, and compares their sizes with the library's when it opens a queue.
     ("vahepito_word_item", "TakenItem", "Taken"),
     ("vahepito_item", "TakenWords", "Taken"),
+    ("vahepito_look", "Watch", "Look"),
     # The crate doesn't use it.
     ("vahepito_call", "Call", None),
 ]
@@ -31,13 +32,15 @@ OF_THE_BENCH = [("vahepito_config", "Settings", "Config"), ("vahepito_word_item"
 # Types as C has them. The crate lends a pass as a Pass or as a Handle, which has nothing beside it, and its words may be unwritten.
 IN_C = {"u32": "uint32_t", "u64": "uint64_t", "usize": "size_t", "Word": "uint64_t", "Handle": "vahepito_pass", "Pass": "vahepito_pass"}
 IN_C.update({name: in_c for in_c, *names in STRUCTS + OF_THE_BENCH for name in names if name})
-# What has the bytes of a queue's pointer: a whole loan of the queue, and a part of it.
-QUEUES = {"Root", "Part"}
+# What has the bytes of a queue's pointer: a whole loan of the queue, and a part of it, and the crate's pointer.
+QUEUES = {"Root", "Part", "Queue"}
+# What has no bytes.
+NOTHING = {"Global", "Seen"}
 
 
 def in_c(name, kind):
     """A parameter or a field as C writes it, from Rust: a slice is a pointer and a count."""
-    if kind == "Global":
+    if kind in NOTHING:
         return []
     if kind.replace("&mut ", "") in QUEUES:
         return [f"vahepito_queue *{'*' * kind.startswith('&mut ')}{name}"]
@@ -88,22 +91,26 @@ def of_the_library():
 
 
 def of_the_headers():
-    """The same of the headers; and the codes of vahepito.h, with the names in vahepito_name, and those that vahepito_text has."""
-    headers = [(TOP / "bindings/c" / name).read_text() for name in ("vahepito.h", "handles.h")]
-    text = re.sub(r"/\*.*?\*/", "", "\n".join(headers), flags=re.S)
-    defined = dict(re.findall(r"^#define VAHEPITO_(\w+) (\d+)$", text, re.M))
-    codes = {name: int(number) for name, number in re.findall(r"^ *VAHEPITO_(\w+) = (\d+)", text, re.M)}
+    """The same of the headers; and the codes of vahepito.h and vahepito_raw.h by their numbers, with the names in vahepito_name, and those that
+    vahepito_text has. The functions of vahepito.h itself, which are in vahepito_queue.c, are no exports of the proved library."""
+    own, raw, handles, code = [
+        re.sub(r"/\*.*?\*/", "", (TOP / "bindings/c" / name).read_text(), flags=re.S).replace("vahepito_raw *", "vahepito_queue *")
+        for name in ("vahepito.h", "vahepito_raw.h", "handles.h", "vahepito_queue.c")
+    ]
+    text, whole = raw + "\n" + handles, "\n".join((own, raw, handles))
+    defined = dict(re.findall(r"^#define VAHEPITO_(\w+) (\d+)$", whole, re.M))
+    codes = {name: int(number) for name, number in re.findall(r"^ *VAHEPITO_(\w+) = (\d+)", whole, re.M)}
     exports = {
         name: [result] + counted(listed(parameters) if parameters != "void" else [])
-        for result, name, parameters in re.findall(r"^(uint32_t|size_t|void) (vahepito_\w+)\(([^)]*)\);", text, re.M)
+        for result, name, parameters in re.findall(r"^(uint32_t|uint64_t|size_t|void) (vahepito_\w+)\(([^)]*)\);", text, re.M)
     }
     structs = {}
-    for fields, name in re.findall(r"typedef struct \{(.*?)\} (\w+);", text, re.S):
+    for fields, name in re.findall(r"typedef struct \{(.*?)\} (\w+);", whole, re.S):
         fields = re.sub(r"\[VAHEPITO_(\w+)\]", lambda found: f"[{defined[found[1]]}]", fields)
         structs[name] = [" ".join(field.split()) for field in fields.split(";") if field.strip()]
-    said = [re.findall(r'case VAHEPITO_(\w+): return "(.*)";', text.split(f"*vahepito_{name}(")[1].split("default:")[0]) for name in ("name", "text")]
-    own = re.findall(r"^ *VAHEPITO_(\w+) = \d+", text.split("enum vahepito_code {")[1].split("}")[0], re.M)
-    return codes, int(defined["VERSION"]), exports, {name: structs[name] for name, _, _ in STRUCTS}, own, *said
+    said = [re.findall(r'case VAHEPITO_(\w+): return "(.*)";', code.split(f"*vahepito_{name}(")[1].split("default:")[0]) for name in ("name", "text")]
+    of_calls = sorted(re.findall(r"^ *VAHEPITO_(\w+) = \d+", own + raw, re.M), key=codes.get)
+    return codes, int(defined["VERSION"]), exports, {name: structs[name] for name, _, _ in STRUCTS}, of_calls, *said
 
 
 def number_of(pattern, path):

@@ -5,7 +5,7 @@ of recorded queues.
 Usage: tests/judge.py [LOGS [FIRST]]
 
 Half of the logs are those of a real queue, half are altered; in one of two some calls haven't returned, and some sends are
-refused. Some queues are closed, or have a capacity; some logs have coarse stamps, are judged with a skew, begin late, or say how they end. The
+refused. Some queues are closed, or have a capacity; some logs have coarse stamps or times that are far apart, are judged with a skew, begin late, or say how they end. The
 log with the number N is always the same. Without words it makes 1,500 logs, from number 0 on, and those of `RARE`. The search
 knows nothing of the program's: it tries every call that began before each call that is left had ended. `judge undecided` is a
 failure, unless only lines order calls of one thread. As many logs are of a bounded queue that holds one item too many, or is full
@@ -38,7 +38,7 @@ from windows import judge_windows
 TOP = Path(__file__).resolve().parent.parent
 PROGRAM = Path(os.environ.get("CCQ", TOP / "crates/ccq/out/ccq"))
 REGISTRY = Path("/usr/share/cargo/registry")
-NEVER = 1 << 62
+NEVER = 1 << 70
 # What the program says of the end of a log.
 SAID_END = {
     None: "the log doesn't say how it ends",
@@ -136,6 +136,9 @@ def log(number):
     late = rng.random() < 0.15
     if late:
         calls = calls[rng.randrange(len(calls)) :]
+    if capacity is None and number % 8 == 5:
+        for call in calls:
+            call.update({key: call[key] << 56 for key in ("begin", "end") if key in call})
     return calls, capacity, skew, late, ("early", None, None, "whole")[number % 4]
 
 
