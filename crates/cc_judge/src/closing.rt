@@ -8,7 +8,7 @@ ghost use Rattle.cc_judge.specs.Sweeps.{IsShutAt, KeepsClosed};
 ghost use Rattle.cc_judge.specs.Verdict.{Stands};
 
 use crate::decide::Fault;
-use crate::faults::Index;
+use crate::faults::{Index, began_after};
 use crate::shutting::Shut;
 use crate::table::{call_at, place_in};
 use crate::{Act, Call};
@@ -55,17 +55,6 @@ fn was_open(calls: &[Call], index: &Index, send: usize) -> bool
             },
             _ => false,
         },
-        None => false,
-    }
-}
-
-/// Whether the call at this place began after a time.
-fn began_after(calls: &[Call], place: usize, time: u64) -> bool
-    ensures after { IsTrue result → BeganAfter calls.now place time }
-    ensures others { IsFalse result → BeganAfter calls.now place time → ⊥ }
-{
-    match call_at(calls, place) {
-        Some(call) => time < call.begin,
         None => false,
     }
 }

@@ -54,7 +54,8 @@ pub enum Fault {
         later_send: usize,
         later_take: usize,
     },
-    /// A take found none, and at all of its times some of these items were in the queue.
+    /// A take found none, though an item was in the queue at each of its times; or found the queue closed, though an item was in the
+    /// queue when the take ended. The stays are some of the log.
     NotEmpty {
         call: usize,
         stays: Vec<Stay>,

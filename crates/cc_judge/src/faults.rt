@@ -2,7 +2,7 @@
 ghost use Rattle.std.specs.Prelude.{◌≡◌, ℕ, IsTrue, IsFalse, IfSome, IfNone, slice_get, Some, None};
 ghost use Rattle.cc_judge.specs.Names.{Call, Act};
 ghost use Rattle.cc_judge.specs.Order.{EndsBefore};
-ghost use Rattle.cc_judge.specs.Faults.{Did, Returned, ShowsClosed, IsRising};
+ghost use Rattle.cc_judge.specs.Faults.{Did, Returned, BeganAfter, ShowsClosed, IsRising};
 
 use crate::{Act, Call};
 
@@ -48,6 +48,17 @@ pub fn ends_before(calls: &[Call], first: usize, second: usize) -> bool
             None => false,
         },
         _ => false,
+    }
+}
+
+/// Whether the call at this place began after a time.
+pub fn began_after(calls: &[Call], place: usize, time: u64) -> bool
+    ensures after { IsTrue result → BeganAfter calls.now place time }
+    ensures others { IsFalse result → BeganAfter calls.now place time → ⊥ }
+{
+    match calls.get(place).copied() {
+        Some(call) => time < call.begin,
+        None => false,
     }
 }
 

@@ -5,7 +5,7 @@ ghost use Rattle.cc_judge.specs.Faults.{Did, Returned, EndedAt, BeganAfter, More
 ghost use Rattle.cc_judge.specs.Checks.{LeavesAfter, Stays, WaitBy};
 ghost use Rattle.cc_judge.specs.Table.{IsIndex};
 
-use crate::faults::{Index, is_absent, is_rising, sent, taken};
+use crate::faults::{Index, began_after, is_absent, is_rising, sent, taken};
 use crate::room::capacity_of;
 use crate::table::place_in;
 use crate::{Act, Call, Rules};
@@ -19,16 +19,6 @@ fn had_ended(calls: &[Call], place: usize, time: u64) -> bool
             Some(end) => end <= time,
             None => false,
         },
-        None => false,
-    }
-}
-
-/// Whether the call at this place began after a time.
-fn began_after(calls: &[Call], place: usize, time: u64) -> bool
-    ensures { IsTrue result → BeganAfter calls.now place time }
-{
-    match calls.get(place).copied() {
-        Some(call) => time < call.begin,
         None => false,
     }
 }

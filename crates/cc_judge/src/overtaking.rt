@@ -124,7 +124,7 @@ fn pair_of(calls: &[Call], index: &Index, take: usize) -> Option<Pair>
     })
 }
 
-/// Which items an item overtook.
+/// The items that an item overtook.
 #[derive(Clone, Copy, Drop)]
 pub enum Passed {
     /// None.
@@ -135,7 +135,7 @@ pub enum Passed {
     Left,
 }
 
-/// Which items overtook an item whose send began and whose take ended at these times.
+/// The items that an item overtook, if its send began and its take ended at these times.
 fn passed_by(lists: &Lists, begin: u64, end: u64) -> Passed
     ensures { (rules : Rules) (calls : List Call) → AreLists rules calls lists.now → IsPassed rules calls begin end result }
 {
