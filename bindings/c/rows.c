@@ -121,7 +121,9 @@ static void many_threads(const struct shape *shape) {
     const uint64_t opened_in_all = queue->last->number + 1;
     const uint64_t life = shape->life ? shape->life : UINT64_MAX;
     check(life == UINT64_MAX || opened_in_all >= total / life, "there were many queues");
-    check(parts_kept() <= 20 && parts_kept() <= opened_in_all, "of which few are left");
+    /* How many are kept before that depends on how long a thread was stopped in a seat. */
+    vahepito_internal_retire(queue);
+    check(parts_kept() == 1, "of which the last one is left, when no call has a seat");
     check(vahepito_length(queue) == 0, "nothing is left");
     check(vahepito_send(queue, 1, NULL) == VAHEPITO_CLOSED, "and nothing is accepted");
     for (uint32_t k = 1; k <= queue->places; k++) check(!queue->seats[k].is_taken, "no call has a seat");
