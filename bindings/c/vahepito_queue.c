@@ -79,6 +79,11 @@ extern long syscall(long number, ...);
 #define VAHEPITO_SERVED_ROUNDS 16
 #endif
 
+/* A call that slept longer than this slept for long, in nanoseconds: longer than the rounds in a line and a wake-up take. */
+#ifndef VAHEPITO_LONG_SLEEP
+#define VAHEPITO_LONG_SLEEP 50000
+#endif
+
 /* A row without a bound begins with a queue of the least capacity, and each further one has four times as much, up to the most. */
 enum { SEATS = 64, MOST_GROUPS = 8, LEAST_CAPACITY = 64, MOST_CAPACITY = 4096, NARROW = 1, WAS_FULL = 2 };
 
@@ -87,9 +92,11 @@ enum { SEATS = 64, MOST_GROUPS = 8, LEAST_CAPACITY = 64, MOST_CAPACITY = 4096, N
 
 /* ---- lines of calls that wait */
 
-/* A line of calls that wait: `notified` in the lower half of the word, and `waiting` in the upper half. */
+/* A line of calls that wait: `notified` in the lower half of the word, and `waiting` in the upper half. And a hint: whether the last call that
+ * was parked in the line slept for long, so that a call which spins first would spin in vain. */
 typedef struct {
     uint64_t counts;
+    uint32_t is_slow;
 } vahepito_internal_line;
 
 #define VAHEPITO_INTERNAL_ONE_WAITING ((uint64_t)1 << 32)
@@ -165,6 +172,27 @@ static bool vahepito_internal_park(vahepito_internal_line *line, const struct ti
             counts = __atomic_load_n(&line->counts, __ATOMIC_SEQ_CST);
         }
     }
+}
+
+static uint64_t vahepito_internal_clock(void) {
+    struct timespec time;
+    (void)clock_gettime(CLOCK_MONOTONIC, &time);
+    return (uint64_t)time.tv_sec * 1000000000u + (uint64_t)time.tv_nsec;
+}
+
+/* Whether a call that is about to wait in the line spins first. */
+static bool vahepito_internal_may_spin(const vahepito_internal_line *line) {
+    return VAHEPITO_ROUNDS > 1 && __atomic_load_n(&line->is_slow, __ATOMIC_RELAXED) == 0;
+}
+
+/* The same as park, which notes whether the call slept for long. */
+static bool vahepito_internal_timed_park(vahepito_internal_line *line, const struct timespec *moment) {
+    if (VAHEPITO_ROUNDS <= 1) return vahepito_internal_park(line, moment);
+    const uint64_t from = vahepito_internal_clock();
+    const bool was_woken = vahepito_internal_park(line, moment);
+    const uint32_t is_slow = vahepito_internal_clock() - from > VAHEPITO_LONG_SLEEP;
+    if (__atomic_load_n(&line->is_slow, __ATOMIC_RELAXED) != is_slow) __atomic_store_n(&line->is_slow, is_slow, __ATOMIC_RELAXED);
+    return was_woken;
 }
 
 /* How a call passes the time until its next turn, or until it looks for a free place again: it spins, gives the processor to another
@@ -678,7 +706,7 @@ static uint32_t vahepito_internal_attempt(uint32_t nothing, void *request) {
 static uint32_t vahepito_internal_wait(vahepito_internal_line *line, void *request, uint32_t nothing, const struct timespec *moment) {
     vahepito_internal_backoff backoff = {0, NULL};
     uint32_t code;
-    for (uint32_t round = 1; round < VAHEPITO_ROUNDS; round++) {
+    for (uint32_t round = vahepito_internal_may_spin(line) ? 1 : VAHEPITO_ROUNDS; round < VAHEPITO_ROUNDS; round++) {
         vahepito_internal_rest(&backoff, 0);
         if ((code = vahepito_internal_attempt(nothing, request)) != nothing) return code;
     }
@@ -689,7 +717,7 @@ static uint32_t vahepito_internal_wait(vahepito_internal_line *line, void *reque
         if (code != nothing) {
             vahepito_internal_leave(line);
         } else {
-            if (!vahepito_internal_park(line, moment)) return code;
+            if (!vahepito_internal_timed_park(line, moment)) return code;
             code = vahepito_internal_attempt(nothing, request);
         }
     } while (code == nothing);
