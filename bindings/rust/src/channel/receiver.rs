@@ -70,17 +70,17 @@ impl<T> Receiver<T> {
     /// # Ok::<(), vahepito::OpenError>(())
     /// ```
     pub fn try_recv(&self) -> Result<T, TryRecvError> {
-        match &*self.0 {
-            Source::Channel(shared) => match shared.try_take() {
-                Ok(Some(parcel)) => Ok(parcel.unpack()),
-                Ok(None) => Err(TryRecvError::Disconnected),
-                Err(_) => Err(TryRecvError::Empty),
-            },
-            Source::Timer(timer) => match timer.try_take() {
-                Ok(Some(moment)) => Ok(timer.item_of(moment)),
-                Ok(None) => Err(TryRecvError::Disconnected),
-                Err(_) => Err(TryRecvError::Empty),
-            },
+        let taken = match &*self.0 {
+            Source::Channel(shared) => shared.try_take().map(|it| it.map(Parcel::unpack)),
+            Source::Timer(timer) => {
+                let taken = timer.try_take();
+                taken.map(|moment| moment.map(|it| timer.item_of(it)))
+            }
+        };
+        match taken {
+            Ok(Some(item)) => Ok(item),
+            Ok(None) => Err(TryRecvError::Disconnected),
+            Err(_) => Err(TryRecvError::Empty),
         }
     }
 
