@@ -17,15 +17,6 @@ struct Pass {
     live: bool,
 }
 
-/// The pointer of an observer, or null.
-type Queue = *mut c_void;
-
-/// A copy of an observer's pointer, by which a look is made.
-#[repr(C)]
-struct Look {
-    queue: Queue,
-}
-
 /// The version that this crate is for, as the library returns its own: this crate's own version.
 const VERSION: u32 = number(env!("CARGO_PKG_VERSION_MAJOR")) * 1_000_000
     + number(env!("CARGO_PKG_VERSION_MINOR")) * 1_000
@@ -45,8 +36,7 @@ type Taken = [Word; 7];
 
 // SAFETY, of the calls that are called safe: a pass is empty, or was filled by `vahepito_open_words`, since its
 // type and the field of a handle are private; a handle isn't copied, so that a call has it alone, by `&mut`;
-// and each other reference is that of a variable of its own. A look is given a copy of an observer's pointer, and the observer
-// is borrowed meanwhile.
+// and each other reference is that of a variable of its own.
 unsafe extern "C" {
     safe fn vahepito_version() -> u32;
     // It writes the sizes of a configuration, a pass, an item, and an item of words.
@@ -61,11 +51,6 @@ unsafe extern "C" {
         receiver_count: usize,
     ) -> u32;
     safe fn vahepito_drop(pass: &mut Pass) -> u32;
-    safe fn vahepito_observe(pass: &mut Pass, observer: &mut Queue) -> u32;
-    fn vahepito_free(queue: Queue);
-    fn vahepito_accepted(look: &mut Look) -> u64;
-    fn vahepito_taken(look: &mut Look, group: u32) -> u64;
-    fn vahepito_is_shut(look: &mut Look) -> u32;
     safe fn vahepito_begin_close(sender: &mut Pass) -> u32;
     safe fn vahepito_try_send(_: &mut Pass, body: Word, place: &mut u64, _: &mut u32) -> u32;
     fn vahepito_try_send_words(
@@ -178,63 +163,6 @@ fn wait_until_served(line: &Event, mut turn: impl FnMut() -> u32) -> u32 {
         code => Ok(code),
     };
     wait(line, FOR_OWN_SIDE, None, turn).expect("it waits without end")
-}
-
-impl Handle {
-    /// An observer of the queue, which any number of threads look by.
-    pub fn observer(&mut self) -> Result<Observer, OpenError> {
-        let mut queue = null_mut();
-        match vahepito_observe(&mut self.0, &mut queue) {
-            code::DONE => Ok(Observer(queue)),
-            code::NO_MEMORY => Err(OpenError::NoMemory),
-            code => unexpected(code),
-        }
-    }
-}
-
-/// A share of a queue, by which its counts are looked at: one load each, which waits for nothing and changes nothing. A call that has
-/// returned is counted.
-pub struct Observer(Queue);
-
-// SAFETY: the library proves its pointer `Send` (`unsafe impl Send for Root`, with its proof), and that any number of threads
-// use copies of the pointer at once (`Root::cut`, and `unsafe impl Send for Part`).
-unsafe impl Send for Observer {}
-unsafe impl Sync for Observer {}
-
-impl Observer {
-    /// A copy of the pointer, for one look while the observer is borrowed.
-    #[inline]
-    fn look(&self) -> Look {
-        Look { queue: self.0 }
-    }
-
-    /// How many items the queue has accepted. An item whose send is under way may be counted or not.
-    #[inline]
-    pub fn accepted(&self) -> u64 {
-        // SAFETY: the observer is borrowed, so its queue isn't freed.
-        unsafe { vahepito_accepted(&mut self.look()) }
-    }
-
-    /// How many items this group, from 0, has taken. An item whose take is under way may be counted or not.
-    #[inline]
-    pub fn taken(&self, group: u32) -> u64 {
-        // SAFETY: as before.
-        unsafe { vahepito_taken(&mut self.look(), group + 1) }
-    }
-
-    /// Whether the queue is closed. A close that is under way may be seen or not.
-    #[inline]
-    pub fn is_shut(&self) -> bool {
-        // SAFETY: as before.
-        unsafe { vahepito_is_shut(&mut self.look()) == 1 }
-    }
-}
-
-impl Drop for Observer {
-    fn drop(&mut self) {
-        // SAFETY: the pointer is that of `vahepito_observe`, and no look by it is under way.
-        unsafe { vahepito_free(self.0) }
-    }
 }
 
 impl Drop for Handle {

@@ -2,11 +2,8 @@
 //! another with the same calls in its place.
 mod config;
 mod error;
-// The channel has no use for an observer yet.
-#[cfg_attr(not(test), allow(dead_code))]
 #[cfg(not(feature = "unproved"))]
 pub mod handle;
-#[cfg_attr(not(test), allow(dead_code))]
 #[cfg(feature = "unproved")]
 #[path = "unproved.rs"]
 pub mod handle;

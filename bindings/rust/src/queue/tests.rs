@@ -1,9 +1,8 @@
 //! The answers of each call that the channel makes, on one thread.
-use super::handle::{Handle, Observer, Words, code, open};
+use super::handle::{Handle, Words, code, open};
 use super::{Config, OpenError};
 use crate::event::Event;
 use std::mem::MaybeUninit;
-use std::thread;
 
 const SMALL: Config = Config::new(2, 2, 2);
 
@@ -171,39 +170,4 @@ fn each_group_gets_every_item_once() {
     assert_eq!(take(&mut one[0]), Err(code::ENDED));
     assert_eq!((take(&mut two[1]), take(&mut two[0])), (Ok(80), Ok(91)));
     assert_eq!(take(&mut two[0]), Err(code::ENDED));
-}
-
-/// An observer's counts: the items accepted, those that each of two groups has taken, and whether the queue is closed.
-fn look(observer: &Observer) -> (u64, [u64; 2], bool) {
-    let taken = [0, 1].map(|group| observer.taken(group));
-    (observer.accepted(), taken, observer.is_shut())
-}
-
-#[test]
-fn looks_count_what_has_returned() {
-    let mut sides = open(&SMALL, 2, 1).unwrap();
-    let observer = sides[0][1].observer().unwrap();
-    assert_eq!(look(&observer), (0, [0, 0], false));
-    let codes = [5, 6, 7].map(|word| send(&mut sides[0][0], word));
-    assert_eq!(codes, [code::ACCEPTED, code::ACCEPTED, code::FULL]);
-    assert_eq!(look(&observer), (2, [0, 0], false));
-    assert_eq!(
-        (take(&mut sides[1][0]), take(&mut sides[1][1])),
-        (Ok(5), Ok(6))
-    );
-    assert_eq!(take(&mut sides[1][0]), Err(code::EMPTY));
-    assert_eq!(look(&observer), (2, [2, 0], false));
-    assert_eq!(take(&mut sides[2][1]), Ok(5));
-    assert_eq!(send(&mut sides[0][1], 7), code::ACCEPTED);
-    assert!(sides[0][0].close(&Event::default()));
-    let all = (3, [2, 1], true);
-    let other = sides[2][0].observer().unwrap();
-    thread::scope(|threads| {
-        for observer in [&observer, &observer, &other] {
-            threads.spawn(move || assert_eq!(look(observer), all));
-        }
-    });
-    // An observer keeps its queue.
-    drop((sides, other));
-    assert_eq!(look(&observer), all);
 }

@@ -17,8 +17,6 @@ struct Queue {
     items: VecDeque<Words>,
     /// How many of these each group has taken.
     taken: Vec<usize>,
-    /// How many items no group has to take any more.
-    gone: u64,
 }
 
 /// A handle of a queue, or an empty one.
@@ -74,7 +72,6 @@ impl Handle {
             };
             queue.taken[self.group] += 1;
             if queue.taken.iter().all(|&taken| taken > 0) {
-                queue.gone += 1;
                 queue.items.pop_front();
                 queue.taken.iter_mut().for_each(|taken| *taken -= 1);
             }
@@ -85,39 +82,6 @@ impl Handle {
     /// Closes the queue. Returns whether it was open.
     pub fn close(&mut self, _line: &Event) -> bool {
         self.call(|queue| !std::mem::replace(&mut queue.closed, true))
-    }
-}
-
-impl Handle {
-    /// An observer of the queue, which any number of threads look by.
-    pub fn observer(&mut self) -> Result<Observer, OpenError> {
-        let queue = self.queue.clone();
-        Ok(Observer(queue.expect("an empty handle has no observer")))
-    }
-}
-
-/// A share of a queue, by which its counts are looked at.
-pub struct Observer(Arc<Mutex<Queue>>);
-
-impl Observer {
-    /// Looks while no call is made.
-    fn look<R>(&self, look: impl FnOnce(&Queue) -> R) -> R {
-        look(&self.0.lock().unwrap_or_else(PoisonError::into_inner))
-    }
-
-    /// How many items the queue has accepted.
-    pub fn accepted(&self) -> u64 {
-        self.look(|queue| queue.gone + queue.items.len() as u64)
-    }
-
-    /// How many items this group, from 0, has taken.
-    pub fn taken(&self, group: u32) -> u64 {
-        self.look(|queue| queue.gone + queue.taken[group as usize] as u64)
-    }
-
-    /// Whether the queue is closed.
-    pub fn is_shut(&self) -> bool {
-        self.look(|queue| queue.closed)
     }
 }
 
@@ -139,7 +103,6 @@ pub fn open(config: &Config, groups: u32, _words: usize) -> Result<Vec<Vec<Handl
         closed: false,
         items,
         taken: vec![0; groups as usize],
-        gone: 0,
     }));
     let side = |(count, group)| {
         let handle = |_| Handle {
