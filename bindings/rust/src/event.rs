@@ -105,7 +105,7 @@ use std::any::Any;
 use std::cell::RefCell;
 use std::collections::BTreeMap;
 use std::iter;
-use std::mem::{forget, replace, swap, take};
+use std::mem::{forget, replace, swap};
 use std::ops::Deref;
 use std::panic::{AssertUnwindSafe, catch_unwind, resume_unwind};
 use std::sync::atomic::{AtomicBool, AtomicUsize, Ordering};
@@ -169,8 +169,8 @@ pub fn drop_each<I>(all: impl IntoIterator<Item = I>) {
 /// Those that stand in line.
 #[derive(Default)]
 struct Line {
-    /// The wakers by the numbers of their tickets, in order.
-    wakers: BTreeMap<u64, Waker>,
+    /// The wakers by the numbers of their tickets, in order. None until somebody stands in line.
+    wakers: Option<BTreeMap<u64, Waker>>,
     /// The number of the last ticket: each has one of its own.
     last: u64,
     /// How many notifications there were while somebody was in line.
@@ -180,15 +180,23 @@ struct Line {
 impl Line {
     fn pop(&mut self) -> Option<Waker> {
         self.notifications += 1;
-        Some(self.wakers.pop_first()?.1)
+        Some(self.wakers.as_mut()?.pop_first()?.1)
+    }
+
+    fn len(&self) -> usize {
+        self.wakers.as_ref().map_or(0, BTreeMap::len)
+    }
+
+    fn get_mut(&mut self, number: u64) -> Option<&mut Waker> {
+        self.wakers.as_mut()?.get_mut(&number)
     }
 }
 
 /// There are some if futures were forgotten.
 impl Drop for Line {
     fn drop(&mut self) {
-        if !self.wakers.is_empty() {
-            drop_each(take(&mut self.wakers).into_values());
+        if let Some(wakers) = self.wakers.take() {
+            drop_each(wakers.into_values());
         }
     }
 }
@@ -230,7 +238,7 @@ impl Event {
         let mut line = lock(&self.line);
         let changed = change(&mut line);
         // It is written under the lock alone.
-        let waiting = 2 * line.wakers.len() + 1;
+        let waiting = 2 * line.len() + 1;
         if self.waiting.load(Ordering::Relaxed) != waiting {
             self.waiting.store(waiting, Ordering::SeqCst);
         }
@@ -241,7 +249,8 @@ impl Event {
     pub fn stand(&self, waker: Waker) -> Ticket {
         self.with_line(|line| {
             line.last += 1;
-            line.wakers.insert(line.last, waker);
+            let wakers = line.wakers.get_or_insert_default();
+            wakers.insert(line.last, waker);
             let (number, notifications) = (line.last, line.notifications);
             Ticket {
                 number,
@@ -254,14 +263,14 @@ impl Event {
     /// there.
     pub fn stay(&self, ticket: Ticket, waker: &Waker, panics: &mut Panics) -> bool {
         let number = ticket.number;
-        let is_same = |line: &Line| Some(line.wakers.get(&number)?.will_wake(waker));
-        match is_same(&lock(&self.line)) {
+        let is_same = |line: &mut Line| Some(line.get_mut(number)?.will_wake(waker));
+        match is_same(&mut lock(&self.line)) {
             Some(false) => {}
             there => return there.is_some(),
         }
         let mut waker = waker.clone();
         let is_there = self.with_line(|line| {
-            let place = line.wakers.get_mut(&number);
+            let place = line.get_mut(number);
             place.map(|place| swap(place, &mut waker)).is_some()
         });
         // The one that isn't in line.
@@ -280,7 +289,7 @@ impl Event {
     ) -> (bool, bool) {
         let leave = |line: &mut Line| {
             (
-                line.wakers.remove(&number),
+                line.wakers.as_mut().and_then(|it| it.remove(&number)),
                 line.notifications != notifications,
             )
         };
@@ -328,8 +337,15 @@ impl Event {
     }
 
     /// Wakes all that stand in line now.
-    #[cold]
+    #[inline]
     pub fn notify_all(&self, panics: &mut Panics) {
+        if self.has_waiters() {
+            self.wake_all(panics);
+        }
+    }
+
+    #[cold]
+    fn wake_all(&self, panics: &mut Panics) {
         let all: Vec<_> = self.with_line(|line| iter::from_fn(|| line.pop()).collect());
         panics.run_each(all, Waker::wake);
     }

@@ -39,28 +39,29 @@ fn a_channel_is_cheap_in_memory() {
     let processors = available_parallelism().map_or(1, usize::from);
     let seats = (2 * processors).next_power_of_two().min(64);
     let sixteen = 16 * KB * seats.max(8) / 8;
+    // A channel of few items has one seat for a side at first.
     let small = bytes("channel::<u64>(1)", || channel::<u64>(1));
-    assert!(small < sixteen, "{small}");
+    assert!(small < 4 * KB, "{small}");
     let rendezvous = bytes("channel::<u64>(0)", || channel::<u64>(0));
     assert!(rendezvous < 7 * KB / 4, "{rendezvous}");
     let timer = bytes("never::<u64>()", never::<u64>);
     assert!(timer < KB / 4, "{timer}");
     let of_words = bytes("channel::<[u64; 4]>(1)", || channel::<[u64; 4]>(1));
-    assert!(of_words < sixteen, "{of_words}");
+    assert!(of_words < 4 * KB, "{of_words}");
     let large = bytes("channel::<[u8; 65536]>(1)", || channel::<[u8; 65536]>(1));
-    assert!(large < sixteen, "{large}");
+    assert!(large < 4 * KB, "{large}");
     let filled = bytes("channel::<[u8; 65536]>(1) with an item", || {
         let (sender, receiver) = channel::<[u8; 65536]>(1).unwrap();
         sender.send([7; 65536]).unwrap();
         (sender, receiver)
     });
-    assert!(filled < sixteen + 68 * KB, "{filled}");
+    assert!(filled < 72 * KB, "{filled}");
     let deep = bytes("channel::<u64>(64)", || channel::<u64>(64));
-    assert!(deep < sixteen + 5 * KB, "{deep}");
+    assert!(deep < 8 * KB, "{deep}");
     let deepest = bytes("channel::<u64>(4096)", || channel::<u64>(4096));
     assert!(deepest < sixteen + 260 * KB, "{deepest}");
     let shared = bytes("groups::<u64>(64, 8)", || groups::<u64>(64, 8));
-    assert!(shared < 5 * sixteen, "{shared}");
+    assert!(shared < 20 * KB, "{shared}");
     let (sender, receiver) = channel::<u64>(1).unwrap();
     let clones = bytes("a thousand clones of each side", || {
         let clones = (0..1000).map(|_| (sender.clone(), receiver.clone()));

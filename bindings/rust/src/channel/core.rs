@@ -18,11 +18,11 @@ use crate::event::{
     Apart, Event, Panics, Try, WHEN_NOTIFIED, drop_each, ignore_panics, lock, soon,
 };
 use crate::queue::handle::{self, Handle, code, hands_over, has_taken, unexpected};
-use crate::queue::{Config, OpenError};
+use crate::queue::{self, Config, OpenError};
 use std::iter;
 use std::mem::take;
 use std::sync::atomic::{AtomicBool, AtomicUsize, Ordering};
-use std::sync::{Mutex, OnceLock, Weak};
+use std::sync::{Arc, Mutex, OnceLock, Weak};
 
 /// A side of the channel: its senders, or a group of receivers.
 pub struct Side {
@@ -37,10 +37,16 @@ pub struct Side {
 
 impl Side {
     /// With these passes of a queue of this number of groups.
-    fn new(handles: Vec<Handle>, shares: usize) -> Side {
+    #[inline]
+    fn new(handles: impl IntoIterator<Item = Handle>, shares: usize) -> Side {
+        let passes = handles.into_iter().map(|handle| Pass {
+            handle,
+            queue: 0,
+            shares,
+        });
         Side {
             line: Apart::default(),
-            seats: Pool::new(handles, shares),
+            seats: Pool::new(passes),
             found_none: AtomicBool::new(false),
             lost: AtomicBool::new(false),
         }
@@ -52,25 +58,69 @@ impl Side {
     }
 }
 
+/// A side of a channel of more items has all its seats from the opening on, so that no call has to move them over.
+const MOST_MOVED: u32 = 64;
+
+/// How many groups a channel has at most.
+const MOST_GROUPS: usize = 8;
+
 /// That the last send found no room: then the next one looks first, since a look costs less than a send in vain.
 pub const WAS_FULL: usize = 1;
 /// That a place is reserved.
 pub const RESERVED: usize = 2;
 
+/// One for each group. The first one needs no box.
+pub struct PerGroup<V> {
+    first: V,
+    others: Box<[V]>,
+}
+
+impl<V> PerGroup<V> {
+    /// The others are as many as the groups but the first one.
+    fn new(first: V, others: impl Iterator<Item = V>) -> PerGroup<V> {
+        let others = others.collect();
+        PerGroup { first, others }
+    }
+
+    /// How many groups there are.
+    pub fn len(&self) -> usize {
+        1 + self.others.len()
+    }
+
+    /// That of this group, from 1.
+    #[inline]
+    pub fn of(&self, group: usize) -> &V {
+        match group {
+            1 => &self.first,
+            group => &self.others[group - 2],
+        }
+    }
+
+    /// Whether this holds for one of them. Without an iterator over two parts, which costs more.
+    #[inline]
+    pub fn any(&self, holds: impl Fn(&V) -> bool) -> bool {
+        holds(&self.first) || self.others.iter().any(holds)
+    }
+
+    pub fn iter(&self) -> impl Iterator<Item = &V> {
+        iter::once(&self.first).chain(&self.others)
+    }
+}
+
 pub struct Core<T> {
-    /// The configuration of its queue; of a row, that of the first one.
+    /// The configuration of its queue, once each side has all its seats; of a row, that of the first one.
     pub config: Config,
     pub copies: Option<Copies<T>>,
     /// The locks that it has in place of queues, if it has capacity 0.
-    pub rendezvous: Option<Rendezvous<T>>,
+    pub rendezvous: Option<Box<Rendezvous<T>>>,
     /// Its queues, if they are a row.
-    pub row: Option<Row>,
+    pub row: Option<Box<Row>>,
     pub senders: Side,
-    pub groups: Box<[Side]>,
+    pub groups: PerGroup<Side>,
     /// The part that the senders share, once there is a first one.
     pub sender: OnceLock<Weak<Shared<T>>>,
     /// The part that the receivers of each group share, once it has a first one.
-    pub receivers: Box<[OnceLock<Weak<Source<T>>>]>,
+    pub receivers: PerGroup<OnceLock<Weak<Source<T>>>>,
     closed: AtomicBool,
     /// The groups that the queue has, in its order. A further queue takes its place under this lock. Of a row all groups.
     pub in_queue: Mutex<Vec<usize>>,
@@ -99,10 +149,32 @@ impl<T> Drop for Core<T> {
 }
 
 impl<T> Core<T> {
-    /// Opens a channel. Its groups share items if there is a function that copies them.
-    pub fn open(config: Config, groups: u32, copies: Option<Copies<T>>) -> Result<Self, OpenError> {
-        let sides = handle::open(&config, groups, words_of(copies))?;
-        Ok(Core::new(config, copies, None, sides))
+    /// Opens a channel. Its groups share items if there is a function that copies them. Each side has one seat at first, if
+    /// there are few items to be moved over once a side gets its others.
+    pub fn open(
+        config: Config,
+        groups: u32,
+        copies: Option<Copies<T>>,
+    ) -> Result<Arc<Self>, OpenError> {
+        let words = words_of(copies);
+        if config.capacity > MOST_MOVED {
+            let sides = queue::open(&config, groups, words)?;
+            return Ok(Core::with_sides(config, copies, None, sides));
+        }
+        let (senders, receivers) = (1, 1);
+        let first = Config {
+            senders,
+            receivers,
+            ..config
+        };
+        let mut sender = [Handle::empty()];
+        let mut receivers = [const { Handle::empty() }; MOST_GROUPS];
+        // A number that is too large is refused.
+        let count = receivers.len().min(groups as usize);
+        let all = &mut receivers[..count];
+        handle::fill(&first, groups, words, &mut sender, all)?;
+        let receivers = receivers.into_iter().take(count).map(iter::once);
+        Ok(Core::new(config, copies, None, None, sender, receivers))
     }
 
     /// Opens a channel over a row of queues of this shape. It holds this number of items at most; if there is none, any number.
@@ -111,55 +183,67 @@ impl<T> Core<T> {
         limit: Option<usize>,
         groups: u32,
         copies: Option<Copies<T>>,
-    ) -> Result<Self, OpenError> {
+    ) -> Result<Arc<Self>, OpenError> {
         let (row, sides) = Row::open(shape, limit, groups, words_of(copies))?;
-        let mut core = Core::new(shape.first, copies, None, sides);
-        core.row = Some(row);
-        if limit.is_some() {
-            *core.hints.get_mut() = RESERVED;
-        }
-        Ok(core)
+        Ok(Core::with_sides(shape.first, copies, Some(row), sides))
     }
 
-    /// A channel of capacity 0.
-    pub fn of_rendezvous(config: Config) -> Core<T> {
-        Core::new(config, None, Some(Rendezvous::new()), vec![vec![], vec![]])
-    }
-
-    fn new(
+    /// With these passes: those of the senders, and then those of each group.
+    fn with_sides(
         config: Config,
         copies: Option<Copies<T>>,
-        rendezvous: Option<Rendezvous<T>>,
+        row: Option<Row>,
         sides: Vec<Vec<Handle>>,
-    ) -> Core<T> {
-        let shares = sides.len() - 1;
-        let mut sides = sides.into_iter().map(|it| Side::new(it, shares));
+    ) -> Arc<Core<T>> {
+        let mut sides = sides.into_iter();
         let senders = sides.next().expect("a channel has senders");
-        let groups: Box<[Side]> = sides.collect();
-        Core {
+        Core::new(config, copies, None, row.map(Box::new), senders, sides)
+    }
+
+    /// A channel of capacity 0. Its sides have no pass.
+    pub fn of_rendezvous(config: Config) -> Arc<Core<T>> {
+        let rendezvous = Some(Box::new(Rendezvous::new()));
+        let none = || [Handle::empty()];
+        Core::new(config, None, rendezvous, None, none(), iter::once(none()))
+    }
+
+    /// With these passes of the senders, and those of each group.
+    fn new<I: IntoIterator<Item = Handle>>(
+        config: Config,
+        copies: Option<Copies<T>>,
+        rendezvous: Option<Box<Rendezvous<T>>>,
+        row: Option<Box<Row>>,
+        senders: impl IntoIterator<Item = Handle>,
+        groups: impl ExactSizeIterator<Item = I>,
+    ) -> Arc<Core<T>> {
+        let shares = groups.len();
+        let mut sides = groups.map(|it| Side::new(it, shares));
+        let first = sides.next().expect("a channel has a group");
+        let has_limit = row.as_ref().is_some_and(|it| it.limit.is_some());
+        Arc::new(Core {
             config,
             copies,
             rendezvous,
-            row: None,
-            senders,
+            row,
+            senders: Side::new(senders, shares),
+            groups: PerGroup::new(first, sides),
             sender: OnceLock::new(),
-            receivers: groups.iter().map(|_| OnceLock::new()).collect(),
+            receivers: PerGroup::new(OnceLock::new(), (1..shares).map(|_| OnceLock::new())),
             closed: AtomicBool::new(false),
-            in_queue: Mutex::new((1..=groups.len()).collect()),
-            groups,
-            hints: AtomicUsize::new(0),
+            in_queue: Mutex::new((1..=shares).collect()),
+            hints: AtomicUsize::new(if has_limit { RESERVED } else { 0 }),
             kept: Mutex::new(Kept {
                 last: 0,
                 items: vec![],
             }),
-        }
+        })
     }
 
     /// The side of the senders, which is 0, or of this group, from 1.
     pub fn side(&self, at: usize) -> &Side {
         match at {
             0 => &self.senders,
-            group => &self.groups[group - 1],
+            group => self.groups.of(group),
         }
     }
 
@@ -195,12 +279,28 @@ impl<T> Core<T> {
         self.capacity().map_or(len, |it| len.min(it))
     }
 
+    /// Takes a free seat of this side, and waits for one. If the side has one seat alone and that is taken, it gets its others.
+    #[inline]
+    fn take_seat<'a>(&'a self, side: &'a Side) -> SeatGuard<'a> {
+        let seat = side.seats.try_take();
+        seat.unwrap_or_else(|| self.take_another_seat(side))
+    }
+
+    #[cold]
+    #[inline(never)]
+    fn take_another_seat<'a>(&'a self, side: &'a Side) -> SeatGuard<'a> {
+        if side.seats.len() == 1 && self.row.is_none() {
+            self.add_seats(side);
+        }
+        side.seats.take_another()
+    }
+
     /// Tries to send this item. Returns whether it is sent; if not,
     /// the channel is closed. If there is no room, a take or a loss of receivers notifies; if there is no memory
     /// for a further queue, nobody notifies when there is.
     #[inline]
     pub fn try_send(&self, item: &mut Unsent<T>) -> Try<bool> {
-        let seat = self.senders.seats.take();
+        let seat = self.take_seat(&self.senders);
         let hints = self.hints.load(Ordering::SeqCst);
         if hints != 0 {
             return self.send_with_hints(item, seat, hints);
@@ -269,7 +369,7 @@ impl<T> Core<T> {
         }
         let mut left_by_lost = vec![];
         if self.senders.seats.take().pass().0.queue == queue {
-            left_by_lost = self.replace_queue(&mut in_queue).ok_or_else(soon)?;
+            left_by_lost = self.replace_queue(&mut in_queue, None).ok_or_else(soon)?;
         }
         drop(in_queue);
         // The item isn't sent yet, but this call may go on for others: it doesn't panic.
@@ -284,7 +384,7 @@ impl<T> Core<T> {
         if self.rendezvous.is_some() {
             return Err(code::EMPTY);
         }
-        let mut seat = self.groups[group - 1].seats.take();
+        let mut seat = self.take_seat(self.groups.of(group));
         let (pass, line) = seat.pass();
         let parcel = self.take_by(pass, line)?;
         self.count_taken(seat);
@@ -307,7 +407,7 @@ impl<T> Core<T> {
             let item = rendezvous.try_take()?;
             return Ok(item.map(|item| Parcel::pack(item, None)));
         }
-        let found_none = &self.groups[group - 1].found_none;
+        let found_none = &self.groups.of(group).found_none;
         if found_none.load(Ordering::Relaxed) {
             self.seems_to_have_item(group)?;
             found_none.store(false, Ordering::Relaxed);
@@ -387,11 +487,19 @@ impl<T> Core<T> {
 
     /// Wakes all that wait.
     fn notify_all(&self, panics: &mut Panics) {
-        let sides = iter::once(&self.senders).chain(&self.groups);
+        let sides = iter::once(&self.senders).chain(self.groups.iter());
         sides.for_each(|it| it.line.notify_all(panics));
         if let Some(rendezvous) = &self.rendezvous {
             rendezvous.wake_all(panics);
         }
+    }
+
+    /// Whether there are items that this group hasn't taken, when the channel is closed and the group has lost its receivers.
+    fn has_left(&self, group: usize) -> bool {
+        // Whoever has a seat may have to count its item.
+        self.senders.seats.wait_for_holders();
+        let taken = self.side(group).seats.count();
+        self.rendezvous.is_some() || taken < self.senders.seats.count()
     }
 
     /// The last handle of this side is gone: the channel is closed, or goes on without this group. The items
@@ -400,23 +508,27 @@ impl<T> Core<T> {
         let mut in_queue = lock(&self.in_queue);
         self.side(side).lost.store(true, Ordering::SeqCst);
         let left_by_lost = if side == 0 || self.alive().next().is_none() {
-            self.close_queue();
+            if !self.is_closed() {
+                self.close_queue();
+            }
             None
         } else if let Some(row) = &self.row {
             Some(self.go_on_without_lost(row))
         } else {
-            self.replace_queue(&mut in_queue) // or there is no memory: a send tries again, once it finds no room
+            self.replace_queue(&mut in_queue, None) // or there is no memory: a send tries again, once it finds no room
         };
         let mut lost = vec![];
         if side != 0 && self.is_closed() {
-            lost.extend(in_queue.iter().filter(|&&it| self.side(it).is_lost()));
+            let lost_in_queue = in_queue.iter().filter(|&&it| self.side(it).is_lost());
+            lost.extend(lost_in_queue.filter(|&&it| self.has_left(it)));
         }
         drop(in_queue);
-        let takes = |group| iter::from_fn(move || self.try_recv(group).ok()?);
-        let left = lost.into_iter().flat_map(takes);
         let mut panics = Panics::default();
         self.notify_all(&mut panics);
-        panics.run_each(left_by_lost.into_iter().flatten().chain(left), drop);
+        panics.run_each(left_by_lost.into_iter().flatten(), drop);
+        for group in lost {
+            panics.run_each(iter::from_fn(|| self.try_recv(group).ok()?), drop);
+        }
         panics.raise();
     }
 }

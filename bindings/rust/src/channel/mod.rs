@@ -70,7 +70,7 @@ fn of_capacity<T>(
     capacity: usize,
     groups: u32,
     copies: Option<Copies<T>>,
-) -> Result<Core<T>, OpenError> {
+) -> Result<Arc<Core<T>>, OpenError> {
     if capacity <= MOST_PLACES {
         Core::open(config(capacity), groups, copies)
     } else {
@@ -79,15 +79,13 @@ fn of_capacity<T>(
 }
 
 /// The first handles of a channel of one group.
-fn pair<T>(core: Core<T>) -> (Sender<T>, Receiver<T>) {
-    let core = Arc::new(core);
+fn pair<T>(core: Arc<Core<T>>) -> (Sender<T>, Receiver<T>) {
     let receiver = Receiver(Shared::of_group(&core, 1));
     (Sender(Shared::of_senders(core)), receiver)
 }
 
 /// The first handles of a channel.
-fn handles<T>(core: Core<T>) -> (Sender<T>, Vec<Receiver<T>>) {
-    let core = Arc::new(core);
+fn handles<T>(core: Arc<Core<T>>) -> (Sender<T>, Vec<Receiver<T>>) {
     let receiver = |group| Receiver(Shared::of_group(&core, group));
     let receivers = (1..=core.groups.len()).map(receiver).collect();
     (Sender(Shared::of_senders(core)), receivers)
@@ -99,8 +97,9 @@ fn handles<T>(core: Core<T>) -> (Sender<T>, Vec<Receiver<T>>) {
 /// most `capacity` items. A send allocates if an item has more than 32 bytes: it then lies in a box until it is taken. A
 /// take allocates only if it waits.
 ///
-/// With 1 to 4,096 items the channel has one proved queue, whose memory is there from the opening on. With more it has a row of them,
-/// as [`unbounded`] says, and counts what it holds.
+/// With 1 to 4,096 items the channel has one proved queue, and memory for all of them from the opening on. Up to 64 items a side has one
+/// seat at first. A call that finds it taken by another thread lets the side have more seats, which takes memory once; without memory
+/// the call waits for the seat. With more than 4,096 items the channel has a row of queues, as [`unbounded`] says, and counts what it holds.
 ///
 /// With capacity 0 a send is over when a receiver has the item. If its time is over before, nobody has
 /// it, and it is handed back. `try_send` succeeds if a take or a select waits, of a thread or a task, and `try_recv`

@@ -3,12 +3,16 @@
 //!
 //! To take a seat is one exchange, and to give it back one store, after which the line is looked at. A
 //! caller that finds none free tries a few times more, and then parks: see [`event`](crate::event).
+//!
+//! **A side begins with one seat**, which is enough as long as one thread at a time calls. A call that finds the seat taken asks
+//! for the other seats ([`Core::take_seat`](super::core::Core::take_seat)). They are added once, while all seats are taken.
 #![allow(unsafe_code)]
 
 use crate::backoff::FOR_OWN_SIDE;
 use crate::event::{Apart, Event, Panics, soon, wait};
 use crate::queue::handle::Handle;
 use std::cell::{Cell, UnsafeCell};
+use std::iter;
 use std::sync::OnceLock;
 use std::sync::atomic::{AtomicBool, AtomicU64, AtomicUsize, Ordering};
 use std::thread::available_parallelism;
@@ -35,8 +39,8 @@ pub struct Pass {
     pub shares: usize,
 }
 
-/// A cache line for itself, and the one that is fetched with it.
-#[repr(align(128))]
+/// A cache line for itself.
+#[repr(align(64))]
 struct Seat {
     taken: AtomicBool,
     /// Its number among the seats, from 1.
@@ -54,9 +58,14 @@ struct Seat {
 // one to the next, and `Pass` is `Send`.
 unsafe impl Sync for Seat where Pass: Send {}
 
+/// A seat beside others: it also has the line that is fetched with its own.
+#[repr(align(128))]
+struct Other(Seat);
+
 pub struct Pool {
-    /// A power of two.
-    seats: Box<[Seat]>,
+    first: Seat,
+    /// The other seats, once there are some. Their number is a power of two less one.
+    others: OnceLock<Box<[Other]>>,
     /// How many seats there are up to the last one that an item went through.
     used: AtomicUsize,
     /// The line in which callers wait for a free seat.
@@ -69,6 +78,28 @@ pub struct Pool {
 pub struct SeatGuard<'a> {
     pool: &'a Pool,
     seat: &'a Seat,
+}
+
+impl Seat {
+    fn new(number: usize, pass: Pass) -> Seat {
+        Seat {
+            taken: AtomicBool::new(false),
+            number,
+            count: AtomicU64::new(0),
+            asked: AtomicU64::new(0),
+            pass: UnsafeCell::new(pass),
+        }
+    }
+
+    #[inline]
+    fn count(&self) -> u64 {
+        self.count.load(Ordering::Acquire)
+    }
+
+    #[inline]
+    fn is_taken(&self) -> bool {
+        self.taken.load(Ordering::SeqCst)
+    }
 }
 
 impl<'a> SeatGuard<'a> {
@@ -128,68 +159,113 @@ thread_local! {
 }
 
 impl Pool {
-    /// With a seat for each of these handles, whose number is a power of two. Their queue has this number of groups.
-    pub fn new(handles: Vec<Handle>, shares: usize) -> Pool {
-        debug_assert!(handles.is_empty() || handles.len().is_power_of_two());
-        let seat = |(number, handle)| Seat {
-            taken: AtomicBool::new(false),
-            number,
-            count: AtomicU64::new(0),
-            asked: AtomicU64::new(0),
-            pass: UnsafeCell::new(Pass {
-                handle,
-                queue: 0,
-                shares,
-            }),
-        };
+    /// With a seat for each of these passes, whose number is a power of two.
+    #[inline]
+    pub fn new(passes: impl IntoIterator<Item = Pass>) -> Pool {
+        let mut passes = passes.into_iter();
+        let first = passes.next().expect("a side has a seat");
+        let others = Pool::seats_of(passes);
         Pool {
-            seats: (1..).zip(handles).map(seat).collect(),
+            first: Seat::new(1, first),
+            others: others.map_or_else(OnceLock::new, OnceLock::from),
             used: AtomicUsize::new(0),
             free: Apart::default(),
             served: Apart::default(),
         }
     }
 
+    /// Other seats with these passes, if there are some.
+    fn seats_of(passes: impl Iterator<Item = Pass>) -> Option<Box<[Other]>> {
+        let seat = |(number, pass)| Other(Seat::new(number, pass));
+        let others: Box<[Other]> = (2..).zip(passes).map(seat).collect();
+        debug_assert!((1 + others.len()).is_power_of_two());
+        (!others.is_empty()).then_some(others)
+    }
+
+    /// Adds seats with these passes, if there are some. The caller has all seats, and none was added before. With the one seat
+    /// that there is they are a power of two.
+    pub fn add(&self, passes: impl Iterator<Item = Pass>) {
+        if let Some(others) = Pool::seats_of(passes) {
+            let added = self.others.set(others);
+            debug_assert!(added.is_ok());
+        }
+    }
+
+    /// The other seats.
+    #[inline]
+    fn others(&self) -> &[Other] {
+        self.others.get().map_or(&[], |others| others)
+    }
+
+    /// How many seats there are.
+    pub fn len(&self) -> usize {
+        1 + self.others().len()
+    }
+
     /// How many items went through all seats.
     #[inline]
     pub fn count(&self) -> u64 {
-        let count = |at: usize| self.seats[at].count.load(Ordering::Acquire);
-        (0..self.used.load(Ordering::Acquire)).map(count).sum()
+        let first = self.first.count();
+        match self.used.load(Ordering::Acquire) {
+            0 | 1 => first,
+            used => {
+                let others = self.others().iter().take(used - 1);
+                first + others.map(|it| it.0.count()).sum::<u64>()
+            }
+        }
     }
 
+    /// The seat that this thread tries first.
     #[inline]
-    fn seat(&self, at: usize) -> &Seat {
-        &self.seats[at & (self.seats.len() - 1)]
+    fn seat(&self) -> &Seat {
+        match self.others.get() {
+            None => &self.first,
+            Some(others) => self.seat_at(others, HINT.get()),
+        }
+    }
+
+    /// The seat at this place, of which the lowest bits count.
+    #[inline]
+    fn seat_at<'a>(&'a self, others: &'a [Other], at: usize) -> &'a Seat {
+        match at & others.len() {
+            0 => &self.first,
+            other => &others[other - 1].0,
+        }
     }
 
     /// Whether several items went through the seat that this thread tries first, since this was last asked of it.
     pub fn check_ahead(&self) -> bool {
-        let seat = self.seat(HINT.get());
+        let seat = self.seat();
         let count = seat.count.load(Ordering::Relaxed);
         count.saturating_sub(seat.asked.swap(count, Ordering::Relaxed)) >= AHEAD_AFTER
     }
 
-    /// Takes the seat at this place, if it is free.
+    /// Takes this seat, if it is free.
     #[inline]
-    fn try_take(&self, at: usize) -> Option<SeatGuard<'_>> {
-        let seat = self.seat(at);
+    fn try_seat<'a>(&'a self, seat: &'a Seat) -> Option<SeatGuard<'a>> {
         let taken = seat.taken.swap(true, Ordering::SeqCst);
         (!taken).then(|| SeatGuard { pool: self, seat })
+    }
+
+    /// Takes the seat that this thread tries first, if it is free.
+    #[inline]
+    pub fn try_take(&self) -> Option<SeatGuard<'_>> {
+        self.try_seat(self.seat())
     }
 
     /// Takes a free seat, and waits for one.
     #[inline]
     pub fn take(&self) -> SeatGuard<'_> {
-        let hint = HINT.get();
-        self.try_take(hint)
-            .unwrap_or_else(|| self.take_another(hint))
+        self.try_take().unwrap_or_else(|| self.take_another())
     }
 
     #[cold]
-    fn take_another(&self, hint: usize) -> SeatGuard<'_> {
+    pub fn take_another(&self) -> SeatGuard<'_> {
+        let hint = HINT.get();
         let first_free = || {
-            let mut places = hint..hint + self.seats.len();
-            let found = places.find_map(|at| Some((at, self.try_take(at)?)));
+            let others = self.others();
+            let mut places = hint..=hint + others.len();
+            let found = places.find_map(|at| Some((at, self.try_seat(self.seat_at(others, at))?)));
             // The look at the line may come before the store for this thread: so it doesn't wait for a notification alone.
             let (at, held) = found.ok_or_else(soon)?;
             HINT.set(at % MOST);
@@ -198,38 +274,47 @@ impl Pool {
         wait(&self.free, FOR_OWN_SIDE, None, first_free).expect("it waits without end")
     }
 
+    /// All seats. Whoever comes to the end of the others knows those that were added before it came to the first one.
+    fn seats(&self) -> impl Iterator<Item = &Seat> {
+        let others = iter::once_with(|| self.others()).flatten().map(|it| &it.0);
+        iter::once(&self.first).chain(others)
+    }
+
     /// Takes each seat that is free.
     pub fn take_free(&self) -> impl Iterator<Item = SeatGuard<'_>> {
-        (0..self.seats.len()).filter_map(|at| self.try_take(at))
+        self.seats().filter_map(|seat| self.try_seat(seat))
     }
 
     /// Waits until each seat was free once. So whoever had a seat has counted what went through it; and whoever takes a seat after
     /// that sees what this thread did before.
+    ///
+    /// It looks for the other seats after it saw the first one free. Who adds seats has the first one meanwhile. So a seat that
+    /// isn't looked at was added later, and what went through it came later.
     #[inline]
     pub fn wait_for_holders(&self) {
-        let held = self
-            .seats
-            .iter()
-            .filter(|it| it.taken.load(Ordering::SeqCst));
-        held.for_each(|it| self.wait_for(it));
+        if self.first.is_taken() {
+            self.wait_for(&self.first);
+        }
+        for Other(seat) in self.others() {
+            if seat.is_taken() {
+                self.wait_for(seat);
+            }
+        }
     }
 
     /// Waits until this seat was free once, in line.
     #[cold]
     fn wait_for(&self, seat: &Seat) {
-        let is_free = || {
-            let is_taken = seat.taken.load(Ordering::SeqCst);
-            (!is_taken).then_some(()).ok_or_else(soon)
-        };
+        let is_free = || (!seat.is_taken()).then_some(()).ok_or_else(soon);
         wait(&self.free, FOR_OWN_SIDE, None, is_free).expect("it waits without end");
     }
 
     /// Takes all seats, each once it is free. It waits in line for one whose holder doesn't run.
     pub fn take_all(&self) -> Vec<SeatGuard<'_>> {
-        let take = |at| {
-            let attempt = || self.try_take(at).ok_or_else(soon);
+        let take = |seat| {
+            let attempt = || self.try_seat(seat).ok_or_else(soon);
             wait(&self.free, FOR_OWN_SIDE, None, attempt).expect("it waits without end")
         };
-        (0..self.seats.len()).map(take).collect()
+        self.seats().map(take).collect()
     }
 }

@@ -45,7 +45,7 @@ impl<T> Receiver<T> {
     /// The locks of its channel, if that has capacity 0.
     pub(super) fn rendezvous(&self) -> Option<&Rendezvous<T>> {
         match &*self.0 {
-            Source::Channel(shared) => shared.core.rendezvous.as_ref(),
+            Source::Channel(shared) => shared.core.rendezvous.as_deref(),
             Source::Timer(_) => None,
         }
     }

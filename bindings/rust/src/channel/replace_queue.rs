@@ -1,30 +1,78 @@
 //! A further queue in the place of a channel's present one.
 use super::body::{Parcel, words_of};
-use super::core::Core;
+use super::core::{Core, Side};
 use super::pool::Pass;
-use crate::event::Event;
-use crate::queue::handle::{self, Handle, code, unexpected};
-use std::iter;
+use crate::event::{Event, Panics, ignore_panics};
+use crate::queue::handle::{Handle, code, unexpected};
+use crate::queue::{self, Config};
+use std::sync::TryLockError;
+use std::{iter, ptr};
 
 impl<T> Core<T> {
+    /// Lets this side have all its seats, if it has one alone: a further queue with more passes takes the place of this one. It
+    /// does nothing if the channel is closed, if there is no memory, or if another thread has the lock of the groups: then calls
+    /// go on with the seat that there is.
+    pub fn add_seats(&self, side: &Side) {
+        let mut in_queue = match self.in_queue.try_lock() {
+            Ok(in_queue) => in_queue,
+            Err(TryLockError::Poisoned(poisoned)) => poisoned.into_inner(),
+            Err(TryLockError::WouldBlock) => return,
+        };
+        if side.seats.len() > 1 || self.is_closed() {
+            return;
+        }
+        let left_by_lost = self.replace_queue(&mut in_queue, Some(side));
+        drop(in_queue);
+        if let Some(left_by_lost) = left_by_lost.filter(|it| !it.is_empty()) {
+            // The caller's item isn't sent yet, or it has none: it doesn't panic. The lost group held room back.
+            ignore_panics(left_by_lost, drop);
+            self.senders.line.notify_all(&mut Panics::default());
+        }
+    }
+
+    /// The configuration of a further queue: with as many passes for each side as it has seats, and all for the side that grows.
+    fn next_config(&self, alive: &[usize], grows: Option<&Side>) -> Config {
+        let is_grown = |side| grows.is_some_and(|it| ptr::eq(it, side));
+        let count = |side: &Side, all| match is_grown(side) {
+            true => all,
+            false => side.seats.len() as u32,
+        };
+        let Config {
+            senders, receivers, ..
+        } = self.config;
+        let groups = alive.iter().map(|&it| count(self.side(it), receivers));
+        Config {
+            senders: count(&self.senders, senders),
+            receivers: groups.max().unwrap_or(receivers),
+            ..self.config
+        }
+    }
+
     /// Puts a further queue, of the groups that have receivers, in the place of this one, and moves over
     /// what they haven't taken. Gives what the other groups haven't taken; or None if there is no memory:
-    /// nothing has changed then. A closed queue stays as it is.
+    /// nothing has changed then. A closed queue stays as it is. The side that grows has all its seats then; if that is a group,
+    /// so have the other groups.
     ///
     /// A queue accepts more items, and a sender begins more sends, than the capacity: so that there are some
     /// in addition to those by which items are moved over.
-    pub fn replace_queue(&self, in_queue: &mut Vec<usize>) -> Option<Vec<Parcel<T>>> {
+    pub fn replace_queue(
+        &self,
+        in_queue: &mut Vec<usize>,
+        grows: Option<&Side>,
+    ) -> Option<Vec<Parcel<T>>> {
         let (words, capacity) = (words_of(self.copies), self.config.capacity as usize);
         let is_alive = |&group: &usize| !self.side(group).is_lost();
         let (alive, lost): (Vec<_>, Vec<_>) = in_queue.iter().copied().partition(is_alive);
-        let mut handles = handle::open(&self.config, alive.len() as u32, words).ok()?;
+        let config = self.next_config(&alive, grows);
+        let mut handles = queue::open(&config, alive.len() as u32, words).ok()?;
         let (mut kept, mut left_by_lost) = (vec![], vec![]);
         kept.try_reserve_exact(capacity).ok()?;
         left_by_lost.try_reserve_exact(lost.len() * capacity).ok()?;
         // From here on no other thread makes a call, until the seats are given back, so none waits in this line.
         let line = &Event::default();
+        let sides = || iter::once(0).chain(alive.iter().copied());
+        let mut seats: Vec<_> = sides().map(|it| self.side(it).seats.take_all()).collect();
         let take_all = |&side: &usize| self.side(side).seats.take_all();
-        let mut seats: Vec<_> = iter::once(&0).chain(&alive).map(take_all).collect();
         let mut others: Vec<_> = lost.iter().map(take_all).collect();
         if self.is_closed() {
             return Some(left_by_lost);
@@ -50,14 +98,18 @@ impl<T> Core<T> {
                 skipped.unwrap_or_else(|code| unexpected(code));
             }
         }
-        let seats = seats.iter_mut().flatten();
-        for (seat, handle) in seats.zip(handles.into_iter().flatten()) {
-            let (queue, shares) = (seat.pass().0.queue + 1, alive.len());
-            *seat.pass().0 = Pass {
+        let queue = seats[0][0].pass().0.queue + 1;
+        let shares = alive.len();
+        for ((side, seats), handles) in sides().zip(&mut seats).zip(handles) {
+            let mut passes = handles.into_iter().map(|handle| Pass {
                 handle,
                 queue,
                 shares,
-            };
+            });
+            for (seat, pass) in seats.iter_mut().zip(passes.by_ref()) {
+                *seat.pass().0 = pass;
+            }
+            self.side(side).seats.add(passes);
         }
         *in_queue = alive;
         Some(left_by_lost)

@@ -6,7 +6,7 @@
 //! holders that there are: so its answer is the queue's at some moment of the call.
 use super::body::Unsent;
 use super::core::{Core, RESERVED, Side, WAS_FULL};
-use super::pool::{Pool, SeatGuard};
+use super::pool::SeatGuard;
 use crate::event::{Try, WHEN_NOTIFIED, lock};
 use crate::queue::handle::code;
 use std::sync::atomic::Ordering;
@@ -73,21 +73,25 @@ impl<T> Core<T> {
     fn has_room_beside(&self, reserved: usize) -> Try<()> {
         // In this order, so that the number of items is never too large.
         let sent = self.senders.seats.count();
-        let is_full = |seats: &Pool| {
-            let items = sent.saturating_sub(seats.count()) as usize;
-            items + reserved >= self.config.capacity as usize
-        };
-        let is_full = self.alive().any(|Side { seats, .. }| {
-            // The look without the seats is cheaper.
-            is_full(seats) && {
-                seats.wait_for_holders();
-                is_full(seats)
-            }
-        });
+        let is_full = self.groups.any(|it| self.is_full(it, sent, reserved));
         if is_full && !self.is_closed() {
             Err(WHEN_NOTIFIED)
         } else {
             Ok(())
+        }
+    }
+
+    /// Whether there is no room for this group, if this number of items was sent and this number of places is reserved.
+    #[inline(always)]
+    fn is_full(&self, side: &Side, sent: u64, reserved: usize) -> bool {
+        let is_full = || {
+            let items = sent.saturating_sub(side.seats.count()) as usize;
+            items + reserved >= self.config.capacity as usize
+        };
+        // The look without the seats is cheaper.
+        !side.is_lost() && is_full() && {
+            side.seats.wait_for_holders();
+            is_full()
         }
     }
 

@@ -30,8 +30,8 @@ use super::core::Core;
 use super::limit::Limit;
 use super::pool::{Pass, Pool, SeatGuard};
 use crate::event::{Event, Try, WHEN_NOTIFIED, ignore_panics, lock, soon};
-use crate::queue::handle::{self, Handle, code, unexpected};
-use crate::queue::{Config, OpenError};
+use crate::queue::handle::{Handle, code, unexpected};
+use crate::queue::{self, Config, OpenError};
 use std::collections::VecDeque;
 use std::iter;
 use std::mem::{replace, take};
@@ -107,7 +107,7 @@ impl Row {
         groups: u32,
         words: usize,
     ) -> Result<(Row, Passes), OpenError> {
-        let passes = handle::open(&shape.first, groups, words)?;
+        let passes = queue::open(&shape.first, groups, words)?;
         let first = Queue {
             groups: (1..passes.len()).collect(),
             passes: passes.iter().map(|_| vec![]).collect(),
@@ -143,7 +143,7 @@ impl Row {
 
     /// Opens a further queue, of this number of groups.
     fn open_further(&self, groups: usize) -> Result<Passes, OpenError> {
-        handle::open(&self.further, groups as u32, self.words)
+        queue::open(&self.further, groups as u32, self.words)
     }
 
     /// Opens a queue beforehand, if one is wanted. If there is no memory, the next send that appends one tries again.

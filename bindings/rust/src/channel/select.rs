@@ -130,7 +130,7 @@ impl<T> Case for Sender<T> {
     }
 
     fn rendezvous(&self) -> Option<(&dyn Meets, usize)> {
-        Some((self.core().rendezvous.as_ref()?, SENDS))
+        Some((self.core().rendezvous.as_deref()?, SENDS))
     }
 
     fn notify_posted(&self) {
@@ -138,7 +138,7 @@ impl<T> Case for Sender<T> {
     }
 
     fn begin(&self) -> Try<Begun> {
-        if let Some(rendezvous) = &self.core().rendezvous {
+        if let Some(rendezvous) = self.core().rendezvous.as_deref() {
             return try_meet(rendezvous, SENDS);
         }
         let has_room = self.core().reserve()?;

@@ -55,7 +55,7 @@ impl<T> Shared<T> {
             side,
         };
         let source = Arc::new(Source::Channel(shared));
-        note(&core.receivers[side - 1], &source);
+        note(core.receivers.of(side), &source);
         source
     }
 
@@ -106,7 +106,7 @@ impl<T> Core<T> {
 
     /// The part that the receivers of this group share, if one is left.
     pub fn upgrade_receiver(&self, group: usize) -> Option<Arc<Source<T>>> {
-        self.upgrade(&self.receivers[group - 1], group)
+        self.upgrade(self.receivers.of(group), group)
     }
 
     /// How many senders there are.
@@ -116,8 +116,6 @@ impl<T> Core<T> {
 
     /// How many receivers this group has.
     pub fn receiver_count(&self, group: usize) -> usize {
-        self.receivers[group - 1]
-            .get()
-            .map_or(0, Weak::strong_count)
+        self.receivers.of(group).get().map_or(0, Weak::strong_count)
     }
 }

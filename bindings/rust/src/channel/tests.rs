@@ -73,6 +73,34 @@ fn several_items_are_five() {
     }
 }
 
+/// A call that finds the one seat of its side taken lets the side have the others. The items stay in order, and the other side keeps
+/// its one seat.
+#[test]
+fn a_side_whose_seat_is_taken_gets_the_others() {
+    let (sender, receiver) = crate::channel(8).unwrap();
+    let core = sender.core();
+    let seats = || [0, 1].map(|side| core.side(side).seats.len());
+    (0..5).for_each(|number| sender.send(number).unwrap());
+    let mut number = 5;
+    while seats() == [1, 1] {
+        let held = core.senders.seats.take();
+        thread::scope(|scope| {
+            let sends = scope.spawn(|| sender.try_send(number));
+            // If the thread begins later, it finds the seat free, and this is tried again.
+            thread::sleep(Duration::from_millis(20));
+            drop(held);
+            assert_eq!(sends.join().unwrap(), Ok(()));
+        });
+        assert_eq!(receiver.try_recv(), Ok(number - 5));
+        number += 1;
+    }
+    assert_eq!(seats(), [pool::seats(), 1]);
+    assert!(receiver.try_iter().eq(number - 5..number));
+    // Those of more items have all seats.
+    let (sender, _receiver) = crate::channel::<u8>(65).unwrap();
+    assert_eq!(sender.core().senders.seats.len(), pool::seats());
+}
+
 /// Sends that find no room are begun too, and wear a sender out.
 #[test]
 fn tries_that_find_no_room_meet_no_end() {

@@ -7,7 +7,6 @@ pub use super::{Words, code, unexpected};
 use crate::backoff::FOR_OWN_SIDE;
 use crate::event::{Event, soon, wait};
 use std::ffi::c_void;
-use std::iter;
 use std::mem::size_of;
 use std::ptr::{null_mut, read_volatile};
 
@@ -142,8 +141,8 @@ impl Handle {
             code::BEGUN => {}
             code => unexpected(code),
         }
-        let turn = || vahepito_turn_close(&mut self.0, &mut 0, &mut 0);
-        answered(code::WAITING, line, turn) == code::SHUT
+        let mut turn = || vahepito_turn_close(&mut self.0, &mut 0, &mut 0);
+        answered(turn(), line, turn) == code::SHUT
     }
 }
 
@@ -189,15 +188,17 @@ pub fn check_library() -> Result<(), OpenError> {
     Err(OpenError::OtherLibrary { linked, wanted })
 }
 
-/// Opens a queue, and gives the handles of its sides: those of the senders, and then those of each group.
-pub fn open(config: &Config, groups: u32, words: usize) -> Result<Vec<Vec<Handle>>, OpenError> {
+/// Opens a queue, and fills the handles of its senders, and those of the groups of receivers, one group after another. They are
+/// empty, and as many as the configuration says, if its numbers are in their ranges.
+pub fn fill(
+    config: &Config,
+    groups: u32,
+    words: usize,
+    senders: &mut [Handle],
+    receivers: &mut [Handle],
+) -> Result<(), OpenError> {
     check_library()?;
-    // Of numbers that are too large the library refuses even these.
-    let empty = |_| Handle::empty();
-    let some = |count: u32| (0..count.min(8 * 64)).map(empty).collect();
-    let mut senders: Vec<_> = some(config.senders);
-    let mut receivers: Vec<_> = some(groups.saturating_mul(config.receivers));
-    // SAFETY: the pointers and counts are those of two lists, and the handles of both are empty.
+    // SAFETY: the pointers and counts are those of two lists. The library refuses other counts, and handles that aren't empty.
     let code = unsafe {
         vahepito_open_words(
             config,
@@ -210,15 +211,12 @@ pub fn open(config: &Config, groups: u32, words: usize) -> Result<Vec<Vec<Handle
         )
     };
     match code {
-        code::DONE => {}
-        code::BAD_CAPACITY => return Err(OpenError::Capacity),
-        code::BAD_GROUPS => return Err(OpenError::Groups),
-        code::NO_MEMORY => return Err(OpenError::NoMemory),
+        code::DONE => Ok(()),
+        code::BAD_CAPACITY => Err(OpenError::Capacity),
+        code::BAD_GROUPS => Err(OpenError::Groups),
+        code::NO_MEMORY => Err(OpenError::NoMemory),
         code => unexpected(code),
     }
-    let mut receivers = receivers.into_iter();
-    let group = |_| receivers.by_ref().take(config.receivers as usize).collect();
-    Ok(iter::once(senders).chain((0..groups).map(group)).collect())
 }
 
 // SAFETY: the address is a name, and nothing is read there.

@@ -12,6 +12,8 @@ mod tests;
 
 pub use config::Config;
 pub use error::OpenError;
+use handle::Handle;
+use std::iter;
 use std::mem::MaybeUninit;
 
 /// Whether the library is below the channels: without the feature `unproved`. With the feature `strict` it is the library
@@ -31,6 +33,18 @@ type Word = MaybeUninit<u64>;
 
 /// The words of a body, of which some may not be used.
 pub type Words = [Word; 4];
+
+/// Opens a queue, and gives the handles of its sides: those of the senders, and then those of each group.
+pub fn open(config: &Config, groups: u32, words: usize) -> Result<Vec<Vec<Handle>>, OpenError> {
+    // A number that is too large is refused, with any handles.
+    let some = |count: u32| (0..count.min(8 * 64)).map(|_| Handle::empty());
+    let mut senders: Vec<_> = some(config.senders).collect();
+    let mut receivers: Vec<_> = some(groups.saturating_mul(config.receivers)).collect();
+    handle::fill(config, groups, words, &mut senders, &mut receivers)?;
+    let mut receivers = receivers.into_iter();
+    let group = |_| receivers.by_ref().take(config.receivers as usize).collect();
+    Ok(iter::once(senders).chain((0..groups).map(group)).collect())
+}
 
 /// The codes that a call returns, by the header's names.
 #[cfg_attr(feature = "unproved", allow(dead_code))]

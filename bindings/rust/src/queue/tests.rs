@@ -1,6 +1,6 @@
 //! The answers of each call that the channel makes, on one thread.
-use super::handle::{Handle, Words, code, open};
-use super::{Config, OpenError};
+use super::handle::{Handle, Words, code};
+use super::{Config, OpenError, open};
 use crate::event::Event;
 use std::mem::MaybeUninit;
 

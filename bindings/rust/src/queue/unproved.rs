@@ -4,7 +4,6 @@ use super::{Config, OpenError};
 pub use super::{Words, code, unexpected};
 use crate::event::Event;
 use std::collections::VecDeque;
-use std::iter;
 use std::sync::{Arc, Mutex, PoisonError};
 
 /// The part that the handles of a queue share.
@@ -85,8 +84,14 @@ impl Handle {
     }
 }
 
-/// Opens a queue, and gives the handles of its sides: those of the senders, and then those of each group.
-pub fn open(config: &Config, groups: u32, _words: usize) -> Result<Vec<Vec<Handle>>, OpenError> {
+/// Opens a queue, and fills the handles of its senders, and those of the groups of receivers, one group after another.
+pub fn fill(
+    config: &Config,
+    groups: u32,
+    _words: usize,
+    senders: &mut [Handle],
+    receivers: &mut [Handle],
+) -> Result<(), OpenError> {
     let capacity = config.capacity as usize;
     if !(1..=4096).contains(&capacity) {
         return Err(OpenError::Capacity);
@@ -104,17 +109,17 @@ pub fn open(config: &Config, groups: u32, _words: usize) -> Result<Vec<Vec<Handl
         items,
         taken: vec![0; groups as usize],
     }));
-    let side = |(count, group)| {
-        let handle = |_| Handle {
-            queue: Some(queue.clone()),
-            group,
-            sends: config.per_sender,
-        };
-        (0..count).map(handle).collect()
+    let of_group = |group| Handle {
+        queue: Some(queue.clone()),
+        group,
+        sends: config.per_sender,
     };
-    let receivers = (0..groups as usize).map(|group| (config.receivers, group));
-    let sides = iter::once((config.senders, 0)).chain(receivers);
-    Ok(sides.map(side).collect())
+    senders.fill_with(|| of_group(0));
+    let in_each = config.receivers as usize;
+    for (group, receivers) in receivers.chunks_mut(in_each).enumerate() {
+        receivers.fill_with(|| of_group(group));
+    }
+    Ok(())
 }
 
 /// The lock says to a sanitizer that a send comes before its take.
