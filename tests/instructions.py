@@ -5,7 +5,7 @@
 
 Time differs from machine to machine, and the number of instructions doesn't. A program makes the same calls some hundred
 times under valgrind's callgrind, and then twice as often; the difference of both counts, divided by the calls, is what one
-costs. So opening, closing and the start of the program don't count. The limits are the counts of docs/BENCH.md, plus a
+costs. So opening, closing and the start of the program don't count, but in the rows of openings. The limits are the counts of docs/BENCH.md, plus a
 hundredth, since another compiler writes other code of the crate. --print prints the counts alone.
 
 One thread makes all calls. The C program is linked with the archives that bindings/c links. The exit status
@@ -41,6 +41,11 @@ IN_RUST = {
     "after and its drop": ("", "let r = after(std::time::Duration::from_secs(100)); assert!(r.len() as u64 <= i);", 425),
     "never and its drop": ("", "let r = never::<u64>(); assert!(r.len() as u64 <= i);", 328),
 }
+# Openings with a pair and the drop, in a program of their own: what the compiler inlines into `main` changes with its rows.
+OPENINGS = {
+    f"an opening for {name}, a pair and the drop": ("", f"let (s, r) = channel::<u64>({places})?; s.send(i).unwrap(); assert_eq!(r.recv(), Ok(i));", limit)
+    for name, places, limit in (("one item", 1, 11412), ("64 items", 64, 20637))
+}
 # The pairs of the program in C: by handles, as the Rust crate makes them, by one pointer, and the calls that wait. The pointer's has 106 more: each call
 # looks for a free place, takes it by an exchange and gives it back by a store, and an item has room for four words. The calls that wait take a seat, and
 # make a call by its handle. The turns are the same.
@@ -51,7 +56,8 @@ IN_C = {
     "vahepito_call_send and vahepito_call_take": ("pointer", 657, 8),
     "vahepito_send and vahepito_take": ("waits", 682, 6),
 }
-RUST = """use vahepito::{after, channel, groups, never, select};
+RUST = """#![allow(unused_imports)]
+use vahepito::{after, channel, groups, never, select};
 
 fn main() -> Result<(), Box<dyn std::error::Error>> {
     let args: Vec<String> = std::env::args().collect();
@@ -119,10 +125,10 @@ def archives():
     return [os.path.join(folder, name) for name in ("libvahepito.a", "libvahepito_heap.a")]
 
 
-def build_rust(room):
-    """The program with a mode for each row of IN_RUST."""
-    arms = "\n        ".join(f'"{name}" => {{ {opening} for i in 0..calls {{ {calls} }} }}' for name, (opening, calls, _) in IN_RUST.items())
-    os.mkdir(os.path.join(room, "src"))
+def build_rust(room, rows):
+    """The program with a mode for each of these rows, in this folder."""
+    arms = "\n        ".join(f'"{name}" => {{ {opening} for i in 0..calls {{ {calls} }} }}' for name, (opening, calls, _) in rows.items())
+    os.makedirs(os.path.join(room, "src"))
     with open(os.path.join(room, "src", "main.rs"), "w") as file:
         file.write(RUST % arms)
     with open(os.path.join(room, "Cargo.toml"), "w") as file:
@@ -165,8 +171,10 @@ def main():
         print(f"instructions: SKIPPED: this machine has no {' and no '.join(missing)}")
         return 77
     with tempfile.TemporaryDirectory() as room:
-        rust, c = build_rust(room), build_c(room)
-        rows = [(name, [rust, name], [limit]) for name, (_, _, limit) in IN_RUST.items()]
+        c, rows = build_c(room), []
+        for part, of_part in (("calls", IN_RUST), ("openings", OPENINGS)):
+            rust = build_rust(os.path.join(room, part), of_part)
+            rows += [(name, [rust, name], [limit]) for name, (_, _, limit) in of_part.items()]
         rows += [(name, [c, mode], limits) for name, (mode, *limits) in IN_C.items()]
         counts = []
         for name, run, limits in rows:
