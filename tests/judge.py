@@ -8,7 +8,7 @@ Half of the logs are those of a real queue, half are altered; in one of two some
 refused. Some queues are closed, or have a capacity; some logs have coarse stamps or times that are far apart, are judged with a skew, begin late, or say how they end. The
 log with the number N is always the same. Without words it makes 1,500 logs, from number 0 on, and those of `RARE`. The search
 knows nothing of the program's: it tries every call that began before each call that is left had ended. `judge undecided` is a
-failure, unless only lines order calls of one thread. As many logs are of a bounded queue that holds one item too many, or is full
+failure, unless calls overlap by the skew, or meet at one time twice, where only lines order those of one thread. As many logs are of a bounded queue that holds one item too many, or is full
 though there is room: a fault that the program finds there has to leave no order of a queue with that capacity, and of a queue
 of one thread each such log has to be found. Without words it also records 80,000 calls each of this crate's channel, of
 std's, of crossbeam's and flume's where Debian's packages of them are, and of a queue with a fault, which has to be found. And
@@ -168,6 +168,12 @@ def ties_of(calls, skew):
     return ties
 
 
+def are_lone(calls, ties):
+    """Whether the two calls of each tie meet at a time, and no others at the same time."""
+    meetings = [calls[place]["begin"] for place, before in ties.items() if calls[before].get("end") == calls[place]["begin"]]
+    return len(set(meetings)) == len(ties)
+
+
 def may_fit(calls, capacity):
     """Whether at no moment more items than the queue holds were in it for certain."""
     taker = {tuple(call["take"]): call for call in calls if call.get("take")}
@@ -238,11 +244,11 @@ def has_order(calls, ties, capacity):
 STAY = re.compile(r"; (?:the item|one of the items) of (?:lines? ([\d, ]+)|a send before the log)(?:, sent before the queue was closed \(line (\d+)\))?, (?:(?:taken by|not taken before) line (\d+))?")
 
 
-def is_explained(calls, said):
+def is_explained(calls, ties, said):
     """Whether what the fault `not empty` says of its items is so: the first was sent before the take that found none began, and
-    each other one before the take of the one before it, by the times or since the queue was closed."""
+    each other one before the take of the one before it, by the times, by these ties, or since the queue was closed."""
     lines = dict(enumerate(calls, 1))
-    come_before = lambda first, second: lines[first].get("end", NEVER) < lines[second]["begin"]
+    come_before = lambda first, second: lines[first].get("end", NEVER) < lines[second]["begin"] or ties.get(second) == first
     accused = begins = int(re.match(r"judge fault: not empty: line (\d+) ", said)[1])
     for sends, closed, take in STAY.findall(said):
         timely = bool(sends) and all(come_before(int(send), begins) for send in sends.split(","))
@@ -269,8 +275,8 @@ def line_of(rng, call):
 
 
 def judged(number):
-    """The number, whether the log has an order, whether the program says the same, whether it says that it doesn't know of a log in which
-    only lines order calls, whether it says so of one with an order, and what it says."""
+    """The number, whether the log has an order, whether the program says the same, whether it says that it doesn't know of a log that
+    it need not decide, in which only lines order calls, whether it says so of one with an order, and what it says."""
     calls, capacity, skew, late, ends = log(number)
     rng = random.Random(number)
     text = ('{"begins":"late"}\n' if late else "") + "".join(line_of(rng, call) for call in calls)
@@ -298,10 +304,11 @@ def judged(number):
     same = run.stdout == clean + "\n" if right else run.stdout.startswith("judge fault: ")
     same &= run.returncode == (0 if right else 1)
     if run.stdout.startswith("judge fault: not empty: "):
-        same &= is_explained([{}] * late + wide[: len(calls)], run.stdout)
+        lines = {place + late + 1: before + late + 1 for place, before in ties.items()}
+        same &= is_explained([{}] * late + wide[: len(calls)], lines, run.stdout)
     # A fault of the capacity leaves no order of a queue with it.
     same &= possible or not ordered or not has_order(wide, ties, capacity)
-    open_tie = bool(ties) and run.stdout == "judge undecided\n"
+    open_tie = not are_lone(wide, ties) and run.stdout == "judge undecided\n"
     return number, right, same, open_tie, open_tie and right, f"{run.returncode}, {run.stdout or run.stderr}"
 
 

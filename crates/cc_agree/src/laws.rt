@@ -36,7 +36,6 @@ pub fn logs_of_runs_are_linearizable()
 {}
 
 /// No right verdict on the log of a run of the queue with one group is a fault.
-#[tactic(auto, using(crate::proofs::LogOrder::logs_of_runs_have_no_fault))]
 pub fn logs_of_runs_have_no_fault()
     ensures { LogsOfRunsHaveNoFault }
 {}

@@ -2,6 +2,7 @@ pub mod Places
 pub mod Turns
 pub mod Runs
 pub mod Orders
+pub mod Parts
 pub mod Fewer
 pub mod NoOrder
 pub mod Tables

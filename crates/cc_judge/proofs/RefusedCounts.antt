@@ -6,7 +6,8 @@ use Rattle.cc_judge.specs.Faults.{Did}
 use Rattle.cc_judge.specs.Complete.{In, Once}
 use Rattle.cc_judge.specs.Counts.{SentBy, IsLeftBy, WaitsBy, MoreLeft, AreEnough, NeverEmpty}
 use Rattle.cc_judge.specs.Refused.{call, waiting, handed}
-use Rattle.cc_judge.specs.RefusedCounts.{RefusedCounts, left, left_and_taking, filled}
+use Rattle.cc_judge.specs.Cuts.{MeetAt, MayBeCut, CutCall}
+use Rattle.cc_judge.specs.RefusedCounts.{RefusedCounts, left, left_and_taking, filled, two_meetings, first_meeting, second_meeting}
 
 -- the one call at a place
 same_call : (calls : List Call) (place : ℕ) (one other : Call) → slice_get calls place ≡ Some one → slice_get calls place ≡ Some other → one ≡ other
@@ -37,6 +38,21 @@ as_many rules m =
     let takes = at_least_one m.takes (m.all 1 (record { call = waiting 0 Act.Taking; call_is = refl; act_is = refl }, record { call = waiting 0 Act.Taking; call_is = refl; by = omega arith })) in
     let more = m.more in
     absurd (omega (arith, sends, takes, more))
+
+-- ---- cuts
+
+beside_the_later : CutCall (first_meeting ∷ []) 1 (call 5 9 (Act.Send 1)) (call 20 39 (Act.Send 1)) → ⊥
+beside_the_later cut = elim cut.begin [
+  | inl late ↦ let begins = late.1 in omega (arith, begins)
+  | inr first ↦ first.0 (0, first_meeting, refl, refl)
+]
+
+two_pairs : MayBeCut two_meetings (first_meeting ∷ second_meeting ∷ []) → ⊥
+two_pairs may =
+    let one : MeetAt two_meetings first_meeting 5 = record { one = call 0 5 (Act.Send 0); other = call 5 9 (Act.Send 1); one_is = refl; other_is = refl; ends = refl; begins = refl } in
+    let other : MeetAt two_meetings second_meeting 5 = record { one = call 1 5 (Act.Send 2); other = call 5 8 (Act.Send 3); one_is = refl; other_is = refl; ends = refl; begins = refl } in
+    let same : 0 ≡ 1 = may.alone 0 1 5 first_meeting second_meeting refl refl one other in
+    omega (arith, same)
 
 -- ---- when a send is done
 
@@ -126,6 +142,8 @@ though_taken rules l =
 pub counts_refused : RefusedCounts
 counts_refused = record {
   as_many_takes_as_items = as_many;
+  cut_beside_the_later_call = beside_the_later;
+  cut_where_two_pairs_meet = two_pairs;
   done_when_it_ended = done_when_it_ended;
   empty_at_first = empty_at_first;
   empty_at_no_time = at_no_time;

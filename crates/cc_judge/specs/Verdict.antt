@@ -5,6 +5,7 @@ use Rattle.cc_judge.specs.Order.{IsLinearizable, of_any_capacity}
 use Rattle.cc_judge.specs.Faults.{Did, Differ, Passed, NeverSent, TakenBeforeSent, TakenTwice, Reopened, ClosedEarly, NotFull, TooMany}
 use Rattle.cc_judge.specs.Counts.{TookOver, LeftBehind, NeverEmpty, EndedWithItems}
 use Rattle.cc_judge.specs.Faultless.{IsWritten}
+use Rattle.cc_judge.specs.Cuts.{AreWithoutTies, MayBeCut, IsCut}
 use Rattle.cc_judge.specs.Table.{IsIndex}
 
 -- no call took the item that the call at this place sent
@@ -46,11 +47,20 @@ Stands rules calls (Fault.ClosedEarly call) = ClosedEarly rules calls call
 Stands rules calls (Fault.NotFull call) = NotFull rules calls call
 Stands rules calls (Fault.TooMany call sends) = TooMany rules calls call sends.items
 
+-- the log has the fault, or the log has it that is cut between the calls that only their lines order
+pub record StandsInCut (rules : Rules) (calls : List Call) (fault : Fault) : Type 0 where
+  pub plain : Rules
+  pub same : AreWithoutTies rules plain
+  pub cut : List Call
+  pub may : MayBeCut calls rules.ties.items
+  pub cut_is : IsCut rules.ties.items calls cut
+  pub stands : Stands plain cut fault
+
 -- The verdict is right: a clean log has a legal order, of a queue of whatever capacity; one with a fault has the fault, and no legal
 -- order.
 abbrev pub IsVerdict : Rules → List Call → Verdict → Type 0
 IsVerdict rules calls Verdict.Clean = IsLinearizable (of_any_capacity rules) calls
-IsVerdict rules calls (Verdict.Fault fault) = Stands rules calls fault × (IsLinearizable rules calls → ⊥)
+IsVerdict rules calls (Verdict.Fault fault) = (Stands rules calls fault ⊎ StandsInCut rules calls fault) × (IsLinearizable rules calls → ⊥)
 IsVerdict rules calls Verdict.Undecided = Unit {0}
 
 -- the items of a log are below a number
@@ -58,9 +68,14 @@ pub record AreBelow (calls : List Call) (items : ℕ) : Type 0 where
   pub sent : (place item : ℕ) → Did calls place (Act.Send item) → item < items
   pub took : (place item : ℕ) → Did calls place (Act.Took item) → item < items
 
--- The verdict decides a log without ties, whose items differ and are below a number, if the log is well-formed.
+-- times order the calls of the log, or do so once the log is cut
+abbrev pub AreOrdered : Rules → List Call → Type 0
+AreOrdered rules calls = (rules.ties.items ≡ []) ⊎ MayBeCut calls rules.ties.items
+
+-- The verdict decides a well-formed log whose items differ and are below a number, if no calls are ordered only by their lines, or at
+-- most two that meet at a time.
 abbrev pub IsDecided : Rules → List Call → (items : ℕ) → Verdict → Type 0
-IsDecided rules calls items verdict = verdict ≡ Verdict.Undecided → rules.ties.items ≡ [] → Differ calls → AreBelow calls items → IsWritten calls → ⊥
+IsDecided rules calls items verdict = verdict ≡ Verdict.Undecided → AreOrdered rules calls → Differ calls → AreBelow calls items → IsWritten calls → ⊥
 
 -- an index of the log, or its verdict
 abbrev pub Indexes : Rules → List Call → Indexed → Type 0

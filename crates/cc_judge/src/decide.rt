@@ -4,6 +4,7 @@ ghost use Rattle.cc_judge.specs.Names.{Kind, Rules, Verdict, Fault};
 ghost use Rattle.cc_judge.specs.Table.{IsIndex, Twice};
 ghost use Rattle.cc_judge.specs.Faults.{Differ};
 ghost use Rattle.cc_judge.specs.Complete.{LogsWithoutFaultsHaveOrders};
+ghost use Rattle.cc_judge.specs.Cuts.{MayBeCut, IsCut};
 ghost use Rattle.cc_judge.specs.Faultless.{IsWritten, NoFault};
 ghost use Rattle.cc_judge.specs.Late.{
   LateLogsAreLinearizable,
@@ -11,10 +12,11 @@ ghost use Rattle.cc_judge.specs.Late.{
   WindowsAreLinearizable,
 };
 ghost use Rattle.cc_judge.specs.Sweeps.{AreLists, IsShutAt, MayBeEmpty};
-ghost use Rattle.cc_judge.specs.Verdict.{IsVerdict, IsDecided, IsDecidedBy, Stands, Indexes, FaultsHaveNoOrder};
+ghost use Rattle.cc_judge.specs.Verdict.{IsVerdict, AreOrdered, IsDecided, IsDecidedBy, Stands, Indexes, FaultsHaveNoOrder};
 
 use crate::closing::close_fault;
 use crate::crowd::{Crowded, not_full, too_many};
+use crate::cutting::{cut_of, without_ties};
 use crate::faults::Index;
 use crate::lists::{Lists, lists_of};
 use crate::nones::{first_none, stays_of};
@@ -255,41 +257,89 @@ fn room_fault(alloc: Global, rules: &Rules, view: &View<'_>) -> Result<Option<Fa
     }
 }
 
-/// The verdict if this fault was found.
-fn verdict_of(rules: &Rules, calls: &[Call], index: &Index, fault: Fault) -> Verdict
+/// The fault of a log, if it has one that doesn't rest on ties. Of a queue of a capacity two more are sought: a send found the queue
+/// full that can't have been, or the queue held too many items.
+fn found_of(
+    alloc: Global,
+    rules: &Rules,
+    calls: &[Call],
+    index: &Index,
+) -> Result<Option<Fault>, AllocError>
     requires index { IsIndex calls.now index.now }
-    requires stands { Stands rules.now calls.now fault }
-    ensures right { IsVerdict rules.now calls.now result }
-    ensures decided { result ≡ Verdict.Undecided → ⊥ }
+    requires written { IsWritten calls.now }
+    ensures some { IfOk result (λ found. IfSome found (Stands rules.now calls.now)) }
+    ensures none { IfOk result (λ found. IfNone found (NoFault rules.now calls.now)) }
 {
-    Verdict::Fault(fault)
+    if let Some(fault) = fault_of(alloc, rules, calls, index)? {
+        return Ok(Some(fault));
+    }
+    let ranks = ranks_of(alloc, calls)?;
+    room_fault(
+        alloc,
+        rules,
+        &view_of(rules, calls, index, ranks.as_slice()),
+    )
 }
 
-/// The verdict on a log with ties that has no fault which needs none of them: an order is sought, and checked.
-fn sought(alloc: Global, rules: &Rules, view: &View<'_>) -> Result<Verdict, AllocError>
-    ensures right { IfOk result (IsVerdict rules.now view.now.calls.now) }
+/// The verdict on a log that its times order.
+fn timed(alloc: Global, rules: &Rules, calls: &[Call], index: &Index) -> Result<Verdict, AllocError>
+    requires index { IsIndex calls.now index.now }
+    requires written { IsWritten calls.now }
+    requires none { rules.now.ties.items ≡ [] }
+    ensures right { IfOk result (IsVerdict rules.now calls.now) }
+    ensures decided { IfOk result (λ verdict. verdict ≡ Verdict.Undecided → ⊥) }
 {
-    let shares = share(alloc, view)?;
-    let Sought { order, stuck } = seek(alloc, view, &shares)?;
-    if stuck.is_none() && is_order(alloc, rules, view.calls, order.as_slice())? {
+    match found_of(alloc, rules, calls, index)? {
+        Some(fault) => Ok(Verdict::Fault(fault)),
+        None => Ok(Verdict::Clean),
+    }
+}
+
+/// The verdict on a log that was cut.
+fn cut_up(
+    alloc: Global,
+    rules: &Rules,
+    calls: &[Call],
+    cut: &[Call],
+    index: &Index,
+) -> Result<Verdict, AllocError>
+    requires index { IsIndex calls.now index.now }
+    requires written { IsWritten calls.now }
+    requires may { MayBeCut calls.now rules.now.ties.items }
+    requires cut { IsCut rules.now.ties.items calls.now cut.now }
+    ensures right { IfOk result (IsVerdict rules.now calls.now) }
+    ensures decided { IfOk result (λ verdict. verdict ≡ Verdict.Undecided → ⊥) }
+{
+    match found_of(alloc, &without_ties(alloc, rules), cut, index)? {
+        Some(fault) => Ok(Verdict::Fault(fault)),
+        None => Ok(Verdict::Clean),
+    }
+}
+
+/// The verdict on a log in which only their lines order more than two calls that meet at a time: a fault that doesn't rest on ties, or
+/// an order that is sought, and checked.
+fn sought(
+    alloc: Global,
+    rules: &Rules,
+    calls: &[Call],
+    index: &Index,
+) -> Result<Verdict, AllocError>
+    requires index { IsIndex calls.now index.now }
+    requires written { IsWritten calls.now }
+    ensures { IfOk result (IsVerdict rules.now calls.now) }
+{
+    if let Some(fault) = found_of(alloc, rules, calls, index)? {
+        return Ok(Verdict::Fault(fault));
+    }
+    let ranks = ranks_of(alloc, calls)?;
+    let view = view_of(rules, calls, index, ranks.as_slice());
+    let shares = share(alloc, &view)?;
+    let Sought { order, stuck } = seek(alloc, &view, &shares)?;
+    if stuck.is_none() && is_order(alloc, rules, calls, order.as_slice())? {
         Ok(Verdict::Clean)
     } else {
         Ok(Verdict::Undecided)
     }
-}
-
-/// The verdict on a log of a queue of whatever capacity, that has no fault but of ties.
-fn ordered(alloc: Global, rules: &Rules, view: &View<'_>) -> Result<Verdict, AllocError>
-    requires index { IsIndex view.now.calls.now view.now.index.now }
-    requires written { IsWritten view.now.calls.now }
-    requires fine { NoFault rules.now view.now.calls.now }
-    ensures right { IfOk result (IsVerdict rules.now view.now.calls.now) }
-    ensures decided { IfOk result (λ v. v ≡ Verdict.Undecided → rules.now.ties.items ≡ [] → ⊥) }
-{
-    if rules.ties.is_empty() {
-        return Ok(Verdict::Clean);
-    }
-    sought(alloc, rules, view)
 }
 
 /// The verdict on a log that has this index.
@@ -302,26 +352,24 @@ fn verdict_by(
     requires index { IsIndex calls.now index.now }
     requires written { IsWritten calls.now }
     ensures right { IfOk result (IsVerdict rules.now calls.now) }
-    ensures decided { IfOk result (λ v. v ≡ Verdict.Undecided → rules.now.ties.items ≡ [] → ⊥) }
+    ensures decided { IfOk result (λ verdict. verdict ≡ Verdict.Undecided → AreOrdered rules.now calls.now → ⊥) }
 {
-    if let Some(fault) = fault_of(alloc, rules, calls, index)? {
-        return Ok(verdict_of(rules, calls, index, fault));
+    if rules.ties.is_empty() {
+        return timed(alloc, rules, calls, index);
     }
-    let ranks = ranks_of(alloc, calls)?;
-    let view = view_of(rules, calls, index, ranks.as_slice());
-    match room_fault(alloc, rules, &view)? {
-        Some(fault) => Ok(verdict_of(rules, calls, index, fault)),
-        None => ordered(alloc, rules, &view),
+    match cut_of(alloc, rules, calls)? {
+        Some(cut) => cut_up(alloc, rules, calls, cut.as_slice(), index),
+        None => sought(alloc, rules, calls, index),
     }
 }
 
 /// The verdict on a log whose items are below `items`. It takes memory in proportion to the log, and O(n log n) if few calls are under
 /// way at a time.
 ///
-/// A log without ties is decided, with closes and calls that haven't returned: it has a legal order exactly if it has none of the
-/// faults (after Henzinger, Sezgin and Vafeiadis, CONCUR 2013, for calls that all returned and take no moment's emptiness). With ties
-/// the verdict may be undecided. Of a capacity two faults are judged: a send found the queue full that can't have been, or the queue
-/// held too many items.
+/// A log is decided, with closes and calls that haven't returned, if at most one tie meets at each time, and with ties the times are
+/// below 2^62: the log has a legal order exactly if it has none of the faults (after Henzinger, Sezgin and Vafeiadis, CONCUR 2013, for
+/// calls that all returned and take no moment's emptiness). With more ties at a time the verdict may be undecided. Of a capacity two
+/// faults are judged: a send found the queue full that can't have been, or the queue held too many items.
 pub fn judge(
     alloc: Global,
     rules: &Rules,

@@ -10,6 +10,7 @@ mod clauses;
 mod closing;
 mod counts;
 mod crowd;
+mod cutting;
 mod decide;
 mod faults;
 mod inside;

@@ -1,0 +1,308 @@
+-- A log that is cut between calls that only their lines order: how the parts of times are found, and what holds of the cut log.
+use Rattle.std.proofs.Common.{◌≡◌, ◌≢◌, ℕ, zero, suc, ◌+◌, ◌*◌, ◌<◌, ◌≤◌, ◌⊎◌, inl, inr, Bool, true, false, List, [], ◌∷◌, ◌++◌, length, Option, Some, None, IsSome, refl, sym, ap, ◌∙◌, subst, arith}
+use Rattle.std.specs.List.{slice_get, slice_set}
+use Rattle.std.proofs.lemmas.Bool.{cases_lt}
+use Rattle.std.proofs.lemmas.Option.{slice_get_within}
+use Rattle.cc_judge.specs.Names.{Act, Call, Fault, Index, Kind, Rules, Tie, Verdict}
+use Rattle.cc_judge.specs.Order.{of_any_capacity}
+use Rattle.cc_judge.specs.Faults.{Did}
+use Rattle.cc_judge.specs.Table.{IsTable, IsIndex, act_of}
+use Rattle.cc_judge.specs.Faultless.{IsWritten, NoFault}
+use Rattle.cc_judge.specs.Sweeps.{AreSorted}
+use Rattle.cc_judge.specs.Cuts.{IsEarlier, IsLater, MeetAt, AreLone, AreMeetings, AreApart, AreShort, MayBeCut, AreMarked, CutBy, CutCall, IsCut, AreWithoutTies, begin_part, end_part, place_of}
+use Rattle.cc_judge.specs.Verdict.{Stands, IsVerdict}
+use Rattle.cc_judge.proofs.Turns.{nat_cases, set_at, set_elsewhere}
+use Rattle.cc_judge.proofs.Shares.{end_cases}
+use Rattle.cc_judge.proofs.Cuts.{cut_logs_are_exact, none_some, some_is, one_end, one_call}
+use Rattle.cc_judge.proofs.Listing.{ListOf, rises, at_pushed, last_pushed}
+use Rattle.cc_judge.proofs.NoOrder.{differ, no_order}
+use Rattle.cc_judge.proofs.Faultless.{faultless_logs_have_orders}
+
+less_or : (k i : ℕ) → k < i + 1 → (k < i) ⊎ (k ≡ i)
+less_or k i below = elim (cases_lt k i) [ inl less ↦ inl less | inr not_less ↦ inr (omega (arith, below, not_less)) ]
+
+-- ---- a sorted list of times
+
+abbrev pub ApartTo : List (ℕ × ℕ) → ℕ → Type 0
+ApartTo list i = (j k time x y : ℕ) → j < i → k < i → slice_get list j ≡ Some (time, x) → slice_get list k ≡ Some (time, y) → j ≡ k
+
+pub apart_first : (list : List (ℕ × ℕ)) → ApartTo list 1
+apart_first list j k time x y below under j_is k_is = omega (arith, below, under)
+
+first_is : {X Y : Type 0} (e f : X × Y) → Some e ≡ Some f → e.0 ≡ f.0
+first_is e f both = let same : e ≡ f = cc in ap (λ g. g.0) same
+
+second_is : {X Y : Type 0} (e f : X × Y) → Some e ≡ Some f → e.1 ≡ f.1
+second_is e f both = let same : e ≡ f = cc in ap (λ g. g.1) same
+
+-- two entries, one behind the other
+module _ (list : List (ℕ × ℕ)) (l p : ℕ) (next : l + 1 ≡ p) (e f : ℕ × ℕ) (e_is : slice_get list l ≡ Some e) (f_is : slice_get list p ≡ Some f) where
+  -- a time that isn't the one before it is past all before
+  past_all : (j time x y : ℕ) → AreSorted list → e.0 ≢ time → j < p → slice_get list j ≡ Some (time, x) → slice_get list p ≡ Some (time, y) → ⊥
+  past_all j time x y sorted new less j_is i_is =
+      let low : time ≤ e.0 = rises (λ (e : ℕ × ℕ). e.0) list j l (time, x) e sorted (omega (arith, less, next)) j_is e_is in
+      let high : e.0 ≤ time = rises (λ (e : ℕ × ℕ). e.0) list l p e (time, y) sorted (omega (arith, next)) e_is i_is in
+      new (omega (arith, low, high))
+
+  pub apart_more : AreSorted list → e.0 ≢ f.0 → ApartTo list p → ApartTo list (p + 1)
+  apart_more sorted new so_far j k t y z below under j_is k_is = elim (less_or k p under) [
+    | inl before ↦ elim (less_or j p below) [
+      | inl too ↦ so_far j k t y z too before j_is k_is
+      | inr at ↦ absurd (clash k t z y before k_is (sym (ap (slice_get list) at) ∙ j_is))
+    ]
+    | inr at ↦ elim (less_or j p below) [
+      | inl before ↦ absurd (clash j t y z before j_is (sym (ap (slice_get list) at) ∙ k_is))
+      | inr too ↦ too ∙ sym at
+    ]
+  ]
+    where
+      clash : (j t y z : ℕ) → j < p → slice_get list j ≡ Some (t, y) → slice_get list p ≡ Some (t, z) → ⊥
+      clash j t y z before j_is i_is = past_all j t y z sorted (subst (λ (n : ℕ). e.0 ≢ n) (first_is f (t, z) (sym f_is ∙ i_is)) new) before j_is i_is
+
+  pub not_apart : e.0 ≡ f.0 → AreApart list → ⊥
+  not_apart same apart =
+      let clash = apart l p f.0 e.1 f.1 (subst (λ (n : ℕ). slice_get list l ≡ Some (n, e.1)) same e_is) f_is in
+      omega (arith, clash, next)
+
+pub apart_all : (list : List (ℕ × ℕ)) (i : ℕ) → length list ≤ i → ApartTo list i → AreApart list
+apart_all list i end so_far j k time x y j_is k_is = so_far j k time x y (let less = slice_get_within list j (time, x) j_is in omega (arith, less, end)) (let less = slice_get_within list k (time, y) k_is in omega (arith, less, end)) j_is k_is
+
+-- ---- the times at which calls meet
+
+abbrev pub MeetsAt : List Call → List Tie → ℕ → Option ℕ → Type 0
+MeetsAt calls ties i None = ⊥
+MeetsAt calls ties i (Some time) = (tie : Tie) × (slice_get ties i ≡ Some tie) × (tie.earlier ≢ tie.later) × MeetAt calls tie time
+
+pub are_meetings : (calls : List Call) (ties : List Tie) (list : List (ℕ × ℕ)) → AreSorted list → ListOf (MeetsAt calls ties) list (length ties) → AreMeetings calls ties list
+are_meetings calls ties list sorted of = record {
+  sorted = sorted;
+  each = λ k time i is. let m = of.each k time i is in (m.0, m.1, m.3);
+  all = λ i tie is. elim (of.all i (slice_get_within ties i tie is)) [
+    | inl none ↦ absurd none
+    | inr at ↦
+        let m = of.each at.0 at.1 i at.2 in
+        let both : Some m.0 ≡ Some tie = sym m.1 ∙ is in
+        let same : m.0 ≡ tie = cc in
+        (subst (λ (t : Tie). t.earlier ≢ t.later) same m.2, at.0, at.1, at.2, subst (λ (t : Tie). MeetAt calls t at.1) same m.3)
+  ];
+  once = of.apart;
+}
+
+pub may_be_cut : (calls : List Call) (ties : List Tie) (list : List (ℕ × ℕ)) → AreShort calls → AreMeetings calls ties list → AreApart list → MayBeCut calls ties
+may_be_cut calls ties list short m apart = record {
+  short = short;
+  meet = λ i tie is. let a = m.all i tie is in (a.0, a.2, a.4);
+  alone = λ i j time tie other i_is j_is one two.
+      let a = m.all i tie i_is in
+      let b = m.all j other j_is in
+      let at = one_time calls tie a.2 time a.4 one in
+      let too = one_time calls other b.2 time b.4 two in
+      let at_is : slice_get list a.1 ≡ Some (time, i) = a.3 ∙ ap (λ (n : ℕ). Some (n, i)) at in
+      let too_is : slice_get list b.1 ≡ Some (time, j) = b.3 ∙ ap (λ (n : ℕ). Some (n, j)) too in
+      let same = apart a.1 b.1 time i j at_is too_is in
+      second_is (time, i) (time, j) (sym at_is ∙ ap (slice_get list) same ∙ too_is);
+}
+  where
+    one_time : (calls : List Call) (tie : Tie) (t u : ℕ) → MeetAt calls tie t → MeetAt calls tie u → t ≡ u
+    one_time calls tie t u m n = sym m.begins ∙ ap (λ (c : Call). c.begin) (one_call calls tie.later m.other n.other m.other_is n.other_is) ∙ n.begins
+
+pub must_be_apart : (calls : List Call) (ties : List Tie) (list : List (ℕ × ℕ)) → AreMeetings calls ties list → MayBeCut calls ties → AreApart list
+must_be_apart calls ties list m may j k time x y j_is k_is =
+    let a = m.each j time x j_is in
+    let b = m.each k time y k_is in
+    let same = may.alone x y time a.0 b.0 a.1 b.1 a.2 b.2 in
+    m.once j k time time y (j_is ∙ ap (λ (n : ℕ). Some (time, n)) same) k_is
+
+-- ---- marks
+
+pub record MarkedTo (ties : List Tie) (later : Bool) (marks : List Bool) (upto : ℕ) : Type 0 where
+  pub marked : (place : ℕ) → slice_get marks place ≡ Some true → (i : ℕ) × (tie : Tie) × (slice_get ties i ≡ Some tie) × (place_of later tie ≡ place)
+  pub others : (place i : ℕ) (tie : Tie) → i < upto → slice_get marks place ≡ Some false → slice_get ties i ≡ Some tie → place_of later tie ≢ place
+
+pub set_long : {X : Type 0} (xs : List X) (k : ℕ) (x : X) → length (slice_set xs k x) ≡ length xs
+set_long [] k x = refl
+set_long (y ∷ xs) zero x = refl
+set_long (y ∷ xs) (suc k) x = ap suc (set_long xs k x)
+
+pub marks_all : (ties : List Tie) (later : Bool) (marks : List Bool) (i : ℕ) → length ties ≤ i → MarkedTo ties later marks i → AreMarked ties later marks
+marks_all ties later marks i end so_far = record {
+  marked = so_far.marked;
+  others = λ place k tie is tie_is. so_far.others place k tie (let less = slice_get_within ties k tie tie_is in omega (arith, less, end)) is tie_is;
+}
+
+pub mark_out : (ties : List Tie) (later : Bool) (marks : List Bool) (i : ℕ) (tie : Tie) → slice_get ties i ≡ Some tie → length marks ≤ place_of later tie → MarkedTo ties later marks i → MarkedTo ties later marks (i + 1)
+mark_out ties later marks i tie is out so_far = record {
+  marked = so_far.marked;
+  others = λ place k other below no k_is. elim (less_or k i below) [
+    | inl less ↦ so_far.others place k other less no k_is
+    | inr here ↦ λ at.
+        let within = slice_get_within marks place false no in
+        let both : Some other ≡ Some tie = sym k_is ∙ ap (slice_get ties) here ∙ is in
+        let same : other ≡ tie = cc in
+        let place_is : place_of later tie ≡ place = ap (place_of later) (sym same) ∙ at in
+        omega (arith, within, out, place_is)
+  ];
+}
+
+pub mark_in : (ties : List Tie) (later : Bool) (marks : List Bool) (i : ℕ) (tie : Tie) → slice_get ties i ≡ Some tie → (had : Bool) → slice_get marks (place_of later tie) ≡ Some had → MarkedTo ties later marks i → MarkedTo ties later (slice_set marks (place_of later tie) true) (i + 1)
+mark_in ties later marks i tie is had had_is so_far = record {
+  marked = λ place yes. elim (nat_cases (place_of later tie) place) [
+    | inl here ↦ (i, tie, is, here)
+    | inr other ↦ so_far.marked place (sym (set_elsewhere marks (place_of later tie) place true (λ same. other (sym same))) ∙ yes)
+  ];
+  others = λ place k other below no k_is at. elim (nat_cases (place_of later tie) place) [
+    | inl here ↦
+        let both : Some true ≡ Some false = sym (set_at marks (place_of later tie) had true had_is) ∙ ap (slice_get (slice_set marks (place_of later tie) true)) here ∙ no in
+        absurd (cc (both))
+    | inr apart ↦ elim (less_or k i below) [
+      | inl less ↦ so_far.others place k other less (sym (set_elsewhere marks (place_of later tie) place true (λ same. apart (sym same))) ∙ no) k_is at
+      | inr here ↦
+          let both : Some other ≡ Some tie = sym k_is ∙ ap (slice_get ties) here ∙ is in
+          let same : other ≡ tie = cc in
+          apart (ap (place_of later) (sym same) ∙ at)
+    ]
+  ];
+}
+
+pub lone : (calls : List Call) (ties : List Tie) → MayBeCut calls ties → AreLone calls ties
+lone calls ties may = record {
+  meet = λ i tie is. let m = may.meet i tie is in (m.1, m.2);
+  lone = λ i j time tie other i_is j_is one two.
+      let same = may.alone i j time tie other i_is j_is one two in
+      let both : Some tie ≡ Some other = sym i_is ∙ ap (slice_get ties) same ∙ j_is in
+      let ties_are : tie ≡ other = cc in
+      (ap (λ (t : Tie). t.earlier) ties_are, ap (λ (t : Tie). t.later) ties_are);
+}
+
+-- ---- the cut calls
+
+pub record CutTo (ties : List Tie) (calls cut : List Call) (upto : ℕ) : Type 0 where
+  pub long : length cut ≡ upto
+  pub each : (k : ℕ) (c : Call) → k < upto → slice_get calls k ≡ Some c → (d : Call) × (slice_get cut k ≡ Some d) × CutCall ties k c d
+
+pub cut_so : (ties : List Tie) (place : ℕ) (earlier later : List Bool) (e l : Bool) (c d : Call) → AreMarked ties false earlier → AreMarked ties true later → slice_get earlier place ≡ Some e → slice_get later place ≡ Some l → CutBy e l c d → CutCall ties place c d
+cut_so ties place earlier later e l c d early late e_is l_is by = record {
+  act = by.act;
+  begin = begins l l_is by.begin;
+  open_end = by.open_end;
+  end = λ time is. ends e e_is time (by.end time is);
+}
+  where
+    begins : (l : Bool) → slice_get later place ≡ Some l → d.begin ≡ 4 * c.begin + begin_part l → (IsLater ties place × (d.begin ≡ 4 * c.begin + 2)) ⊎ ((IsLater ties place → ⊥) × (d.begin ≡ 4 * c.begin))
+    begins true is at = inl (late.marked place is, at)
+    begins false is at = inr (λ x. late.others place x.0 x.1 is x.2 x.3, omega (arith, at))
+
+    ends : (e : Bool) → slice_get earlier place ≡ Some e → (time : ℕ) → d.end ≡ Some (4 * time + end_part e) → (IsEarlier ties place × (d.end ≡ Some (4 * time + 1))) ⊎ ((IsEarlier ties place → ⊥) × (d.end ≡ Some (4 * time + 3)))
+    ends true is time at = inl (early.marked place is, at)
+    ends false is time at = inr (λ x. early.others place x.0 x.1 is x.2 x.3, at)
+
+pub cut_more : (ties : List Tie) (calls cut : List Call) (i : ℕ) (c d : Call) → slice_get calls i ≡ Some c → CutCall ties i c d → CutTo ties calls cut i → CutTo ties calls (cut ++ d ∷ []) (i + 1)
+cut_more ties calls cut i c d is so so_far = record {
+  long = longer cut ∙ omega (arith, so_far.long);
+  each = λ k x below k_is. elim (less_or k i below) [
+    | inl less ↦ let had = so_far.each k x less k_is in (had.0, at_pushed cut d had.0 k had.1, had.2)
+    | inr here ↦ (
+      d,
+      ap (slice_get (cut ++ d ∷ [])) (here ∙ sym so_far.long) ∙ last_pushed cut d,
+      subst (λ (n : ℕ). CutCall ties n x d) (sym here) (subst (λ (y : Call). CutCall ties i y d) (one_call calls i c x is (sym (ap (slice_get calls) here) ∙ k_is)) so),
+    )
+  ];
+}
+  where
+    longer : (xs : List Call) → length (xs ++ d ∷ []) ≡ length xs + 1
+    longer [] = refl
+    longer (x ∷ xs) = let more = longer xs in omega (arith, more)
+
+slice_has : {X : Type 0} (xs : List X) (k : ℕ) → k < length xs → (x : X) × (slice_get xs k ≡ Some x)
+slice_has [] k less = absurd (omega (arith, less))
+slice_has (x ∷ xs) zero less = (x, refl)
+slice_has (x ∷ xs) (suc k) less = slice_has xs k (omega (arith, less))
+
+pub is_cut : (ties : List Tie) (calls cut : List Call) (i : ℕ) → i ≡ length calls → CutTo ties calls cut i → IsCut ties calls cut
+is_cut ties calls cut i end so_far = record {
+  there = λ k c is. so_far.each k c (let less = slice_get_within calls k c is in omega (arith, less, end)) is;
+  back = λ k d is.
+      let less = slice_get_within cut k d is in
+      let long = so_far.long in
+      let c = slice_has calls k (omega (arith, less, long, end)) in
+      let had = so_far.each k c.0 (omega (arith, less, long)) c.1 in
+      (c.0, c.1, subst (CutCall ties k c.0) (one_call cut k had.0 d had.1 is) had.2);
+}
+
+-- ---- what holds of the cut log
+
+module _ (ties : List Tie) (calls cut : List Call) (may : MayBeCut calls ties) (k : IsCut ties calls cut) where
+  did_cut : (place : ℕ) (act : Act) → Did calls place act → Did cut place act
+  did_cut place act did = let d = k.there place did.call did.call_is in record { call = d.0; call_is = d.1; act_is = d.2.act ∙ did.act_is }
+
+  did_whole : (place : ℕ) (act : Act) → Did cut place act → Did calls place act
+  did_whole place act did = let c = k.back place did.call did.call_is in record { call = c.0; call_is = c.1; act_is = sym c.2.act ∙ did.act_is }
+
+  table_cut : (kind : Kind) (table : List (Option ℕ)) → IsTable calls kind table → IsTable cut kind table
+  table_cut kind table is = record {
+    all = λ place item did. is.all place item (did_whole place (act_of kind item) did);
+    each = λ place item had. did_cut place (act_of kind item) (is.each place item had);
+  }
+
+  pub index_cut : (index : Index) → IsIndex calls index → IsIndex cut index
+  index_cut index is = record { sends = table_cut Kind.Send index.sends.items is.sends; takes = table_cut Kind.Take index.takes.items is.takes }
+
+  cut_some : (place : ℕ) (c d : Call) → CutCall ties place c d → IsSome c.end → IsSome d.end
+  cut_some place c d so some = elim (end_cases c.end) [
+    | inr open_end ↦ absurd (none_some c.end open_end some)
+    | inl e ↦ elim (so.end e.0 e.1) [ inl tied ↦ some_is d.end (4 * e.0 + 1) tied.1 | inr free ↦ some_is d.end (4 * e.0 + 3) free.1 ]
+  ]
+
+  -- a call doesn't meet itself
+  not_both : (place time : ℕ) (c : Call) → slice_get calls place ≡ Some c → c.begin ≡ time → c.end ≡ Some time → IsEarlier ties place → IsLater ties place → ⊥
+  not_both place time c is begins ends (i, one, one_is, earlier) (j, other, other_is, later) =
+      let m = may.meet i one one_is in
+      let n = may.meet j other other_is in
+      let first = one_call calls place m.2.one c (ap (slice_get calls) (sym earlier) ∙ m.2.one_is) is in
+      let second = one_call calls place n.2.other c (ap (slice_get calls) (sym later) ∙ n.2.other_is) is in
+      let m_time : m.1 ≡ time = one_end c.end m.1 time (ap (λ (x : Call). x.end) (sym first) ∙ m.2.ends) ends in
+      let n_time : n.1 ≡ time = sym n.2.begins ∙ ap (λ (x : Call). x.begin) second ∙ begins in
+      let same = may.alone i j time one other one_is other_is (subst (MeetAt calls one) m_time m.2) (subst (MeetAt calls other) n_time n.2) in
+      let both : Some one ≡ Some other = sym one_is ∙ ap (slice_get ties) same ∙ other_is in
+      let ties_are : one ≡ other = cc in
+      m.0 (earlier ∙ sym later ∙ sym (ap (λ (t : Tie). t.later) ties_are))
+
+  timed_cut : (place : ℕ) (c d : Call) (e : ℕ) → slice_get calls place ≡ Some c → CutCall ties place c d → ((f : ℕ) → c.end ≡ Some f → c.begin ≤ f) → d.end ≡ Some e → d.begin ≤ e
+  timed_cut place c d e is so timed ends = elim (end_cases c.end) [
+    | inr open_end ↦ absurd (none_some d.end (so.open_end open_end) (some_is d.end e ends))
+    | inl f ↦
+        let le = timed f.0 f.1 in
+        elim (so.end f.0 f.1) [
+          | inr free ↦ let e_is = one_end d.end e (4 * f.0 + 3) ends free.1 in elim so.begin [ inl late ↦ let b_is = late.1 in omega (arith, le, e_is, b_is) | inr first ↦ let b_is = first.1 in omega (arith, le, e_is, b_is) ]
+          | inl tied ↦ let e_is = one_end d.end e (4 * f.0 + 1) ends tied.1 in elim so.begin [
+            | inr first ↦ let b_is = first.1 in omega (arith, le, e_is, b_is)
+            | inl late ↦ let b_is = late.1 in elim (cases_lt c.begin f.0) [
+              | inl less ↦ omega (arith, less, e_is, b_is)
+              | inr not_less ↦ let same : c.begin ≡ f.0 = omega (arith, le, not_less) in absurd (not_both place f.0 c is same f.1 tied.0 late.0)
+            ]
+          ]
+        ]
+  ]
+
+  pub written_cut : IsWritten calls → IsWritten cut
+  written_cut written = record {
+    timed = λ place d e is ends. let c = k.back place d is in timed_cut place c.0 d e c.1 c.2 (λ f f_is. written.timed place c.0 f c.1 f_is) ends;
+    waits = λ place did. let c = k.back place did.call did.call_is in c.2.open_end (written.waits place (record { call = c.0; call_is = c.1; act_is = sym c.2.act ∙ did.act_is }));
+    took = λ place item did. let c = k.back place did.call did.call_is in cut_some place c.0 did.call c.2 (written.took place item (record { call = c.0; call_is = c.1; act_is = sym c.2.act ∙ did.act_is }));
+    ended = λ place did. let c = k.back place did.call did.call_is in cut_some place c.0 did.call c.2 (written.ended place (record { call = c.0; call_is = c.1; act_is = sym c.2.act ∙ did.act_is }));
+  }
+
+-- ---- verdicts
+
+pub fault_so : (rules : Rules) (calls : List Call) (index : Index) (fault : Fault) → IsIndex calls index → Stands rules calls fault → IsVerdict rules calls (Verdict.Fault fault)
+fault_so rules calls index fault indexed stands = (inl stands, no_order rules calls fault (differ calls index.sends.items indexed.sends) stands)
+
+module _ (rules plain : Rules) (calls cut : List Call) (index : Index) (indexed : IsIndex calls index) (written : IsWritten calls) (may : MayBeCut calls rules.ties.items) (k : IsCut rules.ties.items calls cut) (same : AreWithoutTies rules plain) where
+  pub cut_fault : (fault : Fault) → Stands plain cut fault → IsVerdict rules calls (Verdict.Fault fault)
+  cut_fault fault stands = (
+    inr (record { plain = plain; same = same; cut = cut; may = may; cut_is = k; stands = stands }),
+    λ order. no_order plain cut fault (differ cut index.sends.items (index_cut rules.ties.items calls cut may k index indexed).sends) stands (cut_logs_are_exact.exact rules plain calls cut same (lone calls rules.ties.items may) k order),
+  )
+
+  pub cut_clean : NoFault plain cut → IsVerdict rules calls Verdict.Clean
+  cut_clean fine = cut_logs_are_exact.sound (of_any_capacity rules) (of_any_capacity plain) calls cut (record { capacity = refl; closes = same.closes; none = same.none }) (lone calls rules.ties.items may) k (faultless_logs_have_orders plain cut same.none (differ cut index.sends.items (index_cut rules.ties.items calls cut may k index indexed).sends) (written_cut rules.ties.items calls cut may k written) fine)
