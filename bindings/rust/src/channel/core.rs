@@ -496,7 +496,7 @@ impl<T> Core<T> {
 
     /// Whether there are items that this group hasn't taken, when the channel is closed and the group has lost its receivers.
     fn has_left(&self, group: usize) -> bool {
-        // Whoever has a seat may have to count its item.
+        // A thread that has a seat may have to count its item.
         self.senders.seats.wait_for_holders();
         let taken = self.side(group).seats.count();
         self.rendezvous.is_some() || taken < self.senders.seats.count()

@@ -274,7 +274,7 @@ impl Pool {
         wait(&self.free, FOR_OWN_SIDE, None, first_free).expect("it waits without end")
     }
 
-    /// All seats. Whoever comes to the end of the others knows those that were added before it came to the first one.
+    /// All seats. A caller that comes to the end of the others knows those that were added before it came to the first one.
     fn seats(&self) -> impl Iterator<Item = &Seat> {
         let others = iter::once_with(|| self.others()).flatten().map(|it| &it.0);
         iter::once(&self.first).chain(others)
@@ -288,7 +288,7 @@ impl Pool {
     /// Waits until each seat was free once. So whoever had a seat has counted what went through it; and whoever takes a seat after
     /// that sees what this thread did before.
     ///
-    /// It looks for the other seats after it saw the first one free. Who adds seats has the first one meanwhile. So a seat that
+    /// It looks for the other seats after it saw the first one free. A thread that adds seats has the first one meanwhile. So a seat that
     /// isn't looked at was added later, and what went through it came later.
     #[inline]
     pub fn wait_for_holders(&self) {
