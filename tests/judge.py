@@ -174,6 +174,18 @@ def are_lone(calls, ties):
     return len(set(meetings)) == len(ties)
 
 
+def cut(calls, ties):
+    """The calls with each time in four parts, so that the times order the two calls of a tie, if no others meet at their time."""
+    if not are_lone(calls, ties):
+        return calls
+    earlier = set(ties.values())
+    parts = [{**call, "begin": 4 * call["begin"] + 2 * (place in ties)} for place, call in enumerate(calls)]
+    for place, call in enumerate(parts):
+        if "end" in call:
+            call["end"] = 4 * call["end"] + (1 if place in earlier else 3)
+    return parts
+
+
 def may_fit(calls, capacity):
     """Whether at no moment more items than the queue holds were in it for certain."""
     taker = {tuple(call["take"]): call for call in calls if call.get("take")}
@@ -292,10 +304,11 @@ def judged(number):
     full = 0 if capacity else answers.count("full")
     closed = 0 if closes else answers.count("closed")
     ordered = has_order(wide, ties, None)
+    parts = cut(wide, ties)
     possible = not capacity or all(
-        may_be_full(wide, call, capacity) for call in wide if call.get("answer") == "full" and "end" in call
+        may_be_full(parts, call, capacity) for call in parts if call.get("answer") == "full" and "end" in call
     )
-    possible &= not capacity or may_fit(wide, capacity)
+    possible &= not capacity or may_fit(parts, capacity)
     right = ordered and possible
     clean = f"judge clean: {len(calls) - answers.count('full') - closed} calls have a legal order, {full + closed} not judged"
     clean += f": {full} full, {closed} closed" * bool(full + closed)
@@ -304,7 +317,7 @@ def judged(number):
     same = run.stdout == clean + "\n" if right else run.stdout.startswith("judge fault: ")
     same &= run.returncode == (0 if right else 1)
     if run.stdout.startswith("judge fault: not empty: "):
-        lines = {place + late + 1: before + late + 1 for place, before in ties.items()}
+        lines = {place + late + 1: before + late + 1 for place, before in ties.items()} if are_lone(wide, ties) else {}
         same &= is_explained([{}] * late + wide[: len(calls)], lines, run.stdout)
     # A fault of the capacity leaves no order of a queue with it.
     same &= possible or not ordered or not has_order(wide, ties, capacity)
