@@ -1,7 +1,7 @@
 #!/usr/bin/env python3
 """Times the proved queue beside its peers, in one run, and writes the tables and pictures of docs/BENCH.md.
 
-    bench/peers/run.py [--seconds N] [--print | --all | --busy | --tail | --busy-tail | --steps] [--again]
+    bench/peers/run.py [--seconds N] [--print | --all | --busy | --tail | --busy-tail | --steps | --unbounded] [--again]
 
 One command, in some N seconds (420 where no number is given; 120 are a short form, and 20 a trial), after the build. It
 takes crossbeam's, flume's and smol's queues from Debian's packages: those that aren't there it installs, where it is root
@@ -13,6 +13,7 @@ meanwhile is measured and written beside them. --print writes nothing into docs,
 With --busy a process is busy on each processor meanwhile, and the table `busy` of docs/BENCH.md is written. With --tail
 the slowest calls are measured, and the table `tail` is written; with --busy-tail these with a process that is busy on each processor,
 and the table `busy_tail`. With --steps the exports are timed with the same atomic steps by hand, and the table `steps` is written.
+With --unbounded queues without a bound are timed, and the table `unbounded` is written.
 --all measures all but the steps, in some N + 300 seconds, then draws the pictures and writes README's table (bench/readme.py).
 """
 import argparse
@@ -360,26 +361,60 @@ def write_busy_tail(programs, there, seconds):
     write("busy_tail", rows)
 
 
-# The same steps by hand.
+# Tables of their own: a row for each shape, a column for each queue.
 
-def by_hand(programs, seconds):
-    """The rows of the table `steps`: an item's time by the exports over both archives and by the same steps by hand, and the
-    median of the rounds' quotients."""
-    relaxed, strict = programs
-    queues = {"words": (relaxed, "words"), "words, strict": (strict, "words"), "by hand": (relaxed, "steps")}
-    shapes = {"one thread": ("alone", shape(1, 1)), **{f"{n[0]}/{n[1]}": ("pass", shape(*n)) for n in PAIRS[:4]}}
-    times, start = {(name, queue): [] for name in shapes for queue in queues}, time.time()
+def timed(shapes, queues, seconds):
+    """The times of an item, by shape and queue. A shape has a mode, numbers, and whether a queue is timed in it; a queue has
+    the program, its name there, and its capacity."""
+    times = {(name, queue): [] for name, (_, _, has) in shapes.items() for queue in queues if has(queue)}
+    start = time.time()
     while time.time() - start < seconds:
         for name, queue in random.sample(list(times), len(times)):
-            (mode, it), (program, called) = shapes[name], queues[queue]
-            command = [program, mode, called, *map(str, it), "100"]
+            (mode, it, _), (program, called, capacity) = shapes[name], queues[queue]
+            command = [program, mode, called, *map(str, (*it[:2], capacity, it[3])), "100"]
             done = subprocess.run(command, capture_output=True, text=True, check=True, timeout=60)
             times[name, queue].append(float(done.stdout.split()[0]))
-    print(f"peers: {len(times['1/1', 'words'])} rounds of the steps by hand")
+    print(f"peers: {min(map(len, times.values()))} rounds")
+    return times
+
+
+def quotient(ones, others):
+    """The median of the rounds' quotients."""
+    return f"{statistics.median(one / other for one, other in zip(ones, others)):.2f}"
+
+
+def by_hand(programs, seconds):
+    """The rows of the table `steps`: an item's time by the exports over both archives and by the same steps by hand."""
+    relaxed, strict = programs
+    queues = {"words": (relaxed, "words", 64), "words, strict": (strict, "words", 64), "by hand": (relaxed, "steps", 64)}
+    each = lambda queue: True
+    shapes = {"one thread": ("alone", shape(1, 1), each), **{f"{n[0]}/{n[1]}": ("pass", shape(*n), each) for n in PAIRS[:4]}}
+    times = timed(shapes, queues, seconds)
     rows = [["senders/receivers", *queues, "strict / by hand"]]
     for name in shapes:
-        of = [times[name, queue] for queue in queues]
-        rows.append([name, *map(spread, of), f"{statistics.median(ours / steps for ours, steps in zip(*of[1:])):.2f}"])
+        rows.append([name, *(spread(times[name, queue]) for queue in queues), quotient(times[name, "words, strict"], times[name, "by hand"])])
+    return rows
+
+
+def without_bound(programs, there, seconds):
+    """The rows of the table `unbounded`: an item's time in queues without a bound, and in the channel with one."""
+    relaxed, _ = programs
+    queues = {"typed, capacity 64": (relaxed, "typed", 64), "typed": (relaxed, "typed", 0)}
+    queues |= {library: (relaxed, library, 0) for library in ("crossbeam-channel", "flume") if library in there}
+    queues |= {"SegQueue": (relaxed, "SegQueue", 0)} if "crossbeam-queue" in there else {}
+    each = lambda queue: True
+    shapes = {
+        "a pair on one thread": ("alone", shape(1, 1), each),
+        "100,000 sent, then taken": ("swell", shape(1, 1), lambda queue: "capacity" not in queue),
+        "1/1": ("pass", shape(1, 1), each),
+        "4/4": ("pass", shape(4, 4), each),
+    }
+    times = timed(shapes, queues, seconds)
+    rows = [["", *queues, "typed, without / with"]]
+    for name in shapes:
+        cells = [spread(times[name, queue]) if (name, queue) in times else "" for queue in queues]
+        bounded = times.get((name, "typed, capacity 64"))
+        rows.append([name, *cells, quotient(times[name, "typed"], bounded) if bounded else ""])
     return rows
 
 
@@ -402,6 +437,7 @@ def main():
     parser.add_argument("--busy-tail", action="store_true")
     parser.add_argument("--tail", action="store_true")
     parser.add_argument("--steps", action="store_true")
+    parser.add_argument("--unbounded", action="store_true")
     options = parser.parse_args()
     if options.all and (options.again or options.print):
         parser.error("--all measures, and writes")
@@ -416,6 +452,8 @@ def main():
             return write("busy", beside_busy(programs, options.seconds))
         if options.steps:
             return write("steps", by_hand(programs, options.seconds))
+        if options.unbounded:
+            return write("unbounded", without_bound(programs, there, options.seconds))
         if options.tail:
             return write_tail(programs, there, options.seconds)
         if options.busy_tail:

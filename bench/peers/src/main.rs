@@ -107,6 +107,23 @@ fn alone<Q: Queue>(it: &Burst) -> Vec<f64> {
     })
 }
 
+/// One thread: nanoseconds of a send and the take of its item, in bursts of 100,000 items.
+fn swell<Q: Queue>(it: &Burst) -> Vec<f64> {
+    const ITEMS: u64 = 100_000;
+    let (mut senders, mut receivers) = it.open::<Q>();
+    let (start, mut bursts) = (Instant::now(), 0);
+    while start.elapsed() < it.time {
+        for body in 0..ITEMS {
+            assert!(Q::try_send(&mut senders[0], body));
+        }
+        for body in 0..ITEMS {
+            assert_eq!(Q::try_recv(&mut receivers[0]), Some(body));
+        }
+        bursts += 1;
+    }
+    vec![start.elapsed().as_nanos() as f64 / (bursts * ITEMS) as f64]
+}
+
 /// One thread: nanoseconds of a send that finds the queue full.
 fn full<Q: Queue>(it: &Burst) -> Vec<f64> {
     let (mut senders, _receivers) = it.open::<Q>();
@@ -278,6 +295,7 @@ fn burst<Q: Queue>(mode: &str, it: &Burst) -> Vec<f64> {
         "pass" => pass::<Q>(it),
         "alone" => alone::<Q>(it),
         "full" => full::<Q>(it),
+        "swell" => swell::<Q>(it),
         "calls" => calls::<Q>(it),
         "tail" => tail::<Q>(it),
         "paced" => paced::<Q>(it),
@@ -313,6 +331,8 @@ fn main() {
         "crossbeam-channel" => burst::<Crossbeam>(mode, it),
         #[cfg(feature = "crossbeam-queue")]
         "crossbeam-queue" => burst::<polled::Array>(mode, it),
+        #[cfg(feature = "crossbeam-queue")]
+        "SegQueue" => burst::<polled::Seg>(mode, it),
         #[cfg(feature = "flume")]
         "flume" => burst::<Flume>(mode, it),
         #[cfg(feature = "async-channel")]

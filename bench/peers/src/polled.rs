@@ -83,6 +83,27 @@ polled!(
     crossbeam_queue::ArrayQueue<u64>,
     crossbeam_queue::ArrayQueue::new
 );
+
+/// crossbeam's queue without a bound, which accepts each item.
+#[cfg(feature = "crossbeam-queue")]
+pub struct Segments(crossbeam_queue::SegQueue<u64>);
+
+#[cfg(feature = "crossbeam-queue")]
+impl Segments {
+    fn push(&self, body: u64) -> Result<(), u64> {
+        self.0.push(body);
+        Ok(())
+    }
+
+    fn pop(&self) -> Option<u64> {
+        self.0.pop()
+    }
+}
+
+#[cfg(feature = "crossbeam-queue")]
+polled!(Seg, Segments, |_| Segments(
+    crossbeam_queue::SegQueue::new()
+));
 #[cfg(feature = "concurrent-queue")]
 polled!(
     Concurrent,

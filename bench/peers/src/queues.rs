@@ -10,7 +10,7 @@ pub type Ends<Q> = (Vec<<Q as Queue>::Sender>, Vec<<Q as Queue>::Receiver>);
 pub trait Queue: Sized {
     type Sender: Send;
     type Receiver: Send;
-    /// This number of each. The bound is for those alone that have one.
+    /// This number of each. With capacity 0 it holds any number of items, if it can. The bound is for those alone that have one.
     fn open(senders: usize, receivers: usize, capacity: usize, bound: u32) -> Ends<Self>;
     fn send(sender: &mut Self::Sender, body: u64);
     /// None where the queue is closed and empty.
@@ -74,7 +74,10 @@ macro_rules! channel {
 channel!(
     Typed,
     vahepito,
-    |capacity| vahepito::channel(capacity).unwrap(),
+    |capacity| match capacity {
+        0 => vahepito::unbounded().unwrap(),
+        _ => vahepito::channel(capacity).unwrap(),
+    },
     send,
     recv
 );
@@ -82,12 +85,24 @@ channel!(
 channel!(
     Crossbeam,
     crossbeam_channel,
-    crossbeam_channel::bounded,
+    |capacity| match capacity {
+        0 => crossbeam_channel::unbounded(),
+        _ => crossbeam_channel::bounded(capacity),
+    },
     send,
     recv
 );
 #[cfg(feature = "flume")]
-channel!(Flume, flume, flume::bounded, send, recv);
+channel!(
+    Flume,
+    flume,
+    |capacity| match capacity {
+        0 => flume::unbounded(),
+        _ => flume::bounded(capacity),
+    },
+    send,
+    recv
+);
 #[cfg(feature = "async-channel")]
 channel!(
     Async,
