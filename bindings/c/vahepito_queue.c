@@ -92,11 +92,9 @@ enum { SEATS = 64, MOST_GROUPS = 8, LEAST_CAPACITY = 64, MOST_CAPACITY = 4096, N
 
 /* ---- lines of calls that wait */
 
-/* A line of calls that wait: `notified` in the lower half of the word, and `waiting` in the upper half. And a hint: whether the last call that
- * was parked in the line slept for long, so that a call which spins first would spin in vain. */
+/* A line of calls that wait: `notified` in the lower half of the word, and `waiting` in the upper half. */
 typedef struct {
     uint64_t counts;
-    uint32_t is_slow;
 } vahepito_internal_line;
 
 #define VAHEPITO_INTERNAL_ONE_WAITING ((uint64_t)1 << 32)
@@ -180,18 +178,18 @@ static uint64_t vahepito_internal_clock(void) {
     return (uint64_t)time.tv_sec * 1000000000u + (uint64_t)time.tv_nsec;
 }
 
-/* Whether a call that is about to wait in the line spins first. */
-static bool vahepito_internal_may_spin(const vahepito_internal_line *line) {
-    return VAHEPITO_ROUNDS > 1 && __atomic_load_n(&line->is_slow, __ATOMIC_RELAXED) == 0;
+/* Whether a call that is about to wait spins first, by the hint of its line. */
+static bool vahepito_internal_may_spin(const uint32_t *is_slow) {
+    return VAHEPITO_ROUNDS > 1 && __atomic_load_n(is_slow, __ATOMIC_RELAXED) == 0;
 }
 
 /* The same as park, which notes whether the call slept for long. */
-static bool vahepito_internal_timed_park(vahepito_internal_line *line, const struct timespec *moment) {
+static bool vahepito_internal_timed_park(vahepito_internal_line *line, uint32_t *is_slow, const struct timespec *moment) {
     if (VAHEPITO_ROUNDS <= 1) return vahepito_internal_park(line, moment);
     const uint64_t from = vahepito_internal_clock();
     const bool was_woken = vahepito_internal_park(line, moment);
-    const uint32_t is_slow = vahepito_internal_clock() - from > VAHEPITO_LONG_SLEEP;
-    if (__atomic_load_n(&line->is_slow, __ATOMIC_RELAXED) != is_slow) __atomic_store_n(&line->is_slow, is_slow, __ATOMIC_RELAXED);
+    const uint32_t was_long = vahepito_internal_clock() - from > VAHEPITO_LONG_SLEEP;
+    if (__atomic_load_n(is_slow, __ATOMIC_RELAXED) != was_long) __atomic_store_n(is_slow, was_long, __ATOMIC_RELAXED);
     return was_woken;
 }
 
@@ -301,6 +299,7 @@ struct vahepito_queue {
     vahepito_internal_part *first, *retired; /* those that some group is at, and all behind them; those that are done with */
     vahepito_internal_bell bells[1 + MOST_GROUPS];
     vahepito_internal_served served; /* the calls that are parked until they have an answer or a seat */
+    uint32_t is_slow[1 + MOST_GROUPS]; /* hints, of the senders and of each group: whether the last parked call slept for long, so that to spin is vain */
     vahepito_internal_line senders __attribute__((aligned(64)));
     vahepito_internal_line receivers[MOST_GROUPS] __attribute__((aligned(64)));
     vahepito_internal_seat seats[1 + SEATS]; /* the first one is never free, nor are those after `places` further ones */
@@ -703,10 +702,10 @@ static uint32_t vahepito_internal_attempt(uint32_t nothing, void *request) {
 
 /* Tries until a try finds something, or until this moment; `nothing` is FULL of a send, or EMPTY of a take. A try that finds nothing again
  * costs a look at the counts. */
-static uint32_t vahepito_internal_wait(vahepito_internal_line *line, void *request, uint32_t nothing, const struct timespec *moment) {
+static uint32_t vahepito_internal_wait(vahepito_internal_line *line, uint32_t *is_slow, void *request, uint32_t nothing, const struct timespec *moment) {
     vahepito_internal_backoff backoff = {0, NULL};
     uint32_t code;
-    for (uint32_t round = vahepito_internal_may_spin(line) ? 1 : VAHEPITO_ROUNDS; round < VAHEPITO_ROUNDS; round++) {
+    for (uint32_t round = vahepito_internal_may_spin(is_slow) ? 1 : VAHEPITO_ROUNDS; round < VAHEPITO_ROUNDS; round++) {
         vahepito_internal_rest(&backoff, 0);
         if ((code = vahepito_internal_attempt(nothing, request)) != nothing) return code;
     }
@@ -717,7 +716,7 @@ static uint32_t vahepito_internal_wait(vahepito_internal_line *line, void *reque
         if (code != nothing) {
             vahepito_internal_leave(line);
         } else {
-            if (!vahepito_internal_timed_park(line, moment)) return code;
+            if (!vahepito_internal_timed_park(line, is_slow, moment)) return code;
             code = vahepito_internal_attempt(nothing, request);
         }
     } while (code == nothing);
@@ -732,7 +731,7 @@ static __attribute__((noinline)) uint32_t vahepito_internal_again(vahepito_queue
     vahepito_internal_bell *const bell = &queue->bells[group];
     uint32_t code;
     if (!moment || moment->tv_sec != 0 || moment->tv_nsec != 0)
-        return vahepito_internal_wait(group == 0 ? &queue->senders : &queue->receivers[group - 1], request, nothing, moment);
+        return vahepito_internal_wait(group == 0 ? &queue->senders : &queue->receivers[group - 1], &queue->is_slow[group], request, nothing, moment);
     if (!__atomic_load_n(&queue->has_bells, __ATOMIC_SEQ_CST) || !vahepito_internal_arm(bell)) return nothing;
     code = vahepito_internal_attempt(nothing, request);
     if (code != nothing) vahepito_internal_ring_if_armed(bell);
