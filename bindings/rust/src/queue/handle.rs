@@ -166,8 +166,10 @@ fn wait_until_served(line: &Event, mut turn: impl FnMut() -> u32) -> u32 {
 
 impl Drop for Handle {
     fn drop(&mut self) {
-        // An empty handle is answered so, and nothing is done.
-        vahepito_drop(&mut self.0);
+        // Of an empty handle no call is made: the linked library may be another one, of which the version alone was asked.
+        if !self.0.at.is_null() {
+            vahepito_drop(&mut self.0);
+        }
     }
 }
 
