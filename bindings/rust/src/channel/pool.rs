@@ -13,8 +13,9 @@ use crate::event::{Apart, Event, Panics, soon, wait};
 use crate::queue::handle::Handle;
 use std::cell::{Cell, UnsafeCell};
 use std::iter;
+use std::ptr::null_mut;
 use std::sync::OnceLock;
-use std::sync::atomic::{AtomicBool, AtomicU64, AtomicUsize, Ordering};
+use std::sync::atomic::{AtomicBool, AtomicPtr, AtomicU64, AtomicUsize, Ordering};
 use std::thread::available_parallelism;
 
 /// The passes of a side are no more than these.
@@ -62,10 +63,51 @@ unsafe impl Sync for Seat where Pass: Send {}
 #[repr(align(128))]
 struct Other(Seat);
 
+/// Seats that are added once, and are there until the drop. It is std's `OnceLock` of one writer, for which a thread sanitizer knows
+/// the order of the write and the reads.
+struct Added(AtomicPtr<Box<[Other]>>);
+
+impl Added {
+    fn new(seats: Option<Box<[Other]>>) -> Added {
+        let seats = seats.map(|it| Box::into_raw(Box::new(it)));
+        Added(AtomicPtr::new(seats.unwrap_or(null_mut())))
+    }
+
+    #[inline]
+    fn get(&self) -> Option<&[Other]> {
+        let seats = self.0.load(Ordering::Acquire);
+        // SAFETY: it is null, or of a box that is written before it and is freed by the drop alone. The seats are only read, and are
+        // `Sync`.
+        unsafe { seats.as_ref() }.map(|it| &**it)
+    }
+
+    /// Returns whether none were added before. If some were, these are dropped.
+    fn set(&self, seats: Box<[Other]>) -> bool {
+        let (none, seats) = (null_mut(), Box::into_raw(Box::new(seats)));
+        let order = (Ordering::Release, Ordering::Relaxed);
+        let set = self.0.compare_exchange(none, seats, order.0, order.1);
+        if set.is_err() {
+            // SAFETY: it is the box of this call, and nobody else has it.
+            drop(unsafe { Box::from_raw(seats) });
+        }
+        set.is_ok()
+    }
+}
+
+impl Drop for Added {
+    fn drop(&mut self) {
+        let seats = *self.0.get_mut();
+        if !seats.is_null() {
+            // SAFETY: it is of a box, whose seats nobody looks at any more.
+            drop(unsafe { Box::from_raw(seats) });
+        }
+    }
+}
+
 pub struct Pool {
     first: Seat,
     /// The other seats, once there are some. Their number is a power of two less one.
-    others: OnceLock<Box<[Other]>>,
+    others: Added,
     /// How many seats there are up to the last one that an item went through.
     used: AtomicUsize,
     /// The line in which callers wait for a free seat.
@@ -167,7 +209,7 @@ impl Pool {
         let others = Pool::seats_of(passes);
         Pool {
             first: Seat::new(1, first),
-            others: others.map_or_else(OnceLock::new, OnceLock::from),
+            others: Added::new(others),
             used: AtomicUsize::new(0),
             free: Apart::default(),
             served: Apart::default(),
@@ -187,14 +229,14 @@ impl Pool {
     pub fn add(&self, passes: impl Iterator<Item = Pass>) {
         if let Some(others) = Pool::seats_of(passes) {
             let added = self.others.set(others);
-            debug_assert!(added.is_ok());
+            debug_assert!(added);
         }
     }
 
     /// The other seats.
     #[inline]
     fn others(&self) -> &[Other] {
-        self.others.get().map_or(&[], |others| others)
+        self.others.get().unwrap_or(&[])
     }
 
     /// How many seats there are.
