@@ -18,7 +18,7 @@ use crate::event::{
     Apart, Event, Panics, Try, WHEN_NOTIFIED, drop_each, ignore_panics, lock, soon,
 };
 use crate::queue::handle::{self, Handle, code, hands_over, has_taken, unexpected};
-use crate::queue::{self, Config, OpenError};
+use crate::queue::{self, Config, MOST_GROUPS, OpenError};
 use std::iter;
 use std::mem::take;
 use std::sync::atomic::{AtomicBool, AtomicUsize, Ordering};
@@ -60,9 +60,6 @@ impl Side {
 
 /// A side of a channel of more items has all its seats from the opening on, so that no call has to move them over.
 const MOST_MOVED: u32 = 64;
-
-/// How many groups a channel has at most.
-const MOST_GROUPS: usize = 8;
 
 /// That the last send found no room: then the next one looks first, since a look costs less than a send in vain.
 pub const WAS_FULL: usize = 1;

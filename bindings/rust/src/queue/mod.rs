@@ -34,10 +34,13 @@ type Word = MaybeUninit<u64>;
 /// The words of a body, of which some may not be used.
 pub type Words = [Word; 4];
 
+/// The most groups that a queue has.
+pub const MOST_GROUPS: usize = 8;
+
 /// Opens a queue, and gives the handles of its sides: those of the senders, and then those of each group.
 pub fn open(config: &Config, groups: u32, words: usize) -> Result<Vec<Vec<Handle>>, OpenError> {
     // A number that is too large is refused, with any handles.
-    let some = |count: u32| (0..count.min(8 * 64)).map(|_| Handle::empty());
+    let some = |count: u32| (0..count.min(MOST_GROUPS as u32 * 64)).map(|_| Handle::empty());
     let mut senders: Vec<_> = some(config.senders).collect();
     let mut receivers: Vec<_> = some(groups.saturating_mul(config.receivers)).collect();
     handle::fill(config, groups, words, &mut senders, &mut receivers)?;

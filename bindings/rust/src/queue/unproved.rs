@@ -1,6 +1,6 @@
 //! The queue of the feature `unproved`: std's `VecDeque` under std's `Mutex`, with the calls and the answers of the
 //! proved one. It builds for any target, and nothing of it is proved.
-use super::{Config, OpenError};
+use super::{Config, MOST_GROUPS, OpenError};
 pub use super::{Words, code, unexpected};
 use crate::event::Event;
 use std::collections::VecDeque;
@@ -96,7 +96,7 @@ pub fn fill(
     if !(1..=4096).contains(&capacity) {
         return Err(OpenError::Capacity);
     }
-    if !(1..=8).contains(&groups) {
+    if !(1..=MOST_GROUPS).contains(&(groups as usize)) {
         return Err(OpenError::Groups);
     }
     let mut items = VecDeque::new();
