@@ -14,7 +14,7 @@ With --busy a process is busy on each processor meanwhile, and the table `busy` 
 the slowest calls are measured, and the table `tail` is written; with --busy-tail these with a process that is busy on each processor,
 and the table `busy_tail`. With --steps the exports are timed with the same atomic steps by hand, and the table `steps` is written.
 With --unbounded queues without a bound are timed, and the table `unbounded` is written.
---all measures all but the steps, in some N + 300 seconds, then draws the pictures and writes README's table (bench/readme.py).
+--all measures all but the steps and the queues without a bound, in some N + 300 seconds, then draws the pictures and writes README's table (bench/readme.py).
 """
 import argparse
 import glob
