@@ -38,7 +38,7 @@
 /* Calls that wait for their answer or for a place don't park here. They look again after a millisecond, so that none waits in vain. */
 #define __atomic_fetch_sub(place, by, order) model_add(place, 0)
 #define VAHEPITO_SERVED_ROUNDS 1000000
-#define VAHEPITO_ROUNDS 1
+#define VAHEPITO_ROUNDS 0
 static uint64_t model_load(const void *place);
 static uint64_t model_add(const void *place, uint64_t by);
 static bool model_exchange(const uint64_t *place, uint64_t *old, uint64_t new);

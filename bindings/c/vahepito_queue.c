@@ -71,9 +71,11 @@
 /* As <unistd.h> declares it, which does so only with some feature macros. */
 extern long syscall(long number, ...);
 
-/* How many rounds a call spins or yields until it parks: in a line for room or an item, and until it is answered or has a place. */
+/* How many rounds a call spins until it parks in a line for room or an item, and how many it spins or yields until it parks for an answer
+ * or a place. In a line it doesn't yield: a thread that yields beside a busy process runs again some milliseconds later, also if an item
+ * comes at once, while one that is parked is woken. */
 #ifndef VAHEPITO_ROUNDS
-#define VAHEPITO_ROUNDS 12
+#define VAHEPITO_ROUNDS 7
 #endif
 #ifndef VAHEPITO_SERVED_ROUNDS
 #define VAHEPITO_SERVED_ROUNDS 16
@@ -180,12 +182,12 @@ static uint64_t vahepito_internal_clock(void) {
 
 /* Whether a call that is about to wait spins first, by the hint of its line. */
 static bool vahepito_internal_may_spin(const uint32_t *is_slow) {
-    return VAHEPITO_ROUNDS > 1 && __atomic_load_n(is_slow, __ATOMIC_RELAXED) == 0;
+    return VAHEPITO_ROUNDS > 0 && __atomic_load_n(is_slow, __ATOMIC_RELAXED) == 0;
 }
 
 /* The same as park, which notes whether the call slept for long. */
 static bool vahepito_internal_timed_park(vahepito_internal_line *line, uint32_t *is_slow, const struct timespec *moment) {
-    if (VAHEPITO_ROUNDS <= 1) return vahepito_internal_park(line, moment);
+    if (VAHEPITO_ROUNDS == 0) return vahepito_internal_park(line, moment);
     const uint64_t from = vahepito_internal_clock();
     const bool was_woken = vahepito_internal_park(line, moment);
     const uint32_t was_long = vahepito_internal_clock() - from > VAHEPITO_LONG_SLEEP;
@@ -194,7 +196,7 @@ static bool vahepito_internal_timed_park(vahepito_internal_line *line, uint32_t 
 }
 
 /* How a call passes the time until its next turn, or until it looks for a free place again: it spins, gives the processor to another
- * thread, and then parks, with those of its side if their line is given. */
+ * thread, and then parks, with those of its side. */
 typedef struct {
     uint32_t round;
     vahepito_internal_served *line;
@@ -211,9 +213,14 @@ static inline void vahepito_internal_pause(void) {
 #endif
 }
 
+/* A round of spins: each is twice as long as the one before, from 0. */
+static void vahepito_internal_spin(uint32_t round) {
+    for (uint32_t spin = (uint32_t)1 << round; spin > 0; spin--) vahepito_internal_pause();
+}
+
 /* Before a look: a call that is about to park counts itself, and a call that ends after this changes `ended`. */
 static uint32_t vahepito_internal_stand(vahepito_internal_backoff *backoff) {
-    if (!backoff->line || backoff->round < VAHEPITO_SERVED_ROUNDS) return 0;
+    if (backoff->round < VAHEPITO_SERVED_ROUNDS) return 0;
     if (backoff->round++ == VAHEPITO_SERVED_ROUNDS) {
         (void)__atomic_fetch_add(&backoff->line->waiting, 1, __ATOMIC_SEQ_CST);
         vahepito_internal_in_order();
@@ -225,8 +232,8 @@ static uint32_t vahepito_internal_stand(vahepito_internal_backoff *backoff) {
 static void vahepito_internal_rest(vahepito_internal_backoff *backoff, uint32_t ended) {
     const struct timespec time = {0, 1000000};
     if (backoff->round < 7) {
-        for (uint32_t spin = (uint32_t)1 << backoff->round++; spin > 0; spin--) vahepito_internal_pause();
-    } else if (!backoff->line || backoff->round < VAHEPITO_SERVED_ROUNDS) {
+        vahepito_internal_spin(backoff->round++);
+    } else if (backoff->round < VAHEPITO_SERVED_ROUNDS) {
         backoff->round++;
         (void)sched_yield();
     } else if (backoff->round > VAHEPITO_SERVED_ROUNDS) {
@@ -236,7 +243,7 @@ static void vahepito_internal_rest(vahepito_internal_backoff *backoff, uint32_t 
 
 /* After the last look. */
 static void vahepito_internal_go_on(const vahepito_internal_backoff *backoff) {
-    if (backoff->line && backoff->round > VAHEPITO_SERVED_ROUNDS)
+    if (backoff->round > VAHEPITO_SERVED_ROUNDS)
         (void)__atomic_fetch_sub(&backoff->line->waiting, 1, __ATOMIC_SEQ_CST);
 }
 
@@ -703,10 +710,10 @@ static uint32_t vahepito_internal_attempt(uint32_t nothing, void *request) {
 /* Tries until a try finds something, or until this moment; `nothing` is FULL of a send, or EMPTY of a take. A try that finds nothing again
  * costs a look at the counts. */
 static uint32_t vahepito_internal_wait(vahepito_internal_line *line, uint32_t *is_slow, void *request, uint32_t nothing, const struct timespec *moment) {
-    vahepito_internal_backoff backoff = {0, NULL};
+    const uint32_t rounds = vahepito_internal_may_spin(is_slow) ? VAHEPITO_ROUNDS : 0;
     uint32_t code;
-    for (uint32_t round = vahepito_internal_may_spin(is_slow) ? 1 : VAHEPITO_ROUNDS; round < VAHEPITO_ROUNDS; round++) {
-        vahepito_internal_rest(&backoff, 0);
+    for (uint32_t round = 0; round < rounds; round++) {
+        vahepito_internal_spin(round);
         if ((code = vahepito_internal_attempt(nothing, request)) != nothing) return code;
     }
     do {
