@@ -8,6 +8,12 @@
 #ifndef _POSIX_C_SOURCE
 #define _POSIX_C_SOURCE 200809L
 #endif
+#include <sched.h>
+
+/* How often a thread yielded in its calls. */
+static __thread int yields;
+static int counted_yield(void) { return yields++, sched_yield(); }
+#define sched_yield counted_yield
 #include "vahepito_queue.c" /* whose lines it looks into */
 
 #include "checks.h"
@@ -169,6 +175,7 @@ static void *takes_one(void *used_before) {
     uint64_t *const used = used_before;
     const uint64_t before = nanoseconds(CLOCK_THREAD_CPUTIME_ID);
     check(vahepito_take(queue, 1, NULL, NULL) == VAHEPITO_GOT, "a take that waits gets an item");
+    check(yields == 0, "and didn't yield until it was parked");
     *used = nanoseconds(CLOCK_THREAD_CPUTIME_ID) - before;
     return used;
 }
