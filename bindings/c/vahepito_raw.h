@@ -37,7 +37,9 @@
  * No call but vahepito_new takes memory.
  *
  * Each call takes effect at one moment between its begin and its return: this is proved of the order of the queue's atomic
- * steps. That these steps have the order of the clock isn't, nor what they do to other memory. Tests look for the following:
+ * steps. It is proved too that the calls by one vahepito_call come in the order in which they are made: a take by it
+ * doesn't return EMPTY after its own accepted send, unless another take of its group got that item.
+ * That the steps have the order of the clock isn't proved, nor what they do to other memory. Tests look for the following:
  * - A take that begins after a send has returned finds the item, unless another take of its group took it; and a send that
  *   begins after takes have returned finds the room that they made. "After" is by any order that the program has: on one
  *   thread, by a join, a lock, or a flag that is stored with release and loaded with acquire. On x86-64 any flag will do, and so

@@ -74,7 +74,7 @@ pub extern "C" fn vahepito_call_size() -> usize
 #[unsafe(no_mangle)]
 pub extern "C" fn vahepito_call_send(call: &mut Call, words: &[u64], place: &mut u64) -> u32
     requires { IsReady call.old }
-    ensures sends { IfSome call.old.queue.value (λ p. SendsBy p (fitting p.words words.now) (pass_of call.old.waiting) (pass_of call.new.waiting) (record { code = result; number = place.new; served = call.new.served })) }
+    ensures sends { IfSome call.old.queue.value (λ p. SendsBy p (fitting p.words words.now) call.old.seen.value call.new.seen.value (pass_of call.old.waiting) (pass_of call.new.waiting) (record { code = result; number = place.new; served = call.new.served })) }
     ensures same { IsSame call.old.queue call.new.queue }
     ensures ready { IsReady call.new }
 {
@@ -87,7 +87,7 @@ pub extern "C" fn vahepito_call_send(call: &mut Call, words: &[u64], place: &mut
 #[unsafe(no_mangle)]
 pub extern "C" fn vahepito_call_turn_send(alloc: Global, call: &mut Call, place: &mut u64) -> u32
     requires { IsReady call.old }
-    ensures turns { IfSome call.old.queue.value (λ p. TurnsBy p call.old.place TurnsSend (pass_of call.old.waiting) (pass_of call.new.waiting) (record { code = result; number = place.new; served = call.new.served })) }
+    ensures turns { IfSome call.old.queue.value (λ p. TurnsBy p call.old.place TurnsSend call.old.seen.value call.new.seen.value (pass_of call.old.waiting) (pass_of call.new.waiting) (record { code = result; number = place.new; served = call.new.served })) }
     ensures same { IsSame call.old.queue call.new.queue }
     ensures ready { IsReady call.new }
 {
@@ -100,7 +100,7 @@ pub extern "C" fn vahepito_call_turn_send(alloc: Global, call: &mut Call, place:
 #[unsafe(no_mangle)]
 pub extern "C" fn vahepito_call_close(call: &mut Call, total: &mut u64) -> u32
     requires { IsReady call.old }
-    ensures closes { IfSome call.old.queue.value (λ p. ClosesBy p (pass_of call.old.waiting) (pass_of call.new.waiting) (record { code = result; number = total.new; served = call.new.served })) }
+    ensures closes { IfSome call.old.queue.value (λ p. ClosesBy p call.old.seen.value call.new.seen.value (pass_of call.old.waiting) (pass_of call.new.waiting) (record { code = result; number = total.new; served = call.new.served })) }
     ensures same { IsSame call.old.queue call.new.queue }
     ensures ready { IsReady call.new }
 {
@@ -113,7 +113,7 @@ pub extern "C" fn vahepito_call_close(call: &mut Call, total: &mut u64) -> u32
 #[unsafe(no_mangle)]
 pub extern "C" fn vahepito_call_turn_close(alloc: Global, call: &mut Call, total: &mut u64) -> u32
     requires { IsReady call.old }
-    ensures turns { IfSome call.old.queue.value (λ p. TurnsBy p call.old.place TurnsClose (pass_of call.old.waiting) (pass_of call.new.waiting) (record { code = result; number = total.new; served = call.new.served })) }
+    ensures turns { IfSome call.old.queue.value (λ p. TurnsBy p call.old.place TurnsClose call.old.seen.value call.new.seen.value (pass_of call.old.waiting) (pass_of call.new.waiting) (record { code = result; number = total.new; served = call.new.served })) }
     ensures same { IsSame call.old.queue call.new.queue }
     ensures ready { IsReady call.new }
 {
@@ -131,7 +131,7 @@ pub extern "C" fn vahepito_call_take(
     total: &mut u64,
 ) -> u32
     requires { IsReady call.old }
-    ensures takes { IfSome call.old.queue.value (λ p. TakesBy p all_words group (pass_of call.old.waiting) (pass_of call.new.waiting) (record { code = result; item = item.new; total = total.new; served = call.new.served })) }
+    ensures takes { IfSome call.old.queue.value (λ p. TakesBy p all_words group call.old.seen.value call.new.seen.value (pass_of call.old.waiting) (pass_of call.new.waiting) (record { code = result; item = item.new; total = total.new; served = call.new.served })) }
     ensures same { IsSame call.old.queue call.new.queue }
     ensures ready { IsReady call.new }
 {
@@ -149,7 +149,7 @@ pub extern "C" fn vahepito_call_turn_take(
     total: &mut u64,
 ) -> u32
     requires { IsReady call.old }
-    ensures turns { IfSome call.old.queue.value (λ p. TurnsBy p call.old.place (TurnsTake all_words) (pass_of call.old.waiting) (pass_of call.new.waiting) (record { code = result; item = item.new; total = total.new; served = call.new.served })) }
+    ensures turns { IfSome call.old.queue.value (λ p. TurnsBy p call.old.place (TurnsTake all_words) call.old.seen.value call.new.seen.value (pass_of call.old.waiting) (pass_of call.new.waiting) (record { code = result; item = item.new; total = total.new; served = call.new.served })) }
     ensures same { IsSame call.old.queue call.new.queue }
     ensures ready { IsReady call.new }
 {

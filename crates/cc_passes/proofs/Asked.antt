@@ -1,5 +1,5 @@
 -- A call was made by the pass of a place.
-use Rattle.std.proofs.Common.{◌≡◌, inr, ℕ, ◌≤◌, ◌<◌, nat_le, List, [], ◌∷◌, length, get_or, Bool, true, false, Option, Some, None, Ok, Err, if◌then◌else◌, refl, sym, ap, ◌∙◌, subst, arith}
+use Rattle.std.proofs.Common.{◌≡◌, inr, ℕ, ◌≤◌, ◌<◌, nat_le, List, [], ◌∷◌, length, get_or, Bool, true, false, Option, Some, None, is_some, Ok, Err, if◌then◌else◌, refl, sym, ap, ◌∙◌, subst, arith}
 use mathlib.Core.Logic.{dite}
 use native.Mathlib.Decide.{ℕ_discrete}
 use Rattle.cc_model.specs.Body.{body_of}
@@ -22,6 +22,8 @@ use Rattle.cc_steps.specs.Walk.{Walk}
 use Rattle.cc_passes.specs.declared.handles.handle_inner.Pass.{Pass}
 use Rattle.cc_passes.specs.Passes.{has_call, HasPassOf}
 use Rattle.cc_passes.specs.Made.{kept_of, IsMade}
+use Rattle.cc_passes.specs.Noting.{After}
+use Rattle.cc_steps.specs.Noted.{Noted}
 
 pub made : {T : Type 0} (z : Topic) (Tells : Option Pass → Option Pass → T → Type 0) (told : T) (old new waits : Option Pass)
     → HasPassOf z old → HasPassOf z new → Tells old new told → waits ≡ kept_of new → IsMade z Tells told waits
@@ -198,10 +200,10 @@ IsFalse true = ⊥
 IsFalse false = Unit {0}
 
 -- a caller that has no call that waits made one
-pub made_by : {T : Type 0} (z : Topic) (alone : ℕ → T) (Refuses : ℕ → Type 0) (Tells : Option Pass → Option Pass → T → Type 0) (old new : Option Pass) (told : T)
-    → old ≡ None → IsMade z Tells told new → MadeBy z alone Refuses Tells old new told
-made_by z alone Refuses Tells None new told is made = inr made
-made_by z alone Refuses Tells (Some p) new told is made = absurd (subst IsNone (sym is) tt)
+pub made_by : {T : Type 0} (z : Topic) (alone : ℕ → T) (Refuses : ℕ → Type 0) (Tells : Option Pass → Option Pass → T → Type 0) (seen now : Option Noted) (old new : Option Pass) (told : T)
+    → old ≡ None → IsMade z (After seen now Tells) told new → MadeBy z alone Refuses Tells seen now old new told
+made_by z alone Refuses Tells seen now None new told is m = inr m
+made_by z alone Refuses Tells seen now (Some p) new told is m = absurd (subst IsNone (sym is) tt)
 
 -- what was made is what was kept
 pub kept_so : {T : Type 0} (z : Topic) (Tells : Option Pass → Option Pass → T → Type 0) (told told' : T) (waits waits' : Option Pass)
@@ -209,10 +211,10 @@ pub kept_so : {T : Type 0} (z : Topic) (Tells : Option Pass → Option Pass → 
 kept_so {T} z Tells told told' waits waits' is same made = subst (λ (t : T). IsMade z Tells t waits') (sym is) (subst (λ (o : Option Pass). IsMade z Tells told o) (sym same) made)
 
 -- there is such a group
-pub in_range : {I : Type 0} (form : Form I) (there : Bool) (Tells : Option Pass → Option Pass → TakeResult I → Type 0) (old new : Option Pass) (told : TakeResult I)
-    → there ≡ true → Tells old new told → InRange form there Tells old new told
-in_range form true Tells old new told is tells = tells
-in_range form false Tells old new told is tells = absurd (subst IsFalse is tt)
+pub in_range : {I : Type 0} (form : Form I) (there : Bool) (Tells : Option Noted → Option Noted → Option Pass → Option Pass → TakeResult I → Type 0) (seen now : Option Noted) (old new : Option Pass) (told : TakeResult I)
+    → there ≡ true → Tells seen now old new told → InRange form there Tells seen now old new told
+in_range form true Tells seen now old new told is tells = tells
+in_range form false Tells seen now old new told is tells = absurd (subst IsFalse is tt)
 
 -- the result with its item
 pub with_out : {T U : Type 0} (z : Topic) (Tells : Option Pass → Option Pass → U → Type 0) (whole : T → U) (told : T) (waits : Option Pass)
@@ -220,8 +222,13 @@ pub with_out : {T U : Type 0} (z : Topic) (Tells : Option Pass → Option Pass �
 with_out z Tells whole told waits m = record { before = m.before; after = m.after; here = m.here; still = m.still; tells = m.tells; kept = m.kept }
 
 -- a body of one word fits
-pub one_fits : (z : Pool) (most : ℕ) (words : List ℕ) (old new : Option Pass) (told : SendResult) → nat_le 1 most ≡ true → 1 ≤ length words → length words < 2
-    → SendsBy z (single (get_or words 0 0)) old new told → SendsBy z (fitting most words) old new told
-one_fits z most [] old new told room some few sends = absurd (omega (arith, some))
-one_fits z most (w ∷ []) old new told room some few sends = subst (λ (b : Bool). SendsBy z (if b then Ok (body_of (w ∷ [])) else Err LONG) old new told) (sym room) sends
-one_fits z most (w ∷ v ∷ words) old new told room some few sends = absurd (omega (arith, few))
+pub one_fits : (z : Pool) (most : ℕ) (words : List ℕ) (seen now : Option Noted) (old new : Option Pass) (told : SendResult) → nat_le 1 most ≡ true → 1 ≤ length words → length words < 2
+    → SendsBy z (single (get_or words 0 0)) seen now old new told → SendsBy z (fitting most words) seen now old new told
+one_fits z most [] seen now old new told room some few sends = absurd (omega (arith, some))
+one_fits z most (w ∷ []) seen now old new told room some few sends = subst (λ (b : Bool). SendsBy z (if b then Ok (body_of (w ∷ [])) else Err LONG) seen now old new told) (sym room) sends
+one_fits z most (w ∷ v ∷ words) seen now old new told room some few sends = absurd (omega (arith, few))
+
+-- a handle that isn't live is empty
+pub is_empty : {X : Type 0} (o : Option X) (live : Bool) → is_some o ≡ live → live ≡ false → o ≡ None
+is_empty None live is not = refl
+is_empty (Some x) live is not = cc (is ∙ not)

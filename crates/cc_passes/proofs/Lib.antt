@@ -16,3 +16,4 @@ pub mod Pairs
 pub mod RootValues
 pub mod Searched
 pub mod RefusedClaims
+pub mod Ordered

@@ -1,5 +1,5 @@
 -- The clauses refuse these claims.
-use Rattle.std.proofs.Common.{◌≡◌, ◌≢◌, ℕ, ◌<◌, ◌≤◌, List, [], ◌∷◌, length, Option, Some, None, Err, sym, ap, subst, arith}
+use Rattle.std.proofs.Common.{◌≡◌, ◌≢◌, ℕ, ◌<◌, ◌≤◌, List, [], ◌∷◌, length, Option, Some, None, Err, sym, ap, ◌∙◌, subst, arith}
 use Rattle.std.specs.List.{All, AllByRecursion}
 use Rattle.std.specs.declared.alloc.Global.{Global}
 use Rattle.std.specs.declared.vec.Vec.{Vec}
@@ -17,6 +17,7 @@ use Rattle.cc_passes.specs.declared.handles.return_codes.TheConstants.{BUSY, WAI
 use Rattle.cc_passes.specs.Results.{only, sent_as}
 use Rattle.cc_passes.specs.Calls.{IsExhausted, SendTurns, TurnsSend}
 use Rattle.cc_passes.specs.Made.{kept_of}
+use Rattle.cc_passes.specs.Noting.{Heeds}
 use Rattle.cc_passes.specs.Caller.{SendsBy, TurnsBy}
 use Rattle.cc_passes.specs.Looks.{FindsAccepted}
 use Rattle.cc_passes.specs.Opened.{HasPlaces, HasPool}
@@ -43,8 +44,8 @@ without_receivers c words p row some none is has =
 too_early : (w : Walk) → w.stand.begun < w.setting.config.per_sender → IsExhausted (Some (Pass.Sender w)) → ⊥
 too_early w less is = omega (arith, less, is)
 
-bad_body : (p : Pool) (why : ℕ) (old new : Option Pass) → why ≢ BUSY → SendsBy p (Err why) old new (only BUSY) → ⊥
-bad_body p why old new other (same, told) = other (sym (ap (λ (s : SendResult). s.code) told))
+bad_body : (p : Pool) (why : ℕ) (seen now : Option Noted) (old new : Option Pass) → why ≢ BUSY → SendsBy p (Err why) seen now old new (only BUSY) → ⊥
+bad_body p why seen now old new other (same, stays, told) = other (sym (ap (λ (s : SendResult). s.code) told))
 
 kept_answered : (after : Pass) (w : Walk) → Some (Pass.Sender w) ≡ kept_of (Some after) → ⊥
 kept_answered (Pass.Sender v) w is = cc is
@@ -67,8 +68,30 @@ waits_without v (Some (Pass.Closing w)) turns is = absurd turns
 waits_without v (Some (Pass.Receiver w)) turns is = absurd turns
 waits_without v (Some (Pass.Taking w)) turns is = absurd turns
 
-drops : (p : Pool) (place : ℕ) (v : Walk) → TurnsBy p place TurnsSend (Some (Pass.Sending v)) None (only WAITING) → ⊥
-drops p place v (after, turns, is, settles) = waits_without v after turns is
+drops : (p : Pool) (place : ℕ) (seen now : Option Noted) (v : Walk) → TurnsBy p place TurnsSend seen now (Some (Pass.Sending v)) None (only WAITING) → ⊥
+drops p place seen now v (after, turns, is, noted, settles) = waits_without v after turns is
+
+abbrev or_this : Noted → Option Noted → Noted
+or_this m None = m
+or_this m (Some n) = n
+
+-- a pass that has a call heeds no note
+busy_heeds : (seen : Option Noted) (v : Walk) (o : Option Pass) → Heeds seen (Some (Pass.Sending v)) o → ⊥
+busy_heeds None v o h = h
+busy_heeds (Some n) v None h = h
+busy_heeds (Some n) v (Some (Pass.Sender w)) h = h
+busy_heeds (Some n) v (Some (Pass.Sending w)) h = h
+busy_heeds (Some n) v (Some (Pass.Closing w)) h = h
+busy_heeds (Some n) v (Some (Pass.Receiver w)) h = h
+busy_heeds (Some n) v (Some (Pass.Taking w)) h = h
+
+other_table : (n : Noted) (v : Walk) (o : Option Pass) → Heeds (Some n) (Some (Pass.Sender v)) o → n.table_id ≡ v.table_id
+other_table n v (Some (Pass.Sender w)) h = h.1.here.0 ∙ ap (λ (x : Walk). x.table_id) h.0.same
+other_table n v None h = absurd h
+other_table n v (Some (Pass.Sending w)) h = absurd h
+other_table n v (Some (Pass.Closing w)) h = absurd h
+other_table n v (Some (Pass.Receiver w)) h = absurd h
+other_table n v (Some (Pass.Taking w)) h = absurd h
 
 pub claims_refused : RefusedClaims
 claims_refused = record {
@@ -82,4 +105,8 @@ claims_refused = record {
   bad_body_is_busy = bad_body;
   answered_pass_is_kept = λ z body told w made. kept_answered made.after w made.kept;
   turn_drops_the_call = drops;
+  call_is_not_noted = λ seen n body old w told other after. other (ap (or_this n) after.noted);
+  pass_makes_two_calls = λ seen now body v new told after. busy_heeds seen v after.heeding after.heeds;
+  note_of_another_queue = λ n now body v new told other after. other (other_table n v after.heeding after.heeds);
+  call_lies_in_a_place = λ z v (here, idle). cc idle;
 }

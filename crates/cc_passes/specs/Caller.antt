@@ -16,6 +16,8 @@ use Rattle.cc_passes.specs.Passes.{Holding, HasPassOf, has_call}
 use Rattle.cc_passes.specs.declared.handles.handle.Handle.{Handle}
 use Rattle.cc_passes.specs.declared.pool.kept.Kept.{Kept}
 use Rattle.cc_passes.specs.Made.{IsMade, kept_of, TakesIn}
+use Rattle.cc_passes.specs.Noting.{After, noted_after}
+use Rattle.cc_steps.specs.Noted.{Noted}
 use Rattle.cc_passes.specs.Kept.{WasOther, IsHome}
 use Rattle.cc_passes.specs.Tried.{WereTried}
 use Rattle.cc_passes.specs.Pooled.{Pool, places_of}
@@ -29,10 +31,10 @@ abbrev pub IsWaitingOf : Topic → Handle → Type 0
 IsWaitingOf z h = IsHeldOf z h.boxed.value
 
 -- A caller's call. If a call of the caller waits, it stays, and the call is refused as BUSY. Else the call is refused with one of
--- these codes, and nothing has changed; or it was made by a pass of this queue.
-abbrev pub MadeBy : {T : Type 0} → Topic → (ℕ → T) → (ℕ → Type 0) → (Option Pass → Option Pass → T → Type 0) → Option Pass → Option Pass → T → Type 0
-MadeBy z alone Refuses Tells (Some p) new told = (new ≡ Some p) × (told ≡ alone BUSY)
-MadeBy z alone Refuses Tells None new told = ((new ≡ None) × ((code : ℕ) × Refuses code × (told ≡ alone code))) ⊎ IsMade z Tells told new
+-- these codes, and nothing has changed, the caller's note neither; or it was made by a pass of this queue, which had heeded that note.
+abbrev pub MadeBy : {T : Type 0} → Topic → (ℕ → T) → (ℕ → Type 0) → (Option Pass → Option Pass → T → Type 0) → Option Noted → Option Noted → Option Pass → Option Pass → T → Type 0
+MadeBy z alone Refuses Tells seen now (Some p) new told = (new ≡ Some p) × (now ≡ seen) × (told ≡ alone BUSY)
+MadeBy z alone Refuses Tells seen now None new told = ((new ≡ None) × (now ≡ seen) × ((code : ℕ) × Refuses code × (told ≡ alone code))) ⊎ IsMade z (After seen now Tells) told new
 
 -- Why no send was made, by each place of the senders: BUSY if each place was in use, or its sender exhausted; WORN if each
 -- sender was there, and exhausted.
@@ -56,23 +58,23 @@ abbrev pub RefusesTake : Pool → ℕ → ℕ → Type 0
 RefusesTake p group code = (code ≡ BUSY) × WereTried TakeNumbers (IsOutside group) false (places_of p group)
 
 -- a send of this body, if there is one; else nothing changes
-abbrev pub SendsBy : Pool → Result Body ℕ → Option Pass → Option Pass → SendResult → Type 0
-SendsBy p (Err why) old new told = (new ≡ old) × (told ≡ only why)
-SendsBy p (Ok body) old new told = MadeBy p.queue only (RefusesSend p) (TriesSend (Ok body)) old new told
+abbrev pub SendsBy : Pool → Result Body ℕ → Option Noted → Option Noted → Option Pass → Option Pass → SendResult → Type 0
+SendsBy p (Err why) seen now old new told = (new ≡ old) × (now ≡ seen) × (told ≡ only why)
+SendsBy p (Ok body) seen now old new told = MadeBy p.queue only (RefusesSend p) (TriesSend (Ok body)) seen now old new told
 
 -- a close
-abbrev pub ClosesBy : Pool → Option Pass → Option Pass → SendResult → Type 0
+abbrev pub ClosesBy : Pool → Option Noted → Option Noted → Option Pass → Option Pass → SendResult → Type 0
 ClosesBy p = MadeBy p.queue only (RefusesClose p) TriesClose
 
 -- a take for a group, if there is such a group; else nothing changes
-abbrev pub InRange : {I : Type 0} → Form I → Bool → (Option Pass → Option Pass → TakeResult I → Type 0) → Option Pass → Option Pass → TakeResult I → Type 0
-InRange form true Tells old new told = Tells old new told
-InRange form false Tells old new told = (new ≡ old) × (told ≡ none_taken form BAD_GROUPS)
+abbrev pub InRange : {I : Type 0} → Form I → Bool → (Option Noted → Option Noted → Option Pass → Option Pass → TakeResult I → Type 0) → Option Noted → Option Noted → Option Pass → Option Pass → TakeResult I → Type 0
+InRange form true Tells seen now old new told = Tells seen now old new told
+InRange form false Tells seen now old new told = (new ≡ old) × (now ≡ seen) × (told ≡ none_taken form BAD_GROUPS)
 
 abbrev pub is_group : ℕ → ℕ → Bool
 is_group rows group = nat_le 1 group && nat_lt group rows
 
-abbrev pub TakesBy : {I : Type 0} → Pool → Form I → ℕ → Option Pass → Option Pass → TakeResult I → Type 0
+abbrev pub TakesBy : {I : Type 0} → Pool → Form I → ℕ → Option Noted → Option Noted → Option Pass → Option Pass → TakeResult I → Type 0
 TakesBy p form group = InRange form (is_group p.rows group) (MadeBy p.queue (none_taken form) (RefusesTake p group) (TakesIn form group))
 
 -- the places of a group, or those of the senders if there is no such group
@@ -93,6 +95,7 @@ abbrev pub Settles : Pool → ℕ → Option Pass → Type 0
 Settles p place None = Unit {0}
 Settles p place (Some x) = IsSettled p place (Some x)
 
--- a turn of the call that waits; its pass goes back to this place when it has no call any more
-abbrev pub TurnsBy : {T : Type 0} → Pool → ℕ → (Option Pass → Option Pass → T → Type 0) → Option Pass → Option Pass → T → Type 0
-TurnsBy p place Turns old new told = (after : Option Pass) × Turns old after told × (new ≡ kept_of after) × Settles p place after
+-- a turn of the call that waits; when its pass has no call any more, the caller notes what the pass has seen, and the pass goes back to
+-- this place
+abbrev pub TurnsBy : {T : Type 0} → Pool → ℕ → (Option Pass → Option Pass → T → Type 0) → Option Noted → Option Noted → Option Pass → Option Pass → T → Type 0
+TurnsBy p place Turns seen now old new told = (after : Option Pass) × Turns old after told × (new ≡ kept_of after) × (now ≡ noted_after seen after) × Settles p place after

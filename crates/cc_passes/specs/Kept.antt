@@ -6,7 +6,7 @@ use lib.ListN.{get_elem?}
 use Rattle.atomic_table.specs.Table.{State, Me, Step}
 use Rattle.cc_passes.specs.declared.handles.handle_inner.HandleInner.{HandleInner}
 use Rattle.cc_passes.specs.declared.handles.handle_inner.Pass.{Pass}
-use Rattle.cc_passes.specs.Passes.{HasPassOf}
+use Rattle.cc_passes.specs.Passes.{HasIdlePassOf}
 use Rattle.cc_steps.specs.Topic.{Topic}
 use Rattle.cc_passes.specs.declared.pool.place.Place.{Place}
 
@@ -14,9 +14,9 @@ use Rattle.cc_passes.specs.declared.pool.place.Place.{Place}
 abbrev pub IsFull : Place → Type 0
 IsFull x = (b : Box HandleInner Global) × (x.held ≡ Some b)
 
--- a box lies in the place, with a pass of this queue
+-- a box lies in the place, with a pass of this queue that has no call
 abbrev pub HasPass : Topic → Place → Type 0
-HasPass z x = (b : Box HandleInner Global) × (x.held ≡ Some b) × HasPassOf z b.value.pass
+HasPass z x = (b : Box HandleInner Global) × (x.held ≡ Some b) × HasIdlePassOf z b.value.pass
 
 -- the place fits its word: with 2, OUT, nothing lies in it; else a pass of this queue
 abbrev pub Fits : Topic → ℕ → Place → Type 0

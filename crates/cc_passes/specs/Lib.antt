@@ -12,6 +12,7 @@ pub mod OpenHandles
 pub mod Kept
 pub mod Loans
 pub mod Made
+pub mod Noting
 pub mod Pooled
 pub mod Tried
 pub mod Caller
@@ -21,4 +22,5 @@ pub mod Cut
 pub mod Call
 pub mod New
 pub mod Looks
+pub mod Order
 pub mod Refused

@@ -1,7 +1,7 @@
 -- The right to a place.
 use Rattle.std.specs.Prelude.{◌≡◌, ℕ, Option}
 use Rattle.cc_passes.specs.declared.handles.handle_inner.Pass.{Pass}
-use Rattle.cc_passes.specs.Passes.{HasPassOf}
+use Rattle.cc_passes.specs.Passes.{HasIdlePassOf}
 use Rattle.cc_steps.specs.Topic.{Topic}
 use Rattle.cc_passes.specs.Kept.{Seized}
 use Rattle.cc_passes.specs.declared.pool.kept.Kept.{Kept}
@@ -20,6 +20,6 @@ IsPlaceOf z k = queue_of k ≡ z
 abbrev pub IsLoan : Kept → ℕ → Loan → Type 0
 IsLoan k n l = (l.seat.table_id ≡ k.table.shared.table_id) × Seized (queue_of k) n l.seat.me
 
--- the place is empty, and its pass, or another of its queue, is out
+-- the place is empty, and its pass, or another of its queue, is out and has no call
 abbrev pub IsLent : Kept → Loan → Option Pass → Type 0
-IsLent k l o = IsLoan k OUT l × HasPassOf (queue_of k) o
+IsLent k l o = IsLoan k OUT l × HasIdlePassOf (queue_of k) o

@@ -33,6 +33,10 @@ has_call _ = false
 abbrev pub HasPassOf : Topic → Option Pass → Type 0
 HasPassOf z o = (p : Pass) × (o ≡ Some p) × IsOf z (walk_of p)
 
+-- there is a pass of this queue, and it has no call
+abbrev pub HasIdlePassOf : Topic → Option Pass → Type 0
+HasIdlePassOf z o = HasPassOf z o × (has_call o ≡ false)
+
 -- the pass stays one of its queue
 abbrev pub StaysOf : Option Pass → Option Pass → Type 0
 StaysOf old new = (z : Topic) → HasPassOf z old → HasPassOf z new

@@ -8,7 +8,7 @@ use Rattle.cc_runs.specs.Run.{passes, reached, history_of}
 use Rattle.cc_runs.specs.State.{pass_at}
 use Rattle.cc_runs.specs.ChainLaws.{IsOut}
 use Rattle.cc_queue.specs.Group.{Ranked}
-use Rattle.cc_steps.specs.Noted.{Noted}
+use Rattle.cc_steps.specs.Noted.{Noted, noted_by}
 use Rattle.cc_steps.specs.Topic.{Topic}
 use Rattle.cc_steps.specs.Walk.{Walk}
 use Rattle.cc_passes.specs.Names.{Answer, Body, Config, Entry, Pass, SendAnswer, SendResult, TakeResult, TakenItem}
@@ -17,6 +17,8 @@ use Rattle.cc_passes.specs.Items.{Form}
 use Rattle.cc_passes.specs.Results.{only}
 use Rattle.cc_passes.specs.Calls.{IsExhausted, TriesSend, TurnsSend}
 use Rattle.cc_passes.specs.Made.{IsMade, TakesIn}
+use Rattle.cc_passes.specs.Noting.{After}
+use Rattle.cc_passes.specs.Passes.{HasIdlePassOf}
 use Rattle.cc_passes.specs.Caller.{IsOutside, SendsBy, TurnsBy}
 use Rattle.cc_passes.specs.Looks.{FindsAccepted}
 use Rattle.cc_passes.specs.Opened.{HasPool}
@@ -44,8 +46,17 @@ pub record RefusedClaims : Type 0 where
   -- a take for a group is made by a receiver of another group
   pub taken_for_another_group : (form : Form TakenItem) (group : ℕ) (w : Walk) (new : Option Pass) (told : TakeResult TakenItem) → Refused (Ranked w group) → Refused (TakesIn form group (Some (Pass.Receiver w)) new told)
   -- a body is refused as too long, and the code says that all senders are in use
-  pub bad_body_is_busy : (p : Pool) (why : ℕ) (old new : Option Pass) → why ≢ BUSY → Refused (SendsBy p (Err why) old new (only BUSY))
+  pub bad_body_is_busy : (p : Pool) (why : ℕ) (seen now : Option Noted) (old new : Option Pass) → why ≢ BUSY → Refused (SendsBy p (Err why) seen now old new (only BUSY))
   -- a call was answered, and the caller keeps the pass
   pub answered_pass_is_kept : (z : Topic) (body : Result Body ℕ) (told : SendResult) (w : Walk) → Refused (IsMade z (TriesSend body) told (Some (Pass.Sender w)))
   -- a send waits on, and the caller has no pass any more
-  pub turn_drops_the_call : (p : Pool) (place : ℕ) (v : Walk) → Refused (TurnsBy p place TurnsSend (Some (Pass.Sending v)) None (only WAITING))
+  pub turn_drops_the_call : (p : Pool) (place : ℕ) (seen now : Option Noted) (v : Walk) → Refused (TurnsBy p place TurnsSend seen now (Some (Pass.Sending v)) None (only WAITING))
+  -- a call is over, and its caller notes something else than its pass has seen
+  pub call_is_not_noted : (seen : Option Noted) (n : Noted) (body : Result Body ℕ) (old : Option Pass) (w : Walk) (told : SendResult) → Refused (n ≡ noted_by w) → Refused (After seen (Some n) (TriesSend body) old (Some (Pass.Sender w)) told)
+  -- a call is made by a pass that makes another call meanwhile
+  pub pass_makes_two_calls : (seen : Option Noted) (now : Option Noted) (body : Result Body ℕ) (v : Walk) (new : Option Pass) (told : SendResult) → Refused (After seen now (TriesSend body) (Some (Pass.Sending v)) new told)
+  -- a caller's note is of another queue, and a pass heeds it
+  pub note_of_another_queue : (n : Noted) (now : Option Noted) (body : Result Body ℕ) (v : Walk) (new : Option Pass) (told : SendResult) → Refused (n.table_id ≡ v.table_id)
+      → Refused (After (Some n) now (TriesSend body) (Some (Pass.Sender v)) new told)
+  -- a pass that has a call lies in a place
+  pub call_lies_in_a_place : (z : Topic) (v : Walk) → Refused (HasIdlePassOf z (Some (Pass.Taking v)))

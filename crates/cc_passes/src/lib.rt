@@ -6,6 +6,8 @@
 
 mod clauses;
 pub mod handles;
+mod order;
 pub mod pool;
 
 pub use clauses::clauses_refuse;
+pub use order::{callers_are_in_order, calls_keep_order};

@@ -1,10 +1,12 @@
 //! The content of a handle's box.
-ghost use Rattle.std.specs.Prelude.{◌≡◌, Some, None};
+ghost use Rattle.std.specs.Prelude.{◌≡◌, false, Some, None};
+ghost use Rattle.cc_steps.specs.Noted.{IsNoteOf};
 ghost use Rattle.cc_steps.specs.Walk.{IsOf};
-ghost use Rattle.cc_passes.specs.Passes.{walk_of, abandoned_of, holding, has_call};
+ghost use Rattle.cc_passes.specs.Noting.{IsNoteFor, MayHeed, Heeds, noted_after};
+ghost use Rattle.cc_passes.specs.Passes.{walk_of, abandoned_of, holding, has_call, StaysOf};
 
 use crate::handles::abandoned::Abandoned;
-use cc_queue::{GivenUp, PendingClose, PendingSend, PendingTake, Queue, Receiver, Sender};
+use cc_queue::{GivenUp, Note, PendingClose, PendingSend, PendingTake, Queue, Receiver, Sender};
 use std::marker::Model;
 use std::mem::ManuallyDrop;
 
@@ -69,6 +71,34 @@ impl HandleInner {
         }
     }
 
+    /// Lets the pass see what was noted.
+    #[inline(always)]
+    pub fn heed(&mut self, note: &mut Note)
+        requires { MayHeed self.old.pass note.old }
+        ensures same { note.new ≡ note.old }
+        ensures heeds { Heeds (Some note.old) self.old.pass self.new.pass }
+        ensures words { self.new.words ≡ self.old.words }
+        ensures stays { StaysOf self.old.pass self.new.pass }
+    {
+        if let Some(pass) = self.pass.take() {
+            let pass = heeded(&self.queue, pass, note);
+            put(&mut self.pass, pass);
+        }
+    }
+
+    /// Notes what the pass has seen, if it has no call.
+    #[inline(always)]
+    pub fn note(&mut self, note: &mut Note)
+        requires { IsNoteFor self.old.pass note.old }
+        ensures same { self.new ≡ self.old }
+        ensures noted { Some note.new ≡ noted_after (Some note.old) self.old.pass }
+    {
+        if let Some(pass) = self.pass.take() {
+            let pass = noted(&self.queue, pass, note);
+            put(&mut self.pass, pass);
+        }
+    }
+
     /// Gives the pass up, with its call if it had begun one: its remains.
     pub fn give_up(&mut self) -> Abandoned
         ensures { result.value ≡ abandoned_of self.old.pass }
@@ -77,6 +107,49 @@ impl HandleInner {
             Some(pass) => Abandoned::of(ManuallyDrop::new(give_up(pass))),
             None => Abandoned::none(),
         }
+    }
+}
+
+/// The pass once it has seen what was noted.
+#[inline(always)]
+fn heeded(queue: &Queue, pass: Pass, note: &mut Note) -> Pass
+    requires here { IsOf queue.now (walk_of pass) }
+    requires idle { has_call (Some pass) ≡ false }
+    requires there { IsNoteOf queue.now note.old }
+    ensures here { IsOf queue.now (walk_of result) }
+    ensures same { note.new ≡ note.old }
+    ensures heeds { Heeds (Some note.old) (Some pass) (Some result) }
+{
+    match pass {
+        Pass::Sender(mut sender) => {
+            sender.see_noted(queue, note);
+            Pass::Sender(sender)
+        }
+        Pass::Receiver(mut receiver) => {
+            receiver.see_noted(queue, note);
+            Pass::Receiver(receiver)
+        }
+        other => other,
+    }
+}
+
+/// The pass as it was, once it was noted what it has seen, if it has no call.
+#[inline(always)]
+fn noted(queue: &Queue, pass: Pass, note: &mut Note) -> Pass
+    requires { IsOf queue.now (walk_of pass) }
+    ensures same { result ≡ pass }
+    ensures noted { Some note.new ≡ noted_after (Some note.old) (Some pass) }
+{
+    match pass {
+        Pass::Sender(mut sender) => {
+            *note = sender.note_of(queue);
+            Pass::Sender(sender)
+        }
+        Pass::Receiver(mut receiver) => {
+            *note = receiver.note_of(queue);
+            Pass::Receiver(receiver)
+        }
+        other => other,
     }
 }
 

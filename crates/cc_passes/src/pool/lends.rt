@@ -1,6 +1,6 @@
 //! How a place is taken, and given back.
 ghost use Rattle.std.specs.Prelude.{◌≡◌, ◌≢◌, IfOk, IfSome, IfNone};
-ghost use Rattle.cc_passes.specs.Passes.{HasPassOf};
+ghost use Rattle.cc_passes.specs.Passes.{HasIdlePassOf};
 ghost use Rattle.cc_passes.specs.Kept.{Seized, HasBox, WasOther, IsHome, IsHomeWith};
 ghost use Rattle.cc_passes.specs.Loans.{IsLoan, IsLent, queue_of};
 ghost use Rattle.cc_passes.specs.declared.pool.kept.TheConstants.{TAKEN, FREE, OUT};
@@ -16,7 +16,7 @@ use std::alloc::{AllocError, Global};
 impl Kept {
     /// A place with this pass.
     pub fn new(alloc: Global, queue: &Queue, held: Box<HandleInner>) -> Result<Kept, AllocError>
-        requires { HasPassOf queue.now held.value.pass }
+        requires { HasIdlePassOf queue.now held.value.pass }
         ensures { IfOk result (λ k. k.table.shared.key ≡ queue.now) }
     {
         let place = Place::of(held);
@@ -62,7 +62,7 @@ impl Kept {
     fn fill(&self, seat: &mut Seat<Place, Queue>, held: Box<HandleInner>)
         requires here { seat.old.table_id ≡ self.now.table.shared.table_id }
         requires seized { Seized self.now.table.shared.key OUT seat.old.me }
-        requires held { HasPassOf self.now.table.shared.key held.value.pass }
+        requires held { HasIdlePassOf self.now.table.shared.key held.value.pass }
         ensures here { seat.new.table_id ≡ seat.old.table_id }
         ensures seized { Seized self.now.table.shared.key FREE seat.new.me }
         ensures full { HasBox held seat.new.me }

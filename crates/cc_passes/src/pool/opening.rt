@@ -1,8 +1,8 @@
 //! The opening of a queue whose passes are shared.
-ghost use Rattle.std.specs.Prelude.{◌≡◌, ◌≢◌, ◌≤◌, ◌+◌, length, All, IfOk, IfErr, OnOk};
+ghost use Rattle.std.specs.Prelude.{◌≡◌, ◌≢◌, ◌≤◌, ◌+◌, false, Some, length, All, IfOk, IfErr, OnOk};
 ghost use Rattle.cc_queue.specs.Opened.{HasOpened};
 ghost use Rattle.cc_steps.specs.Walk.{IsOf};
-ghost use Rattle.cc_passes.specs.Passes.{walk_of};
+ghost use Rattle.cc_passes.specs.Passes.{walk_of, has_call};
 ghost use Rattle.cc_passes.specs.declared.handles.return_codes.TheConstants.{DONE};
 ghost use Rattle.cc_passes.specs.Loans.{IsPlaceOf, queue_of};
 ghost use Rattle.cc_passes.specs.Pooled.{IsRowOf};
@@ -38,7 +38,8 @@ fn check(config: &Config, words: u32) -> Result<CheckedConfig, u32>
 
 /// A place with this pass.
 fn place(alloc: Global, queue: &Queue, words: u32, pass: Pass) -> Result<Kept, AllocError>
-    requires { IsOf queue.now (walk_of pass) }
+    requires here { IsOf queue.now (walk_of pass) }
+    requires idle { has_call (Some pass) ≡ false }
     ensures { IfOk result (λ k. queue_of k ≡ queue.now) }
 {
     let held = held(alloc, queue, words, pass)?;

@@ -2,7 +2,7 @@
 ghost use Rattle.std.specs.Prelude.{◌≡◌, ◌≤◌, All, IfOk, IfErr, true};
 ghost use Rattle.cc_steps.specs.Walk.{IsOf};
 ghost use Rattle.cc_steps.specs.Topic.{Topic};
-ghost use Rattle.cc_passes.specs.Passes.{HasPassOf};
+ghost use Rattle.cc_passes.specs.Passes.{HasIdlePassOf};
 ghost use Rattle.cc_passes.specs.declared.pool.pooled.Tried.{Tried};
 ghost use Rattle.cc_passes.specs.Caller.{is_group, IsGivenBack};
 ghost use Rattle.cc_passes.specs.Kept.{Seized, WasOther};
@@ -72,9 +72,9 @@ impl Kept {
     ) -> Tried<T>
         requires here { seat.old.table_id ≡ self.now.table.shared.table_id }
         requires seized { Seized (queue_of self.now) FREE seat.old.me }
-        requires new { A.is_new ask.old }
+        requires may { A.may (queue_of self.now) ask.old }
         ensures here { seat.new.table_id ≡ seat.old.table_id }
-        ensures tried { IsTriedOf (queue_of self.now) (λ old new told. A.tells ask.old old new told out.new) result }
+        ensures tried { IsTriedOf (queue_of self.now) (λ old new told. A.tells ask.old ask.new old new told out.new) result }
         ensures seized { Seized (queue_of self.now) (word_after result) seat.new.me }
         ensures same { IsUnmade result (ask.new ≡ ask.old) }
         ensures gave { GaveOf ⊥ (queue_of self.now) (A.skips ask.old) result }
@@ -102,9 +102,9 @@ pub trait Spot<T, O, A: Ask<T, O>> {
 
     /// Makes a call by the pass of this place, if the place is free.
     fn ask(&self, ask: &mut A, out: &mut O) -> Tried<T>
-        requires { A.is_new ask.old }
+        requires { A.may (of self.now) ask.old }
         ensures gave { gave ask.old self.now result }
-        ensures tried { IsTriedOf (of self.now) (λ old new told. A.tells ask.old old new told out.new) result }
+        ensures tried { IsTriedOf (of self.now) (λ old new told. A.tells ask.old ask.new old new told out.new) result }
         ensures same { IsUnmade result (ask.new ≡ ask.old) };
 }
 
@@ -177,8 +177,9 @@ impl Pooled {
         out: &mut O,
     ) -> Result<Made<T>, bool>
         requires row { All (λ k. K.of k ≡ self.now.queue) row.now }
-        requires new { A.is_new ask.old }
-        ensures made { IfOk result (λ m. IsRowMade self.now.queue (λ old new told. A.tells ask.old old new told out.new) m) }
+        requires may { A.may self.now.queue ask.old }
+        ensures made { IfOk result (λ m. IsRowMade self.now.queue (λ old new told. A.tells ask.old ask.new old new told out.new) m) }
+        ensures same { IfErr result (λ _. ask.new ≡ ask.old) }
         ensures tried { IfErr result (λ all_there. All (λ k. GaveNone (K.gave ask.old) all_there k) row.now) }
     {
         let count = row.len();
@@ -215,7 +216,7 @@ impl Pooled {
     /// Puts a pass back into the place that it was taken from, of the senders or of this group. If that place isn't free for it,
     /// the pass is given up.
     pub(crate) fn give_back(&self, group: u32, at: u32, held: Box<HandleInner>)
-        requires { HasPassOf self.now.queue held.value.pass }
+        requires { HasIdlePassOf self.now.queue held.value.pass }
         ensures { IsGivenBack self.now group at held.value.pass }
     {
         let row = if self.is_group(group) {

@@ -1,5 +1,5 @@
 //! A note that a caller has, as C holds it.
-ghost use Rattle.std.specs.Prelude.{◌≡◌, Option, Some, None};
+ghost use Rattle.std.specs.Prelude.{◌≡◌, Option, Some, None, IsTrue, is_some};
 ghost use Rattle.std.specs.Mem.{manually_drop_value};
 ghost use Rattle.cc_steps.specs.declared.notes.Note.{Note};
 ghost use Rattle.cc_steps.specs.contracts.notes.Note.{the_row};
@@ -33,6 +33,15 @@ impl Seen {
         ensures { result.value ≡ Some (manually_drop_value note) }
     {
         Seen {}
+    }
+
+    /// The note, in exchange for another one: notes have the same bytes, namely none.
+    pub(crate) fn trade(self, other: Note) -> Note
+        requires { IsTrue (is_some self.value) }
+        ensures { Some result ≡ self.value }
+    {
+        let Seen {} = self;
+        other
     }
 }
 
