@@ -46,6 +46,11 @@ OPENINGS = {
     f"an opening for {name}, a pair and the drop": ("", f"let (s, r) = channel::<u64>({places})?; s.send(i).unwrap(); assert_eq!(r.recv(), Ok(i));", limit)
     for name, places, limit in (("one item", 1, 11412), ("64 items", 64, 20637))
 }
+# The same pair with a bound and without one, in a program of their own too. By the limits the second one costs at most a twentieth more.
+BOUNDS = {
+    f"send and recv of a word, {name}": (f"let (s, r) = {opening}?;", "s.send(i).unwrap(); assert_eq!(r.recv(), Ok(i));", limit)
+    for name, opening, limit in (("capacity 64", "channel::<u64>(64)", 735), ("without a bound", "unbounded::<u64>()", 752))
+}
 # The pairs of the program in C: by handles, as the Rust crate makes them, by one pointer, and the calls that wait. The pointer's has 106 more: each call
 # looks for a free place, takes it by an exchange and gives it back by a store, and an item has room for four words. The calls that wait take a seat, and
 # make a call by its handle. The turns are the same.
@@ -57,7 +62,7 @@ IN_C = {
     "vahepito_send and vahepito_take": ("waits", 682, 6),
 }
 RUST = """#![allow(unused_imports)]
-use vahepito::{after, channel, groups, never, select};
+use vahepito::{after, channel, groups, never, select, unbounded};
 
 fn main() -> Result<(), Box<dyn std::error::Error>> {
     let args: Vec<String> = std::env::args().collect();
@@ -172,7 +177,7 @@ def main():
         return 77
     with tempfile.TemporaryDirectory() as room:
         c, rows = build_c(room), []
-        for part, of_part in (("calls", IN_RUST), ("openings", OPENINGS)):
+        for part, of_part in (("calls", IN_RUST), ("openings", OPENINGS), ("bounds", BOUNDS)):
             rust = build_rust(os.path.join(room, part), of_part)
             rows += [(name, [rust, name], [limit]) for name, (_, _, limit) in of_part.items()]
         rows += [(name, [c, mode], limits) for name, (mode, *limits) in IN_C.items()]

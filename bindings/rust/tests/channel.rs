@@ -264,29 +264,46 @@ fn iterators_end_where_they_say() {
     assert_eq!((rest.next(), rest.next()), (None, None));
 }
 
-/// A drain takes what was there when it was made, and ends though more is sent.
+/// A drain takes what is there at once, and nothing that is sent later.
 #[test]
-fn a_drain_ends() {
+fn a_drain_takes_what_is_there() {
     let (sender, receiver) = channel(8).unwrap();
     (1..=3).for_each(|number| sender.send(number).unwrap());
     let mut drain = receiver.drain();
-    assert_eq!(drain.size_hint(), (0, Some(3)));
+    assert_eq!((drain.len(), receiver.len()), (3, 0));
     sender.send(4).unwrap();
     assert_eq!(drain.next(), Some(1));
-    // Another receiver takes one of them.
-    assert_eq!(receiver.clone().recv(), Ok(2));
-    assert!(drain.by_ref().eq([3, 4]));
+    assert_eq!(drain.size_hint(), (2, Some(2)));
+    assert_eq!(receiver.clone().recv(), Ok(4));
+    assert!(drain.by_ref().eq([2, 3]));
     sender.send(5).unwrap();
     assert_eq!(drain.next(), None);
-    // An item that a drain hasn't taken stays.
-    drop(receiver.drain());
-    assert_eq!(receiver.recv(), Ok(5));
-    let mut drain = receiver.drain();
+    // The items that a drain hasn't given go with it.
+    receiver.drain();
+    assert_eq!(receiver.try_recv(), Err(TryRecvError::Empty));
     sender.send(6).unwrap();
-    assert_eq!(drain.next(), None);
     drop(sender);
     assert!(receiver.drain().eq([6]));
     assert_eq!(receiver.drain().next(), None);
+}
+
+/// A drain ends while others send and take, and has no more than the channel can hold.
+#[test]
+fn a_drain_ends_beside_others() {
+    const ITEMS: u32 = 20_000;
+    let (sender, receiver) = channel(8).unwrap();
+    thread::scope(|scope| {
+        scope.spawn(move || (0..ITEMS).for_each(|number| sender.send(number).unwrap()));
+        let other = receiver.clone();
+        let takes = scope.spawn(move || other.iter().count());
+        let mut drained = 0;
+        while !receiver.is_closed() || !receiver.is_empty() {
+            let items: Vec<u32> = receiver.drain().collect();
+            assert!(items.len() <= 8 && items.is_sorted(), "{items:?}");
+            drained += items.len();
+        }
+        assert_eq!(drained + takes.join().unwrap(), ITEMS as usize);
+    });
 }
 
 /// Each side counts its own handles, and those of the other one.
@@ -673,6 +690,32 @@ fn a_clone_that_panics_breaks_nothing() {
         assert_eq!(receivers[0].recv().map(|item| item.0.1), Ok(number));
         assert_eq!(alive(&count), 0);
     }
+}
+
+/// A clone panics in a drain: the items that were taken before it are dropped, and those after it stay.
+#[test]
+fn a_clone_panics_in_a_drain() {
+    struct Second(Counted);
+    impl Clone for Second {
+        fn clone(&self) -> Second {
+            if self.0.1 == 2 {
+                std::panic::resume_unwind(Box::new("no clone"));
+            }
+            Second(self.0.clone())
+        }
+    }
+    let count = Arc::default();
+    let (sender, receivers) = groups(3, 2).unwrap();
+    for number in 1..=3 {
+        assert!(sender.send(Second(Counted::new(&count, number))).is_ok());
+    }
+    let drained = || receivers[0].drain().len();
+    assert!(catch_unwind(AssertUnwindSafe(drained)).is_err());
+    assert_eq!(alive(&count), 3);
+    let numbers = |receiver: &Receiver<Second>| receiver.drain().map(|item| item.0.1).collect();
+    let [first, second]: [Vec<u64>; 2] = [numbers(&receivers[0]), numbers(&receivers[1])];
+    assert_eq!((first, second), (vec![3], vec![1, 2, 3]));
+    assert_eq!(alive(&count), 0);
 }
 
 #[test]

@@ -10,8 +10,10 @@ use crate::event::{Event, wait};
 use std::borrow::Cow;
 use std::convert::identity;
 use std::iter::FusedIterator;
+use std::marker::PhantomData;
 use std::sync::{Arc, Weak};
 use std::time::{Duration, Instant};
+use std::vec;
 
 /// A receiver of a channel, which [`channel`](crate::channel()) or [`groups`](crate::groups()) opens.
 ///
@@ -242,11 +244,15 @@ impl<T> Receiver<T> {
         TryIter(self)
     }
 
-    /// Takes the items that are there now, and none that are sent later. So the iterator ends, also while other
-    /// threads send. It takes an item at each `next`, and leaves the others in the channel if it is dropped.
-    /// Another receiver may take some of the items first.
+    /// Takes the items that are there now, and none that are sent later. The items leave the channel at once, also
+    /// if the iterator isn't used: the drop of the iterator drops those that it hasn't given. Another receiver may
+    /// take some of the items first.
     ///
     /// A channel of capacity 0 holds no items, so the iterator gives none.
+    ///
+    /// # Panics
+    ///
+    /// The clone of a group's item panics. The items that were taken before it are dropped.
     ///
     /// ```
     /// let (sender, receiver) = vahepito::channel(4)?;
@@ -258,12 +264,16 @@ impl<T> Receiver<T> {
     ///     all.push(number);
     /// }
     /// assert_eq!(all, [1, 2]);
-    /// assert_eq!(receiver.len(), 2);
+    /// assert_eq!(receiver.drain().len(), 2);
+    /// assert!(receiver.is_empty());
     /// # Ok::<(), vahepito::OpenError>(())
     /// ```
     pub fn drain(&self) -> Drain<'_, T> {
-        let (receiver, left) = (self, self.len());
-        Drain { receiver, left }
+        let items: Vec<T> = self.try_iter().take(self.len()).collect();
+        Drain {
+            items: items.into_iter(),
+            receiver: PhantomData,
+        }
     }
 
     /// Closes the channel. No item is accepted any more. The receivers take what was sent before, and then see
@@ -530,31 +540,26 @@ impl<T> Iterator for TryIter<'_, T> {
     }
 }
 
-/// Takes the items that were there when it was made: see [`Receiver::drain`].
+/// Items that were taken at once: see [`Receiver::drain`].
 #[derive(Debug)]
-#[must_use = "an iterator takes nothing unless it is used"]
 pub struct Drain<'a, T> {
-    receiver: &'a Receiver<T>,
-    /// How many items it takes at most.
-    left: usize,
+    items: vec::IntoIter<T>,
+    receiver: PhantomData<&'a Receiver<T>>,
 }
 
 impl<T> Iterator for Drain<'_, T> {
     type Item = T;
 
     fn next(&mut self) -> Option<T> {
-        self.left = self.left.checked_sub(1)?;
-        let item = self.receiver.try_recv().ok();
-        if item.is_none() {
-            self.left = 0;
-        }
-        item
+        self.items.next()
     }
 
     fn size_hint(&self) -> (usize, Option<usize>) {
-        (0, Some(self.left))
+        self.items.size_hint()
     }
 }
+
+impl<T> ExactSizeIterator for Drain<'_, T> {}
 
 impl<T> FusedIterator for Drain<'_, T> {}
 
