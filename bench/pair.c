@@ -11,7 +11,7 @@ static const vahepito_config config = {1, 1, 64, 64, (uint64_t)1 << 48, UINT32_M
 
 static uint64_t by_handles(uint64_t pairs) {
     vahepito_pass sender = VAHEPITO_PASS_EMPTY, receiver = VAHEPITO_PASS_EMPTY;
-    if (vahepito_open(&config, &sender, 1, &receiver, 1) != VAHEPITO_DONE) return 1;
+    if (vahepito_open_words(&config, 1, 1, &sender, 1, &receiver, 1) != VAHEPITO_DONE) return 1;
     uint64_t place, total, wrong = 0;
     uint32_t served;
     vahepito_word_item item;

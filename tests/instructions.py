@@ -81,7 +81,7 @@ static const vahepito_config config = {1, 1, 64, 64, 1000000, 1000000};
 
 static int by_handles(uint64_t calls) {
     vahepito_pass sender = VAHEPITO_PASS_EMPTY, receiver = VAHEPITO_PASS_EMPTY;
-    if (vahepito_open(&config, &sender, 1, &receiver, 1) != VAHEPITO_DONE) return 1;
+    if (vahepito_open_words(&config, 1, 1, &sender, 1, &receiver, 1) != VAHEPITO_DONE) return 1;
     for (uint64_t i = 0; i < calls; i++) {
         uint64_t place, total;
         uint32_t served;

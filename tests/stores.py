@@ -167,7 +167,7 @@ SMALL = {
     + '\n.section .text.vahepito_other,"ax",@progbits\njmp .text.vahepito_it+3',
     "a function that isn't looked at calls it": TURNED
     + FENCE
-    + '\n.section .text.vahepito_open,"ax",@progbits\ncall vahepito_it\nret',
+    + '\n.section .text.vahepito_open_words,"ax",@progbits\ncall vahepito_it\nret',
     "a table of functions leads to it": TURNED + FENCE + "\n.data\n.quad vahepito_it",
     "right: a call of a shared queue": PLACE + TAKEN + FOUND + TURNED + "mov rax,[rcx]\n" + GIVEN,
     "a call that returns at once of a shared queue": PLACE + TAKEN + FOUND + TURNED + "test rsi,rsi\nje 1f\n" + GIVEN + "\n1: ret",

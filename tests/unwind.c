@@ -132,10 +132,8 @@ static void call_by_handles(void) {
     uint32_t served;
     vahepito_item item;
     DUE(VAHEPITO_DONE, vahepito_open_words, AT(&config), 1, 2, AT(senders), 2, AT(receivers), 2);
-    CALL(vahepito_group, AT(receivers), AT(&served));
-    CALL(vahepito_is_worn, AT(senders));
     DUE(VAHEPITO_BEGUN, vahepito_begin_send_words, AT(&senders[0]), AT(words), 2);
-    DUE(VAHEPITO_BEGUN, vahepito_begin_send, AT(&senders[1]), 7);
+    DUE(VAHEPITO_BEGUN, vahepito_begin_send_words, AT(&senders[1]), AT(words), 1);
     DUE(VAHEPITO_WAITING, vahepito_turn_send, AT(&senders[1]), AT(&number), AT(&served));
     DUE(VAHEPITO_ACCEPTED, vahepito_turn_send, AT(&senders[0]), AT(&number), AT(&served));
     DUE(VAHEPITO_ACCEPTED, vahepito_turn_send, AT(&senders[1]), AT(&number), AT(&served));

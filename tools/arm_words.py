@@ -41,7 +41,7 @@ KINDS = {LOAD: "loads", STORE: "stores", PUTS: "read-modify-writes"}
 # last two.
 TABLES = {"vahepito_call_turn_": "x0[8][0][8]", "vahepito_": "x0[0][0][8]", "cc_queue::turns::": "x0[0][8]"}
 # The functions that do the steps of calls, by handles and by one pointer.
-STEPS = re.compile(r"cc_queue::turns::|cc_passes::pool::pooled|cc_passes::handles::handle_inner|vahepito_(begin|turn|try|call|is_worn|group|accepted|taken|is_shut|drop|free)")
+STEPS = re.compile(r"cc_queue::turns::|cc_passes::pool::pooled|cc_passes::handles::handle_inner|vahepito_(begin|turn|try|call|accepted|taken|is_shut|drop|free)")
 MARKED = re.compile(r"\s+(?:%\S+ = )?(load atomic|store atomic|atomicrmw|cmpxchg|fence)\b")
 KIND_OF_MARK = {"load atomic": "loads", "store atomic": "stores", "atomicrmw": "read-modify-writes", "cmpxchg": "read-modify-writes"}
 

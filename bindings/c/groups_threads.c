@@ -1,8 +1,8 @@
 /* Two groups of receivers in C: each group gets every item once.
  *
- * One thread sends 1,000 numbers into a queue with room for four, and two threads for each group take until the end. It
- * ends with status 0 if each group got each item once, each receiver's items came in order, and the opening and
- * vahepito_group returned what they have to. */
+ * On one thread: what an opening refuses, and of which group each receiver is. Then one thread sends 1,000 numbers into a queue with
+ * room for four, and two threads for each group take until the end. It ends with status 0 if each group got each item once, each
+ * receiver's items came in order, and the opening returned what it has to. */
 #include "by_handles.h"
 
 #include <pthread.h>
@@ -18,25 +18,20 @@ static void refusals(void) {
     vahepito_pass sender = VAHEPITO_PASS_EMPTY, receivers[RECEIVERS] = {VAHEPITO_PASS_EMPTY};
     vahepito_config no_sends = config;
     no_sends.per_sender = 0;
-    check(vahepito_open_groups(&no_sends, 0, &sender, 1, receivers, 0) == VAHEPITO_BAD_PER_SENDER, "groups are looked at last");
+    check(vahepito_open_words(&no_sends, 0, 1, &sender, 1, receivers, 0) == VAHEPITO_BAD_PER_SENDER, "groups are looked at last");
     const uint32_t refused[] = {0, 9, UINT32_MAX};
     for (int k = 0; k < 3; k++)
-        check(vahepito_open_groups(&config, refused[k], &sender, 1, receivers, 0) == VAHEPITO_BAD_GROUPS, "1 to 8, and then handles");
-    check(vahepito_open_groups(&config, GROUPS, &sender, 1, receivers, IN_EACH) == VAHEPITO_BAD_HANDLES, "one for each receiver");
-    check(vahepito_open_groups(&config, 1, &sender, 1, receivers, RECEIVERS) == VAHEPITO_BAD_HANDLES, "and no more");
-    check(vahepito_open(&config, &sender, 1, receivers, RECEIVERS) == VAHEPITO_BAD_HANDLES, "it opens one group");
+        check(vahepito_open_words(&config, refused[k], 1, &sender, 1, receivers, 0) == VAHEPITO_BAD_GROUPS, "1 to 8, and then handles");
+    check(vahepito_open_words(&config, GROUPS, 1, &sender, 1, receivers, IN_EACH) == VAHEPITO_BAD_HANDLES, "one for each receiver");
+    check(vahepito_open_words(&config, 1, 1, &sender, 1, receivers, RECEIVERS) == VAHEPITO_BAD_HANDLES, "and no more");
     for (int k = 0; k < RECEIVERS; k++) check(!sender.live && !receivers[k].live, "no handle was changed");
 }
 
-static uint32_t group_of(vahepito_pass *receiver) {
-    uint32_t group = 99;
-    check(vahepito_group(receiver, &group) == VAHEPITO_DONE, "a group is told");
-    return group;
-}
-
-/* vahepito_open opens one group, whatever the padding of the configuration holds. */
-static void one_group(void) {
-    vahepito_pass sender = VAHEPITO_PASS_EMPTY, receivers[IN_EACH] = {VAHEPITO_PASS_EMPTY};
+/* The receivers of a group follow each other: each of them takes, and the first one of each group gets the item. The opening
+ * doesn't read the padding of the configuration, which is not 0 here. */
+static void stand_by_groups(uint32_t groups) {
+    const size_t count = groups * IN_EACH;
+    vahepito_pass sender = VAHEPITO_PASS_EMPTY, receivers[RECEIVERS] = {VAHEPITO_PASS_EMPTY};
     vahepito_config same;
     memset(&same, 0xff, sizeof same);
     same.senders = config.senders;
@@ -45,34 +40,19 @@ static void one_group(void) {
     same.bound = config.bound;
     same.life = config.life;
     same.per_sender = config.per_sender;
-    check(vahepito_open(&same, &sender, 1, receivers, IN_EACH) == VAHEPITO_DONE, "the topic is opened");
-    for (int k = 0; k < IN_EACH; k++) check(group_of(&receivers[k]) == 1, "all receivers are of one group");
-    vahepito_word_item item;
+    check(vahepito_open_words(&same, groups, 1, &sender, 1, receivers, count) == VAHEPITO_DONE, "the queue is opened");
     uint64_t number;
     check(send_by(&sender, 5, &number) == VAHEPITO_ACCEPTED && number == 0, "a send is accepted");
-    check(take_by(&receivers[0], &item, NULL) == VAHEPITO_GOT && item.body == 5, "one of them takes the item");
-    check(vahepito_begin_take(&receivers[1]) == VAHEPITO_BEGUN, "another's take is begun");
-    check(finish_take(&receivers[1], &item, NULL) == VAHEPITO_EMPTY && item.body == 0, "and it gets none");
+    for (size_t k = 0; k < count; k++) {
+        const uint32_t is_first = k % IN_EACH == 0;
+        vahepito_word_item item;
+        uint32_t served;
+        const uint32_t code = vahepito_try_take(&receivers[k], &item, &number, &served);
+        check(code == (is_first ? VAHEPITO_GOT : VAHEPITO_EMPTY), "receivers stand group by group");
+        check(item.body == (is_first ? 5 : 0), "and a group gets an item once");
+    }
     check(vahepito_drop(&sender) == VAHEPITO_DONE, "the sender is let go");
-    for (int k = 0; k < IN_EACH; k++) check(vahepito_drop(&receivers[k]) == VAHEPITO_DONE, "a receiver is let go");
-}
-
-/* A receiver has a group; for other handles the number is 0. */
-static void told_groups(vahepito_pass *sender, vahepito_pass *receivers) {
-    vahepito_pass empty = VAHEPITO_PASS_EMPTY;
-    vahepito_word_item item = {0};
-    uint64_t total = 0;
-    uint32_t group = 99, served = 0;
-    const uint32_t groups[RECEIVERS] = {1, 1, 2, 2};
-    for (int k = 0; k < RECEIVERS; k++) check(group_of(&receivers[k]) == groups[k], "receivers stand group by group");
-    check(vahepito_group(&empty, &group) == VAHEPITO_NO_PASS && group == 0, "an empty handle has no pass");
-    group = 99;
-    check(vahepito_group(sender, &group) == VAHEPITO_WRONG_SIDE && group == 0, "a sender has no group");
-    group = 99;
-    check(vahepito_begin_take(&receivers[3]) == VAHEPITO_BEGUN, "a take is begun");
-    check(vahepito_group(&receivers[3], &group) == VAHEPITO_BUSY && group == 0, "a receiver with a call is busy");
-    check(vahepito_turn_take(&receivers[3], &item, &total, &served) == VAHEPITO_EMPTY && served == 1, "there is no item");
-    check(group_of(&receivers[3]) == 2, "and then it isn't");
+    for (size_t k = 0; k < count; k++) check(vahepito_drop(&receivers[k]) == VAHEPITO_DONE, "a receiver is let go");
 }
 
 static void *send_all(void *sender) {
@@ -120,10 +100,9 @@ static void audit(const struct reader *group) {
 
 int main(void) {
     refusals();
-    one_group();
+    for (uint32_t groups = 1; groups <= GROUPS; groups++) stand_by_groups(groups);
     vahepito_pass sender = VAHEPITO_PASS_EMPTY, receivers[RECEIVERS] = {VAHEPITO_PASS_EMPTY};
-    check(vahepito_open_groups(&config, GROUPS, &sender, 1, receivers, RECEIVERS) == VAHEPITO_DONE, "the topic is opened");
-    told_groups(&sender, receivers);
+    check(vahepito_open_words(&config, GROUPS, 1, &sender, 1, receivers, RECEIVERS) == VAHEPITO_DONE, "the queue is opened");
 
     static struct reader readers[RECEIVERS];
     pthread_t sending, taking[RECEIVERS];

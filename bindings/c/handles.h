@@ -2,19 +2,19 @@
  * This header isn't for programs. A program in C has vahepito.h, and vahepito_raw.h, whose calls need one pointer for all threads.
  *
  * A pass is one sender or one receiver of one queue, and it is held by a handle, a vahepito_pass. Passes are not copied and not
- * shared by two threads at once: a queue has as many as its configuration says, all given by its opening. A queue of vahepito_open has one
- * group of receivers, one of vahepito_open_groups up to 8.
+ * shared by two threads at once: a queue has as many as its configuration says, all given by its opening.
  *
- * A body is one word of 64 bits. A queue of vahepito_open_words has bodies of one to four words, up to as many as its
- * opening says: they are sent by the calls whose names end in _words, and taken by such calls alone; the other calls of a
- * sender send one word there too.
+ * A body has one to four words of 64 bits, and at most as many as the opening of its queue says. If that is more than one, its items
+ * are taken by the calls alone whose names end in _words. vahepito_try_send sends one word in each queue.
  *
  * A call is begun, and then asked for its answer in turns. Turn every begun call to its end: if it is abandoned, or its handle
- * dropped, no pass of its side may get an answer any more. No call but the three openings and
- * vahepito_observe takes memory.
+ * dropped, no pass of its side may get an answer any more. No call but the opening and vahepito_observe takes memory.
+ *
+ * Tests alone call vahepito_begin_send_words and vahepito_begin_take: a thread that begins calls of several passes, and then turns them,
+ * decides which call serves which.
  *
  * The caller must do the following, and nothing checks it:
- * - A handle begins as VAHEPITO_PASS_EMPTY, or all zero, and is filled by an opening alone. Its bytes are neither changed nor copied to a second
+ * - A handle begins as VAHEPITO_PASS_EMPTY, or all zero, and is filled by the opening alone. Its bytes are neither changed nor copied to a second
  *   handle that is used; a handle may be moved to another place, and the old place is then not used.
  * - A handle is given to one call at a time. It may go to another thread: by a mutex, a thread's start or join, or a
  *   sequentially consistent atomic. Different handles may be used by different threads at once, of one queue or of many.
@@ -30,10 +30,9 @@ extern "C" {
 
 /* The codes that these calls have beside those of vahepito_raw.h. */
 enum {
-    /* an opening: not one handle for each pass, or one that is not empty */
+    /* the opening: not one handle for each pass, or one that is not empty */
     VAHEPITO_BAD_HANDLES = 8,
     VAHEPITO_BEGUN = 14, /* the call was begun */
-    VAHEPITO_FRESH = 16, /* the sender may begin a further send */
     /* a take of an item of one word, in a queue whose items may have more */
     VAHEPITO_WIDE = 30
 };
@@ -46,36 +45,15 @@ typedef struct {
     uint64_t body;   /* what was sent */
 } vahepito_word_item;
 
-/* Opens a queue of one group and fills the handles: senders[k] becomes sender k + 1, receivers[k] receiver k + 1. The
- * handles are the caller's, all of them empty before; they share the queue, and the last one that is dropped frees it. Any
- * thread may call.
- * DONE; BAD_SENDERS to BAD_PER_SENDER, then BAD_HANDLES, then NO_MEMORY: no handle was changed. */
-uint32_t vahepito_open(const vahepito_config *config, vahepito_pass *senders, size_t sender_count,
-                       vahepito_pass *receivers, size_t receiver_count);
-
-/* Opens a queue of this number of groups, 1 to 8, with config->receivers receivers in each, and fills the handles: senders[k]
- * becomes sender k + 1, receivers[k] receiver k + 1, which is of group k / config->receivers + 1. So there are
- * groups * config->receivers handles of receivers. All else is as of vahepito_open, which is this call with one group.
- * DONE; BAD_SENDERS to BAD_PER_SENDER, then BAD_GROUPS, then BAD_HANDLES, then NO_MEMORY: no handle was changed. */
-uint32_t vahepito_open_groups(const vahepito_config *config, uint32_t groups, vahepito_pass *senders, size_t sender_count,
-                              vahepito_pass *receivers, size_t receiver_count);
-
-/* Opens a queue of this number of groups, whose bodies have at most this number of words, 1 to 4, and fills the handles. All
- * else is as of vahepito_open_groups, which is this call with one word. vahepito_turn_take_words and
- * vahepito_try_take_words take its items; if a body may have more than one word, the calls for items of one word return
- * WIDE.
+/* Opens a queue of this number of groups, 1 to 8, with config->receivers receivers in each, whose bodies have at most this number of
+ * words, 1 to 4, and fills the handles: senders[k] becomes sender k + 1, receivers[k] receiver k + 1, which is of group
+ * k / config->receivers + 1. So there are groups * config->receivers handles of receivers. The handles are the caller's, all of them
+ * empty before; they share the queue, and the last one that is dropped frees it. If a body may have more than one word, the calls for
+ * items of one word return WIDE. Any thread may call.
  * DONE; BAD_SENDERS to BAD_PER_SENDER, then BAD_GROUPS, then BAD_WORDS, then BAD_HANDLES, then NO_MEMORY: no handle was
  * changed. */
 uint32_t vahepito_open_words(const vahepito_config *config, uint32_t groups, uint32_t words, vahepito_pass *senders,
                              size_t sender_count, vahepito_pass *receivers, size_t receiver_count);
-
-/* The group of a receiver, from 1. The thread that holds the handle calls.
- * DONE with the group. NO_PASS, WRONG_SIDE, BUSY as everywhere. Nothing changes. */
-uint32_t vahepito_group(vahepito_pass *receiver, uint32_t *group);
-
-/* Begins a send of this body. The thread that holds the handle calls.
- * BEGUN: turn it. NO_PASS, WRONG_SIDE, BUSY, WORN: nothing has changed. */
-uint32_t vahepito_begin_send(vahepito_pass *sender, uint64_t body);
 
 /* Begins a send of `count` words, which are copied. The thread that holds the handle calls.
  * BEGUN: turn it. NO_PASS, WRONG_SIDE, BUSY, then BAD_WORDS, LONG, then WORN: nothing has changed. */
@@ -86,16 +64,12 @@ uint32_t vahepito_begin_send_words(vahepito_pass *sender, const uint64_t *words,
  * pass served it). WAITING: turn again. NO_PASS, WRONG_SIDE, NOT_BEGUN: nothing has changed. */
 uint32_t vahepito_turn_send(vahepito_pass *sender, uint64_t *place, uint32_t *served);
 
-/* Begins a send, and turns it once: the codes of both. After WAITING continue with vahepito_turn_send. */
+/* Begins a send of this body, and turns it once: the codes of both. After WAITING continue with vahepito_turn_send. The thread that holds
+ * the handle calls. */
 uint32_t vahepito_try_send(vahepito_pass *sender, uint64_t body, uint64_t *place, uint32_t *served);
 
 /* The same of `count` words: the codes of vahepito_begin_send_words and vahepito_turn_send. */
 uint32_t vahepito_try_send_words(vahepito_pass *sender, const uint64_t *words, size_t count, uint64_t *place, uint32_t *served);
-
-/* Whether the sender has begun as many sends as it may: its next send returns WORN. The thread that holds the handle
- * calls.
- * WORN, FRESH. NO_PASS, WRONG_SIDE, BUSY as everywhere. Nothing changes. */
-uint32_t vahepito_is_worn(vahepito_pass *sender);
 
 /* Begins a close of the queue. The thread that holds the handle calls.
  * BEGUN: turn it. NO_PASS, WRONG_SIDE, BUSY: nothing has changed. An exhausted sender may close. */
@@ -151,11 +125,6 @@ static inline uint32_t vahepito_internal_took_word(uint32_t code, const vahepito
     return vahepito_internal_took(NULL, 0, code, &same);
 }
 
-static inline uint32_t vahepito_internal_begin_send(vahepito_pass *sender, uint64_t body) {
-    vahepito_internal_begins_item(&body, 1);
-    return vahepito_begin_send(sender, body);
-}
-
 static inline uint32_t vahepito_internal_try_send(vahepito_pass *sender, uint64_t body, uint64_t *place, uint32_t *served) {
     vahepito_internal_begins_item(&body, 1);
     return vahepito_internal_by_handle(vahepito_try_send(sender, body, place, served));
@@ -207,7 +176,6 @@ static inline uint32_t vahepito_internal_try_take_words(vahepito_pass *receiver,
     return vahepito_internal_took(NULL, 0, vahepito_try_take_words(receiver, item, total, served), item);
 }
 
-#define vahepito_begin_send vahepito_internal_begin_send
 #define vahepito_try_send vahepito_internal_try_send
 #define vahepito_begin_send_words vahepito_internal_begin_send_words
 #define vahepito_try_send_words vahepito_internal_try_send_words

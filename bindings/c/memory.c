@@ -71,16 +71,14 @@ static void take_in_each(uint32_t groups, vahepito_pass *receivers, int k, uint3
 
 /* Every call of an open queue, with each answer. */
 static void call_all(uint32_t groups, vahepito_pass *senders, vahepito_pass *receivers) {
+    const uint64_t words[] = {8, 9};
     uint64_t number = 0;
-    uint32_t served = 0, group = 0;
+    uint32_t served = 0;
     vahepito_word_item item = {0};
-    for (int k = 0; k < SENDERS; k++) check(vahepito_is_worn(&senders[k]) == VAHEPITO_FRESH, "fresh");
-    for (uint32_t k = 0; k < groups * RECEIVERS; k++)
-        check(vahepito_group(&receivers[k], &group) == VAHEPITO_DONE && group == k / RECEIVERS + 1, "group by group");
     take_in_each(groups, receivers, 0, VAHEPITO_EMPTY, 0, 0);
     check(vahepito_try_send(&senders[0], 7, &number, &served) == VAHEPITO_ACCEPTED && number == 0, "accepted");
-    check(vahepito_begin_send(&senders[0], 8) == VAHEPITO_BEGUN, "begun");
-    check(vahepito_begin_send(&senders[1], 9) == VAHEPITO_BEGUN, "begun");
+    check(vahepito_begin_send_words(&senders[0], &words[0], 1) == VAHEPITO_BEGUN, "begun");
+    check(vahepito_begin_send_words(&senders[1], &words[1], 1) == VAHEPITO_BEGUN, "begun");
     check(vahepito_turn_send(&senders[1], &number, &served) == VAHEPITO_WAITING, "waiting");
     check(vahepito_turn_send(&senders[0], &number, &served) == VAHEPITO_ACCEPTED && served == 2, "accepted");
     check(vahepito_turn_send(&senders[1], &number, &served) == VAHEPITO_FULL && served == 0, "full");
@@ -88,7 +86,6 @@ static void call_all(uint32_t groups, vahepito_pass *senders, vahepito_pass *rec
     check(vahepito_try_send(&senders[0], 10, &number, &served) == VAHEPITO_ACCEPTED && number == 2, "accepted");
     take_in_each(groups, receivers, 2, VAHEPITO_GOT, 8, 0);
     check(vahepito_try_send(&senders[1], 11, &number, &served) == VAHEPITO_SPENT, "spent");
-    check(vahepito_is_worn(&senders[0]) == VAHEPITO_WORN, "worn");
     check(vahepito_try_send(&senders[0], 12, &number, &served) == VAHEPITO_WORN, "worn");
     check(vahepito_begin_close(&senders[0]) == VAHEPITO_BEGUN, "begun");
     check(vahepito_turn_close(&senders[0], &number, &served) == VAHEPITO_SHUT && number == 3, "shut");
@@ -101,12 +98,11 @@ static void call_all(uint32_t groups, vahepito_pass *senders, vahepito_pass *rec
     take_in_each(groups, receivers, 1, VAHEPITO_ENDED, 0, 3);
 }
 
-/* Opens a queue of this number of groups: the first by vahepito_open, which has one. */
+/* Opens a queue of this number of groups. */
 static uint32_t open_queue(uint32_t groups, vahepito_pass *senders, vahepito_pass *receivers) {
     /* of the life and of each sender's sends as many as call_all wants, so that both end in it */
     const vahepito_config config = {SENDERS, RECEIVERS, 2, 8, 3, 3};
-    if (groups == 1) return vahepito_open(&config, senders, SENDERS, receivers, RECEIVERS);
-    return vahepito_open_groups(&config, groups, senders, SENDERS, receivers, groups * RECEIVERS);
+    return vahepito_open_words(&config, groups, 1, senders, SENDERS, receivers, groups * RECEIVERS);
 }
 
 /* A queue of this number of groups, from its opening to the drop of its last handle. */
@@ -127,7 +123,8 @@ static void use_queue(uint32_t groups) {
     check(code == VAHEPITO_DONE && kept > 0, "the queue is opened where nothing is refused");
 
     call_all(groups, senders, receivers);
-    check(vahepito_begin_send(&senders[1], 14) == VAHEPITO_WORN, "worn");
+    const uint64_t body = 14;
+    check(vahepito_begin_send_words(&senders[1], &body, 1) == VAHEPITO_WORN, "worn");
     check(vahepito_begin_take(&receivers[2]) == VAHEPITO_BEGUN, "begun");
     check(asked == opening && blocks == kept, "no call takes memory or frees any");
 

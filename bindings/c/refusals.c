@@ -12,24 +12,22 @@
 
 enum state { EMPTY, SENDER, SENDING, CLOSING, RECEIVER, TAKING, STATES };
 
-/* What a call writes: a place or a total, how many calls a turn served, a group, and items. */
+/* What a call writes: a place or a total, how many calls a turn served, and items. */
 struct told {
     uint64_t number;
-    uint32_t served, group;
+    uint32_t served;
     vahepito_word_item item;
     vahepito_item words;
 };
 
 static const uint64_t two[2] = {7, 8};
 
-static uint32_t begin_send(vahepito_pass *pass, struct told *told) { return (void)told, vahepito_begin_send(pass, 7); }
 static uint32_t begin_send_words(vahepito_pass *pass, struct told *told) { return (void)told, vahepito_begin_send_words(pass, two, 1); }
 static uint32_t turn_send(vahepito_pass *pass, struct told *told) { return vahepito_turn_send(pass, &told->number, &told->served); }
 static uint32_t try_send(vahepito_pass *pass, struct told *told) { return vahepito_try_send(pass, 7, &told->number, &told->served); }
 static uint32_t try_send_words(vahepito_pass *pass, struct told *told) {
     return vahepito_try_send_words(pass, two, 1, &told->number, &told->served);
 }
-static uint32_t is_worn(vahepito_pass *pass, struct told *told) { return (void)told, vahepito_is_worn(pass); }
 static uint32_t begin_close(vahepito_pass *pass, struct told *told) { return (void)told, vahepito_begin_close(pass); }
 static uint32_t turn_close(vahepito_pass *pass, struct told *told) { return vahepito_turn_close(pass, &told->number, &told->served); }
 static uint32_t begin_take(vahepito_pass *pass, struct told *told) { return (void)told, vahepito_begin_take(pass); }
@@ -45,7 +43,6 @@ static uint32_t turn_take_words(vahepito_pass *pass, struct told *told) {
 static uint32_t try_take_words(vahepito_pass *pass, struct told *told) {
     return vahepito_try_take_words(pass, &told->words, &told->number, &told->served);
 }
-static uint32_t group(vahepito_pass *pass, struct told *told) { return vahepito_group(pass, &told->group); }
 static uint32_t observe(vahepito_pass *pass, struct told *told) {
     vahepito_look look = {(vahepito_raw *)told};
     const uint32_t code = vahepito_observe(pass, &look.queue);
@@ -63,21 +60,19 @@ static uint32_t drop(vahepito_pass *pass, struct told *told) { return (void)told
 #define BEGUN VAHEPITO_BEGUN
 #define DONE VAHEPITO_DONE
 
-/* The calls, what each writes (a number with how many calls were served, a group, an item, or one of words), and the
+/* The calls, what each writes (a number with how many calls were served, an item, or one of words), and the
  * code for a handle that is empty, an idle sender, one with a send, with a close, an idle receiver, and one with a take. */
-enum { NUMBER = 1, GROUP = 2, ITEM = 4, WORDS = 8 };
+enum { NUMBER = 1, ITEM = 2, WORDS = 4 };
 static const struct row {
     const char *name;
     uint32_t (*call)(vahepito_pass *, struct told *);
     int writes;
     uint32_t codes[STATES];
 } rows[] = {
-    {"begin_send", begin_send, 0, {NO, BEGUN, BUSY, BUSY, SIDE, SIDE}},
     {"begin_send_words", begin_send_words, 0, {NO, BEGUN, BUSY, BUSY, SIDE, SIDE}},
     {"turn_send", turn_send, NUMBER, {NO, NOT, VAHEPITO_ACCEPTED, NOT, SIDE, SIDE}},
     {"try_send", try_send, NUMBER, {NO, VAHEPITO_ACCEPTED, BUSY, BUSY, SIDE, SIDE}},
     {"try_send_words", try_send_words, NUMBER, {NO, VAHEPITO_ACCEPTED, BUSY, BUSY, SIDE, SIDE}},
-    {"is_worn", is_worn, 0, {NO, VAHEPITO_FRESH, BUSY, BUSY, SIDE, SIDE}},
     {"begin_close", begin_close, 0, {NO, BEGUN, BUSY, BUSY, SIDE, SIDE}},
     {"turn_close", turn_close, NUMBER, {NO, NOT, NOT, VAHEPITO_SHUT, SIDE, SIDE}},
     {"begin_take", begin_take, 0, {NO, SIDE, SIDE, SIDE, BEGUN, BUSY}},
@@ -85,7 +80,6 @@ static const struct row {
     {"try_take", try_take, NUMBER | ITEM, {NO, SIDE, SIDE, SIDE, VAHEPITO_EMPTY, BUSY}},
     {"turn_take_words", turn_take_words, NUMBER | WORDS, {NO, SIDE, SIDE, SIDE, NOT, VAHEPITO_EMPTY}},
     {"try_take_words", try_take_words, NUMBER | WORDS, {NO, SIDE, SIDE, SIDE, VAHEPITO_EMPTY, BUSY}},
-    {"group", group, GROUP, {NO, SIDE, SIDE, SIDE, DONE, BUSY}},
     {"observe", observe, 0, {NO, DONE, DONE, DONE, DONE, DONE}},
     {"drop", drop, 0, {NO, DONE, DONE, DONE, DONE, DONE}},
 };
@@ -102,8 +96,8 @@ static void holds(int so, enum state state, const char *what) {
 /* The handles of a queue with room for one item: of them one is in this state, the other idle. Gives the one. */
 static vahepito_pass *open_in(enum state state, vahepito_pass *sender, vahepito_pass *receiver) {
     const vahepito_config config = {1, 1, 1, 8, (uint64_t)1 << 48, UINT32_MAX};
-    check(vahepito_open(&config, sender, 1, receiver, 1) == DONE, "a queue is opened");
-    if (state == SENDING) check(vahepito_begin_send(sender, 7) == BEGUN, "a send is begun");
+    check(vahepito_open_words(&config, 1, 1, sender, 1, receiver, 1) == DONE, "a queue is opened");
+    if (state == SENDING) check(vahepito_begin_send_words(sender, two, 1) == BEGUN, "a send is begun");
     if (state == CLOSING) check(vahepito_begin_close(sender) == BEGUN, "a close is begun");
     if (state == TAKING) check(vahepito_begin_take(receiver) == BEGUN, "a take is begun");
     return state < RECEIVER ? sender : receiver;
@@ -139,7 +133,6 @@ static void wrote_nothing(const struct row *row, enum state state, const struct 
     const vahepito_item *words = &told->words;
     const int turned = row->codes[state] > BEGUN;
     if (row->writes & NUMBER) holds(told->number == 0 && told->served == (turned ? 1 : 0), state, "no number is told");
-    if (row->writes & GROUP) holds(told->group == (row->codes[state] == DONE ? 1 : 0), state, "a group is told, or none");
     if (row->writes & ITEM) holds(item->place == 0 && item->sender == 0 && item->number == 0 && item->body == 0, state, "no item is told");
     if (row->writes & WORDS) {
         holds(words->place == 0 && words->sender == 0 && words->number == 0 && words->count == 0, state, "no item is told");

@@ -62,7 +62,7 @@ typedef vahepito_pass *caller;
 
 static bool opened(void) {
     vahepito_config config = {.senders = (uint32_t)senders, .receivers = 1, .capacity = 4, .bound = 64, .life = 1ull << 48, .per_sender = ~0u};
-    return vahepito_open(&config, sending, (size_t)senders, &receiving, 1) == VAHEPITO_DONE;
+    return vahepito_open_words(&config, 1, 1, sending, (size_t)senders, &receiving, 1) == VAHEPITO_DONE;
 }
 
 static caller caller_of(int thread) { return thread == senders ? &receiving : &sending[thread]; }

@@ -64,9 +64,10 @@ const EMPTY: u32 = 24;
 // SAFETY, of the calls that are called safe: a pass is empty or was filled by an opening, and each other
 // reference is that of a variable of its own.
 unsafe extern "C" {
-    fn vahepito_open_groups(
+    fn vahepito_open_words(
         config: &Config,
         groups: u32,
+        words: u32,
         senders: *mut Pass,
         sender_count: usize,
         receivers: *mut Pass,
@@ -143,9 +144,10 @@ pub fn open(config: Config, groups: usize) -> (Vec<Sender>, Vec<Receiver>) {
     let (to, from) = (senders.as_mut_ptr(), receivers.as_mut_ptr());
     // SAFETY: the pointers and counts are those of two lists, and the passes of both are empty.
     let code = unsafe {
-        vahepito_open_groups(
+        vahepito_open_words(
             &config,
             groups as u32,
+            1,
             to,
             senders.len(),
             from,

@@ -2,9 +2,9 @@
 //!
 //! A handle holds one pass with its own share of the queue, or none. The handle is lent to each call, which runs with its
 //! content (`Handle::with`). No export requires anything: each possible mistake is tested, and reported by a code. No call but
-//! the openings and `vahepito_observe` takes memory.
+//! the opening and `vahepito_observe` takes memory.
 //!
-//! `specs/Calls.antt` says what each call returns, and `specs/Opened.antt` what an opening does.
+//! `specs/Calls.antt` says what each call returns, and `specs/OpenHandles.antt` what the opening does.
 ghost use Rattle.std.specs.Prelude.{◌≡◌, ◌≢◌, nat_le, None};
 ghost use Rattle.std.specs.Mem.{type_size};
 ghost use Rattle.cc_passes.specs.contracts.handles.open_handles.Settings as settings_type;
@@ -12,11 +12,10 @@ ghost use Rattle.cc_passes.specs.contracts.handles.handle.Handle as handle_type;
 ghost use Rattle.cc_passes.specs.contracts.handles.items.TakenItem as item_type;
 ghost use Rattle.cc_passes.specs.contracts.handles.items.TakenWords as words_type;
 ghost use Rattle.cc_capi.specs.declared.version.TheConstants.{VERSION};
-ghost use Rattle.cc_passes.specs.declared.handles.return_codes.TheConstants.{BAD_GROUPS, BAD_WORDS};
 ghost use Rattle.cc_passes.specs.Items.{one_word, all_words};
 ghost use Rattle.cc_passes.specs.OpenHandles.{config_of, refusal, HaveOpened};
 ghost use Rattle.cc_passes.specs.Handles.{pass_of, longest_of, IsDropped};
-ghost use Rattle.cc_passes.specs.Calls.{single, fitting, IfRoom, BeginsSend, TurnsSend, TriesSend, TellsWorn, BeginsClose, TurnsClose, BeginsTake, TurnsTake, TriesTake, TellsGroup};
+ghost use Rattle.cc_passes.specs.Calls.{single, fitting, IfRoom, BeginsSend, TurnsSend, TriesSend, BeginsClose, TurnsClose, BeginsTake, TurnsTake, TriesTake};
 ghost use Rattle.cc_passes.specs.Looks.{IsUnobserved, Observes};
 
 use crate::version::VERSION;
@@ -59,45 +58,8 @@ pub extern "C" fn vahepito_sizes(
     *words_item = size_of::<TakenWords>();
 }
 
-/// Opens a queue of one group of receivers and of bodies of one word, and fills a handle for each sender and each receiver. It
-/// never returns BAD_GROUPS or BAD_WORDS, codes that its callers may not know.
-#[unsafe(no_mangle)]
-pub extern "C" fn vahepito_open(
-    alloc: Global,
-    config: &Settings,
-    senders: &mut [Handle],
-    receivers: &mut [Handle],
-) -> u32
-    ensures refused { refusal (config_of config.now 1) 1 senders.old receivers.old ≢ DONE → result ≡ refusal (config_of config.now 1) 1 senders.old receivers.old }
-    ensures memory { refusal (config_of config.now 1) 1 senders.old receivers.old ≡ DONE → result ≢ DONE → result ≡ NO_MEMORY }
-    ensures opened { result ≡ DONE → HaveOpened (config_of config.now 1) 1 senders.new receivers.new }
-    ensures known { (result ≢ BAD_GROUPS) × (result ≢ BAD_WORDS) }
-    ensures same { result ≢ DONE → (senders.new ≡ senders.old) × (receivers.new ≡ receivers.old) }
-{
-    vahepito_open_groups(alloc, config, 1, senders, receivers)
-}
-
-/// Opens a queue of this number of groups of receivers and of bodies of one word, and fills a handle for each sender and each
-/// receiver. The receivers of a group follow each other, the first group first. It never returns BAD_WORDS.
-#[unsafe(no_mangle)]
-pub extern "C" fn vahepito_open_groups(
-    alloc: Global,
-    config: &Settings,
-    groups: u32,
-    senders: &mut [Handle],
-    receivers: &mut [Handle],
-) -> u32
-    ensures refused { refusal (config_of config.now groups) 1 senders.old receivers.old ≢ DONE → result ≡ refusal (config_of config.now groups) 1 senders.old receivers.old }
-    ensures memory { refusal (config_of config.now groups) 1 senders.old receivers.old ≡ DONE → result ≢ DONE → result ≡ NO_MEMORY }
-    ensures opened { result ≡ DONE → HaveOpened (config_of config.now groups) 1 senders.new receivers.new }
-    ensures known { result ≢ BAD_WORDS }
-    ensures same { result ≢ DONE → (senders.new ≡ senders.old) × (receivers.new ≡ receivers.old) }
-{
-    vahepito_open_words(alloc, config, groups, 1, senders, receivers)
-}
-
-/// Opens a queue of this number of groups of receivers and of bodies of at most this number of words, and fills the handles in
-/// the same way.
+/// Opens a queue of this number of groups of receivers and of bodies of at most this number of words, and fills a handle for each
+/// sender and each receiver. The receivers of a group follow each other, the first group first.
 #[unsafe(no_mangle)]
 pub extern "C" fn vahepito_open_words(
     alloc: Global,
@@ -120,15 +82,6 @@ pub extern "C" fn vahepito_open_words(
         Ok(()) => DONE,
         Err(_) => NO_MEMORY,
     }
-}
-
-/// Begins a send of this body.
-#[unsafe(no_mangle)]
-pub extern "C" fn vahepito_begin_send(alloc: Global, sender: &mut Handle, body: u64) -> u32
-    ensures begins { BeginsSend (single body) (pass_of sender.old) (pass_of sender.new) result }
-    ensures same { longest_of sender.new ≡ longest_of sender.old }
-{
-    sender.with(alloc, &mut |held| held.begin_send(Ok(Body::one(body))))
 }
 
 /// Begins a send of these words, if a body of the queue may have that many.
@@ -198,15 +151,6 @@ pub extern "C" fn vahepito_try_send_words(
         alloc,
         &mut |held| held.try_send(held.fitting(words), place, served),
     )
-}
-
-/// Whether the sender has begun as many sends as it may.
-#[unsafe(no_mangle)]
-pub extern "C" fn vahepito_is_worn(alloc: Global, sender: &mut Handle) -> u32
-    ensures tells { TellsWorn (pass_of sender.old) (pass_of sender.new) result }
-    ensures same { longest_of sender.new ≡ longest_of sender.old }
-{
-    sender.with(alloc, &mut |held| held.is_worn())
 }
 
 /// Begins a close.
@@ -313,23 +257,6 @@ pub extern "C" fn vahepito_try_take_words(
     *total = 0;
     *served = 0;
     receiver.with(alloc, &mut |held| held.try_take(item, total, served))
-}
-
-/// The group of the receiver, from 1.
-#[unsafe(no_mangle)]
-pub extern "C" fn vahepito_group(alloc: Global, receiver: &mut Handle, group: &mut u32) -> u32
-    ensures tells { TellsGroup (pass_of receiver.old) (pass_of receiver.new) result group.new }
-    ensures same { longest_of receiver.new ≡ longest_of receiver.old }
-{
-    *group = 0;
-    receiver.with(
-        alloc,
-        &mut |held| {
-            let (code, number) = held.group();
-            *group = number;
-            code
-        },
-    )
 }
 
 /// Gives up the pass of a handle, with its call if it had begun one. It does nothing more. The last handle of a queue frees it.

@@ -6,7 +6,7 @@ use Rattle.cc_passes.specs.Names.{Body, Call, Answer, SendAnswer, CloseAnswer, T
 use Rattle.cc_steps.specs.Walk.{Walk}
 use Rattle.cc_queue.specs.Calls.{Begun, Waited, Answered}
 use Rattle.cc_queue.specs.Group.{Ranked}
-use Rattle.cc_passes.specs.declared.handles.return_codes.TheConstants.{DONE, NO_PASS, WRONG_SIDE, BUSY, NOT_BEGUN, WORN, BEGUN, WAITING, FRESH, BAD_WORDS, LONG, WIDE}
+use Rattle.cc_passes.specs.declared.handles.return_codes.TheConstants.{DONE, NO_PASS, WRONG_SIDE, BUSY, NOT_BEGUN, WORN, BEGUN, WAITING, BAD_WORDS, LONG, WIDE}
 use Rattle.cc_passes.specs.Items.{Form, are_few}
 use Rattle.cc_passes.specs.Results.{only, sent_as, closed_as, none_taken, taken_as}
 
@@ -90,15 +90,6 @@ TriesSend body = Tries only (BeginsSend body) TurnsSend
 abbrev pub IsExhausted : Option Pass → Type 0
 IsExhausted (Some (Pass.Sender w)) = w.setting.config.per_sender ≤ w.stand.begun
 IsExhausted _ = ⊥
-
--- whether a sender is exhausted; nothing changes
-abbrev pub worn_code : Pass → ℕ
-worn_code (Pass.Sender w) = if nat_le w.setting.config.per_sender w.stand.begun then WORN else FRESH
-worn_code p = no_idle_sender p
-
-abbrev pub TellsWorn : Option Pass → Option Pass → ℕ → Type 0
-TellsWorn (Some p) new code = (new ≡ Some p) × (code ≡ worn_code p)
-TellsWorn None new code = (new ≡ None) × (code ≡ NO_PASS)
 
 -- ---- a close
 

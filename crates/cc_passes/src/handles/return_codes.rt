@@ -45,10 +45,7 @@ pub const BEGUN: u32 = 14;
 /// The answer is not there yet.
 pub const WAITING: u32 = 15;
 
-/// The sender may begin a further send.
-pub const FRESH: u32 = 16;
-
-/// The answers of a send.
+/// The answers of a send; 16 is no code.
 pub const ACCEPTED: u32 = 17;
 
 pub const FULL: u32 = 18;

@@ -2,12 +2,12 @@
 ghost use Rattle.std.specs.Prelude.{◌≡◌, Some};
 ghost use Rattle.cc_steps.specs.Walk.{IsOf};
 ghost use Rattle.cc_passes.specs.Passes.{walk_of, StaysOf};
-ghost use Rattle.cc_passes.specs.Calls.{fitting, BeginsSend, TurnsSend, TriesSend, TellsWorn};
+ghost use Rattle.cc_passes.specs.Calls.{fitting, BeginsSend, TurnsSend, TriesSend};
 
 use crate::handles::handle_inner::{HandleInner, Pass, try_pass, with_pass};
 use crate::handles::refusals::{no_idle_sender, no_pending_sender};
 use crate::handles::results::sent_as;
-use crate::handles::return_codes::{BAD_WORDS, BEGUN, FRESH, LONG, NO_PASS, WAITING, WORN};
+use crate::handles::return_codes::{BAD_WORDS, BEGUN, LONG, WAITING, WORN};
 use crate::handles::store_buffer::drain_stores;
 use cc_model::Body;
 use cc_queue::{Queue, Turn, begin_send, turn_send};
@@ -117,16 +117,5 @@ impl HandleInner {
             |queue, pass| begun(queue, pass, body),
             turned(queue, pass, place, served)
         )
-    }
-
-    /// Whether the sender is exhausted.
-    pub fn is_worn(&self) -> u32
-        ensures { TellsWorn self.now.pass self.now.pass result }
-    {
-        match &self.pass {
-            Some(Pass::Sender(sender)) => { if sender.is_worn() { WORN } else { FRESH } }
-            Some(other) => no_idle_sender(other),
-            None => NO_PASS,
-        }
     }
 }
