@@ -194,6 +194,7 @@ impl Line {
 
 /// There are some if futures were forgotten.
 impl Drop for Line {
+    #[inline]
     fn drop(&mut self) {
         if let Some(wakers) = self.wakers.take() {
             drop_each(wakers.into_values());
