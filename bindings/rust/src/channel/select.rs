@@ -31,7 +31,7 @@ use super::{
     TrySelectError,
 };
 use crate::backoff::FOR_OTHERS;
-use crate::event::{Event, Panics, Parker, Ticket, Try};
+use crate::event::{Event, Notified, Panics, Parker, Ticket, Try};
 use std::cell::Cell;
 use std::hash::{BuildHasher, Hasher, RandomState};
 use std::ops::{Deref, DerefMut, Range};
@@ -213,15 +213,16 @@ impl<'a> Place<'a> {
         }
     }
 
-    /// Leaves the line. A try has to follow, since a notification may have taken this one out. Returns whether there
-    /// was a notification at all since it entered the line.
+    /// Leaves the line. A try has to follow, since a notification may have taken this one out. Returns whether nobody was
+    /// notified since it entered the line.
     fn leave(&mut self) -> bool {
+        let Some(ticket) = self.ticket.take() else {
+            return true;
+        };
         // It is a parker's, whose drop doesn't panic.
-        let leave = |ticket| self.event.leave(ticket, &mut Panics::default());
-        let left = self.ticket.take().map(leave);
-        let (notified, was_notified) = left.unwrap_or((self.notified, false));
-        self.notified = notified;
-        was_notified
+        let notified = self.event.leave(ticket, &mut Panics::default());
+        self.notified = notified == Notified::This;
+        notified == Notified::None
     }
 }
 
@@ -548,6 +549,15 @@ struct Turn<'s, R> {
     until: Option<Instant>,
 }
 
+/// The end of a wait in all lines.
+enum Waited {
+    /// The operation at this place has begun.
+    Done(usize, Begun),
+    /// There was no notification: each operation wasn't ready when it was looked at.
+    Quietly,
+    Notified,
+}
+
 impl<R: Copy + Deref<Target: Case>> Turn<'_, R> {
     /// Tries each until one is done, or the time is over.
     #[inline]
@@ -608,7 +618,7 @@ impl<R: Copy + Deref<Target: Case>> Turn<'_, R> {
             Parker::with(|parker| {
                 loop {
                     match self.stand_and_park(parker) {
-                        Ok((place, begun)) => {
+                        Waited::Done(place, begun) => {
                             let entry = self.entries[place];
                             if entry.wait_for_pair(&begun, self.until) {
                                 return Some((entry, begun));
@@ -618,18 +628,17 @@ impl<R: Copy + Deref<Target: Case>> Turn<'_, R> {
                                 return self.try_once();
                             }
                         }
-                        Err(was_quiet) if was_quiet && self.is_over() => return None,
-                        Err(_) => {}
+                        Waited::Quietly if self.is_over() => return None,
+                        Waited::Quietly | Waited::Notified => {}
                     }
                 }
             })
         })
     }
 
-    /// Stands in all lines, looks, and parks; leaves all, and tries again. If none is done, returns whether
-    /// there was no notification: then each wasn't ready when it was looked at. The notification of a line is passed on if its
+    /// Stands in all lines, looks, and parks; leaves all, and tries again. The notification of a line is passed on if its
     /// operation wasn't tried after it, or was only looked at and is ready.
-    fn stand_and_park(&self, parker: &Arc<Parker>) -> Result<(usize, Begun), bool> {
+    fn stand_and_park(&self, parker: &Arc<Parker>) -> Waited {
         let is_over = self.is_over();
         let mut places: Vec<_> = vec![];
         places.extend(self.entries.iter().map(|it| {
@@ -638,24 +647,24 @@ impl<R: Copy + Deref<Target: Case>> Turn<'_, R> {
         }));
         let all = 0..places.len();
         let moment = match self.try_each(all.clone()) {
-            Ok(done) => return Ok(done),
+            Ok((place, begun)) => return Waited::Done(place, begun),
             Err(moment) => moment,
         };
         let until = self.until.into_iter().chain(moment).min();
         let posts = places.iter().any(Option::is_none);
         if posts && !is_over {
-            if let Some(met) = self.meet(until, parker) {
-                return Ok(met);
+            if let Some((place, begun)) = self.meet(until, parker) {
+                return Waited::Done(place, begun);
             }
         } else if !is_over {
             parker.park(until);
         }
         let mut is_quiet = true;
         for place in places.iter_mut().flatten() {
-            is_quiet &= !place.leave();
+            is_quiet &= place.leave();
         }
         if is_quiet && is_over {
-            return Err(true);
+            return Waited::Quietly;
         }
         // The one that was notified comes first.
         let is_notified = |it: &Option<Place>| it.as_ref().is_some_and(|it| it.notified);
@@ -669,7 +678,11 @@ impl<R: Copy + Deref<Target: Case>> Turn<'_, R> {
         };
         let tried = places[tried].iter_mut().flatten();
         tried.for_each(|place| place.notified = false);
-        done.ok_or(is_quiet)
+        match done {
+            Some((place, begun)) => Waited::Done(place, begun),
+            None if is_quiet => Waited::Quietly,
+            None => Waited::Notified,
+        }
     }
 
     /// Posts the operations of channels of capacity 0, parks, and takes them off. Gives the one that has met
