@@ -24,27 +24,27 @@ CALLS = 300
 # What the crate's user writes, and the most instructions that it may cost.
 IN_RUST = {
     "send and recv of a word": ("let (s, r) = channel::<u64>(64)?;", "s.send(i).unwrap(); assert_eq!(r.recv(), Ok(i));", 731),
-    "try_send and try_recv of a word": ("let (s, r) = channel::<u64>(64)?;", "s.try_send(i).unwrap(); assert_eq!(r.try_recv(), Ok(i));", 766),
+    "try_send and try_recv of a word": ("let (s, r) = channel::<u64>(64)?;", "s.try_send(i).unwrap(); assert_eq!(r.try_recv(), Ok(i));", 748),
     "four words": ("let (s, r) = channel::<[u64; 4]>(64)?;", "s.send([i; 4]).unwrap(); assert_eq!(r.recv(), Ok([i; 4]));", 1063),
     "two groups": ("let (s, r) = groups::<u64>(64, 2)?;", "s.send(i).unwrap(); for r in &r { assert_eq!(r.recv(), Ok(i)); }", 1290),
-    "a refused try_send": ("let (s, _r) = channel::<u64>(1)?; s.send(0).unwrap();", "assert!(s.try_send(i).is_err());", 183),
+    "a refused try_send": ("let (s, _r) = channel::<u64>(1)?; s.send(0).unwrap();", "assert!(s.try_send(i).is_err());", 181),
     "the same with 4,096 places": (
-        "let (s, _r) = channel::<u64>(4096)?; (0..4096).for_each(|i| s.send(i).unwrap());", "assert!(s.try_send(i).is_err());", 243,
+        "let (s, _r) = channel::<u64>(4096)?; (0..4096).for_each(|i| s.send(i).unwrap());", "assert!(s.try_send(i).is_err());", 240,
     ),
-    "an empty try_recv": ("let (_s, r) = channel::<u64>(64)?;", "assert!(r.try_recv().is_err() && i < calls);", 117),
+    "an empty try_recv": ("let (_s, r) = channel::<u64>(64)?;", "assert!(r.try_recv().is_err() && i < calls);", 97),
     "send, and a select that takes": (
-        "let (s, r) = channel::<u64>(64)?;", "s.send(i).unwrap(); select! { recv(r) -> it => assert_eq!(it, Ok(i)) }", 1181,
+        "let (s, r) = channel::<u64>(64)?;", "s.send(i).unwrap(); select! { recv(r) -> it => assert_eq!(it, Ok(i)) }", 850,
     ),
     "a select that sends, and recv": (
-        "let (s, r) = channel::<u64>(64)?;", "select! { send(s, i) -> it => it.unwrap() } assert_eq!(r.recv(), Ok(i));", 1252,
+        "let (s, r) = channel::<u64>(64)?;", "select! { send(s, i) -> it => it.unwrap() } assert_eq!(r.recv(), Ok(i));", 1021,
     ),
-    "after and its drop": ("", "let r = after(std::time::Duration::from_secs(100)); assert!(r.len() as u64 <= i);", 398),
-    "never and its drop": ("", "let r = never::<u64>(); assert!(r.len() as u64 <= i);", 297),
+    "after and its drop": ("", "let r = after(std::time::Duration::from_secs(100)); assert!(r.len() as u64 <= i);", 383),
+    "never and its drop": ("", "let r = never::<u64>(); assert!(r.len() as u64 <= i);", 289),
 }
 # Openings with a pair and the drop, in a program of their own: what the compiler inlines into `main` changes with its rows.
 OPENINGS = {
     f"an opening for {name}, a pair and the drop": ("", f"let (s, r) = channel::<u64>({places})?; s.send(i).unwrap(); assert_eq!(r.recv(), Ok(i));", limit)
-    for name, places, limit in (("one item", 1, 11412), ("64 items", 64, 20637))
+    for name, places, limit in (("one item", 1, 11160), ("64 items", 64, 20380))
 }
 # The same pair with a bound and without one, in a program of their own too. By the limits the second one costs at most a twentieth more.
 BOUNDS = {

@@ -194,6 +194,7 @@ impl Line {
 
 /// There are some if futures were forgotten.
 impl Drop for Line {
+    #[inline]
     fn drop(&mut self) {
         if let Some(wakers) = self.wakers.take() {
             drop_each(wakers.into_values());
@@ -221,6 +222,14 @@ pub struct Ticket {
     number: u64,
     /// The notifications before it.
     notifications: u64,
+}
+
+/// Whom notifications took out of a line while a waiter was in it.
+#[derive(PartialEq)]
+pub enum Notified {
+    None,
+    Others,
+    This,
 }
 
 /// A line in which callers wait.
@@ -278,30 +287,27 @@ impl Event {
         is_there
     }
 
-    /// Leaves the line. Returns whether a notification had taken this one out, and whether there was one at all.
-    pub fn leave(
-        &self,
-        Ticket {
-            number,
-            notifications,
-        }: Ticket,
-        panics: &mut Panics,
-    ) -> (bool, bool) {
-        let leave = |line: &mut Line| {
-            (
-                line.wakers.as_mut().and_then(|it| it.remove(&number)),
-                line.notifications != notifications,
-            )
+    /// Leaves the line. Returns whom notifications took out since this one entered it.
+    pub fn leave(&self, ticket: Ticket, panics: &mut Panics) -> Notified {
+        let (waker, notifications) = self.with_line(|line| {
+            let waker = line
+                .wakers
+                .as_mut()
+                .and_then(|it| it.remove(&ticket.number));
+            (waker, line.notifications)
+        });
+        let notified = match waker {
+            None => Notified::This,
+            Some(_) if notifications != ticket.notifications => Notified::Others,
+            Some(_) => Notified::None,
         };
-        let (waker, was_notified) = self.with_line(leave);
-        let is_out = waker.is_none();
         panics.run_each(waker, drop);
-        (is_out, was_notified)
+        notified
     }
 
     /// Leaves the line without a further try: a notification that took this one out is passed on.
     pub fn pass_on(&self, ticket: Ticket, panics: &mut Panics) {
-        if self.leave(ticket, panics).0 {
+        if self.leave(ticket, panics) == Notified::This {
             self.notify_one();
         }
     }

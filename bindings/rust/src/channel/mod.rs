@@ -35,9 +35,9 @@ pub use error::{
 };
 pub use future::{RecvFuture, SendFuture};
 pub use receiver::{Drain, IntoIter, Iter, Receiver, TryIter, WeakReceiver};
-#[doc(hidden)]
-pub use select::LocalSelect;
 pub use select::{Select, SelectedOperation};
+#[doc(hidden)]
+pub use select::{TakeArm, select_arms};
 pub use sender::{Sender, WeakSender};
 pub use timer::{after, at, never, tick};
 

@@ -95,6 +95,16 @@ impl<T> Core<T> {
         }
     }
 
+    /// Looks whether there is room, if these hints say that the last send found none.
+    #[inline]
+    fn look_after_full(&self, hints: usize) -> Try<()> {
+        if hints & WAS_FULL != 0 {
+            self.has_room_beside(0)?;
+            self.hints.fetch_and(!WAS_FULL, Ordering::Relaxed);
+        }
+        Ok(())
+    }
+
     /// Reserves room for one send. Returns whether it has; if not, the channel is closed.
     ///
     /// It counts the place first, and then waits until each of the senders' seats was free once. A send that had a seat before
@@ -103,13 +113,16 @@ impl<T> Core<T> {
         if let Some(row) = &self.row {
             return self.reserve_in_row(row);
         }
-        self.has_room_beside(0)?;
+        self.look_after_full(self.hints.load(Ordering::Relaxed))?;
         let _in_queue = lock(&self.in_queue);
         self.hints.fetch_add(RESERVED, Ordering::SeqCst);
         self.senders.seats.wait_for_holders();
         let has_room = self.has_room_beside_reserved(1).map(|()| !self.is_closed());
         if has_room != Ok(true) {
             self.hints.fetch_sub(RESERVED, Ordering::SeqCst);
+        }
+        if has_room.is_err() {
+            self.hints.fetch_or(WAS_FULL, Ordering::Relaxed);
         }
         has_room
     }
@@ -161,10 +174,7 @@ impl<T> Core<T> {
         if let Some(row) = &self.row {
             return self.send_within_limit(row, item, seat);
         }
-        if hints & WAS_FULL != 0 {
-            self.has_room_beside(0)?;
-            self.hints.fetch_and(!WAS_FULL, Ordering::Relaxed);
-        }
+        self.look_after_full(hints)?;
         if hints < RESERVED {
             return self.send_or_again(item, seat);
         }

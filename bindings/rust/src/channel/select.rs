@@ -9,7 +9,8 @@
 //! nobody notified it. These moments may differ: a send that is on its way notifies after its item is in.
 //!
 //! **A selected take has its item.** The try is the take itself, so there is one, and no other receiver gets
-//! the item. The channel keeps it until [`SelectedOperation::recv`] hands it over.
+//! the item. The channel keeps it until [`SelectedOperation::recv`] hands it over; in a macro the arm does, since nobody can
+//! forget that.
 //!
 //! **A selected send has its room**, since its item may come after the selection. `Core::reserve` counts a place
 //! as reserved, and then waits until each of the senders' seats was free once: no send that hasn't seen it is on its way then. If
@@ -22,6 +23,7 @@
 //! give it back, and then look whether somebody waits. A look that finds nothing waits until each of those seats was free once, which
 //! is a load of each, and counts again. A holder before that has counted; a holder after that sees the waiter in line. So a look that finds nothing
 //! is the look of [`event`](crate::event)'s argument: at some moment of it there was nothing.
+use super::core::Core;
 use super::rendezvous::{Meets, SENDS, TAKES, Waiter, meet_or_post, try_meet};
 use super::side::Source;
 use super::{
@@ -29,10 +31,10 @@ use super::{
     TrySelectError,
 };
 use crate::backoff::FOR_OTHERS;
-use crate::event::{Event, Panics, Parker, Ticket, Try};
+use crate::event::{Event, Notified, Panics, Parker, Ticket, Try};
 use std::cell::Cell;
 use std::hash::{BuildHasher, Hasher, RandomState};
-use std::ops::{Deref, DerefMut};
+use std::ops::{Deref, DerefMut, Range};
 use std::ptr::addr_eq;
 use std::sync::Arc;
 use std::time::{Duration, Instant};
@@ -41,6 +43,8 @@ use std::time::{Duration, Instant};
 pub enum Begun {
     /// The channel keeps the item under this number.
     Kept(u64),
+    /// The arm of a macro has the item.
+    InArm,
     /// The moment of a timer has come.
     Due(Instant),
     /// A place is reserved.
@@ -85,15 +89,7 @@ impl<T> Case for Receiver<T> {
     }
 
     fn begin(&self) -> Try<Begun> {
-        if let Some(rendezvous) = self.rendezvous() {
-            return try_meet(rendezvous, TAKES);
-        }
-        Ok(match &*self.0 {
-            Source::Channel(shared) => shared.try_take()?.map_or(Begun::Closed, |parcel| {
-                Begun::Kept(shared.core.keep(parcel.unpack()))
-            }),
-            Source::Timer(timer) => timer.try_take()?.map_or(Begun::Closed, Begun::Due),
-        })
+        self.begin_take(|core, item| Begun::Kept(core.keep(item)))
     }
 
     fn look(&self) -> Try<()> {
@@ -112,6 +108,21 @@ impl<T> Case for Receiver<T> {
 }
 
 impl<T> Receiver<T> {
+    /// Begins a take, whose item is kept by this function.
+    #[inline]
+    fn begin_take(&self, keep: impl FnOnce(&Core<T>, T) -> Begun) -> Try<Begun> {
+        match &*self.0 {
+            Source::Channel(shared) => match &shared.core.rendezvous {
+                Some(rendezvous) => try_meet(&**rendezvous, TAKES),
+                None => Ok(match shared.try_take()? {
+                    Some(parcel) => keep(&shared.core, parcel.unpack()),
+                    None => Begun::Closed,
+                }),
+            },
+            Source::Timer(timer) => Ok(timer.try_take()?.map_or(Begun::Closed, Begun::Due)),
+        }
+    }
+
     /// The item of a selected take.
     pub(super) fn completed(&self, begun: Begun) -> Result<T, RecvError> {
         let item = match (begun, &*self.0) {
@@ -202,15 +213,16 @@ impl<'a> Place<'a> {
         }
     }
 
-    /// Leaves the line. A try has to follow, since a notification may have taken this one out. Returns whether there
-    /// was a notification at all since it entered the line.
+    /// Leaves the line. A try has to follow, since a notification may have taken this one out. Returns whether nobody was
+    /// notified since it entered the line.
     fn leave(&mut self) -> bool {
+        let Some(ticket) = self.ticket.take() else {
+            return true;
+        };
         // It is a parker's, whose drop doesn't panic.
-        let leave = |ticket| self.event.leave(ticket, &mut Panics::default());
-        let left = self.ticket.take().map(leave);
-        let (notified, was_notified) = left.unwrap_or((self.notified, false));
-        self.notified = notified;
-        was_notified
+        let notified = self.event.leave(ticket, &mut Panics::default());
+        self.notified = notified == Notified::This;
+        notified == Notified::None
     }
 }
 
@@ -223,21 +235,80 @@ impl Drop for Place<'_> {
     }
 }
 
+/// A take of the macros, which no caller can forget: so it keeps its item itself.
+#[doc(hidden)]
+pub struct TakeArm<'a, T> {
+    receiver: &'a Receiver<T>,
+    item: Cell<Option<T>>,
+}
+
+impl<'a, T> TakeArm<'a, T> {
+    #[inline]
+    pub fn new(receiver: &'a Receiver<T>) -> TakeArm<'a, T> {
+        let item = Cell::new(None);
+        TakeArm { receiver, item }
+    }
+
+    /// Completes it.
+    #[inline]
+    pub fn complete(&self, mut operation: SelectedOperation) -> Result<T, RecvError> {
+        match operation.begun_of(self) {
+            Begun::InArm => self.item.take().ok_or(RecvError),
+            begun => self.receiver.completed(begun),
+        }
+    }
+}
+
+impl<T> Case for TakeArm<'_, T> {
+    fn line(&self) -> &Event {
+        self.receiver.line()
+    }
+
+    fn rendezvous(&self) -> Option<(&dyn Meets, usize)> {
+        Case::rendezvous(self.receiver)
+    }
+
+    fn notify_posted(&self) {
+        self.receiver.notify_posted();
+    }
+
+    #[inline(never)]
+    fn begin(&self) -> Try<Begun> {
+        self.receiver.begin_take(|_, item| {
+            self.item.set(Some(item));
+            Begun::InArm
+        })
+    }
+
+    fn look(&self) -> Try<()> {
+        self.receiver.look()
+    }
+
+    fn give_up(&self, begun: Begun) {
+        self.receiver.give_up(begun);
+    }
+}
+
 /// An operation by reference: `&dyn Case`, or one that goes to other threads.
 #[derive(Clone, Copy)]
-pub struct Entry<R> {
+struct Entry<R> {
     index: usize,
     case: R,
 }
 
+/// Whether a select begins the operation that is ready, or only looks.
+#[derive(Clone, Copy, PartialEq)]
+enum Aim {
+    Begin,
+    Look,
+}
+
 impl<R: Deref<Target: Case>> Entry<R> {
-    /// Begins it, or only looks.
     #[inline]
-    fn attempt(&self, begins: bool) -> Try<Begun> {
-        if begins {
-            self.case.begin()
-        } else {
-            self.case.look().map(|()| Begun::Nothing)
+    fn attempt(&self, aim: Aim) -> Try<Begun> {
+        match aim {
+            Aim::Begin => self.case.begin(),
+            Aim::Look => self.case.look().map(|()| Begun::Nothing),
         }
     }
 
@@ -250,22 +321,6 @@ impl<R: Deref<Target: Case>> Entry<R> {
         let rendezvous = self.case.rendezvous();
         rendezvous.is_none_or(|(channel, side)| channel.wait_for_pair(begun, side, until))
     }
-}
-
-/// Tries each of these once. Gives the place of the first that is done; if none is, when to try again though
-/// nobody notifies.
-fn try_each<R: Deref<Target: Case>>(
-    entries: &[Entry<R>],
-    begins: bool,
-) -> Result<(usize, Begun), Option<Instant>> {
-    let mut moment = None;
-    for (place, entry) in entries.iter().enumerate() {
-        match entry.attempt(begins) {
-            Ok(begun) => return Ok((place, begun)),
-            Err(again) => moment = again.into_iter().chain(moment).min(),
-        }
-    }
-    Err(moment)
 }
 
 thread_local! {
@@ -318,9 +373,28 @@ fn random_below(limit: usize) -> usize {
 /// # Ok::<(), vahepito::OpenError>(())
 /// ```
 #[derive(Clone)]
-pub struct Select<'a>(Cases<&'a (dyn Case + Sync)>);
+pub struct Select<'a> {
+    entries: Entries<&'a (dyn Case + Sync)>,
+    next: usize,
+    is_biased: bool,
+}
 
 impl<'a> Select<'a> {
+    fn of(is_biased: bool) -> Select<'a> {
+        Select {
+            entries: Entries::None,
+            next: 0,
+            is_biased,
+        }
+    }
+
+    fn add(&mut self, case: &'a (dyn Case + Sync)) -> usize {
+        let index = self.next;
+        self.next += 1;
+        self.entries.push(Entry { index, case });
+        index
+    }
+
     /// One without operations.
     ///
     /// ```
@@ -329,7 +403,7 @@ impl<'a> Select<'a> {
     /// ```
     #[must_use]
     pub fn new() -> Select<'a> {
-        Select(Cases::new(false))
+        Select::of(false)
     }
 
     /// One that prefers the operation with the lowest index.
@@ -348,7 +422,7 @@ impl<'a> Select<'a> {
     /// ```
     #[must_use]
     pub fn new_biased() -> Select<'a> {
-        Select(Cases::new(true))
+        Select::of(true)
     }
 
     /// Adds a send, and returns its index.
@@ -364,7 +438,7 @@ impl<'a> Select<'a> {
     /// # Ok::<(), vahepito::OpenError>(())
     /// ```
     pub fn send<T: Send>(&mut self, sender: &'a Sender<T>) -> usize {
-        self.0.add(sender)
+        self.add(sender)
     }
 
     /// Adds a take, and returns its index.
@@ -380,7 +454,7 @@ impl<'a> Select<'a> {
     /// # Ok::<(), vahepito::OpenError>(())
     /// ```
     pub fn recv<T: Send>(&mut self, receiver: &'a Receiver<T>) -> usize {
-        self.0.add(receiver)
+        self.add(receiver)
     }
 
     /// Removes an operation. The others keep their indices.
@@ -401,9 +475,9 @@ impl<'a> Select<'a> {
     /// # Ok::<(), vahepito::OpenError>(())
     /// ```
     pub fn remove(&mut self, index: usize) {
-        let entries = &mut self.0.entries;
-        let place = entries.iter().position(|it| it.index == index);
-        entries.remove(place.expect("the select has an operation with this index"));
+        let place = self.entries.iter().position(|it| it.index == index);
+        let place = place.expect("the select has an operation with this index");
+        self.entries.remove(place);
     }
 }
 
@@ -460,57 +534,82 @@ impl<R> DerefMut for Entries<R> {
     }
 }
 
-/// The operations of a select.
-#[doc(hidden)]
-#[derive(Clone)]
-pub struct Cases<R> {
-    entries: Entries<R>,
-    next: usize,
-    is_biased: bool,
+/// Puts operations in a random order.
+#[inline]
+fn shuffle<R>(entries: &mut [Entry<R>]) {
+    for last in (1..entries.len()).rev() {
+        entries.swap(last, random_below(last + 1));
+    }
 }
 
-impl<R: Copy + Deref<Target: Case>> Cases<R> {
-    #[must_use]
-    pub fn new(is_biased: bool) -> Cases<R> {
-        Cases {
-            entries: Entries::None,
-            next: 0,
-            is_biased,
+/// A select of these operations, in the order in which they are tried, until this moment.
+struct Turn<'s, R> {
+    entries: &'s [Entry<R>],
+    aim: Aim,
+    until: Option<Instant>,
+}
+
+/// The end of a wait in all lines.
+enum Waited {
+    /// The operation at this place has begun.
+    Done(usize, Begun),
+    /// There was no notification: each operation wasn't ready when it was looked at.
+    Quietly,
+    Notified,
+}
+
+impl<R: Copy + Deref<Target: Case>> Turn<'_, R> {
+    /// Tries each until one is done, or the time is over.
+    #[inline]
+    fn wait(&self) -> Option<(Entry<R>, Begun)> {
+        self.try_once().or_else(|| self.park())
+    }
+
+    /// Tries each once, until one is done. One that meets another which gives their pair up isn't.
+    #[inline]
+    fn try_once(&self) -> Option<(Entry<R>, Begun)> {
+        self.entries.iter().find_map(|entry| {
+            let begun = entry.attempt(self.aim).ok()?;
+            let is_done = entry.wait_for_pair(&begun, self.until);
+            is_done.then_some((*entry, begun))
+        })
+    }
+
+    /// Tries each of these once. Gives the place of the first that is begun; if none is, when to try again though
+    /// nobody notifies.
+    fn try_each(&self, places: Range<usize>) -> Try<(usize, Begun)> {
+        let mut moment = None;
+        for place in places {
+            match self.entries[place].attempt(self.aim) {
+                Ok(begun) => return Ok((place, begun)),
+                Err(again) => moment = again.into_iter().chain(moment).min(),
+            }
         }
+        Err(moment)
     }
 
-    pub fn add(&mut self, case: R) -> usize {
-        let index = self.next;
-        self.next += 1;
-        self.entries.push(Entry { index, case });
-        index
+    fn is_over(&self) -> bool {
+        self.until.is_some_and(|until| until <= Instant::now())
     }
 
-    /// Tries each until one is done, or until this moment: begins it, or only looks.
-    pub(super) fn wait(
-        &mut self,
-        until: Option<Instant>,
-        begins: bool,
-    ) -> Option<(Entry<R>, Begun)> {
-        self.shuffle();
-        let done = self.try_once(until, begins);
-        done.or_else(|| self.park(until, begins))
+    /// Whether it is posted for the other side to find: then it isn't in a line.
+    fn is_posted(&self, entry: &Entry<R>) -> bool {
+        self.aim == Aim::Begin && entry.case.rendezvous().is_some()
     }
 
-    /// Parks until one is done, or until this moment, after a few further tries.
+    /// Parks until one is done, or the time is over, after a few further tries.
     #[cold]
-    fn park(&self, until: Option<Instant>, begins: bool) -> Option<(Entry<R>, Begun)> {
-        let is_over = || until.is_some_and(|until| until <= Instant::now());
+    #[inline(never)]
+    fn park(&self) -> Option<(Entry<R>, Begun)> {
         // A try of a single operation says itself that it wasn't ready at some moment.
-        if self.entries.len() == 1 && is_over() {
+        if self.entries.len() == 1 && self.is_over() {
             return None;
         }
-        // Those that may meet another are posted at once, so that the other finds them.
-        let posts = begins && self.entries.iter().any(|it| it.case.rendezvous().is_some());
         let mut done = None;
-        if !posts {
-            let attempt = || match self.try_once(until, begins) {
-                None if !is_over() => None,
+        // Those that may meet another are posted at once.
+        if !self.entries.iter().any(|it| self.is_posted(it)) {
+            let attempt = || match self.try_once() {
+                None if !self.is_over() => None,
                 tried => Some(tried),
             };
             done = FOR_OTHERS.try_until(attempt).flatten();
@@ -518,90 +617,72 @@ impl<R: Copy + Deref<Target: Case>> Cases<R> {
         done.or_else(|| {
             Parker::with(|parker| {
                 loop {
-                    match self.stand_and_park(until, begins, parker) {
-                        Ok((place, begun)) => {
+                    match self.stand_and_park(parker) {
+                        Waited::Done(place, begun) => {
                             let entry = self.entries[place];
-                            if entry.wait_for_pair(&begun, until) {
+                            if entry.wait_for_pair(&begun, self.until) {
                                 return Some((entry, begun));
                             }
                             // It goes on with the others, and until its time is over.
-                            if is_over() {
-                                return self.try_once(until, begins);
+                            if self.is_over() {
+                                return self.try_once();
                             }
                         }
-                        Err(was_quiet) if was_quiet && is_over() => return None,
-                        Err(_) => {}
+                        Waited::Quietly if self.is_over() => return None,
+                        Waited::Quietly | Waited::Notified => {}
                     }
                 }
             })
         })
     }
 
-    /// Tries each once, until one is done. One that meets another which gives their pair up isn't.
-    fn try_once(&self, until: Option<Instant>, begins: bool) -> Option<(Entry<R>, Begun)> {
-        let mut left = &self.entries[..];
-        while let Ok((place, begun)) = try_each(left, begins) {
-            let entry = left[place];
-            if entry.wait_for_pair(&begun, until) {
-                return Some((entry, begun));
-            }
-            left = &left[place + 1..];
-        }
-        None
-    }
-
-    /// Stands in all lines, looks, and parks; leaves all, and tries again. If none is done, returns whether
-    /// there was no notification: then each wasn't ready when it was looked at. The notification of a line is passed on if its
+    /// Stands in all lines, looks, and parks; leaves all, and tries again. The notification of a line is passed on if its
     /// operation wasn't tried after it, or was only looked at and is ready.
-    fn stand_and_park(
-        &self,
-        until: Option<Instant>,
-        begins: bool,
-        parker: &Arc<Parker>,
-    ) -> Result<(usize, Begun), bool> {
-        let is_over = until.is_some_and(|until| until <= Instant::now());
-        let is_posted = |it: &Entry<R>| begins && it.case.rendezvous().is_some();
+    fn stand_and_park(&self, parker: &Arc<Parker>) -> Waited {
+        let is_over = self.is_over();
         let mut places: Vec<_> = vec![];
         places.extend(self.entries.iter().map(|it| {
-            let stands = !is_posted(it);
+            let stands = !self.is_posted(it);
             stands.then(|| Place::stand(it.case.line(), parker))
         }));
-        let moment = match try_each(&self.entries, begins) {
-            Ok(done) => return Ok(done),
+        let all = 0..places.len();
+        let moment = match self.try_each(all.clone()) {
+            Ok((place, begun)) => return Waited::Done(place, begun),
             Err(moment) => moment,
         };
-        let until = until.into_iter().chain(moment).min();
-        let posts = self.entries.iter().any(is_posted);
+        let until = self.until.into_iter().chain(moment).min();
+        let posts = places.iter().any(Option::is_none);
         if posts && !is_over {
-            if let Some(met) = self.meet(until, parker) {
-                return Ok(met);
+            if let Some((place, begun)) = self.meet(until, parker) {
+                return Waited::Done(place, begun);
             }
         } else if !is_over {
             parker.park(until);
         }
         let mut is_quiet = true;
         for place in places.iter_mut().flatten() {
-            is_quiet &= !place.leave();
+            is_quiet &= place.leave();
         }
         if is_quiet && is_over {
-            return Err(true);
+            return Waited::Quietly;
         }
         // The one that was notified comes first.
         let is_notified = |it: &Option<Place>| it.as_ref().is_some_and(|it| it.notified);
         let first = places.iter().position(is_notified);
-        let notified = first.and_then(|at| {
-            let (_, begun) = try_each(&self.entries[at..=at], begins).ok()?;
-            Some((at, begun))
-        });
-        let done = notified.or_else(|| try_each(&self.entries, begins).ok());
-        let tried = match done {
-            Some((place, _)) if begins => place..place + 1,
-            Some(_) => 0..0,
-            None => 0..places.len(),
+        let notified = first.and_then(|at| self.try_each(at..at + 1).ok());
+        let done = notified.or_else(|| self.try_each(all.clone()).ok());
+        let tried = match (&done, self.aim) {
+            (&Some((place, _)), Aim::Begin) => place..place + 1,
+            (Some(_), Aim::Look) => 0..0,
+            (None, _) => all,
         };
         let tried = places[tried].iter_mut().flatten();
         tried.for_each(|place| place.notified = false);
-        done.ok_or(is_quiet)
+        match done {
+            Some((place, begun)) => Waited::Done(place, begun),
+            None if is_quiet => Waited::Quietly,
+            None => Waited::Notified,
+        }
     }
 
     /// Posts the operations of channels of capacity 0, parks, and takes them off. Gives the one that has met
@@ -626,21 +707,30 @@ impl<R: Copy + Deref<Target: Case>> Cases<R> {
             Some((place, Begun::Met(pair)))
         })
     }
-
-    /// Puts the operations in a random order.
-    fn shuffle(&mut self) {
-        if self.is_biased {
-            return self.entries.sort_by_key(|it| it.index);
-        }
-        for last in (1..self.entries.len()).rev() {
-            self.entries.swap(last, random_below(last + 1));
-        }
-    }
 }
 
 impl<'a> Select<'a> {
+    fn wait(
+        &mut self,
+        aim: Aim,
+        until: Option<Instant>,
+    ) -> Option<(Entry<&'a (dyn Case + Sync)>, Begun)> {
+        let entries = &mut self.entries[..];
+        if self.is_biased {
+            entries.sort_by_key(|it| it.index);
+        } else {
+            shuffle(entries);
+        }
+        Turn {
+            entries,
+            aim,
+            until,
+        }
+        .wait()
+    }
+
     fn select_until(&mut self, until: Option<Instant>) -> Option<SelectedOperation<'a>> {
-        let (Entry { index, case }, begun) = self.0.wait(until, true)?;
+        let (Entry { index, case }, begun) = self.wait(Aim::Begin, until)?;
         Some(SelectedOperation::new(Entry { index, case }, begun, until))
     }
 
@@ -743,7 +833,7 @@ impl<'a> Select<'a> {
     }
 
     fn ready_until(&mut self, until: Option<Instant>) -> Option<usize> {
-        Some(self.0.wait(until, false)?.0.index)
+        Some(self.wait(Aim::Look, until)?.0.index)
     }
 
     /// Returns the index of an operation that is ready, if there is one. Another thread may make it
@@ -839,18 +929,32 @@ impl<'a> Select<'a> {
     }
 }
 
-/// The select of the macros, which stays on its thread: so it takes items of any type.
+/// The select of the macros: waits until one of these operations is ready, but not longer than this, and begins it. It stays on
+/// its thread, so it takes items of any type.
 #[doc(hidden)]
-pub type LocalSelect<'a> = Cases<&'a dyn Case>;
-
-impl<'a> LocalSelect<'a> {
-    /// Waits until an operation is ready, but not longer than this, and begins it.
-    pub fn select_within(mut self, time: Option<Duration>) -> Option<SelectedOperation<'a>> {
-        // A moment beyond the clock's range never comes.
-        let until = time.and_then(|time| Instant::now().checked_add(time));
-        let (entry, begun) = self.wait(until, true)?;
-        Some(SelectedOperation::new(entry, begun, until))
+#[inline]
+pub fn select_arms<'a, const N: usize>(
+    arms: [&'a dyn Case; N],
+    is_biased: bool,
+    time: Option<Duration>,
+) -> Option<SelectedOperation<'a>> {
+    let mut index = 0..;
+    let mut entries = arms.map(|case| Entry {
+        index: index.next().unwrap_or_default(),
+        case,
+    });
+    if !is_biased {
+        shuffle(&mut entries);
     }
+    // A moment beyond the clock's range never comes.
+    let until = time.and_then(|time| Instant::now().checked_add(time));
+    let turn = Turn {
+        entries: &entries,
+        aim: Aim::Begin,
+        until,
+    };
+    let (entry, begun) = turn.wait()?;
+    Some(SelectedOperation::new(entry, begun, until))
 }
 
 fmt_by_text! { impl Debug for Select<'_>: _ => "Select { .. }" }

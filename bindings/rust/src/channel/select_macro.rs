@@ -67,15 +67,14 @@ macro_rules! select_biased {
     };
 }
 
-/// Reads the arms one by one: [the operations] [the default arm] and what isn't read yet. Then adds the
-/// operations, each with names of its own; selects; and makes the one that is selected.
+/// Reads the arms one by one: [the operations] [the default arm] and what isn't read yet. Then names the handles, with names of
+/// their own; selects; and makes the operation that is selected.
 #[doc(hidden)]
 #[macro_export]
 macro_rules! __select {
-    (@read $biased:literal [$($arms:tt)*] [$($default:tt)*]) => {{
-        let mut select = $crate::LocalSelect::new($biased);
-        $crate::__select!(@add select [] [$($default)*] $($arms)*)
-    }};
+    (@read $biased:literal [$($arms:tt)*] [$($default:tt)*]) => {
+        $crate::__select!(@name $biased (0) [] [$($default)*] $($arms)*)
+    };
     (@read $biased:literal $arms:tt $default:tt default => $($rest:tt)*) => {
         $crate::__select!(@read $biased $arms $default default() => $($rest)*)
     };
@@ -118,41 +117,41 @@ macro_rules! __select {
             "`default(time)`; found `", ::core::stringify!($kind $of), "`"))
     };
 
-    (@add $select:ident [$($made:tt)*] $default:tt
+    (@name $biased:literal ($index:expr) [$($named:tt)*] $default:tt
         [recv ($of:expr) ($result:pat) $body:expr] $($arms:tt)*) => {
         match $of {
             ref receiver => {
-                let receiver: &$crate::Receiver<_> = receiver;
-                let index = $select.add(receiver);
-                $crate::__select!(@add $select
-                    [$($made)* [index ($result) (recv(receiver)) $body]] $default $($arms)*)
+                let arm = $crate::TakeArm::new(receiver);
+                $crate::__select!(@name $biased ($index + 1)
+                    [$($named)* [($index) (&arm) ($result) (take arm) $body]] $default $($arms)*)
             }
         }
     };
-    (@add $select:ident [$($made:tt)*] $default:tt
+    (@name $biased:literal ($index:expr) [$($named:tt)*] $default:tt
         [send ($of:expr, $item:expr) ($result:pat) $body:expr] $($arms:tt)*) => {
         match $of {
             ref sender => {
-                let sender: &$crate::Sender<_> = sender;
-                let index = $select.add(sender);
-                $crate::__select!(@add $select
-                    [$($made)* [index ($result) (send(sender, $item)) $body]] $default $($arms)*)
+                let arm: &$crate::Sender<_> = sender;
+                $crate::__select!(@name $biased ($index + 1)
+                    [$($named)* [($index) (arm) ($result) (send arm $item) $body]] $default $($arms)*)
             }
         }
     };
-    (@add $select:ident $made:tt []) => {
-        $crate::__select!(@wait $select (::core::option::Option::None) $made
+    (@name $biased:literal $count:tt $named:tt []) => {
+        $crate::__select!(@wait $biased (::core::option::Option::None) $named
             ::core::unreachable!("it waits without end"))
     };
-    (@add $select:ident $made:tt [() $body:expr]) => {
-        $crate::__select!(@add $select $made [(::core::time::Duration::ZERO) $body])
+    (@name $biased:literal $count:tt $named:tt [() $body:expr]) => {
+        $crate::__select!(@name $biased $count $named [(::core::time::Duration::ZERO) $body])
     };
-    (@add $select:ident $made:tt [($time:expr) $body:expr]) => {
-        $crate::__select!(@wait $select (::core::option::Option::Some($time)) $made $body)
+    (@name $biased:literal $count:tt $named:tt [($time:expr) $body:expr]) => {
+        $crate::__select!(@wait $biased (::core::option::Option::Some($time)) $named $body)
     };
-    (@wait $select:ident $time:tt [$($made:tt)*] $body:expr) => {
-        match $select.select_within($time) {
-            ::core::option::Option::Some(operation) => $crate::__select!(@make operation $($made)*),
+    (@wait $biased:literal $time:tt
+        [$([$index:tt ($case:expr) $result:tt $call:tt $made:expr])*] $body:expr) => {
+        match $crate::select_arms([$($case),*], $biased, $time) {
+            ::core::option::Option::Some(operation) =>
+                $crate::__select!(@make operation $([$index $result $call $made])*),
             ::core::option::Option::None => $body,
         }
     };
@@ -160,13 +159,18 @@ macro_rules! __select {
     (@make $operation:ident) => {
         ::core::unreachable!("no other operation is selected")
     };
-    (@make $operation:ident
-        [$index:ident ($result:pat) ($call:ident($($with:tt)*)) $body:expr] $($others:tt)*) => {
+    (@make $operation:ident [($index:expr) ($result:pat) $call:tt $body:expr] $($others:tt)*) => {
         if $operation.index() == $index {
-            let $result = $operation.$call($($with)*);
+            let $result = $crate::__select!(@complete $operation $call);
             $body
         } else {
             $crate::__select!(@make $operation $($others)*)
         }
+    };
+    (@complete $operation:ident (take $arm:ident)) => {
+        $arm.complete($operation)
+    };
+    (@complete $operation:ident (send $arm:ident $item:expr)) => {
+        $operation.send($arm, $item)
     };
 }
