@@ -13,7 +13,7 @@ use std::panic::{AssertUnwindSafe, catch_unwind, resume_unwind};
 use std::sync::atomic::{AtomicUsize, Ordering};
 
 /// The greatest number of bytes of an item that travels in a body itself. From 9 bytes on a box costs fewer instructions than the
-/// words: 895 a pair of 32 bytes in place of 1,053. But one thread asks for its memory and another one frees it: between four pairs of
+/// words: 895 a pair of 32 bytes in place of 1,096. But one thread asks for its memory and another one frees it: between four pairs of
 /// threads an item of 16 to 32 bytes takes 1.5 to 2.4 times as long in a box.
 const INLINE: usize = size_of::<Words>();
 
