@@ -1,6 +1,5 @@
 //! The content of a handle's box.
 ghost use Rattle.std.specs.Prelude.{◌≡◌, false, Some, None};
-ghost use Rattle.cc_steps.specs.Noted.{IsNoteOf};
 ghost use Rattle.cc_steps.specs.Walk.{IsOf};
 ghost use Rattle.cc_passes.specs.Noting.{IsNoteFor, MayHeed, Heeds, noted_after};
 ghost use Rattle.cc_passes.specs.Passes.{walk_of, abandoned_of, holding, has_call, StaysOf};
@@ -80,9 +79,10 @@ impl HandleInner {
         ensures words { self.new.words ≡ self.old.words }
         ensures stays { StaysOf self.old.pass self.new.pass }
     {
-        if let Some(pass) = self.pass.take() {
-            let pass = heeded(&self.queue, pass, note);
-            put(&mut self.pass, pass);
+        match &mut self.pass {
+            Some(Pass::Sender(sender)) => sender.see_noted(&self.queue, note),
+            Some(Pass::Receiver(receiver)) => receiver.see_noted(&self.queue, note),
+            _ => {}
         }
     }
 
@@ -93,9 +93,10 @@ impl HandleInner {
         ensures same { self.new ≡ self.old }
         ensures noted { Some note.new ≡ noted_after (Some note.old) self.old.pass }
     {
-        if let Some(pass) = self.pass.take() {
-            let pass = noted(&self.queue, pass, note);
-            put(&mut self.pass, pass);
+        match &mut self.pass {
+            Some(Pass::Sender(sender)) => *note = sender.note_of(&self.queue),
+            Some(Pass::Receiver(receiver)) => *note = receiver.note_of(&self.queue),
+            _ => {}
         }
     }
 
@@ -107,49 +108,6 @@ impl HandleInner {
             Some(pass) => Abandoned::of(ManuallyDrop::new(give_up(pass))),
             None => Abandoned::none(),
         }
-    }
-}
-
-/// The pass once it has seen what was noted.
-#[inline(always)]
-fn heeded(queue: &Queue, pass: Pass, note: &mut Note) -> Pass
-    requires here { IsOf queue.now (walk_of pass) }
-    requires idle { has_call (Some pass) ≡ false }
-    requires there { IsNoteOf queue.now note.old }
-    ensures here { IsOf queue.now (walk_of result) }
-    ensures same { note.new ≡ note.old }
-    ensures heeds { Heeds (Some note.old) (Some pass) (Some result) }
-{
-    match pass {
-        Pass::Sender(mut sender) => {
-            sender.see_noted(queue, note);
-            Pass::Sender(sender)
-        }
-        Pass::Receiver(mut receiver) => {
-            receiver.see_noted(queue, note);
-            Pass::Receiver(receiver)
-        }
-        other => other,
-    }
-}
-
-/// The pass as it was, once it was noted what it has seen, if it has no call.
-#[inline(always)]
-fn noted(queue: &Queue, pass: Pass, note: &mut Note) -> Pass
-    requires { IsOf queue.now (walk_of pass) }
-    ensures same { result ≡ pass }
-    ensures noted { Some note.new ≡ noted_after (Some note.old) (Some pass) }
-{
-    match pass {
-        Pass::Sender(mut sender) => {
-            *note = sender.note_of(queue);
-            Pass::Sender(sender)
-        }
-        Pass::Receiver(mut receiver) => {
-            *note = receiver.note_of(queue);
-            Pass::Receiver(receiver)
-        }
-        other => other,
     }
 }
 
