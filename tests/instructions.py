@@ -51,14 +51,14 @@ BOUNDS = {
     f"send and recv of a word, {name}": (f"let (s, r) = {opening}?;", "s.send(i).unwrap(); assert_eq!(r.recv(), Ok(i));", limit)
     for name, opening, limit in (("capacity 64", "channel::<u64>(64)", 735), ("without a bound", "unbounded::<u64>()", 752))
 }
-# The pairs of the program in C: by handles, as the Rust crate makes them, by one pointer, and the calls that wait. The pointer's has 106 more: each call
+# The pairs of the program in C: by handles, as the Rust crate makes them, by one pointer, and the calls that wait. The pointer's has 167 more: each call
 # looks for a free place, takes it by an exchange and gives it back by a store, and an item has room for four words. The calls that wait take a seat, and
 # make a call by its handle. The turns are the same.
 # The last number is how many of these may be locked: two exchanges of a tail, a mark, and an addition; for each of the pointer's
 # calls two more, by which it takes a place and gives it back; and for each call that waits one, by which it takes a seat.
 IN_C = {
     "vahepito_try_send and vahepito_try_take": ("handles", 552, 4),
-    "vahepito_call_send and vahepito_call_take": ("pointer", 657, 8),
+    "vahepito_call_send and vahepito_call_take": ("pointer", 724, 8),
     "vahepito_send and vahepito_take": ("waits", 682, 6),
 }
 RUST = """#![allow(unused_imports)]

@@ -57,6 +57,10 @@ SHARED = "vahepito_call_send"
 # Behind a jump by a table two ways end.
 BY_TABLE = "lea r8,[rip+3f]\nmovsxd r9,[r8+rsi*4]\nadd r9,r8\nnotrack jmp r9\n1: ret\n2: xor eax,eax\nret\n"
 BY_TABLE += '.section .rodata.vahepito_it,"a",@progbits\n3: .long 1b-3b,2b-3b'
+BY_TWO_TABLES = BY_TABLE.replace("2: xor eax,eax\nret\n", "2: lea r8,[rip+6f]\nmovsxd r9,[r8+rsi*4]\nadd r9,r8\nnotrack jmp r9\n4: xor eax,eax\nret\n5: ret\n")
+BY_TWO_TABLES += "\n6: .long 4b-6b,5b-6b"
+# A load by which a call takes its caller's note, by the description of the queue itself.
+NOTE = "mov r8,[rdi]\nmov r8,[r8]\nmov r8,[r8+8]\nmov r8,[r8+{}]\n"
 NAMES = {"of a take": "vahepito_try_take", "of a shared queue": SHARED}
 SMALL = {
     "right: a turn that has nothing to do with a register that it keeps": SAVED + KEPT + "mov rax,[rcx+rsi*8]\nret",
@@ -128,6 +132,13 @@ SMALL = {
     "an address of four bytes": TURNED + "mov r9,[ecx]\n" + FENCE,
     "right: a mark for pointers": TURNED + "endbr64\n" + FENCE,
     "right: a jump by a table, without a mark at its targets": TURNED + BY_TABLE,
+    "right: jumps by two tables": TURNED + BY_TWO_TABLES,
+    "a load behind a jump by the second table": TURNED + BY_TWO_TABLES.replace("5: ret", "5: mov rax,[rcx]\nret"),
+    "a second table that begins in an entry": TURNED + BY_TWO_TABLES.replace("6f]", "6f+2]"),
+    "right: a jump by a byte of a pointer": TURNED + "mov r10,rcx\nmovzx esi,r10b\n" + BY_TABLE,
+    "a jump by a pointer": TURNED + "mov rsi,rcx\n" + BY_TABLE,
+    "right: a note of a shared queue": NOTE.format(0) + PLACE + TAKEN + FOUND + TURNED + "mov rax,[rcx]\n" + GIVEN,
+    "another word in place of a note of a shared queue": NOTE.format(8) + PLACE + TAKEN + FOUND + TURNED + "mov rax,[rcx]\n" + GIVEN,
     "a load behind a jump by a table": TURNED + BY_TABLE.replace("1: ret", "1: mov rax,[rcx]\nret"),
     "a jump by a register": TURNED + "jmp rsi",
     "a jump by a register, without a mark at its target": TURNED + "notrack jmp rsi",

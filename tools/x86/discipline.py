@@ -24,6 +24,10 @@ ROADS = [
     (re.compile(r"vahepito_call_take$"), f"{RECEIVERS}[8/64][8][0][8]", f"{RECEIVERS}[0/64]"),
     (re.compile(r"vahepito_\w+$"), "rdi[0][0][8]", None),
 ]
+# The same words by the shared queue itself, from which a caller's call takes its note.
+BY_THE_QUEUE = "rdi[0][0][8]"
+# How far from its begin a table's first word is.
+FIRST = (0, 0)
 # These aren't looked at: all of their bytes are the same in both archives, so each of their stores is locked. They open queues, drop
 # passes and put them back into their places, and call no function that is looked at. Or they load one count: no store of a pass waits
 # for that, and the law of plain stores speaks of passes alone (docs/TRUST.md has what such a load finds).
@@ -116,11 +120,14 @@ class Checked:
         if i.memory.base == "rip" and reference is not None and reference.is_fixed:
             return None
         to = paths(self.function.address(state, i.memory))
-        if to and (to == {self.flags} or to == {"stack"} or all(self.table.startswith(path + "[") or path in ARGUMENTS for path in to)):
+        if to and (to == {self.flags} or to == {"stack"} or all(self.is_before_the_table(path) or path in ARGUMENTS for path in to)):
             return None
         if to and all(path.startswith("table ") for path in to):
             return None
         return f"a load by {sorted(to)} that may be of a word of the table"
+
+    def is_before_the_table(self, path: str) -> bool:
+        return any(table.startswith(path + "[") for table in (self.table, BY_THE_QUEUE))
 
     def loads(self) -> list:
         """The addresses of the loads that may be of words of the table, or of flags."""
@@ -130,6 +137,16 @@ class Checked:
     def is_of_flags(self, k: int) -> bool:
         i = self.function.instructions[k]
         return self.flags is not None and i.loads and paths(self.function.address(self.function.before[k], i.memory)) == {self.flags}
+
+    def is_of_first(self, k: int, table: str) -> bool:
+        """Whether the load is of the first word of the table that this path leads to. The word is a number of the configuration: only the
+        opening writes it, so no buffer has it."""
+        i = self.function.instructions[k]
+        return i.loads and self.function.address(self.function.before[k], i.memory) == {(table, FIRST)}
+
+    def takes_note(self, k: int) -> bool:
+        """Whether a call of a shared queue makes its caller's note by this load."""
+        return self.table != BY_THE_QUEUE and self.is_of_first(k, BY_THE_QUEUE)
 
     def unfenced(self, start: list, plain: set) -> list:
         """The instructions from these on, to each of which some path leads without a locked one. Those at the addresses of `plain` aren't
@@ -145,12 +162,12 @@ class Checked:
         return sorted(seen)
 
     def check_begin(self, plain: set) -> None:
-        """On each path from its entry a locked instruction comes before a load of a word of the table, and before a turn."""
+        """On each path from its entry a locked instruction comes before a load of a word of the table but that of a note, and before a turn."""
         if self.function.name.startswith(TURNS):
             return
         for k in self.unfenced([0], plain):
             i = self.function.instructions[k]
-            why = "a call" if i.name == "call" else None if i.is_locked else self.look(k)
+            why = "a call" if i.name == "call" else None if i.is_locked or self.takes_note(k) else self.look(k)
             if why:
                 raise Refused(f"{self.function.where(i)}: {why} comes before a locked instruction")
 

@@ -298,7 +298,9 @@ class Function:
         return UNKNOWN
 
     def number(self, state: State, i: Instruction) -> frozenset:
-        """What is left by an instruction that makes numbers: of a pointer something of which nothing is known."""
+        """What is left by an instruction that makes numbers: of a pointer something of which nothing is known, unless it is one byte."""
+        if i.name == "movzx" and i.operands[1].size == 1:
+            return NUMBER
         given = [self.value(state, i, each) for each in i.operands[i.name in MAKES_ANEW :]]
         given += [state.register(each) for each in ("rax", "rdx") if i.name in ("mul", "div")]
         number = self.as_number(joined(*given))

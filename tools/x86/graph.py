@@ -35,8 +35,6 @@ ARCHIVES = TOP / "bindings/rust/lib/x86_64-unknown-linux-gnu"
 TEXT = TOP / "crates/cc_graphs/stdin"
 ROWS = TOP / "crates/cc_x86/specs/Rows.antt"
 WORD, LINE = 8, 8
-# How far from its begin a table's first word is.
-FIRST = (0, 0)
 
 
 # ---- the graph of an export
@@ -132,7 +130,7 @@ class Archive:
         """Whether an instruction accesses a word of the table; not the first one by a load, nor one of the own stack, nor the flag of a place."""
         i, state = checked.function.instructions[k], checked.function.before[k]
         if not i.is_locked:
-            return checked.look(k) is not None and checked.function.address(state, i.memory) != {(checked.table, FIRST)}
+            return checked.look(k) is not None and not (checked.is_of_first(k, checked.table) or checked.takes_note(k))
         return i.memory is not None and i.memory.base != "rsp" and paths(checked.function.address(state, i.memory)) != {checked.flags}
 
     def access(self, checked, k: int) -> tuple:

@@ -66,6 +66,15 @@ class Code:
     tables: dict
 
 
+def begin_of(relocation: Relocation) -> int:
+    """Where in its section begins what an instruction refers to, by how far that is from the instruction's end."""
+    return relocation.value + relocation.addend + 4
+
+
+def table_at(section: str, begin: int) -> str:
+    return f"{section}+{begin:x}"
+
+
 def object_in(data: bytes) -> tuple:
     """From where to where the one object of an archive is; or the whole, if it is an object."""
     if not data.startswith(b"!<arch>\n"):
@@ -156,18 +165,23 @@ class Object:
         return Code(section.name[6:].removeprefix("unlikely."), section.start, code, references, tables)
 
     def tables_of(self, k: int) -> dict:
-        """The jump tables of a function: each entry is how far a target is from the table's beginning."""
+        """The jump tables of a function, by their names: each entry is how far a target is from its table's beginning. Tables that
+        lie in one section begin where the function refers to it, and each ends where the next begins."""
+        name = ".rodata." + self.sections[k].name[6:]
+        found = [j for j, section in enumerate(self.sections) if section.name == name]
         tables = {}
-        for j, table in enumerate(self.sections):
-            if table.name != ".rodata." + self.sections[k].name[6:]:
-                continue
-            entries = self.relocations.get(j, [])
-            if table.flags & WRITABLE or table.name in tables:
-                raise Refused(f"{table.name}: is no table that stays as it is")
-            is_whole = {r.at for r in entries} == set(range(0, table.size, 4))
+        for j in found:
+            size, entries = self.sections[j].size, self.relocations.get(j, [])
+            if self.sections[j].flags & WRITABLE or len(found) > 1:
+                raise Refused(f"{name}: is no table that stays as it is")
+            is_whole = {r.at for r in entries} == set(range(0, size, 4))
             if not is_whole or any(r.section != k or r.kind != DISTANCE for r in entries):
-                raise Refused(f"{table.name}: holds more than a jump table")
-            tables[table.name] = [r.value + r.addend - r.at for r in entries]
+                raise Refused(f"{name}: holds more than jump tables")
+            begins = sorted({0, *(begin_of(r) for r in self.relocations.get(k, []) if r.section == j)})
+            if not set(begins) <= set(range(0, size, 4)):
+                raise Refused(f"{name}: the function refers into an entry")
+            for begin, end in zip(begins, [*begins[1:], size]):
+                tables[table_at(name, begin)] = [r.value + r.addend - r.at + begin for r in entries if begin <= r.at < end]
         return tables
 
     def reference(self, section: Section, relocation: Relocation, tables: dict) -> Reference:
@@ -176,5 +190,6 @@ class Object:
         if held and held.is_code and not is_exact:
             raise Refused(f"{section.name}+{relocation.at:x}: refers into {relocation.name}")
         is_constant = held is not None and held.kind == PROGBITS and not held.flags & (WRITABLE | CODE)
-        is_fixed = is_constant and relocation.kind == DISTANCE and relocation.name not in tables
-        return Reference(relocation.name, is_exact, is_fixed)
+        if table_at(relocation.name, 0) in tables:
+            return Reference(table_at(relocation.name, begin_of(relocation)), relocation.kind == DISTANCE, False)
+        return Reference(relocation.name, is_exact, is_constant and relocation.kind == DISTANCE)
