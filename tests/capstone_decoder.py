@@ -8,6 +8,8 @@ from x86.decode import Instruction, Memory, Operand
 
 decoder = Cs(CS_ARCH_X86, CS_MODE_64)
 decoder.detail = True
+# The prefix of a segment, which says of a jump or call that its target needs no mark. Capstone doesn't name it.
+NOTRACK = 0x3E
 
 
 @functools.cache
@@ -37,6 +39,8 @@ def operand(found) -> Operand:
 
 def instruction(found) -> Instruction:
     *prefix, name = found.mnemonic.split()
+    if name in ("jmp", "call") and found.prefix[1] == NOTRACK:
+        prefix = ["notrack"]
     reads, writes = ({register(number) for number in numbers} - {"rflags"} for numbers in found.regs_access())
     operands = tuple(operand(each) for each in found.operands)
     text, code = f"{found.mnemonic} {found.op_str}", bytes(found.bytes)
