@@ -2,27 +2,13 @@
 from unwinding.frames import Follower, Frame
 from x86.decode import Instruction, decode
 from x86.flow import KNOWN, LOST_BY_A_CALL
-from x86.objects import DISTANCE, Object, Refused
+from x86.objects import Object, Refused
 
 # These are followed by the registers that they write, and aren't known to x86/flow.py.
 ALSO = {"punpckldq", "extractps"}
 RETURN = "return address"
 KEPT = ["rbx", "rbp", "r12", "r13", "r14", "r15"]
 PASSES = {"", "lock", "notrack"}
-
-
-def targets_of(read: Object, k: int) -> set:
-    """All targets of the jump tables of a function. Where a table begins is where its code refers to."""
-    code, found = read.sections[k], set()
-    for j, section in enumerate(read.sections):
-        if section.name != ".rodata." + code.name[6:]:
-            continue
-        starts = {each.value + each.addend + 4 for each in read.relocations[k] if each.section == j}
-        for each in read.relocations.get(j, []):
-            if each.section != k or each.kind != DISTANCE or not (before := [start for start in starts if start <= each.at]):
-                raise Refused(f"{section.name}: holds more than jump tables")
-            found.add(each.value + each.addend - (each.at - max(before)))
-    return found
 
 
 class X86Frames(Follower):
@@ -34,7 +20,7 @@ class X86Frames(Follower):
         section = read.sections[k]
         self.code = read.data[section.start : section.start + section.size]
         self.fields = {each.at for each in read.relocations.get(k, [])}
-        self.targets = targets_of(read, k)
+        self.targets = set().union(*read.tables_of(k).values())
         name = section.name[6:].removeprefix("unlikely.")
         super().__init__(name, decode(name, self.code), Frame({"rsp": -8, **{each: each for each in KEPT}}, {-8: RETURN}))
 

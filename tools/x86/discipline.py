@@ -2,7 +2,8 @@
 
 A locked exchange with a word of the table may become a plain store, if nobody uses what it found, unless it is a mark of the senders'
 chain: a store of 2, by which a combiner says that it has answered a send or a close. A thread that begins a call, or takes up
-one that waits, executes a locked instruction before it loads a word of the table.
+one that waits, executes a locked instruction before it loads a word of the table; but for the first word, which only the opening
+writes, and by which a call of a shared queue takes its caller's note.
 """
 import re
 
@@ -17,15 +18,15 @@ TURNS = "cc_queue::turns::"
 # which a shared queue keeps its passes. Before the table come the description of the queue and what has the pass, which stay as they
 # are while threads run. `rdi[0][8]` is what [[rdi]+8] holds, and [8/64] the second field of some row of 64 bytes.
 SENDERS, RECEIVERS = "rdi[0][168]", "rdi[0][192][0/8]"
+# By a handle, and by a shared queue itself, from which a caller's call takes its note.
+BY_THE_QUEUE = "rdi[0][0][8]"
 ROADS = [
     (re.compile(TURNS), "rdi[0][8]", None),
     (re.compile(r"vahepito_call_turn_\w+$"), "rdi[8][0][8]", None),
     (re.compile(r"vahepito_call_(send|close)$"), f"{SENDERS}[8/64][8][0][8]", f"{SENDERS}[0/64]"),
     (re.compile(r"vahepito_call_take$"), f"{RECEIVERS}[8/64][8][0][8]", f"{RECEIVERS}[0/64]"),
-    (re.compile(r"vahepito_\w+$"), "rdi[0][0][8]", None),
+    (re.compile(r"vahepito_\w+$"), BY_THE_QUEUE, None),
 ]
-# The same words by the shared queue itself, from which a caller's call takes its note.
-BY_THE_QUEUE = "rdi[0][0][8]"
 # How far from its begin a table's first word is.
 FIRST = (0, 0)
 # These aren't looked at: all of their bytes are the same in both archives, so each of their stores is locked. They open queues, drop

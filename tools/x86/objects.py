@@ -169,20 +169,22 @@ class Object:
         lie in one section begin where the function refers to it, and each ends where the next begins."""
         name = ".rodata." + self.sections[k].name[6:]
         found = [j for j, section in enumerate(self.sections) if section.name == name]
-        tables = {}
-        for j in found:
-            size, entries = self.sections[j].size, self.relocations.get(j, [])
-            if self.sections[j].flags & WRITABLE or len(found) > 1:
-                raise Refused(f"{name}: is no table that stays as it is")
-            is_whole = {r.at for r in entries} == set(range(0, size, 4))
-            if not is_whole or any(r.section != k or r.kind != DISTANCE for r in entries):
-                raise Refused(f"{name}: holds more than jump tables")
-            begins = sorted({0, *(begin_of(r) for r in self.relocations.get(k, []) if r.section == j)})
-            if not set(begins) <= set(range(0, size, 4)):
-                raise Refused(f"{name}: the function refers into an entry")
-            for begin, end in zip(begins, [*begins[1:], size]):
-                tables[table_at(name, begin)] = [r.value + r.addend - r.at + begin for r in entries if begin <= r.at < end]
-        return tables
+        if not found:
+            return {}
+        size, entries = self.sections[found[0]].size, self.relocations.get(found[0], [])
+        if self.sections[found[0]].flags & WRITABLE or len(found) > 1:
+            raise Refused(f"{name}: is no table that stays as it is")
+        places = set(range(0, size, 4))
+        if {r.at for r in entries} != places or any(r.section != k or r.kind != DISTANCE for r in entries):
+            raise Refused(f"{name}: holds more than jump tables")
+        begins = sorted({begin_of(r) for r in self.relocations.get(k, []) if r.section == found[0]})
+        if begins[:1] != [0] or not set(begins) <= places:
+            raise Refused(f"{name}: the function doesn't refer to its first table, or refers into an entry")
+        ends = [*begins[1:], size]
+        return {
+            table_at(name, begin): [r.value + r.addend - r.at + begin for r in entries if begin <= r.at < end]
+            for begin, end in zip(begins, ends)
+        }
 
     def reference(self, section: Section, relocation: Relocation, tables: dict) -> Reference:
         held = self.holds(relocation)
