@@ -70,7 +70,9 @@ def package(room: Path, name: str, crate: Path) -> Path | None:
     at = room / name
     (at / "src").mkdir(parents=True)
     (at / "tests").mkdir()
-    shutil.copy(TOP / "tests" / "other_channels" / f"{name}.rs", at / "src" / "lib.rs")
+    shims = TOP / "tests" / "other_channels"
+    shutil.copy(shims / f"{name}.rs", at / "src" / "lib.rs")
+    shutil.copy(shims / "wrapped.rs", at / "src")
     for file in files:
         shutil.copy(found[-1] / "tests" / f"{file}.rs", at / "tests")
     lines = ["[package]", f'name = "{other}"', 'version = "0.0.0"', f'edition = "{edition}"', "[workspace]", "[dependencies]",

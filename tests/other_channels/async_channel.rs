@@ -1,4 +1,6 @@
-//! async-channel's names over vahepito: what its tests of channels without a bound call.
+//! async-channel's names over vahepito: what its tests call.
+mod wrapped;
+
 use futures_core::Stream;
 use std::future::Future;
 use std::ops::Deref;
@@ -6,6 +8,7 @@ use std::pin::Pin;
 use std::sync::Mutex;
 use std::task::{Context, Poll};
 pub use vahepito::{RecvError, SendError};
+use wrapped::wrapped;
 
 #[derive(Debug, PartialEq)]
 pub enum TryRecvError {
@@ -29,21 +32,7 @@ pub fn bounded<T>(capacity: usize) -> (Sender<T>, Receiver<T>) {
     (Sender(sender), Receiver::of(receiver))
 }
 
-pub struct Sender<T>(vahepito::Sender<T>);
-
-impl<T> Clone for Sender<T> {
-    fn clone(&self) -> Sender<T> {
-        Sender(self.0.clone())
-    }
-}
-
-impl<T> Deref for Sender<T> {
-    type Target = vahepito::Sender<T>;
-
-    fn deref(&self) -> &vahepito::Sender<T> {
-        &self.0
-    }
-}
+wrapped!(Sender);
 
 impl<T> Sender<T> {
     pub fn send(&self, item: T) -> vahepito::SendFuture<'_, T> {

@@ -1,4 +1,6 @@
 //! flume's names over vahepito: what its tests call.
+mod wrapped;
+
 use futures::future::{MapErr, TryFutureExt};
 use futures::Stream;
 use std::future::Future;
@@ -7,6 +9,7 @@ use std::pin::Pin;
 use std::task::{Context, Poll};
 pub use vahepito::{Drain, RecvTimeoutError, SendError, SendTimeoutError, TryRecvError, TrySendError};
 use vahepito_futures::{RecvStream, SendSink};
+use wrapped::wrapped;
 
 #[derive(Debug, PartialEq)]
 pub enum RecvError {
@@ -67,21 +70,7 @@ impl<H, F: Stream + Unpin> Stream for Of<'_, H, F> {
     }
 }
 
-pub struct Sender<T>(vahepito::Sender<T>);
-
-impl<T> Clone for Sender<T> {
-    fn clone(&self) -> Sender<T> {
-        Sender(self.0.clone())
-    }
-}
-
-impl<T> Deref for Sender<T> {
-    type Target = vahepito::Sender<T>;
-
-    fn deref(&self) -> &vahepito::Sender<T> {
-        &self.0
-    }
-}
+wrapped!(Sender);
 
 impl<T> Sender<T> {
     pub fn is_disconnected(&self) -> bool {
@@ -101,21 +90,7 @@ impl<T> Sender<T> {
     }
 }
 
-pub struct Receiver<T>(vahepito::Receiver<T>);
-
-impl<T> Clone for Receiver<T> {
-    fn clone(&self) -> Receiver<T> {
-        Receiver(self.0.clone())
-    }
-}
-
-impl<T> Deref for Receiver<T> {
-    type Target = vahepito::Receiver<T>;
-
-    fn deref(&self) -> &vahepito::Receiver<T> {
-        &self.0
-    }
-}
+wrapped!(Receiver);
 
 impl<T> IntoIterator for Receiver<T> {
     type Item = T;
