@@ -99,7 +99,8 @@
 //! An item's drop on an error that a call returned, or on what it took, is the caller's.
 //!
 //! `tests/wakeups.rs` searches all interleavings of these steps in small models, and finds the lost wake-up
-//! if one of them is left out; `tests/looks.rs` does the same for a look at the counts of seats.
+//! if one of them is left out; `tests/looks.rs` does the same for a look at the counts of seats, and `tests/served.rs` for calls that
+//! another one serves.
 use crate::backoff::{FOR_OTHERS, Rounds};
 use std::any::Any;
 use std::cell::RefCell;
