@@ -52,9 +52,10 @@
 //!
 //! **Calls that another one serves** wait in a line of their side. *Make* is a store by which a call serves another one,
 //! or hands over to it. At its end each call checks this line, and wakes all of it. Once anybody has stood in the line, each call gives
-//! its seat back by an exchange, which comes between *make* and *check*. The first waiter of all may be missed. And an
-//! answer may be there before that: its server may serve others first, or be preempted. So the waiter looks again after a
-//! millisecond.
+//! its seat back by an exchange, which comes between *make* and *check*. A call that ended before that may miss waiters by its last
+//! stores: the first waiter, another one, or several. And an answer may be there before the check: its server may serve others first, or
+//! be preempted. In a row the server may also wait for the lock of the row, whose holder may be the waiter. So the waiter looks again
+//! after a millisecond.
 //!
 //! **Who is taken out and doesn't try any more** notifies the next in line instead
 //! ([`Event::pass_on`]): a waiter whose *look* took something while it was taken out (its try may have
