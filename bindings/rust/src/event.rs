@@ -54,8 +54,8 @@
 //! or hands over to it. At its end each call checks this line, and wakes all of it. Once anybody has stood in the line, each call gives
 //! its seat back by an exchange, which comes between *make* and *check*. A call that ended before that may miss waiters by its last
 //! stores: the first waiter, another one, or several. And an answer may be there before the check: its server may serve others first, or
-//! be preempted. In a row the server may also wait for the lock of the row, whose holder may be the waiter. So the waiter looks again
-//! after a millisecond.
+//! be preempted. So the waiter looks again after a millisecond. In a row a call wakes the line before it waits for the lock of the row too,
+//! since the holder of the lock may be the waiter.
 //!
 //! **Who is taken out and doesn't try any more** notifies the next in line instead
 //! ([`Event::pass_on`]): a waiter whose *look* took something while it was taken out (its try may have

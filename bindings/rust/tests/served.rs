@@ -1,4 +1,4 @@
-//! Calls that another call serves lose no wake-up, but for two exceptions: all interleavings of small models are searched, in which
+//! Calls that another call serves lose no wake-up, but for one exception: all interleavings of small models are searched, in which
 //! stores wait in a buffer as on x86-64. `src/event.rs` explains their line in "Calls that another one serves".
 //!
 //! **A call** gets its place in the chain of its side by an exchange, stores its link, and makes a turn. A turn loads the state of the
@@ -22,9 +22,9 @@
 //! event.rs has the millisecond for this exception. The first call in line may be missed, another call, or two calls at once; and a call
 //! behind a missed call waits too. Without buffers no call is missed, nor if each call gave its seat back by an exchange.
 //!
-//! **A row of queues has a second exception.** A send that its queue refused keeps its seat while it waits for the lock of the row, and
-//! checks the line after that. Another call has this lock while it closes the queue. If the send has served that close, or handed over to
-//! a call before the close, the holder of the lock is parked, and no call wakes it.
+//! **In a row of queues** a send that its queue refused keeps its seat while it waits for the lock of the row. Another call has this lock
+//! while it closes the queue. The send may have served that close, or handed over to a call before it. So the send checks the line before
+//! it waits: otherwise the holder of the lock is parked, and no call wakes it.
 use std::collections::HashSet;
 use std::rc::Rc;
 
@@ -33,7 +33,7 @@ use std::rc::Rc;
 #[derive(Clone, Copy, Debug, PartialEq)]
 enum Change {
     None,
-    /// `give_back_and_wake` stores into the seat in place of the exchange.
+    /// `store_and_wake` stores into the seat in place of the exchange.
     GivesBackByStore,
     /// The drop of a seat asks for `has_waiters` in place of `was_used` before the exchange.
     ChecksFirst,
@@ -41,7 +41,7 @@ enum Change {
     ForgetsUse,
     /// A call checks the line when it takes its seat, and wakes at its end if it saw a waiter.
     ChecksBeforeItServes,
-    /// `give_back_and_wake` wakes the first in line alone.
+    /// `store_and_wake` wakes the first in line alone.
     NotifiesOne,
     /// A waiter makes its turn before it stands in line, and parks.
     LooksFirst,
@@ -67,6 +67,8 @@ enum Change {
     KeepsRing,
     /// Each call gives its seat back by an exchange, and checks the line.
     AlwaysExchanges,
+    /// A call that waits for the lock of a row checks the line after that alone.
+    WaitsForLockFirst,
 }
 
 impl Change {
@@ -93,6 +95,17 @@ enum Store {
     Waiting(usize),
 }
 
+/// For what a call checks the line.
+#[derive(Clone, Copy, PartialEq, Eq, Hash, Debug)]
+enum For {
+    /// Its end.
+    End,
+    /// The lock for which it waits then.
+    Lock,
+    /// A notification that it passes on.
+    PassOn,
+}
+
 /// The next step of a process.
 #[derive(Clone, Copy, PartialEq, Eq, Hash, Debug)]
 enum At {
@@ -110,10 +123,11 @@ enum At {
     PassOn,
     /// The call has its answer: it looks whether the line was ever used.
     End,
-    /// The exchange by which a call gives its seat back, and its check of the line; or the check for a notification that is passed on.
-    Check(bool),
-    TakeOut(bool),
-    Wake(bool),
+    /// The exchange by which a call gives its seat back, or takes it once more, and its check of the line. A notification that is passed on
+    /// has no exchange.
+    Check(For),
+    TakeOut(For),
+    Wake(For),
     Done,
 }
 
@@ -130,6 +144,8 @@ struct Process {
     has_waited: bool,
     stands: bool,
     is_woken: bool,
+    /// Whether it checked the line before it waits for the lock.
+    has_checked: bool,
     /// Whom it took out of the line, and has yet to wake.
     wakes: Vec<usize>,
     /// For changes: whether a call was in line at its begin, and a length that it has yet to store.
@@ -198,6 +214,7 @@ impl State {
             has_waited: false,
             stands: false,
             is_woken: false,
+            has_checked: false,
             wakes: vec![],
             saw: false,
             length: None,
@@ -261,17 +278,17 @@ impl State {
         let process = &mut self.processes[who];
         process.calls -= 1;
         (process.served, process.has_waited, process.saw) = (0, false, false);
+        process.has_checked = false;
         match process.calls {
             0 => At::Done,
             _ => At::Begin,
         }
     }
 
-    /// After the check at the end of a call; or of a notification that is passed on.
-    fn after_check(&mut self, who: usize, ends: bool) -> At {
-        match ends {
-            true => self.end(who),
-            false => At::End,
+    fn after_check(&mut self, who: usize, why: For) -> At {
+        match why {
+            For::End => self.end(who),
+            For::Lock | For::PassOn => At::End,
         }
     }
 
@@ -279,10 +296,13 @@ impl State {
     fn is_locked(&self) -> bool {
         use At::*;
         let at = self.processes[1].at;
-        !matches!(
-            at,
-            Begin | End | Check(true) | TakeOut(true) | Wake(true) | Done
-        )
+        let is_over = matches!(at, Check(For::End) | TakeOut(For::End) | Wake(For::End));
+        !is_over && !matches!(at, Begin | End | Done)
+    }
+
+    /// Whether this process, which waits for the lock, has to check the line before.
+    fn checks_first(&self, who: usize, change: Change) -> bool {
+        change != Change::WaitsForLockFirst && !self.processes[who].has_checked
     }
 
     /// The call of this process has its answer, and looks whether the line was ever used.
@@ -304,8 +324,8 @@ impl State {
             _ => is_used,
         };
         match goes_on {
-            true if change == Change::ChecksBeforeItServes => At::TakeOut(true),
-            true => At::Check(true),
+            true if change == Change::ChecksBeforeItServes => At::TakeOut(For::End),
+            true => At::Check(For::End),
             false => self.end(who),
         }
     }
@@ -321,9 +341,9 @@ impl State {
         }
         let waits_for_buffer = match process.at {
             _ if !model.has_buffers => true,
-            Turn | End | Check(false) => false,
+            Turn | End | Check(For::PassOn) => false,
             Serve(_) => model.answers_are_locked,
-            Check(true) => change != Change::GivesBackByStore,
+            Check(_) => change != Change::GivesBackByStore,
             _ => true,
         };
         if waits_for_buffer && !process.buffer.is_empty() {
@@ -386,15 +406,23 @@ impl State {
                 Turn
             }
             PassOn => match next.leave(who, change) {
-                false if change != Change::KeepsRing => Check(false),
+                false if change != Change::KeepsRing => Check(For::PassOn),
                 _ => End,
             },
+            End if model.has_lock && who == 0 && self.checks_first(who, change) => {
+                mine.has_checked = true;
+                if self.waiting != 0 {
+                    Check(For::Lock)
+                } else {
+                    End
+                }
+            }
             End if model.has_lock && who == 0 && self.is_locked() => return None,
             End => next.check_use(who, change),
-            Check(ends) if self.waiting > 1 => TakeOut(ends),
-            Check(ends) => next.after_check(who, ends),
-            TakeOut(ends) => {
-                let is_all = ends && !change.notifies_one();
+            Check(why) if self.waiting > 1 => TakeOut(why),
+            Check(why) => next.after_check(who, why),
+            TakeOut(why) => {
+                let is_all = why != For::PassOn && !change.notifies_one();
                 let some = if is_all {
                     self.line.len()
                 } else {
@@ -403,18 +431,18 @@ impl State {
                 next.processes[who].wakes = next.line.drain(..some).collect();
                 next.store_length(who, change);
                 match some {
-                    0 => next.after_check(who, ends),
-                    _ => Wake(ends),
+                    0 => next.after_check(who, why),
+                    _ => Wake(why),
                 }
             }
-            Wake(ends) => {
+            Wake(why) => {
                 let first = mine.wakes.remove(0);
                 let is_last = mine.wakes.is_empty();
                 next.processes[first].is_woken = true;
                 if is_last {
-                    next.after_check(who, ends)
+                    next.after_check(who, why)
                 } else {
-                    Wake(ends)
+                    Wake(why)
                 }
             }
             Done => return None,
@@ -620,15 +648,29 @@ fn no_interleaving_misses_a_call_without_buffers_or_by_an_exchange() {
     }
 }
 
-/// The second exception, also in a line that was used: the wait for the lock of a row ends by the look after a millisecond.
+/// A model of this size in which process 0 waits for a lock that process 1 has during its call.
+fn of_row(size: &Size) -> Model {
+    Model {
+        has_lock: true,
+        ..model(size)
+    }
+}
+
+#[test]
+fn no_interleaving_misses_the_holder_of_a_lock_for_which_its_server_waits() {
+    for size in [(&[1, 1][..], 2, 0), three(1), three(3)] {
+        let found = search(&of_row(&size), Change::None);
+        assert!(found.stopped.is_empty(), "{:#?}", found.stopped[0]);
+        let waits_for_lock = |it: &State| it.processes[0].has_checked && it.is_locked();
+        assert!(found.is_in_some_state(waits_for_lock));
+    }
+}
+
+/// Without the check before it, the wait for the lock of a row would end by the look after a millisecond alone.
 #[test]
 fn the_search_finds_a_server_that_waits_for_the_lock_of_a_parked_call() {
     for size in [(&[1, 1][..], 2, 0), three(1)] {
-        let row = Model {
-            has_lock: true,
-            ..model(&size)
-        };
-        let found = search(&row, Change::None);
+        let found = search(&of_row(&size), Change::WaitsForLockFirst);
         let is_missed = |state: &State, who: usize| {
             let place = state.processes[who].place;
             state.missed().contains(&place) && state.by[place] == state.processes[0].place

@@ -154,6 +154,13 @@ impl<'a> SeatGuard<'a> {
         (pass, &self.pool.served)
     }
 
+    /// Wakes the waiters that the call of this seat may have served. The holder does so before it waits for a lock: the lock may be theirs.
+    pub fn wake_served(&self) {
+        if self.pool.served.was_used() {
+            store_and_wake(self.seat, true, &self.pool.served);
+        }
+    }
+
     /// Its place among the seats, from 0.
     pub fn place(&self) -> usize {
         self.seat.number - 1
@@ -170,11 +177,11 @@ impl<'a> SeatGuard<'a> {
     }
 }
 
-/// Gives a seat back by an exchange, which waits until the stores of its call are in memory: one of them may have served a waiter of
-/// this line. Then it wakes all waiters.
+/// Gives a seat back, or keeps it, by an exchange. The exchange waits until the stores of the seat's call are in memory: one of them may
+/// have served a waiter of this line. Then it wakes all waiters.
 #[cold]
-fn give_back_and_wake(seat: &Seat, served: &Event) {
-    seat.taken.swap(false, Ordering::SeqCst);
+fn store_and_wake(seat: &Seat, taken: bool, served: &Event) {
+    seat.taken.swap(taken, Ordering::SeqCst);
     if served.has_waiters() {
         served.notify_all(&mut Panics::default());
     }
@@ -184,7 +191,7 @@ impl Drop for SeatGuard<'_> {
     #[inline]
     fn drop(&mut self) {
         if self.pool.served.was_used() {
-            give_back_and_wake(self.seat, &self.pool.served);
+            store_and_wake(self.seat, false, &self.pool.served);
         } else {
             self.seat.taken.store(false, Ordering::Release);
         }

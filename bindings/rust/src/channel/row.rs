@@ -298,6 +298,8 @@ impl<T> Core<T> {
     /// After the queue of this seat refused an item: the seat goes on to the last queue, behind which it appends one if it
     /// was there already. Returns whether it has; if not, the channel is closed.
     fn next_for_senders(&self, row: &Row, seat: &mut SeatGuard) -> Try<bool> {
+        // The refused call may have served a close whose caller has the lock.
+        seat.wake_served();
         let mut locked = row.lock();
         let (pass, line) = seat.pass();
         if pass.queue == locked.queues.last_number() {
