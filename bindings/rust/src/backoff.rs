@@ -13,6 +13,8 @@ pub struct Rounds(u32, u32);
 /// Until something comes from the other side: a park costs some microseconds. A thread that yields may wait for milliseconds until it
 /// runs again, though an item came at once, while one that is parked is woken.
 pub const FOR_OTHERS: Rounds = Rounds(7, 0);
+/// Until a call that has a seat is over, if it runs: a call takes some hundred nanoseconds.
+pub const FOR_A_LOOK: Rounds = Rounds(5, 0);
 /// Until the own side goes on: about 25 microseconds.
 /// The thread sanitizer sees neither std's parks nor what std does within its locks: under it no thread parks here.
 pub const FOR_OWN_SIDE: Rounds = Rounds(9, if cfg!(vahepito_tsan) { 1 << 31 } else { 0 });

@@ -3,7 +3,8 @@
 //!
 //! A sender takes a seat by an exchange, makes an item, stores its count, frees the seat by a store, and checks the line. Its two
 //! stores may leave the buffer at any later time, in their order; an exchange waits until the buffer is empty. A waiter stands in line,
-//! and reads the count. If it finds nothing, it waits until the seat was free once, and reads the count again, before it parks.
+//! and reads the count. If it finds nothing, it waits until the seat was free once, and reads the count again, before it parks. Or it asks
+//! the queue while the seat is taken: the queue's answer has each item that is made.
 use std::collections::HashSet;
 
 /// A step that is left out or exchanged, to see that the search finds it.
@@ -20,6 +21,8 @@ enum Fault {
     ChecksFirst,
     /// The sender takes its seat by a store, which waits in the buffer too.
     TakesByStore,
+    /// The waiter parks beside a seat that is taken, and doesn't ask the queue.
+    ParksBesideHolder,
 }
 
 /// A store that waits in the sender's buffer.
@@ -47,6 +50,8 @@ struct State {
 }
 
 const WANTED: u8 = 2;
+/// The waiter's last step.
+const PARKS: u8 = 4;
 
 impl State {
     fn store(&mut self, store: Store) {
@@ -97,10 +102,22 @@ impl State {
         Some(next)
     }
 
-    /// Takes an item if the count says that there is one; or goes on with this step.
+    /// Takes an item if the count says that there is one; or continues with this step.
     fn look(&self, otherwise: u8) -> State {
+        self.take_of(self.count, otherwise)
+    }
+
+    /// The waiter asks the queue, beside a seat that is taken.
+    fn ask(&self, fault: Fault) -> Option<State> {
+        let has_answer = fault != Fault::ParksBesideHolder;
+        let asks = self.took < WANTED && self.waiter == 2 && self.is_taken;
+        asks.then(|| self.take_of(if has_answer { self.made } else { 0 }, PARKS))
+    }
+
+    /// Takes one of this number of items, if there is one that it hasn't taken; or continues with this step.
+    fn take_of(&self, items: u8, otherwise: u8) -> State {
         let mut next = self.clone();
-        if self.count > self.took {
+        if items > self.took {
             next.took += 1;
             next.stands = false;
             next.waiter = 0;
@@ -113,20 +130,19 @@ impl State {
     /// The waiter's next step. None if it has all, or waits.
     fn step_of_waiter(&self, fault: Fault) -> Option<State> {
         let mut next = self.clone();
-        let parks = 4;
         match self.waiter {
             _ if self.took == WANTED => return None,
             0 if fault == Fault::LooksFirst => return Some(self.look(2)),
             0 => (next.stands, next.waiter) = (true, 1),
-            1 if fault == Fault::NoWait => return Some(self.look(parks)),
+            1 if fault == Fault::NoWait => return Some(self.look(PARKS)),
             1 => return Some(self.look(2)),
             2 if self.is_taken => return None,
-            2 if fault == Fault::NoSecondLook => next.waiter = parks,
+            2 if fault == Fault::NoSecondLook => next.waiter = PARKS,
             2 => next.waiter = 3,
             3 => {
-                let mut next = self.look(parks);
+                let mut next = self.look(PARKS);
                 // It stands in line only now.
-                next.stands |= fault == Fault::LooksFirst && next.waiter == parks;
+                next.stands |= fault == Fault::LooksFirst && next.waiter == PARKS;
                 return Some(next);
             }
             _ if !self.is_woken => return None,
@@ -148,6 +164,7 @@ fn search(fault: Fault) -> Result<usize, State> {
             state.step_of_sender(fault),
             state.step_of_buffer(),
             state.step_of_waiter(fault),
+            state.ask(fault),
         ];
         if steps.iter().all(Option::is_none) && state.took < WANTED {
             return Err(state);
@@ -175,6 +192,7 @@ fn the_search_finds_each_fault_of_a_look() {
         Fault::LooksFirst,
         Fault::ChecksFirst,
         Fault::TakesByStore,
+        Fault::ParksBesideHolder,
     ] {
         assert!(search(fault).is_err(), "{fault:?}");
     }

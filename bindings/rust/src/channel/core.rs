@@ -406,7 +406,9 @@ impl<T> Core<T> {
         }
         let found_none = &self.groups.of(group).found_none;
         if found_none.load(Ordering::Relaxed) {
-            self.seems_to_have_item(group)?;
+            if !self.may_have_item(group) {
+                return Err(WHEN_NOTIFIED);
+            }
             found_none.store(false, Ordering::Relaxed);
         }
         match self.take(group) {

@@ -8,7 +8,7 @@
 //! for the other seats ([`Core::take_seat`](super::core::Core::take_seat)). They are added once, while all seats are taken.
 #![allow(unsafe_code)]
 
-use crate::backoff::FOR_OWN_SIDE;
+use crate::backoff::{FOR_A_LOOK, FOR_OWN_SIDE};
 use crate::event::{Apart, Event, Panics, soon, wait};
 use crate::queue::handle::Handle;
 use std::cell::{Cell, UnsafeCell};
@@ -349,6 +349,26 @@ impl Pool {
                 self.wait_for(seat);
             }
         }
+    }
+
+    /// Whether each seat was free once, now or after some pauses. A holder that doesn't run isn't waited for.
+    #[inline]
+    pub fn saw_each_free(&self) -> bool {
+        if self.first.is_taken() && !Pool::pauses_until_free(&self.first) {
+            return false;
+        }
+        for Other(seat) in self.others() {
+            if seat.is_taken() && !Pool::pauses_until_free(seat) {
+                return false;
+            }
+        }
+        true
+    }
+
+    #[cold]
+    fn pauses_until_free(seat: &Seat) -> bool {
+        let free = FOR_A_LOOK.try_until(|| (!seat.is_taken()).then_some(()));
+        free.is_some()
     }
 
     /// Waits until this seat was free once, in line.

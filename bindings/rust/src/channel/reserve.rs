@@ -4,14 +4,23 @@
 //! already, and its count of taken items may have one whose place isn't free yet. So a look at these two that finds nothing could
 //! come before a refused send that finds no room. A look by seats that finds nothing loads each seat's flag, and waits for the
 //! holders that there are: so its answer is the queue's at some moment of the call.
+//!
+//! A look before a take, or before a send after a Full, is made to spare the price of the call. It pauses for holders that run, and
+//! then leaves the answer to the queue, which waits for no thread of the other side.
 use super::body::Unsent;
 use super::core::{Core, RESERVED, Side, WAS_FULL};
-use super::pool::SeatGuard;
+use super::pool::{Pool, SeatGuard};
 use crate::event::{Try, WHEN_NOTIFIED, lock};
 use crate::queue::handle::code;
 use std::sync::atomic::Ordering;
 use std::thread;
 use std::time::Duration;
+
+/// Sees each seat free once: it waits until then.
+fn wait_for_holders(seats: &Pool) -> bool {
+    seats.wait_for_holders();
+    true
+}
 
 impl<T> Core<T> {
     /// Whether there seems to be an item for this group, or none will come. If it says no, there was none at
@@ -30,14 +39,25 @@ impl<T> Core<T> {
         }
     }
 
+    /// Whether a try to take an item for this group is worth its price. If it says no, there was no item at some moment of this
+    /// call, and more will come. It says yes if a send is under way whose thread doesn't run: the queue's own answer doesn't wait for
+    /// that thread.
+    #[inline]
+    pub fn may_have_item(&self, group: usize) -> bool {
+        let taken = self.side(group).seats.count();
+        let has_item = || taken < self.senders.seats.count();
+        has_item() || !self.senders.seats.saw_each_free() || has_item() || self.is_closed()
+    }
+
     /// Whether there seems to be room that isn't reserved, or none will come. If it says no, there was none at
     /// some moment of this call.
     pub fn seems_to_have_room(&self) -> Try<()> {
         if let Some(row) = &self.row {
             return self.row_seems_to_have_room(row);
         }
-        self.has_room_beside(0)?;
-        if self.reserved() == 0 || self.has_room_beside(self.reserved()).is_ok() {
+        self.has_room_beside(0, wait_for_holders)?;
+        let reserved = self.reserved();
+        if reserved == 0 || self.has_room_beside(reserved, wait_for_holders).is_ok() {
             return Ok(());
         }
         let _in_queue = lock(&self.in_queue);
@@ -57,7 +77,8 @@ impl<T> Core<T> {
     fn has_room_beside_reserved(&self, own: usize) -> Try<()> {
         loop {
             let reserved = self.reserved();
-            let has_room = self.has_room_beside(reserved.saturating_sub(own));
+            let beside = reserved.saturating_sub(own);
+            let has_room = self.has_room_beside(beside, wait_for_holders);
             if has_room.is_ok() {
                 return has_room;
             }
@@ -69,11 +90,12 @@ impl<T> Core<T> {
     }
 
     /// Whether there is room beside these reserved places, or none will come. If it says no, there was none at
-    /// some moment of this call, if they were reserved all the time.
-    fn has_room_beside(&self, reserved: usize) -> Try<()> {
+    /// some moment of this call, if they were reserved all the time. It says yes if it doesn't see each seat of a group free.
+    fn has_room_beside(&self, reserved: usize, sees_each_free: impl Fn(&Pool) -> bool) -> Try<()> {
         // In this order, so that the number of items is never too large.
         let sent = self.senders.seats.count();
-        let is_full = self.groups.any(|it| self.is_full(it, sent, reserved));
+        let is_full = |it: &Side| self.is_full(it, sent, reserved, &sees_each_free);
+        let is_full = self.groups.any(is_full);
         if is_full && !self.is_closed() {
             Err(WHEN_NOTIFIED)
         } else {
@@ -83,23 +105,27 @@ impl<T> Core<T> {
 
     /// Whether there is no room for this group, if this number of items was sent and this number of places is reserved.
     #[inline(always)]
-    fn is_full(&self, side: &Side, sent: u64, reserved: usize) -> bool {
+    fn is_full(
+        &self,
+        side: &Side,
+        sent: u64,
+        reserved: usize,
+        sees_each_free: impl Fn(&Pool) -> bool,
+    ) -> bool {
         let is_full = || {
             let items = sent.saturating_sub(side.seats.count()) as usize;
             items + reserved >= self.config.capacity as usize
         };
         // The look without the seats is cheaper.
-        !side.is_lost() && is_full() && {
-            side.seats.wait_for_holders();
-            is_full()
-        }
+        !side.is_lost() && is_full() && sees_each_free(&side.seats) && is_full()
     }
 
-    /// Looks whether there is room, if these hints say that the last send found none.
+    /// Looks whether there is room, if these hints say that the last send found none. Beside a take under way whose thread doesn't run the
+    /// queue is asked.
     #[inline]
     fn look_after_full(&self, hints: usize) -> Try<()> {
         if hints & WAS_FULL != 0 {
-            self.has_room_beside(0)?;
+            self.has_room_beside(0, Pool::saw_each_free)?;
             self.hints.fetch_and(!WAS_FULL, Ordering::Relaxed);
         }
         Ok(())
