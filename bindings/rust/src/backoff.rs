@@ -10,14 +10,16 @@ const AHEAD: Duration = Duration::from_micros(1);
 /// processor.
 pub struct Rounds(u32, u32);
 
-/// Until something comes from the other side: a park costs some microseconds. A thread that yields may wait for milliseconds until it
-/// runs again, though an item came at once, while one that is parked is woken.
+/// Until something comes from the other side: a park costs some microseconds. A thread that yields beside other programs' threads may
+/// run again some milliseconds later, though an item came at once, while one that is parked is woken.
 pub const FOR_OTHERS: Rounds = Rounds(7, 0);
+/// The same while many items pass: then the threads that a yield lets run are the channel's own, and parks take longer than items.
+pub const FOR_OTHERS_AT_PACE: Rounds = Rounds(7, 5);
 /// Until a call that has a seat is over, if it runs: a call takes some hundred nanoseconds.
 pub const FOR_A_LOOK: Rounds = Rounds(5, 0);
-/// Until the own side goes on: about 25 microseconds.
+/// Until the own side goes on: about 25 microseconds, and then some yields, by which the thread that serves runs if it was preempted.
 /// The thread sanitizer sees neither std's parks nor what std does within its locks: under it no thread parks here.
-pub const FOR_OWN_SIDE: Rounds = Rounds(9, if cfg!(vahepito_tsan) { 1 << 31 } else { 0 });
+pub const FOR_OWN_SIDE: Rounds = Rounds(9, if cfg!(vahepito_tsan) { 1 << 31 } else { 64 });
 
 impl Rounds {
     /// Tries before each round, until it is done, or until the rounds are over.

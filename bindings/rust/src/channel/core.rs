@@ -14,6 +14,7 @@ use super::pool::{Pass, Pool, SeatGuard};
 use super::rendezvous::Rendezvous;
 use super::row::{Row, Shape};
 use super::side::{Shared, Source};
+use crate::backoff::{FOR_OTHERS, FOR_OTHERS_AT_PACE, Rounds};
 use crate::event::{
     Apart, Event, Panics, Try, WHEN_NOTIFIED, drop_each, ignore_panics, lock, soon,
 };
@@ -23,6 +24,7 @@ use std::iter;
 use std::mem::take;
 use std::sync::atomic::{AtomicBool, AtomicUsize, Ordering};
 use std::sync::{Arc, Mutex, OnceLock, Weak};
+use std::time::Duration;
 
 /// A side of the channel: its senders, or a group of receivers.
 pub struct Side {
@@ -31,6 +33,8 @@ pub struct Side {
     pub seats: Pool,
     /// Whether the last try of a take found no item: then the next one looks first, since a look costs less than a take in vain.
     found_none: AtomicBool,
+    /// Whether few items passed while the last call waited that did: then a call that waits doesn't yield.
+    is_slow: AtomicBool,
     /// Whether it has lost its last handle. The list of groups is locked until the channel is closed, or goes on without it.
     lost: AtomicBool,
 }
@@ -48,6 +52,7 @@ impl Side {
             line: Apart::default(),
             seats: Pool::new(passes),
             found_none: AtomicBool::new(false),
+            is_slow: AtomicBool::new(false),
             lost: AtomicBool::new(false),
         }
     }
@@ -56,8 +61,27 @@ impl Side {
     pub fn is_lost(&self) -> bool {
         self.lost.load(Ordering::SeqCst)
     }
+
+    /// How a call waits for the other side before it parks.
+    pub fn rounds(&self) -> Rounds {
+        if self.is_slow.load(Ordering::Relaxed) {
+            FOR_OTHERS
+        } else {
+            FOR_OTHERS_AT_PACE
+        }
+    }
+
+    /// Notes how long a call waited, and how many items the other side passed meanwhile.
+    pub fn note_wait(&self, time: Duration, items: u64) {
+        let is_slow = time.as_nanos() > PACE.as_nanos() * u128::from(1 + items);
+        if self.is_slow.load(Ordering::Relaxed) != is_slow {
+            self.is_slow.store(is_slow, Ordering::Relaxed);
+        }
+    }
 }
 
+/// A side is slow if an item takes longer than this while a call waits: about as long as the rounds before a park.
+const PACE: Duration = Duration::from_micros(5);
 /// A side of a channel of more items has all its seats from the opening on, so that no call has to move them over.
 const MOST_MOVED: u32 = 64;
 

@@ -75,12 +75,21 @@ impl<T> Shared<T> {
     /// A thread that passed several items since its last wait is faster than the other side. If it tries again at
     /// once, both meet at each item, and wait for the same cache line. So it lets the other side go ahead.
     pub fn wait<R>(&self, until: Option<Instant>, attempt: impl FnMut() -> Try<R>) -> Option<R> {
-        let Side { line, seats, .. } = self.core.side(self.side);
+        let (own, other) = (self.core.side(self.side), self.other_side());
+        let Side { line, seats, .. } = own;
         let has_room = self.core.capacity().is_none_or(|it| it >= ROOM_AHEAD);
         if has_room && seats.check_ahead() {
             let_ahead();
         }
-        wait(line, FOR_OTHERS, until, attempt)
+        let (begin, passed) = (Instant::now(), other.seats.count());
+        let done = wait(line, own.rounds(), until, attempt);
+        own.note_wait(begin.elapsed(), other.seats.count() - passed);
+        done
+    }
+
+    /// The side for which its calls wait: the senders, or of a sender the first group.
+    fn other_side(&self) -> &Side {
+        self.core.side(if self.side == 0 { 1 } else { 0 })
     }
 }
 
