@@ -71,19 +71,22 @@
 /* As <unistd.h> declares it, which does so only with some feature macros. */
 extern long syscall(long number, ...);
 
-/* How many rounds a call spins until it parks in a line for room or an item, and how many it spins or yields until it parks for an answer
- * or a place. In a line it doesn't yield: a thread that yields beside a busy process runs again some milliseconds later, also if an item
- * comes at once, while one that is parked is woken. */
+/* How many rounds a call spins, and how many it then yields, until it parks in a line for room or an item; and how many it spins or yields until
+ * it parks for an answer or a place. A thread that yields beside a busy process runs again some milliseconds later, also if an item comes at
+ * once, while one that is parked is woken. But if many items pass, a park takes longer than they, and a yield lets threads of this queue run. */
 #ifndef VAHEPITO_ROUNDS
 #define VAHEPITO_ROUNDS 7
+#endif
+#ifndef VAHEPITO_YIELDS
+#define VAHEPITO_YIELDS 5
 #endif
 #ifndef VAHEPITO_SERVED_ROUNDS
 #define VAHEPITO_SERVED_ROUNDS 16
 #endif
 
-/* A call that slept longer than this slept for long, in nanoseconds: longer than the rounds in a line and a wake-up take. */
-#ifndef VAHEPITO_LONG_SLEEP
-#define VAHEPITO_LONG_SLEEP 50000
+/* A side is slow if an item takes longer than this, in nanoseconds: longer than the park of a sender and that of a receiver. */
+#ifndef VAHEPITO_PACE
+#define VAHEPITO_PACE 20000
 #endif
 
 /* A row without a bound begins with a queue of the least capacity, and each further one has four times as much, up to the most. */
@@ -180,19 +183,23 @@ static uint64_t vahepito_internal_clock(void) {
     return (uint64_t)time.tv_sec * 1000000000u + (uint64_t)time.tv_nsec;
 }
 
-/* Whether a call that is about to wait spins first, by the hint of its line. */
-static bool vahepito_internal_may_spin(const uint32_t *is_slow) {
-    return VAHEPITO_ROUNDS > 0 && __atomic_load_n(is_slow, __ATOMIC_RELAXED) == 0;
-}
+/* The pace of a side, for its calls that wait: when the last wait ended that was longer than its spins, and with the item of which place; and
+ * whether the side is slow by that, so that its calls park at once. These are hints: two threads may write them at once. */
+typedef struct {
+    uint64_t ended, place;
+    uint32_t is_slow;
+} vahepito_internal_pace;
 
-/* The same as park, which notes whether the call slept for long. */
-static bool vahepito_internal_timed_park(vahepito_internal_line *line, uint32_t *is_slow, const struct timespec *moment) {
-    if (VAHEPITO_ROUNDS == 0) return vahepito_internal_park(line, moment);
-    const uint64_t from = vahepito_internal_clock();
-    const bool was_woken = vahepito_internal_park(line, moment);
-    const uint32_t was_long = vahepito_internal_clock() - from > VAHEPITO_LONG_SLEEP;
-    if (__atomic_load_n(is_slow, __ATOMIC_RELAXED) != was_long) __atomic_store_n(is_slow, was_long, __ATOMIC_RELAXED);
-    return was_woken;
+static bool vahepito_internal_is_slow(const vahepito_internal_pace *pace) { return __atomic_load_n(&pace->is_slow, __ATOMIC_RELAXED) != 0; }
+
+/* Notes the end of a wait, with the item of this place. */
+static void vahepito_internal_note(vahepito_internal_pace *pace, uint64_t place) {
+    if (VAHEPITO_ROUNDS == 0) return;
+    const uint64_t ended = vahepito_internal_clock(), before = __atomic_load_n(&pace->ended, __ATOMIC_RELAXED);
+    const uint64_t items = place - __atomic_load_n(&pace->place, __ATOMIC_RELAXED);
+    if (before != 0) __atomic_store_n(&pace->is_slow, ended - before > VAHEPITO_PACE * items, __ATOMIC_RELAXED);
+    __atomic_store_n(&pace->ended, ended, __ATOMIC_RELAXED);
+    __atomic_store_n(&pace->place, place, __ATOMIC_RELAXED);
 }
 
 /* How a call passes the time until its next turn, or until it looks for a free place again: it spins, gives the processor to another
@@ -306,7 +313,7 @@ struct vahepito_queue {
     vahepito_internal_part *first, *retired; /* those that some group is at, and all behind them; those that are done with */
     vahepito_internal_bell bells[1 + MOST_GROUPS];
     vahepito_internal_served served; /* the calls that are parked until they have an answer or a seat */
-    uint32_t is_slow[1 + MOST_GROUPS]; /* hints, of the senders and of each group: whether the last parked call slept for long, so that to spin is vain */
+    vahepito_internal_pace pace[1 + MOST_GROUPS]; /* of the senders, and of each group */
     vahepito_internal_line senders __attribute__((aligned(64)));
     vahepito_internal_line receivers[MOST_GROUPS] __attribute__((aligned(64)));
     vahepito_internal_seat seats[1 + SEATS]; /* the first one is never free, nor are those after `places` further ones */
@@ -707,15 +714,31 @@ static uint32_t vahepito_internal_attempt(uint32_t nothing, void *request) {
                                     : vahepito_internal_attempt_take((vahepito_internal_take_request *)request);
 }
 
+/* The place of the item that a request has sent or taken. */
+static uint64_t vahepito_internal_place(uint32_t nothing, const void *request) {
+    return nothing == VAHEPITO_FULL ? ((const vahepito_internal_send_request *)request)->place : ((const vahepito_internal_take_request *)request)->item->place;
+}
+
+/* Tries again some times, and spins or yields between the tries, unless the side is slow. */
+static uint32_t vahepito_internal_rounds(vahepito_internal_pace *pace, void *request, uint32_t nothing) {
+    const uint32_t spins = VAHEPITO_ROUNDS, rounds = spins + VAHEPITO_YIELDS;
+    if (spins == 0 || vahepito_internal_is_slow(pace)) return nothing;
+    for (uint32_t round = 0; round < rounds; round++) {
+        if (round < spins) vahepito_internal_spin(round);
+        else (void)sched_yield();
+        const uint32_t code = vahepito_internal_attempt(nothing, request);
+        if (code == nothing) continue;
+        if (round >= spins) vahepito_internal_note(pace, vahepito_internal_place(nothing, request));
+        return code;
+    }
+    return nothing;
+}
+
 /* Tries until a try finds something, or until this moment; `nothing` is FULL of a send, or EMPTY of a take. A try that finds nothing again
  * costs a look at the counts. */
-static uint32_t vahepito_internal_wait(vahepito_internal_line *line, uint32_t *is_slow, void *request, uint32_t nothing, const struct timespec *moment) {
-    const uint32_t rounds = vahepito_internal_may_spin(is_slow) ? VAHEPITO_ROUNDS : 0;
-    uint32_t code;
-    for (uint32_t round = 0; round < rounds; round++) {
-        vahepito_internal_spin(round);
-        if ((code = vahepito_internal_attempt(nothing, request)) != nothing) return code;
-    }
+static uint32_t vahepito_internal_wait(vahepito_internal_line *line, vahepito_internal_pace *pace, void *request, uint32_t nothing, const struct timespec *moment) {
+    uint32_t code = vahepito_internal_rounds(pace, request, nothing);
+    if (code != nothing) return code;
     do {
         (void)__atomic_fetch_add(&line->counts, VAHEPITO_INTERNAL_ONE_WAITING, __ATOMIC_SEQ_CST);
         vahepito_internal_in_order();
@@ -723,11 +746,12 @@ static uint32_t vahepito_internal_wait(vahepito_internal_line *line, uint32_t *i
         if (code != nothing) {
             vahepito_internal_leave(line);
         } else {
-            if (!vahepito_internal_timed_park(line, is_slow, moment)) return code;
+            if (!vahepito_internal_park(line, moment)) return code;
             code = vahepito_internal_attempt(nothing, request);
         }
     } while (code == nothing);
-    if (code != VAHEPITO_ACCEPTED && code != VAHEPITO_GOT) vahepito_internal_notify(line, 1);
+    if (code == VAHEPITO_ACCEPTED || code == VAHEPITO_GOT) vahepito_internal_note(pace, vahepito_internal_place(nothing, request));
+    else vahepito_internal_notify(line, 1);
     return code;
 }
 
@@ -738,7 +762,7 @@ static __attribute__((noinline)) uint32_t vahepito_internal_again(vahepito_queue
     vahepito_internal_bell *const bell = &queue->bells[group];
     uint32_t code;
     if (!moment || moment->tv_sec != 0 || moment->tv_nsec != 0)
-        return vahepito_internal_wait(group == 0 ? &queue->senders : &queue->receivers[group - 1], &queue->is_slow[group], request, nothing, moment);
+        return vahepito_internal_wait(group == 0 ? &queue->senders : &queue->receivers[group - 1], &queue->pace[group], request, nothing, moment);
     if (!__atomic_load_n(&queue->has_bells, __ATOMIC_SEQ_CST) || !vahepito_internal_arm(bell)) return nothing;
     code = vahepito_internal_attempt(nothing, request);
     if (code != nothing) vahepito_internal_ring_if_armed(bell);
