@@ -80,8 +80,8 @@ impl Side {
     }
 }
 
-/// A side is slow if an item takes longer than this while a call waits: about as long as the rounds before a park.
-const PACE: Duration = Duration::from_micros(5);
+/// A side is slow if an item takes longer than this while a call waits: longer than the park of a sender and that of a receiver.
+const PACE: Duration = Duration::from_micros(20);
 /// A side of a channel of more items has all its seats from the opening on, so that no call has to move them over.
 const MOST_MOVED: u32 = 64;
 
