@@ -48,6 +48,8 @@ BURSTS = [
     ("8 and 8", "shared", 8, 250, "old"),
     ("32 and 32", "shared", 32, 300, "old"),
     ("a receiver that waits, p50", "blocked", 1, 300, "crossbeam"),
+    ("the slowest try_send, p99", "slowest", 9900, 1000, "crossbeam"),
+    ("the slowest try_send, p99.99", "slowest", 9999, 1000, "crossbeam"),
     ("a select that waits, p50", "select", 64, 300, "crossbeam"),
     ("the same with capacity 0, p50", "select", 0, 300, "crossbeam"),
     ("a round trip with capacity 0", "meet", 1, 150, "crossbeam"),
@@ -128,7 +130,7 @@ def table(took, bursts):
     """The rows of the table `channel`: what bench/peers/run.py doesn't measure of this crate and of crossbeam's, alone."""
     rows = [["", "typed", "crossbeam-channel"]]
     for name, mode, number, *_ in bursts:
-        if mode not in ("shared", "blocked") and (mode, number) != ("alone", 1):
+        if mode not in ("shared", "blocked", "slowest") and (mode, number) != ("alone", 1):
             rows.append([name, *(spread(took[name, False, of]) if (name, False, of) in took else "" for of in ("new", "crossbeam"))])
     return rows
 

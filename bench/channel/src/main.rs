@@ -17,6 +17,8 @@ trait Channel {
     type Receiver<T: Send + 'static>: Clone + Send + Sync + 'static;
     fn open<T: Send + 'static>(capacity: usize) -> (Self::Sender<T>, Self::Receiver<T>);
     fn send<T: Send + 'static>(sender: &Self::Sender<T>, item: T);
+    /// Whether it is sent. It doesn't wait.
+    fn try_send<T: Send + 'static>(sender: &Self::Sender<T>, item: T) -> bool;
     fn recv<T: Send + 'static>(receiver: &Self::Receiver<T>) -> Option<T>;
     fn len<T: Send + 'static>(sender: &Self::Sender<T>) -> usize;
     #[cfg(feature = "select")]
@@ -36,6 +38,9 @@ macro_rules! channel {
             fn send<T: Send + 'static>(sender: &$of::Sender<T>, item: T) {
                 assert!(sender.send(item).is_ok());
             }
+            fn try_send<T: Send + 'static>(sender: &$of::Sender<T>, item: T) -> bool {
+                sender.try_send(item).is_ok()
+            }
             fn recv<T: Send + 'static>(receiver: &$of::Receiver<T>) -> Option<T> {
                 receiver.recv().ok()
             }
@@ -53,7 +58,8 @@ macro_rules! channel {
     };
 }
 
-channel!(Ours, vahepito, |capacity| vahepito::channel(capacity).unwrap());
+channel!(Ours, vahepito, |capacity| vahepito::channel(capacity)
+    .unwrap());
 #[cfg(feature = "crossbeam-channel")]
 channel!(Crossbeam, crossbeam_channel, crossbeam_channel::bounded);
 
@@ -133,10 +139,54 @@ fn blocked<C: Channel>(time: Duration) -> f64 {
     waits.join().unwrap()
 }
 
-/// The same, of a select over two channels of this capacity, to which the items go in turn.
+/// Sixteen threads send without a wait, with 0 to 10 us of other work before each call, to four that block: the time of a call below which
+/// this number of ten thousand lie.
+fn slowest<C: Channel>(part: usize, time: Duration) -> f64 {
+    let (sender, receiver) = C::open(1024);
+    let stop = &AtomicBool::new(false);
+    let mut times = thread::scope(|scope| {
+        for _ in 0..4 {
+            let receiver = receiver.clone();
+            scope.spawn(move || while C::recv(&receiver).is_some_and(|item: u64| item < 16) {});
+        }
+        let sending = (0..16).map(|number: u64| {
+            let sender = sender.clone();
+            scope.spawn(move || {
+                let (mut random, mut times) = (number, vec![]);
+                while !stop.load(Relaxed) {
+                    random = random
+                        .wrapping_mul(6_364_136_223_846_793_005)
+                        .wrapping_add(1_442_695_040_888_963_407);
+                    let work = Duration::from_nanos((random >> 33) % 10_000);
+                    let begin = Instant::now();
+                    while begin.elapsed() < work {}
+                    let begin = Instant::now();
+                    if C::try_send(&sender, number) {
+                        times.push(begin.elapsed().as_nanos());
+                    }
+                }
+                times
+            })
+        });
+        let sending: Vec<_> = sending.collect();
+        thread::sleep(time);
+        stop.store(true, Relaxed);
+        let times = sending
+            .into_iter()
+            .flat_map(|it| it.join().unwrap())
+            .collect::<Vec<_>>();
+        (0..4).for_each(|_| C::send(&sender, 16));
+        times
+    });
+    times.sort();
+    times[times.len() * part / 10_000] as f64
+}
+
+/// The same as `blocked`, of a select over two channels of this capacity, to which the items go in turn.
 #[cfg(feature = "select")]
 fn select<C: Channel>(capacity: usize, time: Duration) -> f64 {
-    let (senders, receivers): (Vec<_>, Vec<_>) = (0..2).map(|_| C::open::<Instant>(capacity)).unzip();
+    let (senders, receivers): (Vec<_>, Vec<_>) =
+        (0..2).map(|_| C::open::<Instant>(capacity)).unzip();
     let receivers: [_; 2] = receivers.try_into().ok().expect("there are two");
     let waits = thread::spawn(move || {
         let mut times = vec![];
@@ -215,7 +265,9 @@ fn tasks(time: Duration) -> f64 {
         // Until the first task pauses.
         loop {
             let next = ready.lock().unwrap().pop_front().expect("a task is ready");
-            let polled = all[next].as_mut().poll(&mut Context::from_waker(&wakers[next]));
+            let polled = all[next]
+                .as_mut()
+                .poll(&mut Context::from_waker(&wakers[next]));
             assert!(polled.is_pending());
             if PAUSED.swap(false, Relaxed) {
                 break;
@@ -249,6 +301,7 @@ fn burst<C: Channel>(mode: &str, number: usize, time: Duration) -> f64 {
         },
         "shared" => shared::<C>(number, time),
         "blocked" => blocked::<C>(time),
+        "slowest" => slowest::<C>(number, time),
         #[cfg(feature = "select")]
         "select" => select::<C>(number, time),
         #[cfg(feature = "select")]

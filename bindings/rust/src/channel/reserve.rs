@@ -5,7 +5,7 @@
 //! come before a refused send that finds no room. A look by seats that finds nothing loads each seat's flag, and waits for the
 //! holders that there are: so its answer is the queue's at some moment of the call.
 //!
-//! A look before a take, or before a send after a Full, is made to spare the price of the call. It pauses for holders that run, and
+//! A look before a take, or before a send after a Full, saves the price of a call in vain. It pauses for holders that run, and
 //! then leaves the answer to the queue, which waits for no thread of the other side.
 use super::body::Unsent;
 use super::core::{Core, RESERVED, Side, WAS_FULL};
