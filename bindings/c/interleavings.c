@@ -3,7 +3,7 @@
  * A process makes calls of vahepito.h. Its steps are the code's accesses to the counts of a line and to the mark of a close, its lock, its
  * futex calls, and its calls of the proved library. Here the counts, the lock, the futex and the library are models: a bounded queue whose calls
  * take one step, without memory for a further one, and the kernel's futex, which may wake any one that sleeps, may time out, and may once wake a
- * process for nothing. The row has one queue, and no descriptors. The search
+ * process for nothing. The row has one queue (row_interleavings.c has rows of several), and no descriptors. The search
  * visits all states that the processes reach. It replays a process from its start with the results of its steps so far, up
  * to the next step.
  *

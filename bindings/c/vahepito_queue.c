@@ -10,7 +10,8 @@
  * 2. a take of a group at a queue begins after a take of that group at the queue before has found the end.
  *
  * Accepted, Got and Empty of any queue are answers of the row, Closed and Ended of the last one alone. That such a row is one queue, linearizable and
- * first in, first out, is proved of the proved queues (`rows_are_linearizable` of the crate cc_row). That this file keeps the rules is tested.
+ * first in, first out, is proved of the proved queues (`rows_are_linearizable` of the crate cc_row). That this file keeps the rules is tested, and the
+ * program row_interleavings.c searches every interleaving of small models for an answer that no such queue gives, and for wrong use of memory.
  * It keeps them by a lock: the last queue is closed and the next one appended under the lock, and a group continues under the lock.
  *
  * The bound. While all groups are at the last queue, its own capacity is the row's. While some group is at an earlier queue, the row is
