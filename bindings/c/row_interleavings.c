@@ -85,7 +85,7 @@ enum field code_field(const void *of, const void *place, uint32_t *number) {
     if (LIES_IN(senders)) return LINE;
     if (LIES_IN(receivers)) return *number = 1 + (uint32_t)((const vahepito_internal_line *)place - queue->receivers), LINE;
     if (LIES_IN(seats)) return *number = (uint32_t)((const vahepito_internal_seat *)place - queue->seats), SEAT;
-    return LIES_IN(bells) || LIES_IN(has_bells) || LIES_IN(served) || LIES_IN(is_slow) ? QUIET : FIXED;
+    return LIES_IN(bells) || LIES_IN(has_bells) || LIES_IN(served) || LIES_IN(pace) ? QUIET : FIXED;
 }
 
 enum field code_part_field(size_t offset) {
