@@ -413,15 +413,37 @@ impl Parker {
     }
 }
 
-/// The result of a try; or, if it is to be made again though nobody notifies, from which moment on.
-pub type Try<R> = Result<R, Option<Instant>>;
+/// The result of a try; or when the try is made again.
+pub type Try<R> = Result<R, Again>;
 
-/// It is made again once it is notified.
-pub const WHEN_NOTIFIED: Option<Instant> = None;
+/// When a try is made again that found nothing. The lesser of two is the earlier one.
+#[derive(Clone, Copy, Debug, PartialEq, Eq, PartialOrd, Ord)]
+pub enum Again {
+    /// From this moment on, though nobody notifies.
+    At(Instant),
+    /// Once somebody notifies.
+    WhenNotified,
+}
 
-/// It is made again after a millisecond.
-pub fn soon() -> Option<Instant> {
-    Some(Instant::now() + Duration::from_millis(1))
+impl Again {
+    /// After a millisecond, though nobody notifies.
+    pub fn soon() -> Again {
+        Again::At(Instant::now() + Duration::from_millis(1))
+    }
+
+    /// A try that is done if this holds, and is made again once somebody notifies if not.
+    #[inline]
+    pub fn unless(is_done: bool) -> Try<()> {
+        is_done.then_some(()).ok_or(Again::WhenNotified)
+    }
+
+    /// The moment until which a waiter parks whose time is over at this one.
+    pub fn before(self, until: Option<Instant>) -> Option<Instant> {
+        match self {
+            Again::At(moment) => Some(until.map_or(moment, |until| until.min(moment))),
+            Again::WhenNotified => until,
+        }
+    }
 }
 
 /// Polls until it is ready, or until this moment: then None. Between the polls it parks.
@@ -463,7 +485,7 @@ pub fn wait<R>(
                     event.pass_on(ticket, &mut Panics::default());
                     return Some(done);
                 }
-                Err(again) => parker.park(until.into_iter().chain(again).min()),
+                Err(again) => parker.park(again.before(until)),
             }
             event.leave(ticket, &mut Panics::default());
             if let Ok(done) = attempt() {

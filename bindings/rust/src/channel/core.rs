@@ -14,9 +14,7 @@ use super::pool::{Pass, Pool, SeatGuard};
 use super::rendezvous::Rendezvous;
 use super::row::{Row, Shape};
 use super::side::{Shared, Source};
-use crate::event::{
-    Apart, Event, Panics, Try, WHEN_NOTIFIED, drop_each, ignore_panics, lock, soon,
-};
+use crate::event::{Again, Apart, Event, Panics, Try, drop_each, ignore_panics, lock};
 use crate::queue::handle::{self, Handle, code, hands_over, has_taken, unexpected};
 use crate::queue::{self, Config, MOST_GROUPS, OpenError};
 use std::iter;
@@ -355,7 +353,7 @@ impl<T> Core<T> {
             code::CLOSED => self.set_closed(),
             code::FULL if !is_stale => {
                 self.hints.fetch_or(WAS_FULL, Ordering::Relaxed);
-                return Err(WHEN_NOTIFIED);
+                return Err(Again::WhenNotified);
             }
             code::FULL | code::SPENT | code::WORN => {}
             code => unexpected(code),
@@ -366,7 +364,9 @@ impl<T> Core<T> {
         }
         let mut left_by_lost = vec![];
         if self.senders.seats.take().pass().0.queue == queue {
-            left_by_lost = self.replace_queue(&mut in_queue, None).ok_or_else(soon)?;
+            left_by_lost = self
+                .replace_queue(&mut in_queue, None)
+                .ok_or_else(Again::soon)?;
         }
         drop(in_queue);
         // The item isn't sent yet, but this call may go on for others: it doesn't panic.
@@ -423,7 +423,7 @@ impl<T> Core<T> {
         match (code, &self.row) {
             (code::EMPTY, _) => {
                 self.side(group).found_none.store(true, Ordering::Relaxed);
-                return Err(WHEN_NOTIFIED);
+                return Err(Again::WhenNotified);
             }
             (code::ENDED, Some(row)) => return self.take_in_row(row, group),
             (code::ENDED, None) => self.set_closed(),

@@ -10,7 +10,7 @@ use super::body::{Parcel, Unsent};
 use super::rendezvous::TakerState;
 use super::side::Source;
 use super::{Receiver, RecvError, SendError, Sender};
-use crate::event::{Event, Panics, Ticket, Try};
+use crate::event::{Again, Event, Panics, Ticket, Try};
 use std::borrow::Cow;
 use std::mem::take;
 use std::pin::Pin;
@@ -31,7 +31,10 @@ impl Place {
         seems_in_vain: bool,
         mut attempt: impl FnMut() -> Try<R>,
     ) -> Poll<R> {
-        let mut tried = if seems_in_vain { Err(None) } else { attempt() };
+        let mut tried = match seems_in_vain {
+            true => Err(Again::WhenNotified),
+            false => attempt(),
+        };
         let mut stays = |ticket| line.stay(ticket, waker, panics);
         if tried.is_err() && !self.0.is_some_and(&mut stays) {
             self.0 = Some(line.stand(waker.clone()));
@@ -42,7 +45,9 @@ impl Place {
                 self.leave(line, panics);
                 return Poll::Ready(done);
             }
-            Err(again) => panics.run_each(again, |_| waker.wake_by_ref()),
+            // Nobody else wakes it at that moment.
+            Err(Again::At(_)) => panics.run_each([waker], Waker::wake_by_ref),
+            Err(Again::WhenNotified) => {}
         }
         Poll::Pending
     }

@@ -14,7 +14,7 @@ use super::body::Unsent;
 use super::core::{Core, Side};
 use super::pool::SeatGuard;
 use super::row::Row;
-use crate::event::{Try, WHEN_NOTIFIED, lock};
+use crate::event::{Again, Try, lock};
 use crate::queue::handle::code;
 use std::sync::atomic::{AtomicU64, Ordering};
 use std::thread;
@@ -111,11 +111,7 @@ impl<T> Core<T> {
             !has_room(group)
         });
         let is_same = given_back == limit.given_back.load(Ordering::SeqCst);
-        if is_full && is_same && !self.is_closed() {
-            Err(WHEN_NOTIFIED)
-        } else {
-            Ok(())
-        }
+        Again::unless(!is_full || !is_same || self.is_closed())
     }
 
     /// Tries to send by this seat, if there is room.

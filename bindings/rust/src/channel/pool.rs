@@ -9,7 +9,7 @@
 #![allow(unsafe_code)]
 
 use crate::backoff::FOR_OWN_SIDE;
-use crate::event::{Apart, Event, Panics, soon, wait};
+use crate::event::{Again, Apart, Event, Panics, wait};
 use crate::queue::handle::Handle;
 use std::cell::{Cell, UnsafeCell};
 use std::iter;
@@ -309,7 +309,7 @@ impl Pool {
             let mut places = hint..=hint + others.len();
             let found = places.find_map(|at| Some((at, self.try_seat(self.seat_at(others, at))?)));
             // The look at the line may come before the store for this thread: so it doesn't wait for a notification alone.
-            let (at, held) = found.ok_or_else(soon)?;
+            let (at, held) = found.ok_or_else(Again::soon)?;
             HINT.set(at % MOST);
             Ok(held)
         };
@@ -347,14 +347,14 @@ impl Pool {
     /// Waits until this seat was free once, in line.
     #[cold]
     fn wait_for(&self, seat: &Seat) {
-        let is_free = || (!seat.is_taken()).then_some(()).ok_or_else(soon);
+        let is_free = || (!seat.is_taken()).then_some(()).ok_or_else(Again::soon);
         wait(&self.free, FOR_OWN_SIDE, None, is_free).expect("it waits without end");
     }
 
     /// Takes all seats, each once it is free. It waits in line for one whose holder doesn't run.
     pub fn take_all(&self) -> Vec<SeatGuard<'_>> {
         let take = |seat| {
-            let attempt = || self.try_seat(seat).ok_or_else(soon);
+            let attempt = || self.try_seat(seat).ok_or_else(Again::soon);
             wait(&self.free, FOR_OWN_SIDE, None, attempt).expect("it waits without end")
         };
         self.seats().map(take).collect()

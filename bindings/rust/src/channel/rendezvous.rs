@@ -36,7 +36,7 @@
 use super::core::Core;
 use super::select::{Begun, Case as _};
 use super::{Receiver, RecvTimeoutError, SendError, SendTimeoutError, Sender, TrySendError};
-use crate::event::{Panics, Try, WHEN_NOTIFIED, ignore_panics, lock, poll_until};
+use crate::event::{Again, Panics, Try, ignore_panics, lock, poll_until};
 use std::collections::{BTreeMap, VecDeque};
 use std::mem::{swap, take};
 use std::sync::atomic::{AtomicBool, Ordering};
@@ -450,11 +450,7 @@ impl<T> Meets for Rendezvous<T> {
         let lines = lock(&self.lines);
         let pairs = lock(&self.pairs);
         let has_item = side == TAKES && pairs.offers.len() + pairs.returned.len() > 0;
-        if has_item || lines.is_closed || !lines.posted[1 - side].is_empty() {
-            Ok(())
-        } else {
-            Err(WHEN_NOTIFIED)
-        }
+        Again::unless(has_item || lines.is_closed || !lines.posted[1 - side].is_empty())
     }
 
     fn wait_for_pair(&self, begun: &Begun, side: usize, until: Option<Instant>) -> bool {
@@ -472,7 +468,7 @@ impl<T> Meets for Rendezvous<T> {
 /// Meets one that is posted for this operation alone.
 pub fn try_meet(channel: &dyn Meets, side: usize) -> Try<Begun> {
     let met = channel.begin(&mut lock(channel.lines()), side);
-    let (begun, waker) = met.ok_or(WHEN_NOTIFIED)?;
+    let (begun, waker) = met.ok_or(Again::WhenNotified)?;
     ignore_panics(waker, Waker::wake);
     Ok(begun)
 }

@@ -7,7 +7,7 @@
 use super::body::Unsent;
 use super::core::{Core, RESERVED, Side, WAS_FULL};
 use super::pool::SeatGuard;
-use crate::event::{Try, WHEN_NOTIFIED, lock};
+use crate::event::{Again, Try, lock};
 use crate::queue::handle::code;
 use std::sync::atomic::Ordering;
 use std::thread;
@@ -23,11 +23,7 @@ impl<T> Core<T> {
         if !has_item() {
             self.senders.seats.wait_for_holders();
         }
-        if has_item() || self.is_closed() {
-            Ok(())
-        } else {
-            Err(WHEN_NOTIFIED)
-        }
+        Again::unless(has_item() || self.is_closed())
     }
 
     /// Whether there seems to be room that isn't reserved, or none will come. If it says no, there was none at
@@ -74,11 +70,7 @@ impl<T> Core<T> {
         // In this order, so that the number of items is never too large.
         let sent = self.senders.seats.count();
         let is_full = self.groups.any(|it| self.is_full(it, sent, reserved));
-        if is_full && !self.is_closed() {
-            Err(WHEN_NOTIFIED)
-        } else {
-            Ok(())
-        }
+        Again::unless(!is_full || self.is_closed())
     }
 
     /// Whether there is no room for this group, if this number of items was sent and this number of places is reserved.

@@ -29,7 +29,7 @@ use super::body::{Parcel, Unsent};
 use super::core::Core;
 use super::limit::Limit;
 use super::pool::{Pass, Pool, SeatGuard};
-use crate::event::{Event, Try, WHEN_NOTIFIED, ignore_panics, lock, soon};
+use crate::event::{Again, Event, Try, ignore_panics, lock};
 use crate::queue::handle::{Handle, code, unexpected};
 use crate::queue::{self, Config, OpenError};
 use std::collections::VecDeque;
@@ -306,7 +306,7 @@ impl<T> Core<T> {
             }
             let groups = self.groups_of_next(&locked.queues);
             let appended = locked.append(row, groups, pass, line);
-            appended.ok_or_else(soon)?;
+            appended.ok_or_else(Again::soon)?;
         }
         let last = locked.queues.last_number();
         locked.fetch(0, last, &self.senders.seats, seat);
@@ -361,7 +361,7 @@ impl<T> Core<T> {
                     self.count_taken(seat);
                     return Ok(Some(parcel));
                 }
-                Err(code::EMPTY) => return Err(WHEN_NOTIFIED),
+                Err(code::EMPTY) => return Err(Again::WhenNotified),
                 Err(code::ENDED) if self.next_for_group(row, group, &mut seat) => {}
                 Err(code::ENDED) => return Ok(None),
                 Err(code) => unexpected(code),

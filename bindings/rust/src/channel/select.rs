@@ -31,7 +31,7 @@ use super::{
     TrySelectError,
 };
 use crate::backoff::FOR_OTHERS;
-use crate::event::{Event, Notified, Panics, Parker, Ticket, Try};
+use crate::event::{Again, Event, Notified, Panics, Parker, Ticket, Try};
 use std::cell::Cell;
 use std::hash::{BuildHasher, Hasher, RandomState};
 use std::ops::{Deref, DerefMut, Range};
@@ -578,14 +578,14 @@ impl<R: Copy + Deref<Target: Case>> Turn<'_, R> {
     /// Tries each of these once. Gives the place of the first that is begun; if none is, when to try again though
     /// nobody notifies.
     fn try_each(&self, places: Range<usize>) -> Try<(usize, Begun)> {
-        let mut moment = None;
+        let mut earliest = Again::WhenNotified;
         for place in places {
             match self.entries[place].attempt(self.aim) {
                 Ok(begun) => return Ok((place, begun)),
-                Err(again) => moment = again.into_iter().chain(moment).min(),
+                Err(again) => earliest = again.min(earliest),
             }
         }
-        Err(moment)
+        Err(earliest)
     }
 
     fn is_over(&self) -> bool {
@@ -646,11 +646,10 @@ impl<R: Copy + Deref<Target: Case>> Turn<'_, R> {
             stands.then(|| Place::stand(it.case.line(), parker))
         }));
         let all = 0..places.len();
-        let moment = match self.try_each(all.clone()) {
+        let until = match self.try_each(all.clone()) {
             Ok((place, begun)) => return Waited::Done(place, begun),
-            Err(moment) => moment,
+            Err(again) => again.before(self.until),
         };
-        let until = self.until.into_iter().chain(moment).min();
         let posts = places.iter().any(Option::is_none);
         if posts && !is_over {
             if let Some((place, begun)) = self.meet(until, parker) {

@@ -3,7 +3,7 @@ use super::body::Parcel;
 use super::core::{Core, Side};
 use super::timer::Timer;
 use crate::backoff::{FOR_OTHERS, let_ahead};
-use crate::event::{Event, Try, lock, soon, wait};
+use crate::event::{Again, Event, Try, lock, wait};
 use std::panic::RefUnwindSafe;
 use std::sync::{Arc, OnceLock, Weak};
 use std::time::Instant;
@@ -92,7 +92,7 @@ impl<T> Core<T> {
             // Another thread may be dropping the last one, which then wakes the side's line: this waits until all is done that
             // comes of it. Nobody else waits there any more, so it takes away no notification.
             let side = self.side(side);
-            let is_lost = || side.is_lost().then_some(()).ok_or_else(soon);
+            let is_lost = || side.is_lost().then_some(()).ok_or_else(Again::soon);
             wait(&side.line, FOR_OTHERS, None, is_lost).expect("it waits without end");
             drop(lock(&self.in_queue));
         }
