@@ -56,6 +56,9 @@ impl Side {
     }
 }
 
+/// The number of the senders' side. Those of the groups follow, from 1.
+pub const SENDERS: usize = 0;
+
 /// A side of a channel of more items has all its seats from the opening on, so that no call has to move them over.
 const MOST_MOVED: u32 = 64;
 
@@ -234,10 +237,10 @@ impl<T> Core<T> {
         })
     }
 
-    /// The side of the senders, which is 0, or of this group, from 1.
-    pub fn side(&self, at: usize) -> &Side {
-        match at {
-            0 => &self.senders,
+    /// The side of this number.
+    pub fn side(&self, number: usize) -> &Side {
+        match number {
+            SENDERS => &self.senders,
             group => self.groups.of(group),
         }
     }
@@ -267,7 +270,7 @@ impl<T> Core<T> {
     pub fn len(&self, side: usize) -> usize {
         let sent = self.senders.seats.count();
         let taken = match side {
-            0 => self.alive().map(|group| group.seats.count()).min(),
+            SENDERS => self.alive().map(|group| group.seats.count()).min(),
             group => Some(self.side(group).seats.count()),
         };
         let len = sent.saturating_sub(taken.unwrap_or(sent)) as usize;
@@ -504,7 +507,7 @@ impl<T> Core<T> {
     pub fn last_handle_dropped(&self, side: usize) {
         let mut in_queue = lock(&self.in_queue);
         self.side(side).lost.store(true, Ordering::SeqCst);
-        let left_by_lost = if side == 0 || self.alive().next().is_none() {
+        let left_by_lost = if side == SENDERS || self.alive().next().is_none() {
             if !self.is_closed() {
                 self.close_queue();
             }
@@ -515,7 +518,7 @@ impl<T> Core<T> {
             self.replace_queue(&mut in_queue, None) // or there is no memory: a send tries again, once it finds no room
         };
         let mut lost = vec![];
-        if side != 0 && self.is_closed() {
+        if side != SENDERS && self.is_closed() {
             let lost_in_queue = in_queue.iter().filter(|&&it| self.side(it).is_lost());
             lost.extend(lost_in_queue.filter(|&&it| self.has_left(it)));
         }

@@ -44,9 +44,21 @@ use std::sync::{Arc, Mutex, MutexGuard};
 use std::task::{Poll, Waker, ready};
 use std::time::{Duration, Instant};
 
-/// The sides of a channel.
-pub const SENDS: usize = 0;
-pub const TAKES: usize = 1;
+/// The part of an operation when it meets another one, which has the other part.
+#[derive(Clone, Copy, PartialEq)]
+pub enum Role {
+    Send,
+    Take,
+}
+
+impl Role {
+    fn other(self) -> Role {
+        match self {
+            Role::Send => Role::Take,
+            Role::Take => Role::Send,
+        }
+    }
+}
 
 /// How long a take whose time is over waits for the item of a send that it has met.
 const GRACE: Duration = Duration::from_millis(1);
@@ -96,8 +108,9 @@ impl Waiter {
 
     /// Takes it off these channels, and returns the one that met it before.
     pub fn withdraw(self: &Arc<Waiter>, cases: &[Case]) -> Option<(usize, u64)> {
-        for (_, channel, side) in cases {
-            let posted = &mut lock(channel.lines()).posted[*side];
+        for (_, channel, role) in cases {
+            let mut lines = lock(channel.lines());
+            let posted = lines.posted(*role);
             posted.retain(|other| !Arc::ptr_eq(&other.waiter, self));
         }
         lock(&self.0).met
@@ -109,11 +122,19 @@ struct Posted {
     place: usize,
 }
 
-/// The waiters that are posted, of either side.
+/// The waiters that are posted.
 #[derive(Default)]
 pub struct Lines {
     is_closed: bool,
+    /// By their roles.
     posted: [VecDeque<Posted>; 2],
+}
+
+impl Lines {
+    /// Those that are posted for this role.
+    fn posted(&mut self, role: Role) -> &mut VecDeque<Posted> {
+        &mut self.posted[role as usize]
+    }
 }
 
 /// A begun operation, and the waker to call once no lock is held.
@@ -122,17 +143,17 @@ type Met = (Begun, Option<Waker>);
 /// A channel of capacity 0, whatever its items are.
 pub trait Meets {
     fn lines(&self) -> &Mutex<Lines>;
-    /// Meets one for this side.
-    fn begin(&self, lines: &mut Lines, side: usize) -> Option<Met>;
+    /// Meets another in this role.
+    fn begin(&self, lines: &mut Lines, role: Role) -> Option<Met>;
     /// Whether there seems to be one to meet, or nobody will be.
-    fn look(&self, side: usize) -> Try<()>;
+    fn look(&self, role: Role) -> Try<()>;
     /// Whether what has begun is for good: whether a send still has its pair; and whether the pair of a take has its
     /// item, for which it waits until this moment, or [`GRACE`].
-    fn wait_for_pair(&self, begun: &Begun, side: usize, until: Option<Instant>) -> bool;
+    fn wait_for_pair(&self, begun: &Begun, role: Role, until: Option<Instant>) -> bool;
 }
 
-/// An operation of a select that may meet another: its place in the select, its channel, and its side.
-pub type Case<'a> = (usize, &'a dyn Meets, usize);
+/// An operation of a select that may meet another: its place in the select, its channel, and its role.
+pub type Case<'a> = (usize, &'a dyn Meets, Role);
 
 /// Meets one that is posted for one of these operations, or posts this waiter for all.
 pub fn meet_or_post(cases: &[Case], waiter: &Arc<Waiter>) -> Option<(usize, Begun)> {
@@ -146,16 +167,17 @@ pub fn meet_or_post(cases: &[Case], waiter: &Arc<Waiter>) -> Option<(usize, Begu
         .iter()
         .map(|channel| lock(channel.lines()))
         .collect();
-    for &(place, channel, side) in cases {
-        if let Some((begun, waker)) = channel.begin(&mut locked[lines_of(channel)], side) {
+    for &(place, channel, role) in cases {
+        if let Some((begun, waker)) = channel.begin(&mut locked[lines_of(channel)], role) {
             drop(locked);
             ignore_panics(waker, Waker::wake);
             return Some((place, begun));
         }
     }
-    for &(place, channel, side) in cases {
+    for &(place, channel, role) in cases {
         let waiter = waiter.clone();
-        locked[lines_of(channel)].posted[side].push_back(Posted { waiter, place });
+        let posted = locked[lines_of(channel)].posted(role);
+        posted.push_back(Posted { waiter, place });
     }
     None
 }
@@ -196,13 +218,13 @@ impl<T> Pairs<T> {
         number
     }
 
-    /// Meets the first waiter of the other side that nobody has met, with the item if it is at hand.
-    fn meet(&mut self, lines: &mut Lines, side: usize, item: &mut Option<T>) -> Option<Met> {
-        while let Some(Posted { waiter, place }) = lines.posted[1 - side].pop_front() {
+    /// Meets the first waiter of the other role that nobody has met, with the item if it is at hand.
+    fn meet(&mut self, lines: &mut Lines, role: Role, item: &mut Option<T>) -> Option<Met> {
+        while let Some(Posted { waiter, place }) = lines.posted(role.other()).pop_front() {
             if let Some(waker) = waiter.try_meet(place, self.last + 1) {
                 let item = item.take();
                 // A take is woken once there is an item.
-                let awaits = side == SENDS && item.is_none();
+                let awaits = role == Role::Send && item.is_none();
                 let (taker, woken) = if awaits { (waker, None) } else { (None, waker) };
                 return Some((Begun::Met(self.push(taker, item)), woken));
             }
@@ -258,7 +280,7 @@ impl<T> Rendezvous<T> {
         let met = if lines.is_closed {
             None
         } else {
-            lock(&self.pairs).meet(&mut lines, SENDS, &mut item)
+            lock(&self.pairs).meet(&mut lines, Role::Send, &mut item)
         };
         if let Some(item) = item {
             return Err((item, lines));
@@ -271,7 +293,7 @@ impl<T> Rendezvous<T> {
     /// Takes an item of one that is posted. Gives None if the channel is closed.
     pub fn try_take(&self) -> Try<Option<T>> {
         let mut until = None;
-        while let Begun::Met(pair) = try_meet(self, TAKES)? {
+        while let Begun::Met(pair) = try_meet(self, Role::Take)? {
             let until = *until.get_or_insert_with(|| Instant::now() + GRACE);
             if self.wait_for_item(pair, Some(until)) {
                 return Ok(self.take(pair));
@@ -406,7 +428,7 @@ impl<T> Rendezvous<T> {
             TakerState::Idle => None,
             TakerState::Met(pair) => Some(pair),
             TakerState::Posted(waiter) => {
-                let met = waiter.withdraw(&[(0, self, TAKES)]);
+                let met = waiter.withdraw(&[(0, self, Role::Take)]);
                 panics.run_each(waiter.take_waker(), drop);
                 Some(met?.1)
             }
@@ -427,8 +449,8 @@ impl<T> Meets for Rendezvous<T> {
         &self.lines
     }
 
-    fn begin(&self, lines: &mut Lines, side: usize) -> Option<Met> {
-        let takes = side == TAKES;
+    fn begin(&self, lines: &mut Lines, role: Role) -> Option<Met> {
+        let takes = role == Role::Take;
         let pairs = &mut *lock(&self.pairs);
         if takes {
             if let Some(item) = pairs.returned.pop_front() {
@@ -442,20 +464,20 @@ impl<T> Meets for Rendezvous<T> {
         if takes && pairs.is_turn_of_offers && !pairs.offers.is_empty() {
             return pairs.take_offer();
         }
-        let met = pairs.meet(lines, side, &mut None);
+        let met = pairs.meet(lines, role, &mut None);
         met.or_else(|| takes.then(|| pairs.take_offer()).flatten())
     }
 
-    fn look(&self, side: usize) -> Try<()> {
-        let lines = lock(&self.lines);
+    fn look(&self, role: Role) -> Try<()> {
+        let mut lines = lock(&self.lines);
         let pairs = lock(&self.pairs);
-        let has_item = side == TAKES && pairs.offers.len() + pairs.returned.len() > 0;
-        Again::unless(has_item || lines.is_closed || !lines.posted[1 - side].is_empty())
+        let has_item = role == Role::Take && pairs.offers.len() + pairs.returned.len() > 0;
+        Again::unless(has_item || lines.is_closed || !lines.posted(role.other()).is_empty())
     }
 
-    fn wait_for_pair(&self, begun: &Begun, side: usize, until: Option<Instant>) -> bool {
+    fn wait_for_pair(&self, begun: &Begun, role: Role, until: Option<Instant>) -> bool {
         match begun {
-            Begun::Met(pair) if side == SENDS => lock(&self.pairs).pairs.contains_key(pair),
+            Begun::Met(pair) if role == Role::Send => lock(&self.pairs).pairs.contains_key(pair),
             Begun::Met(pair) => {
                 let until = until.map(|until| until.max(Instant::now() + GRACE));
                 self.wait_for_item(*pair, until)
@@ -466,8 +488,8 @@ impl<T> Meets for Rendezvous<T> {
 }
 
 /// Meets one that is posted for this operation alone.
-pub fn try_meet(channel: &dyn Meets, side: usize) -> Try<Begun> {
-    let met = channel.begin(&mut lock(channel.lines()), side);
+pub fn try_meet(channel: &dyn Meets, role: Role) -> Try<Begun> {
+    let met = channel.begin(&mut lock(channel.lines()), role);
     let (begun, waker) = met.ok_or(Again::WhenNotified)?;
     ignore_panics(waker, Waker::wake);
     Ok(begun)
@@ -537,7 +559,8 @@ impl<T> Receiver<T> {
                 },
                 TakerState::Idle => {
                     let waiter = Waiter::new(waker.clone());
-                    let Some((_, begun)) = meet_or_post(&[(0, rendezvous, TAKES)], &waiter) else {
+                    let Some((_, begun)) = meet_or_post(&[(0, rendezvous, Role::Take)], &waiter)
+                    else {
                         *taker = TakerState::Posted(waiter);
                         self.notify_posted();
                         return Poll::Pending;

@@ -1,6 +1,6 @@
 //! A further queue in the place of a channel's present one.
 use super::body::{Parcel, words_of};
-use super::core::{Core, Side};
+use super::core::{Core, SENDERS, Side};
 use super::pool::Pass;
 use crate::event::{Event, Panics, ignore_panics};
 use crate::queue::handle::{Handle, code, unexpected};
@@ -70,7 +70,7 @@ impl<T> Core<T> {
         left_by_lost.try_reserve_exact(lost.len() * capacity).ok()?;
         // From here on no other thread makes a call, until the seats are given back, so none waits in this line.
         let line = &Event::default();
-        let sides = || iter::once(0).chain(alive.iter().copied());
+        let sides = || iter::once(SENDERS).chain(alive.iter().copied());
         let mut seats: Vec<_> = sides().map(|it| self.side(it).seats.take_all()).collect();
         let take_all = |&side: &usize| self.side(side).seats.take_all();
         let mut others: Vec<_> = lost.iter().map(take_all).collect();

@@ -26,7 +26,7 @@
 //!
 //! **Without memory** for a further queue nothing changes, and the send is tried again later.
 use super::body::{Parcel, Unsent};
-use super::core::Core;
+use super::core::{Core, SENDERS};
 use super::limit::Limit;
 use super::pool::{Pass, Pool, SeatGuard};
 use crate::event::{Again, Event, Try, ignore_panics, lock};
@@ -211,13 +211,13 @@ impl Locked<'_> {
         let mut opened = self.take_spare(row, groups.len()).ok()?.into_iter();
         pass.handle.close(line);
         let mut passes: Passes = self.queues.at.iter().map(|_| vec![]).collect();
-        passes.insert(0, opened.next().expect("a queue has senders"));
+        passes.insert(SENDERS, opened.next().expect("a queue has senders"));
         for (&group, opened) in groups.iter().zip(opened) {
             passes[group] = opened;
         }
         let last = self.queues.last_number();
         let last = self.queues.queue(last);
-        self.released.append(&mut last.passes[0]);
+        self.released.append(&mut last.passes[SENDERS]);
         let lost = last.groups.iter().filter(|it| !groups.contains(it));
         let lost: Vec<usize> = lost.copied().collect();
         self.queues.left.extend(lost);
@@ -309,7 +309,7 @@ impl<T> Core<T> {
             appended.ok_or_else(Again::soon)?;
         }
         let last = locked.queues.last_number();
-        locked.fetch(0, last, &self.senders.seats, seat);
+        locked.fetch(SENDERS, last, &self.senders.seats, seat);
         Ok(true)
     }
 
@@ -374,7 +374,7 @@ impl<T> Core<T> {
         let mut seat = self.senders.seats.take();
         let mut locked = row.lock();
         let last = locked.queues.last_number();
-        locked.fetch(0, last, &self.senders.seats, &mut seat);
+        locked.fetch(SENDERS, last, &self.senders.seats, &mut seat);
         let (pass, line) = seat.pass();
         pass.handle.close(line);
         locked.set_spare(Spare::Wanted);
@@ -391,7 +391,7 @@ impl<T> Core<T> {
         let groups = self.groups_of_next(&locked.queues);
         if !locked.queues.is_closed && groups.len() < locked.queues.last().groups.len() {
             let last = locked.queues.last_number();
-            locked.fetch(0, last, &self.senders.seats, &mut seat);
+            locked.fetch(SENDERS, last, &self.senders.seats, &mut seat);
             let (pass, line) = seat.pass();
             locked.append(row, groups, pass, line);
         }

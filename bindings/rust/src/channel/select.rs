@@ -24,7 +24,7 @@
 //! is a load of each, and counts again. A holder before that has counted; a holder after that sees the waiter in line. So a look that finds nothing
 //! is the look of [`event`](crate::event)'s argument: at some moment of it there was nothing.
 use super::core::Core;
-use super::rendezvous::{Meets, SENDS, TAKES, Waiter, meet_or_post, try_meet};
+use super::rendezvous::{Meets, Role, Waiter, meet_or_post, try_meet};
 use super::side::Source;
 use super::{
     ReadyTimeoutError, Receiver, RecvError, SelectTimeoutError, SendError, Sender, TryReadyError,
@@ -61,9 +61,9 @@ pub enum Begun {
 pub trait Case {
     /// The line in which one waits for it.
     fn line(&self) -> &Event;
-    /// The channel and the side at which it is posted, if the channel has capacity 0.
-    fn rendezvous(&self) -> Option<(&dyn Meets, usize)>;
-    /// It is posted: notifies those of the other side that aren't.
+    /// The channel where it is posted, and its role there, if the channel has capacity 0.
+    fn rendezvous(&self) -> Option<(&dyn Meets, Role)>;
+    /// It is posted: notifies those of the other role that aren't.
     fn notify_posted(&self);
     /// Begins it, if it is ready.
     fn begin(&self) -> Try<Begun>;
@@ -78,8 +78,8 @@ impl<T> Case for Receiver<T> {
         self.line()
     }
 
-    fn rendezvous(&self) -> Option<(&dyn Meets, usize)> {
-        Some((self.rendezvous()?, TAKES))
+    fn rendezvous(&self) -> Option<(&dyn Meets, Role)> {
+        Some((self.rendezvous()?, Role::Take))
     }
 
     fn notify_posted(&self) {
@@ -95,7 +95,7 @@ impl<T> Case for Receiver<T> {
     fn look(&self) -> Try<()> {
         match &*self.0 {
             Source::Channel(shared) => match &shared.core.rendezvous {
-                Some(rendezvous) => rendezvous.look(TAKES),
+                Some(rendezvous) => rendezvous.look(Role::Take),
                 None => shared.core.seems_to_have_item(shared.side),
             },
             Source::Timer(timer) => timer.look(),
@@ -113,7 +113,7 @@ impl<T> Receiver<T> {
     fn begin_take(&self, keep: impl FnOnce(&Core<T>, T) -> Begun) -> Try<Begun> {
         match &*self.0 {
             Source::Channel(shared) => match &shared.core.rendezvous {
-                Some(rendezvous) => try_meet(&**rendezvous, TAKES),
+                Some(rendezvous) => try_meet(&**rendezvous, Role::Take),
                 None => Ok(match shared.try_take()? {
                     Some(parcel) => keep(&shared.core, parcel.unpack()),
                     None => Begun::Closed,
@@ -140,8 +140,8 @@ impl<T> Case for Sender<T> {
         self.0.line()
     }
 
-    fn rendezvous(&self) -> Option<(&dyn Meets, usize)> {
-        Some((self.core().rendezvous.as_deref()?, SENDS))
+    fn rendezvous(&self) -> Option<(&dyn Meets, Role)> {
+        Some((self.core().rendezvous.as_deref()?, Role::Send))
     }
 
     fn notify_posted(&self) {
@@ -150,7 +150,7 @@ impl<T> Case for Sender<T> {
 
     fn begin(&self) -> Try<Begun> {
         if let Some(rendezvous) = self.core().rendezvous.as_deref() {
-            return try_meet(rendezvous, SENDS);
+            return try_meet(rendezvous, Role::Send);
         }
         let has_room = self.core().reserve()?;
         Ok(if has_room { Begun::Room } else { Begun::Closed })
@@ -158,7 +158,7 @@ impl<T> Case for Sender<T> {
 
     fn look(&self) -> Try<()> {
         match &self.core().rendezvous {
-            Some(rendezvous) => rendezvous.look(SENDS),
+            Some(rendezvous) => rendezvous.look(Role::Send),
             None => self.core().seems_to_have_room(),
         }
     }
@@ -264,7 +264,7 @@ impl<T> Case for TakeArm<'_, T> {
         self.receiver.line()
     }
 
-    fn rendezvous(&self) -> Option<(&dyn Meets, usize)> {
+    fn rendezvous(&self) -> Option<(&dyn Meets, Role)> {
         Case::rendezvous(self.receiver)
     }
 
@@ -319,7 +319,7 @@ impl<R: Deref<Target: Case>> Entry<R> {
             return true;
         }
         let rendezvous = self.case.rendezvous();
-        rendezvous.is_none_or(|(channel, side)| channel.wait_for_pair(begun, side, until))
+        rendezvous.is_none_or(|(channel, role)| channel.wait_for_pair(begun, role, until))
     }
 }
 
@@ -688,8 +688,8 @@ impl<R: Copy + Deref<Target: Case>> Turn<'_, R> {
     /// another.
     fn meet(&self, until: Option<Instant>, parker: &Arc<Parker>) -> Option<(usize, Begun)> {
         let cases = self.entries.iter().enumerate().filter_map(|(place, it)| {
-            let (channel, side) = it.case.rendezvous()?;
-            Some((place, channel, side))
+            let (channel, role) = it.case.rendezvous()?;
+            Some((place, channel, role))
         });
         let cases: Vec<_> = cases.collect();
         let waiter = Waiter::new(parker.clone().into());

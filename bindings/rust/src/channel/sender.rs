@@ -1,6 +1,6 @@
 //! The senders of a channel.
 use super::body::Unsent;
-use super::core::Core;
+use super::core::{Core, SENDERS};
 use super::future::SendFuture;
 use super::side::Shared;
 use super::{SendError, SendTimeoutError, TrySendError};
@@ -240,7 +240,7 @@ impl<T> Sender<T> {
     /// ```
     #[must_use]
     pub fn len(&self) -> usize {
-        self.core().len(0)
+        self.core().len(SENDERS)
     }
 
     /// Whether [`len`](Sender::len) is 0.

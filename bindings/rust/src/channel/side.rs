@@ -1,6 +1,6 @@
 //! The parts that the handles of both sides have in common: their count, the end of a side, and the wait.
 use super::body::Parcel;
-use super::core::{Core, Side};
+use super::core::{Core, SENDERS, Side};
 use super::timer::Timer;
 use crate::backoff::{FOR_OTHERS, let_ahead};
 use crate::event::{Again, Event, Try, lock, wait};
@@ -15,7 +15,7 @@ const ROOM_AHEAD: usize = 16;
 /// The part that all handles of a side share. Its drop is the end of the last of them.
 pub struct Shared<T> {
     pub core: Arc<Core<T>>,
-    /// 0 is the side of the senders, and each other one is a group of receivers.
+    /// The number of its side.
     pub side: usize,
 }
 
@@ -43,7 +43,10 @@ fn note<S>(handles: &OnceLock<Weak<S>>, shared: &Arc<S>) {
 impl<T> Shared<T> {
     /// For the first sender.
     pub fn of_senders(core: Arc<Core<T>>) -> Arc<Shared<T>> {
-        let shared = Arc::new(Shared { core, side: 0 });
+        let shared = Arc::new(Shared {
+            core,
+            side: SENDERS,
+        });
         note(&shared.core.sender, &shared);
         shared
     }
@@ -101,7 +104,7 @@ impl<T> Core<T> {
 
     /// The part that the senders share, if one is left.
     pub fn upgrade_sender(&self) -> Option<Arc<Shared<T>>> {
-        self.upgrade(&self.sender, 0)
+        self.upgrade(&self.sender, SENDERS)
     }
 
     /// The part that the receivers of this group share, if one is left.
