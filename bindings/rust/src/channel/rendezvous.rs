@@ -69,8 +69,36 @@ pub struct Waiter(Mutex<Waits>);
 struct Waits {
     /// None once it is used, until it is noted again.
     waker: Option<Waker>,
-    /// In which operation of its select, and the number of the pair.
-    met: Option<(usize, u64)>,
+    met: Option<Meeting>,
+}
+
+/// How a waiter was met.
+#[derive(Clone, Copy)]
+pub struct Meeting {
+    /// In which operation of its select.
+    pub place: usize,
+    /// The number of the pair.
+    pub pair: u64,
+}
+
+/// Notes this waker where this says, under the lock; or returns what this finds instead. The waker that isn't noted, or isn't
+/// any more, is dropped once the lock is released.
+fn poll_under_lock<S, R>(
+    state: &Mutex<S>,
+    waker: &Waker,
+    panics: &mut Panics,
+    find: impl FnOnce(&mut S) -> Result<R, &mut Option<Waker>>,
+) -> Poll<R> {
+    let mut waker = Some(waker.clone());
+    let polled = match find(&mut lock(state)) {
+        Ok(found) => Poll::Ready(found),
+        Err(noted) => {
+            swap(noted, &mut waker);
+            Poll::Pending
+        }
+    };
+    panics.run_each(waker, drop);
+    polled
 }
 
 impl Waiter {
@@ -79,13 +107,12 @@ impl Waiter {
         Arc::new(Waiter(Mutex::new(Waits { waker, met })))
     }
 
-    /// Meets it, unless another call has, and gives its waker.
-    fn try_meet(&self, place: usize, pair: u64) -> Option<Option<Waker>> {
+    /// Meets it, unless another call has. It is locked then.
+    fn try_meet(&self, meeting: Meeting) -> Option<MutexGuard<'_, Waits>> {
         let mut waits = lock(&self.0);
-        let is_first = waits.met.is_none();
-        is_first.then(|| {
-            waits.met = Some((place, pair));
-            waits.waker.take()
+        waits.met.is_none().then(|| {
+            waits.met = Some(meeting);
+            waits
         })
     }
 
@@ -93,21 +120,16 @@ impl Waiter {
         lock(&self.0).waker.take()
     }
 
-    /// Waits on, with this waker. Gives the pair if it is met.
-    fn stay(&self, waker: &Waker, panics: &mut Panics) -> Option<u64> {
-        let mut waker = Some(waker.clone());
-        let mut waits = lock(&self.0);
-        let met = waits.met;
-        if met.is_none() {
-            swap(&mut waits.waker, &mut waker);
-        }
-        drop(waits);
-        panics.run_each(waker, drop);
-        Some(met?.1)
+    /// Gives the pair if it is met. If not, it waits on, with this waker.
+    fn poll(&self, waker: &Waker, panics: &mut Panics) -> Poll<u64> {
+        poll_under_lock(&self.0, waker, panics, |waits| match waits.met {
+            Some(met) => Ok(met.pair),
+            None => Err(&mut waits.waker),
+        })
     }
 
-    /// Takes it off these channels, and returns the one that met it before.
-    pub fn withdraw(self: &Arc<Waiter>, cases: &[Case]) -> Option<(usize, u64)> {
+    /// Takes it off these channels, and returns how it was met before.
+    pub fn withdraw(self: &Arc<Waiter>, cases: &[Case]) -> Option<Meeting> {
         for (_, channel, role) in cases {
             let mut lines = lock(channel.lines());
             let posted = lines.posted(*role);
@@ -137,8 +159,19 @@ impl Lines {
     }
 }
 
-/// A begun operation, and the waker to call once no lock is held.
-type Met = (Begun, Option<Waker>);
+/// An operation that has met another.
+pub struct Met {
+    begun: Begun,
+    /// The waker to call once no lock is held.
+    woken: Option<Waker>,
+}
+
+impl Met {
+    fn wake(self) -> Begun {
+        ignore_panics(self.woken, Waker::wake);
+        self.begun
+    }
+}
 
 /// A channel of capacity 0, whatever its items are.
 pub trait Meets {
@@ -168,10 +201,9 @@ pub fn meet_or_post(cases: &[Case], waiter: &Arc<Waiter>) -> Option<(usize, Begu
         .map(|channel| lock(channel.lines()))
         .collect();
     for &(place, channel, role) in cases {
-        if let Some((begun, waker)) = channel.begin(&mut locked[lines_of(channel)], role) {
+        if let Some(met) = channel.begin(&mut locked[lines_of(channel)], role) {
             drop(locked);
-            ignore_panics(waker, Waker::wake);
-            return Some((place, begun));
+            return Some((place, met.wake()));
         }
     }
     for &(place, channel, role) in cases {
@@ -212,21 +244,24 @@ impl<T> Pairs<T> {
         self.last
     }
 
-    fn push(&mut self, taker: Option<Waker>, item: Option<T>) -> u64 {
+    /// A pair with this item, whose take has this waker, where the other one has that which is called.
+    fn push(&mut self, taker: Option<Waker>, item: Option<T>, woken: Option<Waker>) -> Met {
         let number = self.next();
         self.pairs.insert(number, Pair { taker, item });
-        number
+        let begun = Begun::Met(number);
+        Met { begun, woken }
     }
 
     /// Meets the first waiter of the other role that nobody has met, with the item if it is at hand.
     fn meet(&mut self, lines: &mut Lines, role: Role, item: &mut Option<T>) -> Option<Met> {
         while let Some(Posted { waiter, place }) = lines.posted(role.other()).pop_front() {
-            if let Some(waker) = waiter.try_meet(place, self.last + 1) {
-                let item = item.take();
+            let pair = self.last + 1;
+            if let Some(mut waits) = waiter.try_meet(Meeting { place, pair }) {
+                let (item, waker) = (item.take(), waits.waker.take());
                 // A take is woken once there is an item.
                 let awaits = role == Role::Send && item.is_none();
                 let (taker, woken) = if awaits { (waker, None) } else { (None, waker) };
-                return Some((Begun::Met(self.push(taker, item)), woken));
+                return Some(self.push(taker, item, woken));
             }
         }
         None
@@ -234,7 +269,7 @@ impl<T> Pairs<T> {
 
     fn take_offer(&mut self) -> Option<Met> {
         let (_, Offer { item, waker }) = self.offers.pop_first()?;
-        Some((Begun::Met(self.push(None, Some(item))), waker))
+        Some(self.push(None, Some(item), waker))
     }
 }
 
@@ -286,7 +321,7 @@ impl<T> Rendezvous<T> {
             return Err((item, lines));
         }
         drop(lines);
-        ignore_panics(met.and_then(|it| it.1), Waker::wake);
+        met.map(Met::wake);
         Ok(())
     }
 
@@ -316,19 +351,13 @@ impl<T> Rendezvous<T> {
     /// Whether this pair has its item; or whether it is given up, if it isn't there. Otherwise its item, or that it
     /// is given up, wakes this waker.
     fn poll_pair(&self, number: u64, waker: &Waker, panics: &mut Panics) -> Poll<bool> {
-        let mut waker = Some(waker.clone());
-        let mut pairs = lock(&self.pairs);
-        let polled = match pairs.pairs.get_mut(&number) {
-            None => Poll::Ready(false),
-            Some(Pair { item: Some(_), .. }) => Poll::Ready(true),
-            Some(pair) => {
-                swap(&mut pair.taker, &mut waker);
-                Poll::Pending
+        poll_under_lock(&self.pairs, waker, panics, |pairs| {
+            match pairs.pairs.get_mut(&number) {
+                None => Ok(false),
+                Some(Pair { item: Some(_), .. }) => Ok(true),
+                Some(pair) => Err(&mut pair.taker),
             }
-        };
-        drop(pairs);
-        panics.run_each(waker, drop);
-        polled
+        })
     }
 
     /// Waits until this pair has its item, and returns whether it has. If not, the pair is given up: by the send, or
@@ -385,15 +414,12 @@ impl<T> Rendezvous<T> {
         }
     }
 
-    /// Whether this item is still posted. It stays so, for this waker.
-    fn keep_offer(&self, number: u64, waker: &Waker, panics: &mut Panics) -> bool {
-        let mut waker = Some(waker.clone());
-        let mut pairs = lock(&self.pairs);
-        let offer = pairs.offers.get_mut(&number);
-        let is_posted = offer.map(|it| swap(&mut it.waker, &mut waker)).is_some();
-        drop(pairs);
-        panics.run_each(waker, drop);
-        is_posted
+    /// Ready once this item isn't posted any more. If it is, it stays so for this waker.
+    fn poll_offer(&self, number: u64, waker: &Waker, panics: &mut Panics) -> Poll<()> {
+        poll_under_lock(&self.pairs, waker, panics, |pairs| {
+            let offer = pairs.offers.get_mut(&number);
+            offer.map_or(Ok(()), |it| Err(&mut it.waker))
+        })
     }
 
     /// Takes this item off, if nobody took it.
@@ -430,7 +456,7 @@ impl<T> Rendezvous<T> {
             TakerState::Posted(waiter) => {
                 let met = waiter.withdraw(&[(0, self, Role::Take)]);
                 panics.run_each(waiter.take_waker(), drop);
-                Some(met?.1)
+                Some(met?.pair)
             }
         }
     }
@@ -454,11 +480,12 @@ impl<T> Meets for Rendezvous<T> {
         let pairs = &mut *lock(&self.pairs);
         if takes {
             if let Some(item) = pairs.returned.pop_front() {
-                return Some((Begun::Met(pairs.push(None, Some(item))), None));
+                return Some(pairs.push(None, Some(item), None));
             }
         }
         if lines.is_closed {
-            return Some((Begun::Closed, None));
+            let (begun, woken) = (Begun::Closed, None);
+            return Some(Met { begun, woken });
         }
         pairs.is_turn_of_offers ^= takes;
         if takes && pairs.is_turn_of_offers && !pairs.offers.is_empty() {
@@ -490,9 +517,7 @@ impl<T> Meets for Rendezvous<T> {
 /// Meets one that is posted for this operation alone.
 pub fn try_meet(channel: &dyn Meets, role: Role) -> Try<Begun> {
     let met = channel.begin(&mut lock(channel.lines()), role);
-    let (begun, waker) = met.ok_or(Again::WhenNotified)?;
-    ignore_panics(waker, Waker::wake);
-    Ok(begun)
+    Ok(met.ok_or(Again::WhenNotified)?.wake())
 }
 
 impl<T> Core<T> {
@@ -549,10 +574,10 @@ impl<T> Receiver<T> {
         loop {
             let pair = match taker {
                 TakerState::Met(pair) => *pair,
-                TakerState::Posted(waiter) => match waiter.stay(waker, panics) {
-                    Some(pair) => pair,
-                    None if !self.is_closed() => return Poll::Pending,
-                    None => match rendezvous.leave(take(taker), panics) {
+                TakerState::Posted(waiter) => match waiter.poll(waker, panics) {
+                    Poll::Ready(pair) => pair,
+                    Poll::Pending if !self.is_closed() => return Poll::Pending,
+                    Poll::Pending => match rendezvous.leave(take(taker), panics) {
                         None => continue,
                         taken => return Poll::Ready(taken),
                     },
@@ -593,7 +618,8 @@ impl<T> Sender<T> {
         panics: &mut Panics,
     ) -> Poll<Result<(), SendError<T>>> {
         let left = if let Some(number) = *offer {
-            if rendezvous.keep_offer(number, waker, panics) && !self.is_closed() {
+            let polled = rendezvous.poll_offer(number, waker, panics);
+            if polled.is_pending() && !self.is_closed() {
                 return Poll::Pending;
             }
             *offer = None;

@@ -702,8 +702,8 @@ impl<R: Copy + Deref<Target: Case>> Turn<'_, R> {
             parker.park(until);
         }
         met.or_else(|| {
-            let (place, pair) = waiter.withdraw(&cases)?;
-            Some((place, Begun::Met(pair)))
+            let met = waiter.withdraw(&cases)?;
+            Some((met.place, Begun::Met(met.pair)))
         })
     }
 }
