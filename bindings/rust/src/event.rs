@@ -23,7 +23,7 @@
 //! links a call that waits. The item, the room or the close that the call made is never pending then: a mark comes behind a send's item
 //! and behind a close, a take makes room by an addition, and these are locked instructions. On aarch64 the last store of a call may
 //! be pending when the call returns, but a load of `waiting` behind it is later in that order (`stlr`, `ldar`).
-//! A seat is taken by a sequentially consistent exchange, and a look at counts that finds nothing loads each seat's flag so, until
+//! A seat is acquired by a sequentially consistent exchange, and a look at counts that finds nothing loads each seat's flag so, until
 //! the seat was free once. So the look comes after a holder of the seat, and sees what that has counted; or before, and then the
 //! holder's *check* comes after the look's *stand*. The other accesses to seats and counts need no more than acquire and release.
 //!

@@ -3,7 +3,7 @@
 //!
 //! The queue below accepts a limited number of items in all, and each of its senders begins a limited number
 //! of sends. When either is used up, a further queue takes its place, and so it does when a group has lost
-//! its last receiver: while all seats are taken, the remaining items are moved over. For all other calls this
+//! its last receiver: while all seats are held, the remaining items are moved over. For all other calls this
 //! is one step. A channel without a bound, or with more places than one queue has, is a [`row`](super::row) of queues:
 //! no item is moved over there.
 //!
@@ -18,7 +18,7 @@ use crate::event::{Again, Apart, Event, Panics, Try, drop_each, ignore_panics, l
 use crate::queue::handle::{self, Handle, code, hands_over, has_taken, unexpected};
 use crate::queue::{self, Config, MOST_GROUPS, OpenError};
 use std::iter;
-use std::mem::take;
+use std::mem;
 use std::sync::atomic::{AtomicBool, AtomicUsize, Ordering};
 use std::sync::{Arc, Mutex, OnceLock, Weak};
 
@@ -139,7 +139,7 @@ struct Kept<T> {
 
 impl<T> Drop for Core<T> {
     fn drop(&mut self) {
-        let kept = take(&mut lock(&self.kept).items);
+        let kept = mem::take(&mut lock(&self.kept).items);
         if !kept.is_empty() {
             drop_each(kept.into_iter().map(|it| it.1));
         }
@@ -277,20 +277,20 @@ impl<T> Core<T> {
         self.capacity().map_or(len, |it| len.min(it))
     }
 
-    /// Takes a free seat of this side, and waits for one. If the side has one seat alone and that is taken, it gets its others.
+    /// Acquires a free seat of this side, and waits for one. If the side has one seat alone and that is held, it gets its others.
     #[inline]
-    fn take_seat<'a>(&'a self, side: &'a Side) -> SeatGuard<'a> {
-        let seat = side.seats.try_take();
-        seat.unwrap_or_else(|| self.take_another_seat(side))
+    fn acquire_seat<'a>(&'a self, side: &'a Side) -> SeatGuard<'a> {
+        let seat = side.seats.try_acquire();
+        seat.unwrap_or_else(|| self.acquire_another_seat(side))
     }
 
     #[cold]
     #[inline(never)]
-    fn take_another_seat<'a>(&'a self, side: &'a Side) -> SeatGuard<'a> {
+    fn acquire_another_seat<'a>(&'a self, side: &'a Side) -> SeatGuard<'a> {
         if side.seats.len() == 1 && self.row.is_none() {
             self.add_seats(side);
         }
-        side.seats.take_another()
+        side.seats.acquire_another()
     }
 
     /// Tries to send this item. Returns whether it is sent; if not,
@@ -298,7 +298,7 @@ impl<T> Core<T> {
     /// for a further queue, nobody notifies when there is.
     #[inline]
     pub fn try_send(&self, item: &mut Unsent<T>) -> Try<bool> {
-        let seat = self.take_seat(&self.senders);
+        let seat = self.acquire_seat(&self.senders);
         let hints = self.hints.load(Ordering::SeqCst);
         if hints != 0 {
             return self.send_with_hints(item, seat, hints);
@@ -366,7 +366,7 @@ impl<T> Core<T> {
             return Ok(false);
         }
         let mut left_by_lost = vec![];
-        if self.senders.seats.take().pass().0.queue == queue {
+        if self.senders.seats.acquire().pass().0.queue == queue {
             left_by_lost = self
                 .replace_queue(&mut in_queue, None)
                 .ok_or_else(Again::soon)?;
@@ -384,7 +384,7 @@ impl<T> Core<T> {
         if self.rendezvous.is_some() {
             return Err(code::EMPTY);
         }
-        let mut seat = self.take_seat(self.groups.of(group));
+        let mut seat = self.acquire_seat(self.groups.of(group));
         let (pass, line) = seat.pass();
         let parcel = self.take_by(pass, line)?;
         self.count_taken(seat);
@@ -477,10 +477,10 @@ impl<T> Core<T> {
         if let Some(row) = &self.row {
             return self.close_row(row);
         }
-        let mut seat = self.senders.seats.take();
+        let mut seat = self.senders.seats.acquire();
         let (pass, line) = seat.pass();
         let closed = pass.handle.close(line);
-        // While the seat is taken, so that whoever has all seats knows it.
+        // While the seat is held, so that whoever has all seats knows it.
         self.set_closed();
         closed
     }

@@ -12,7 +12,7 @@ use super::side::Source;
 use super::{Receiver, RecvError, SendError, Sender};
 use crate::event::{Again, Event, Panics, Ticket, Try};
 use std::borrow::Cow;
-use std::mem::take;
+use std::mem;
 use std::pin::Pin;
 use std::task::{Context, Poll, Waker};
 
@@ -179,7 +179,7 @@ impl<T> Drop for RecvFuture<'_, T> {
         match (&mut self.state, receiver.rendezvous(), &*receiver.0) {
             (State::InLine(place), ..) => place.leave(receiver.line(), &mut panics),
             (State::Meets(taker), Some(rendezvous), Source::Channel(shared)) => {
-                if let Some(item) = rendezvous.leave(take(taker), &mut panics) {
+                if let Some(item) = rendezvous.leave(mem::take(taker), &mut panics) {
                     shared.core.give_back_item(rendezvous, item);
                 }
             }

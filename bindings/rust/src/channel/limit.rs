@@ -1,6 +1,6 @@
 //! The limit of a [`row`](super::row): how many items it holds at most.
 //!
-//! A send takes a seat, gets room, and sends. It gets room by one exchange, if fewer items were given room than the limit and than
+//! A send acquires a seat, gets room, and sends. It gets room by one exchange, if fewer items were given room than the limit and than
 //! what every group has taken since; so there are never too many. A selected send gets its room at its selection, before
 //! it has a seat: that is its reservation. Room that isn't used is given back.
 //!
@@ -127,7 +127,7 @@ impl<T> Core<T> {
             if self.is_closed() {
                 return Ok(false);
             }
-            seat = self.senders.seats.take();
+            seat = self.senders.seats.acquire();
         }
         let sent = self.send_with_room(item, seat);
         if sent != Ok(true) {
@@ -165,7 +165,7 @@ impl<T> Core<T> {
     /// Sends to room that was reserved. Returns whether it is sent; if not, the channel is closed.
     pub fn send_to_room_of_row(&self, item: &mut Unsent<T>) -> bool {
         loop {
-            match self.send_with_room(item, self.senders.seats.take()) {
+            match self.send_with_room(item, self.senders.seats.acquire()) {
                 Ok(true) => return true,
                 Ok(false) => {
                     self.give_back_room();

@@ -1,11 +1,11 @@
-//! The seats of one side. A seat has a pass of the queue; a call takes a free seat, makes one call of
+//! The seats of one side. A seat has a pass of the queue; a call acquires a free seat, makes one call of
 //! the pass, and gives the seat back. So there may be any number of handles.
 //!
-//! To take a seat is one exchange, and to give it back one store, after which the line is looked at. A
+//! To acquire a seat is one exchange, and to give it back one store, after which the line is looked at. A
 //! caller that finds none free tries a few times more, and then parks: see [`event`](crate::event).
 //!
-//! **A side begins with one seat**, which is enough as long as one thread at a time calls. A call that finds the seat taken asks
-//! for the other seats ([`Core::take_seat`](super::core::Core::take_seat)). They are added once, while all seats are taken.
+//! **A side begins with one seat**, which is enough as long as one thread at a time calls. A call that finds the seat held asks
+//! for the other seats ([`Core::acquire_seat`](super::core::Core::acquire_seat)). They are added once, while all seats are held.
 #![allow(unsafe_code)]
 
 use crate::backoff::FOR_OWN_SIDE;
@@ -43,7 +43,7 @@ pub struct Pass {
 /// A cache line for itself.
 #[repr(align(64))]
 struct Seat {
-    taken: AtomicBool,
+    held: AtomicBool,
     /// Its number among the seats, from 1.
     number: usize,
     /// How many items went through it. The holder alone writes it.
@@ -54,7 +54,7 @@ struct Seat {
 }
 
 // SAFETY: `pass` is reached by the holder of the seat alone ([`SeatGuard`]), and there is one at a time:
-// whoever sets `taken` from false to true, until it is set back. Threads so have the pass one after
+// whoever sets `held` from false to true, until it is set back. Threads so have the pass one after
 // another, each with what the one before it did, by an acquire and a release; which is to send it from
 // one to the next, and `Pass` is `Send`.
 unsafe impl Sync for Seat where Pass: Send {}
@@ -116,7 +116,7 @@ pub struct Pool {
     served: Apart<Event>,
 }
 
-/// A seat that is taken, until the drop.
+/// A seat that is held, until the drop.
 pub struct SeatGuard<'a> {
     pool: &'a Pool,
     seat: &'a Seat,
@@ -125,7 +125,7 @@ pub struct SeatGuard<'a> {
 impl Seat {
     fn new(number: usize, pass: Pass) -> Seat {
         Seat {
-            taken: AtomicBool::new(false),
+            held: AtomicBool::new(false),
             number,
             count: AtomicU64::new(0),
             asked: AtomicU64::new(0),
@@ -139,8 +139,8 @@ impl Seat {
     }
 
     #[inline]
-    fn is_taken(&self) -> bool {
-        self.taken.load(Ordering::SeqCst)
+    fn is_held(&self) -> bool {
+        self.held.load(Ordering::SeqCst)
     }
 }
 
@@ -154,8 +154,8 @@ impl<'a> SeatGuard<'a> {
         (pass, &self.pool.served)
     }
 
-    /// Its place among the seats, from 0.
-    pub fn place(&self) -> usize {
+    /// Its index among the seats, from 0.
+    pub fn index(&self) -> usize {
         self.seat.number - 1
     }
 
@@ -174,7 +174,7 @@ impl<'a> SeatGuard<'a> {
 /// this line. Then it wakes all waiters.
 #[cold]
 fn give_back_and_wake(seat: &Seat, served: &Event) {
-    seat.taken.swap(false, Ordering::SeqCst);
+    seat.held.swap(false, Ordering::SeqCst);
     if served.has_waiters() {
         served.notify_all(&mut Panics::default());
     }
@@ -186,7 +186,7 @@ impl Drop for SeatGuard<'_> {
         if self.pool.served.was_used() {
             give_back_and_wake(self.seat, &self.pool.served);
         } else {
-            self.seat.taken.store(false, Ordering::Release);
+            self.seat.held.store(false, Ordering::Release);
         }
         self.pool.free.notify_one();
     }
@@ -266,7 +266,7 @@ impl Pool {
         }
     }
 
-    /// The seat at this place, of which the lowest bits count.
+    /// The seat at this index, of which the lowest bits count.
     #[inline]
     fn seat_at<'a>(&'a self, others: &'a [Other], at: usize) -> &'a Seat {
         match at & others.len() {
@@ -282,32 +282,32 @@ impl Pool {
         count.saturating_sub(seat.asked.swap(count, Ordering::Relaxed)) >= AHEAD_AFTER
     }
 
-    /// Takes this seat, if it is free.
+    /// Acquires this seat, if it is free.
     #[inline]
     fn try_seat<'a>(&'a self, seat: &'a Seat) -> Option<SeatGuard<'a>> {
-        let taken = seat.taken.swap(true, Ordering::SeqCst);
-        (!taken).then(|| SeatGuard { pool: self, seat })
+        let was_held = seat.held.swap(true, Ordering::SeqCst);
+        (!was_held).then(|| SeatGuard { pool: self, seat })
     }
 
-    /// Takes the seat that this thread tries first, if it is free.
+    /// Acquires the seat that this thread tries first, if it is free.
     #[inline]
-    pub fn try_take(&self) -> Option<SeatGuard<'_>> {
+    pub fn try_acquire(&self) -> Option<SeatGuard<'_>> {
         self.try_seat(self.seat())
     }
 
-    /// Takes a free seat, and waits for one.
+    /// Acquires a free seat, and waits for one.
     #[inline]
-    pub fn take(&self) -> SeatGuard<'_> {
-        self.try_take().unwrap_or_else(|| self.take_another())
+    pub fn acquire(&self) -> SeatGuard<'_> {
+        self.try_acquire().unwrap_or_else(|| self.acquire_another())
     }
 
     #[cold]
-    pub fn take_another(&self) -> SeatGuard<'_> {
+    pub fn acquire_another(&self) -> SeatGuard<'_> {
         let hint = HINT.get();
         let first_free = || {
             let others = self.others();
-            let mut places = hint..=hint + others.len();
-            let found = places.find_map(|at| Some((at, self.try_seat(self.seat_at(others, at))?)));
+            let mut around = hint..=hint + others.len();
+            let found = around.find_map(|at| Some((at, self.try_seat(self.seat_at(others, at))?)));
             // The look at the line may come before the store for this thread: so it doesn't wait for a notification alone.
             let (at, held) = found.ok_or_else(Again::soon)?;
             HINT.set(at % MOST);
@@ -322,23 +322,23 @@ impl Pool {
         iter::once(&self.first).chain(others)
     }
 
-    /// Takes each seat that is free.
-    pub fn take_free(&self) -> impl Iterator<Item = SeatGuard<'_>> {
+    /// Acquires each seat that is free.
+    pub fn acquire_free(&self) -> impl Iterator<Item = SeatGuard<'_>> {
         self.seats().filter_map(|seat| self.try_seat(seat))
     }
 
-    /// Waits until each seat was free once. So whoever had a seat has counted what went through it; and whoever takes a seat after
+    /// Waits until each seat was free once. So whoever had a seat has counted what went through it; and whoever acquires a seat after
     /// that sees what this thread did before.
     ///
     /// It looks for the other seats after it saw the first one free. A thread that adds seats has the first one meanwhile. So a seat that
     /// isn't looked at was added later, and what went through it came later.
     #[inline]
     pub fn wait_for_holders(&self) {
-        if self.first.is_taken() {
+        if self.first.is_held() {
             self.wait_for(&self.first);
         }
         for Other(seat) in self.others() {
-            if seat.is_taken() {
+            if seat.is_held() {
                 self.wait_for(seat);
             }
         }
@@ -347,16 +347,16 @@ impl Pool {
     /// Waits until this seat was free once, in line.
     #[cold]
     fn wait_for(&self, seat: &Seat) {
-        let is_free = || (!seat.is_taken()).then_some(()).ok_or_else(Again::soon);
+        let is_free = || (!seat.is_held()).then_some(()).ok_or_else(Again::soon);
         wait(&self.free, FOR_OWN_SIDE, None, is_free).expect("it waits without end");
     }
 
-    /// Takes all seats, each once it is free. It waits in line for one whose holder doesn't run.
-    pub fn take_all(&self) -> Vec<SeatGuard<'_>> {
-        let take = |seat| {
+    /// Acquires all seats, each once it is free. It waits in line for one whose holder doesn't run.
+    pub fn acquire_all(&self) -> Vec<SeatGuard<'_>> {
+        let acquire = |seat| {
             let attempt = || self.try_seat(seat).ok_or_else(Again::soon);
             wait(&self.free, FOR_OWN_SIDE, None, attempt).expect("it waits without end")
         };
-        self.seats().map(take).collect()
+        self.seats().map(acquire).collect()
     }
 }

@@ -38,7 +38,7 @@ use super::select::{Begun, Case as _};
 use super::{Receiver, RecvTimeoutError, SendError, SendTimeoutError, Sender, TrySendError};
 use crate::event::{Again, Panics, Try, ignore_panics, lock, poll_until};
 use std::collections::{BTreeMap, VecDeque};
-use std::mem::{swap, take};
+use std::mem::{self, swap};
 use std::sync::atomic::{AtomicBool, Ordering};
 use std::sync::{Arc, Mutex, MutexGuard};
 use std::task::{Poll, Waker, ready};
@@ -76,7 +76,7 @@ struct Waits {
 #[derive(Clone, Copy)]
 pub struct Meeting {
     /// In which operation of its select.
-    pub place: usize,
+    pub at: usize,
     /// The number of the pair.
     pub pair: u64,
 }
@@ -129,10 +129,10 @@ impl Waiter {
     }
 
     /// Takes it off these channels, and returns how it was met before.
-    pub fn withdraw(self: &Arc<Waiter>, cases: &[Case]) -> Option<Meeting> {
-        for (_, channel, role) in cases {
+    pub fn withdraw(self: &Arc<Waiter>, operations: &[Operation]) -> Option<Meeting> {
+        for &Operation { channel, role, .. } in operations {
             let mut lines = lock(channel.lines());
-            let posted = lines.posted(*role);
+            let posted = lines.posted(role);
             posted.retain(|other| !Arc::ptr_eq(&other.waiter, self));
         }
         lock(&self.0).met
@@ -141,7 +141,7 @@ impl Waiter {
 
 struct Posted {
     waiter: Arc<Waiter>,
-    place: usize,
+    at: usize,
 }
 
 /// The waiters that are posted.
@@ -185,13 +185,19 @@ pub trait Meets {
     fn wait_for_pair(&self, begun: &Begun, role: Role, until: Option<Instant>) -> bool;
 }
 
-/// An operation of a select that may meet another: its place in the select, its channel, and its role.
-pub type Case<'a> = (usize, &'a dyn Meets, Role);
+/// An operation of a select that may meet another.
+#[derive(Clone, Copy)]
+pub struct Operation<'a> {
+    /// Its index in the order of the select.
+    pub at: usize,
+    pub channel: &'a dyn Meets,
+    pub role: Role,
+}
 
 /// Meets one that is posted for one of these operations, or posts this waiter for all.
-pub fn meet_or_post(cases: &[Case], waiter: &Arc<Waiter>) -> Option<(usize, Begun)> {
+pub fn meet_or_post(operations: &[Operation], waiter: &Arc<Waiter>) -> Option<(usize, Begun)> {
     let address = |channel: &dyn Meets| std::ptr::from_ref(channel.lines()).addr();
-    let mut channels: Vec<&dyn Meets> = cases.iter().map(|case| case.1).collect();
+    let mut channels: Vec<&dyn Meets> = operations.iter().map(|it| it.channel).collect();
     channels.sort_by_key(|channel| address(*channel));
     channels.dedup_by_key(|channel| address(*channel));
     let addresses: Vec<usize> = channels.iter().map(|channel| address(*channel)).collect();
@@ -200,16 +206,16 @@ pub fn meet_or_post(cases: &[Case], waiter: &Arc<Waiter>) -> Option<(usize, Begu
         .iter()
         .map(|channel| lock(channel.lines()))
         .collect();
-    for &(place, channel, role) in cases {
+    for &Operation { at, channel, role } in operations {
         if let Some(met) = channel.begin(&mut locked[lines_of(channel)], role) {
             drop(locked);
-            return Some((place, met.wake()));
+            return Some((at, met.wake()));
         }
     }
-    for &(place, channel, role) in cases {
+    for &Operation { at, channel, role } in operations {
         let waiter = waiter.clone();
         let posted = locked[lines_of(channel)].posted(role);
-        posted.push_back(Posted { waiter, place });
+        posted.push_back(Posted { waiter, at });
     }
     None
 }
@@ -254,9 +260,9 @@ impl<T> Pairs<T> {
 
     /// Meets the first waiter of the other role that nobody has met, with the item if it is at hand.
     fn meet(&mut self, lines: &mut Lines, role: Role, item: &mut Option<T>) -> Option<Met> {
-        while let Some(Posted { waiter, place }) = lines.posted(role.other()).pop_front() {
+        while let Some(Posted { waiter, at }) = lines.posted(role.other()).pop_front() {
             let pair = self.last + 1;
-            if let Some(mut waits) = waiter.try_meet(Meeting { place, pair }) {
+            if let Some(mut waits) = waiter.try_meet(Meeting { at, pair }) {
                 let (item, waker) = (item.take(), waits.waker.take());
                 // A take is woken once there is an item.
                 let awaits = role == Role::Send && item.is_none();
@@ -276,13 +282,16 @@ impl<T> Pairs<T> {
 /// There are some if futures or selected operations were forgotten.
 impl<T> Drop for Pairs<T> {
     fn drop(&mut self) {
-        let (pairs, offers) = (take(&mut self.pairs), take(&mut self.offers));
+        let (pairs, offers) = (mem::take(&mut self.pairs), mem::take(&mut self.offers));
         let pairs = pairs.into_values().map(|it| (it.item, it.taker));
         let offers = offers.into_values().map(|it| (Some(it.item), it.waker));
         let (items, wakers): (Vec<_>, Vec<_>) = pairs.chain(offers).unzip();
         let mut panics = Panics::default();
         panics.run_each(
-            items.into_iter().flatten().chain(take(&mut self.returned)),
+            items
+                .into_iter()
+                .flatten()
+                .chain(mem::take(&mut self.returned)),
             drop,
         );
         panics.run_each(wakers, drop);
@@ -448,13 +457,22 @@ impl<T> Rendezvous<T> {
         panics.run_each(wakers, Waker::wake);
     }
 
-    /// A take takes itself off. Gives its pair, if it is in one.
-    fn take_off(&self, taker: TakerState, panics: &mut Panics) -> Option<u64> {
+    /// A take that isn't one of several operations.
+    fn take_alone(&self) -> Operation<'_> {
+        Operation {
+            at: 0,
+            channel: self,
+            role: Role::Take,
+        }
+    }
+
+    /// Withdraws a take. Gives its pair, if it is in one.
+    fn withdraw_taker(&self, taker: TakerState, panics: &mut Panics) -> Option<u64> {
         match taker {
             TakerState::Idle => None,
             TakerState::Met(pair) => Some(pair),
             TakerState::Posted(waiter) => {
-                let met = waiter.withdraw(&[(0, self, Role::Take)]);
+                let met = waiter.withdraw(&[self.take_alone()]);
                 panics.run_each(waiter.take_waker(), drop);
                 Some(met?.pair)
             }
@@ -463,7 +481,7 @@ impl<T> Rendezvous<T> {
 
     /// A task's take is no more. Gives the item that it has already.
     pub fn leave(&self, taker: TakerState, panics: &mut Panics) -> Option<T> {
-        let pair = self.take_off(taker, panics)?;
+        let pair = self.withdraw_taker(taker, panics)?;
         let Pair { taker, item } = lock(&self.pairs).pairs.remove(&pair)?;
         panics.run_each(taker, drop);
         item
@@ -555,7 +573,7 @@ impl<T> Receiver<T> {
         if let Some(item) = polled {
             return item.ok_or(RecvTimeoutError::Disconnected);
         }
-        let pair = rendezvous.take_off(taker, &mut panics);
+        let pair = rendezvous.withdraw_taker(taker, &mut panics);
         let grace = Some(Instant::now() + GRACE);
         let pair = pair.filter(|pair| rendezvous.wait_for_item(*pair, grace));
         let item = pair.and_then(|pair| rendezvous.take(pair));
@@ -577,15 +595,14 @@ impl<T> Receiver<T> {
                 TakerState::Posted(waiter) => match waiter.poll(waker, panics) {
                     Poll::Ready(pair) => pair,
                     Poll::Pending if !self.is_closed() => return Poll::Pending,
-                    Poll::Pending => match rendezvous.leave(take(taker), panics) {
+                    Poll::Pending => match rendezvous.leave(mem::take(taker), panics) {
                         None => continue,
                         taken => return Poll::Ready(taken),
                     },
                 },
                 TakerState::Idle => {
                     let waiter = Waiter::new(waker.clone());
-                    let Some((_, begun)) = meet_or_post(&[(0, rendezvous, Role::Take)], &waiter)
-                    else {
+                    let Some((_, begun)) = meet_or_post(&[rendezvous.take_alone()], &waiter) else {
                         *taker = TakerState::Posted(waiter);
                         self.notify_posted();
                         return Poll::Pending;

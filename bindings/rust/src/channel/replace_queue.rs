@@ -71,9 +71,11 @@ impl<T> Core<T> {
         // From here on no other thread makes a call, until the seats are given back, so none waits in this line.
         let line = &Event::default();
         let sides = || iter::once(SENDERS).chain(alive.iter().copied());
-        let mut seats: Vec<_> = sides().map(|it| self.side(it).seats.take_all()).collect();
-        let take_all = |&side: &usize| self.side(side).seats.take_all();
-        let mut others: Vec<_> = lost.iter().map(take_all).collect();
+        let mut seats: Vec<_> = sides()
+            .map(|it| self.side(it).seats.acquire_all())
+            .collect();
+        let acquire_all = |&side: &usize| self.side(side).seats.acquire_all();
+        let mut others: Vec<_> = lost.iter().map(acquire_all).collect();
         if self.is_closed() {
             return Some(left_by_lost);
         }

@@ -100,7 +100,7 @@ impl<T> Core<T> {
     /// Reserves room for one send. Returns whether it has; if not, the channel is closed.
     ///
     /// It counts the place first, and then waits until each of the senders' seats was free once. A send that had a seat before
-    /// has counted its item then. One that takes a seat later sees that a place is reserved, and waits for the lock.
+    /// has counted its item then. One that acquires a seat later sees that a place is reserved, and waits for the lock.
     pub fn reserve(&self) -> Try<bool> {
         if let Some(row) = &self.row {
             return self.reserve_in_row(row);
@@ -134,7 +134,7 @@ impl<T> Core<T> {
             return self.send_to_room_of_row(item);
         }
         loop {
-            let mut seat = self.senders.seats.take();
+            let mut seat = self.senders.seats.acquire();
             let code = self.send_by(&mut seat, item);
             if code == code::ACCEPTED {
                 self.hints.fetch_sub(RESERVED, Ordering::SeqCst);
@@ -184,7 +184,7 @@ impl<T> Core<T> {
             return self.try_send(item);
         }
         self.has_room_beside_reserved(0)?;
-        let mut seat = self.senders.seats.take();
+        let mut seat = self.senders.seats.acquire();
         let code = self.send_by(&mut seat, item);
         drop(in_queue);
         if code != code::ACCEPTED {

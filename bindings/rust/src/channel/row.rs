@@ -34,7 +34,7 @@ use crate::queue::handle::{Handle, code, unexpected};
 use crate::queue::{self, Config, OpenError};
 use std::collections::VecDeque;
 use std::iter;
-use std::mem::{replace, take};
+use std::mem::{self, replace};
 use std::sync::{Mutex, MutexGuard};
 
 /// A list of fewer queues doesn't shrink.
@@ -230,9 +230,9 @@ impl Locked<'_> {
         let queue = self.queues.queue(number);
         let shares = queue.groups.len();
         let mut fetch = |seat: &mut SeatGuard| {
-            let (place, pass) = (seat.place(), seat.pass().0);
+            let (index, pass) = (seat.index(), seat.pass().0);
             if pass.queue < number {
-                let handle = replace(&mut queue.passes[side][place], Handle::empty());
+                let handle = replace(&mut queue.passes[side][index], Handle::empty());
                 let queue = number;
                 let next = Pass {
                     handle,
@@ -243,7 +243,7 @@ impl Locked<'_> {
             }
         };
         fetch(seat);
-        seats.take_free().for_each(|mut free| fetch(&mut free));
+        seats.acquire_free().for_each(|mut free| fetch(&mut free));
     }
 
     /// After a take of this group has found the end of the queue of this number: the queue that the group is at from now on. Gives
@@ -353,7 +353,7 @@ impl<T> Core<T> {
 
     /// Tries to take an item for a group, of the queue that it is at or of those behind it. Gives None at the end of the channel.
     pub fn take_in_row(&self, row: &Row, group: usize) -> Try<Option<Parcel<T>>> {
-        let mut seat = self.side(group).seats.take();
+        let mut seat = self.side(group).seats.acquire();
         loop {
             let (pass, line) = seat.pass();
             match self.take_by(pass, line) {
@@ -371,7 +371,7 @@ impl<T> Core<T> {
 
     /// Closes the last queue for good. Returns whether it was open.
     pub fn close_row(&self, row: &Row) -> bool {
-        let mut seat = self.senders.seats.take();
+        let mut seat = self.senders.seats.acquire();
         let mut locked = row.lock();
         let last = locked.queues.last_number();
         locked.fetch(SENDERS, last, &self.senders.seats, &mut seat);
@@ -386,7 +386,7 @@ impl<T> Core<T> {
     /// Appends a queue without the groups that have lost their receivers, and gives what they haven't taken. If there is no memory,
     /// the next queue that is appended is without them.
     pub fn go_on_without_lost(&self, row: &Row) -> Vec<Parcel<T>> {
-        let mut seat = self.senders.seats.take();
+        let mut seat = self.senders.seats.acquire();
         let mut locked = row.lock();
         let groups = self.groups_of_next(&locked.queues);
         if !locked.queues.is_closed && groups.len() < locked.queues.last().groups.len() {
@@ -402,7 +402,7 @@ impl<T> Core<T> {
 
     /// The items that are left by groups which have lost their receivers, and are in no queue from the last one on.
     fn left_by_lost(&self, row: &Row) -> Vec<Parcel<T>> {
-        let left = take(&mut row.lock().queues.left);
+        let left = mem::take(&mut row.lock().queues.left);
         let items = |group| iter::from_fn(move || self.try_recv(group).ok()?);
         left.into_iter().flat_map(items).collect()
     }

@@ -24,7 +24,7 @@
 //! is a load of each, and counts again. A holder before that has counted; a holder after that sees the waiter in line. So a look that finds nothing
 //! is the look of [`event`](crate::event)'s argument: at some moment of it there was nothing.
 use super::core::Core;
-use super::rendezvous::{Meets, Role, Waiter, meet_or_post, try_meet};
+use super::rendezvous::{Meets, Operation, Role, Waiter, meet_or_post, try_meet};
 use super::side::Source;
 use super::{
     ReadyTimeoutError, Receiver, RecvError, SelectTimeoutError, SendError, Sender, TryReadyError,
@@ -194,8 +194,8 @@ impl<T> Sender<T> {
     }
 }
 
-/// A thread's place in line. Its drop passes on the notification that took it out, if no try came after it.
-struct Place<'a> {
+/// A thread that stands in line. Its drop passes on the notification that took it out, if no try came after it.
+struct Standing<'a> {
     event: &'a Event,
     /// Until it leaves the line.
     ticket: Option<Ticket>,
@@ -203,10 +203,10 @@ struct Place<'a> {
     notified: bool,
 }
 
-impl<'a> Place<'a> {
+impl<'a> Standing<'a> {
     /// Stands in line. The thread has to try after this, before it parks.
-    fn stand(event: &'a Event, parker: &Arc<Parker>) -> Place<'a> {
-        Place {
+    fn stand(event: &'a Event, parker: &Arc<Parker>) -> Standing<'a> {
+        Standing {
             event,
             ticket: Some(event.stand(parker.clone().into())),
             notified: false,
@@ -226,7 +226,7 @@ impl<'a> Place<'a> {
     }
 }
 
-impl Drop for Place<'_> {
+impl Drop for Standing<'_> {
     fn drop(&mut self) {
         self.leave();
         if self.notified {
@@ -475,9 +475,9 @@ impl<'a> Select<'a> {
     /// # Ok::<(), vahepito::OpenError>(())
     /// ```
     pub fn remove(&mut self, index: usize) {
-        let place = self.entries.iter().position(|it| it.index == index);
-        let place = place.expect("the select has an operation with this index");
-        self.entries.remove(place);
+        let at = self.entries.iter().position(|it| it.index == index);
+        let at = at.expect("the select has an operation with this index");
+        self.entries.remove(at);
     }
 }
 
@@ -503,9 +503,9 @@ impl<R: Copy> Entries<R> {
         }
     }
 
-    fn remove(&mut self, place: usize) {
+    fn remove(&mut self, at: usize) {
         let mut all = self.to_vec();
-        all.remove(place);
+        all.remove(at);
         *self = Entries::Many(all);
     }
 }
@@ -551,7 +551,7 @@ struct Turn<'s, R> {
 
 /// The end of a wait in all lines.
 enum Waited {
-    /// The operation at this place has begun.
+    /// The operation at this index has begun.
     Done(usize, Begun),
     /// There was no notification: each operation wasn't ready when it was looked at.
     Quietly,
@@ -575,13 +575,12 @@ impl<R: Copy + Deref<Target: Case>> Turn<'_, R> {
         })
     }
 
-    /// Tries each of these once. Gives the place of the first that is begun; if none is, when to try again though
-    /// nobody notifies.
-    fn try_each(&self, places: Range<usize>) -> Try<(usize, Begun)> {
+    /// Tries each of these once. Gives the index of the first that is begun.
+    fn try_each(&self, range: Range<usize>) -> Try<(usize, Begun)> {
         let mut earliest = Again::WhenNotified;
-        for place in places {
-            match self.entries[place].attempt(self.aim) {
-                Ok(begun) => return Ok((place, begun)),
+        for at in range {
+            match self.entries[at].attempt(self.aim) {
+                Ok(begun) => return Ok((at, begun)),
                 Err(again) => earliest = again.min(earliest),
             }
         }
@@ -618,8 +617,8 @@ impl<R: Copy + Deref<Target: Case>> Turn<'_, R> {
             Parker::with(|parker| {
                 loop {
                     match self.stand_and_park(parker) {
-                        Waited::Done(place, begun) => {
-                            let entry = self.entries[place];
+                        Waited::Done(at, begun) => {
+                            let entry = self.entries[at];
                             if entry.wait_for_pair(&begun, self.until) {
                                 return Some((entry, begun));
                             }
@@ -640,45 +639,45 @@ impl<R: Copy + Deref<Target: Case>> Turn<'_, R> {
     /// operation wasn't tried after it, or was only looked at and is ready.
     fn stand_and_park(&self, parker: &Arc<Parker>) -> Waited {
         let is_over = self.is_over();
-        let mut places: Vec<_> = vec![];
-        places.extend(self.entries.iter().map(|it| {
+        let mut lines: Vec<_> = vec![];
+        lines.extend(self.entries.iter().map(|it| {
             let stands = !self.is_posted(it);
-            stands.then(|| Place::stand(it.case.line(), parker))
+            stands.then(|| Standing::stand(it.case.line(), parker))
         }));
-        let all = 0..places.len();
+        let all = 0..lines.len();
         let until = match self.try_each(all.clone()) {
-            Ok((place, begun)) => return Waited::Done(place, begun),
+            Ok((at, begun)) => return Waited::Done(at, begun),
             Err(again) => again.before(self.until),
         };
-        let posts = places.iter().any(Option::is_none);
+        let posts = lines.iter().any(Option::is_none);
         if posts && !is_over {
-            if let Some((place, begun)) = self.meet(until, parker) {
-                return Waited::Done(place, begun);
+            if let Some((at, begun)) = self.meet(until, parker) {
+                return Waited::Done(at, begun);
             }
         } else if !is_over {
             parker.park(until);
         }
         let mut is_quiet = true;
-        for place in places.iter_mut().flatten() {
-            is_quiet &= place.leave();
+        for line in lines.iter_mut().flatten() {
+            is_quiet &= line.leave();
         }
         if is_quiet && is_over {
             return Waited::Quietly;
         }
         // The one that was notified comes first.
-        let is_notified = |it: &Option<Place>| it.as_ref().is_some_and(|it| it.notified);
-        let first = places.iter().position(is_notified);
+        let is_notified = |it: &Option<Standing>| it.as_ref().is_some_and(|it| it.notified);
+        let first = lines.iter().position(is_notified);
         let notified = first.and_then(|at| self.try_each(at..at + 1).ok());
         let done = notified.or_else(|| self.try_each(all.clone()).ok());
         let tried = match (&done, self.aim) {
-            (&Some((place, _)), Aim::Begin) => place..place + 1,
+            (&Some((at, _)), Aim::Begin) => at..at + 1,
             (Some(_), Aim::Look) => 0..0,
             (None, _) => all,
         };
-        let tried = places[tried].iter_mut().flatten();
-        tried.for_each(|place| place.notified = false);
+        let tried = lines[tried].iter_mut().flatten();
+        tried.for_each(|line| line.notified = false);
         match done {
-            Some((place, begun)) => Waited::Done(place, begun),
+            Some((at, begun)) => Waited::Done(at, begun),
             None if is_quiet => Waited::Quietly,
             None => Waited::Notified,
         }
@@ -687,23 +686,23 @@ impl<R: Copy + Deref<Target: Case>> Turn<'_, R> {
     /// Posts the operations of channels of capacity 0, parks, and takes them off. Gives the one that has met
     /// another.
     fn meet(&self, until: Option<Instant>, parker: &Arc<Parker>) -> Option<(usize, Begun)> {
-        let cases = self.entries.iter().enumerate().filter_map(|(place, it)| {
+        let operations = self.entries.iter().enumerate().filter_map(|(at, it)| {
             let (channel, role) = it.case.rendezvous()?;
-            Some((place, channel, role))
+            Some(Operation { at, channel, role })
         });
-        let cases: Vec<_> = cases.collect();
+        let operations: Vec<_> = operations.collect();
         let waiter = Waiter::new(parker.clone().into());
-        let met = meet_or_post(&cases, &waiter);
+        let met = meet_or_post(&operations, &waiter);
         if met.is_none() {
-            cases
-                .iter()
-                .for_each(|case| self.entries[case.0].case.notify_posted());
+            for it in &operations {
+                self.entries[it.at].case.notify_posted();
+            }
             parker.spin();
             parker.park(until);
         }
         met.or_else(|| {
-            let met = waiter.withdraw(&cases)?;
-            Some((met.place, Begun::Met(met.pair)))
+            let met = waiter.withdraw(&operations)?;
+            Some((met.at, Begun::Met(met.pair)))
         })
     }
 }
