@@ -51,6 +51,18 @@ BOUNDS = {
     f"send and recv of a word, {name}": (f"let (s, r) = {opening}?;", "s.send(i).unwrap(); assert_eq!(r.recv(), Ok(i));", limit)
     for name, opening, limit in (("capacity 64", "channel::<u64>(64)", 735), ("without a bound", "unbounded::<u64>()", 752))
 }
+# Futures that are ready at their first poll, in a program of their own too.
+CONTEXT = "let context = &mut std::task::Context::from_waker(std::task::Waker::noop());"
+FUTURES = {
+    "a try_send, and a ready recv_async": (
+        f"let (s, r) = channel::<u64>(64)?; {CONTEXT}",
+        "s.try_send(i).unwrap(); assert_eq!(std::pin::pin!(r.recv_async()).poll(context), std::task::Poll::Ready(Ok(i)));", 868,
+    ),
+    "a ready send_async, and a try_recv": (
+        f"let (s, r) = channel::<u64>(64)?; {CONTEXT}",
+        "assert!(std::pin::pin!(s.send_async(i)).poll(context).is_ready()); assert_eq!(r.try_recv(), Ok(i));", 857,
+    ),
+}
 # The pairs of the program in C: by handles, as the Rust crate makes them, by one pointer, and the calls that wait. The pointer's has 167 more: each call
 # looks for a free place, takes it by an exchange and gives it back by a store, and an item has room for four words. The calls that wait take a seat, and
 # make a call by its handle. The turns are the same.
@@ -177,7 +189,7 @@ def main():
         return 77
     with tempfile.TemporaryDirectory() as room:
         c, rows = build_c(room), []
-        for part, of_part in (("calls", IN_RUST), ("openings", OPENINGS), ("bounds", BOUNDS)):
+        for part, of_part in (("calls", IN_RUST), ("openings", OPENINGS), ("bounds", BOUNDS), ("futures", FUTURES)):
             rust = build_rust(os.path.join(room, part), of_part)
             rows += [(name, [rust, name], [limit]) for name, (_, _, limit) in of_part.items()]
         rows += [(name, [c, mode], limits) for name, (mode, *limits) in IN_C.items()]

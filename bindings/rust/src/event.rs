@@ -106,6 +106,7 @@ use std::cell::RefCell;
 use std::collections::BTreeMap;
 use std::iter;
 use std::mem::{forget, replace, swap};
+use std::num::NonZeroU64;
 use std::ops::Deref;
 use std::panic::{AssertUnwindSafe, catch_unwind, resume_unwind};
 use std::sync::atomic::{AtomicBool, AtomicUsize, Ordering};
@@ -170,16 +171,16 @@ pub fn drop_each<I>(all: impl IntoIterator<Item = I>) {
 #[derive(Default)]
 struct Line {
     /// The wakers by the numbers of their tickets, in order. None until somebody stands in line.
-    wakers: Option<BTreeMap<u64, Waker>>,
+    wakers: Option<BTreeMap<Ticket, Waker>>,
     /// The number of the last ticket: each has one of its own.
     last: u64,
-    /// How many notifications there were while somebody was in line.
-    notifications: u64,
+    /// The same number at the last notification.
+    last_notified: u64,
 }
 
 impl Line {
     fn pop(&mut self) -> Option<Waker> {
-        self.notifications += 1;
+        self.last_notified = self.last;
         Some(self.wakers.as_mut()?.pop_first()?.1)
     }
 
@@ -187,8 +188,8 @@ impl Line {
         self.wakers.as_ref().map_or(0, BTreeMap::len)
     }
 
-    fn get_mut(&mut self, number: u64) -> Option<&mut Waker> {
-        self.wakers.as_mut()?.get_mut(&number)
+    fn get_mut(&mut self, ticket: Ticket) -> Option<&mut Waker> {
+        self.wakers.as_mut()?.get_mut(&ticket)
     }
 }
 
@@ -216,13 +217,9 @@ impl<T> Deref for Apart<T> {
     }
 }
 
-/// A place in the line of an event, until a notification takes it out.
-#[derive(Clone, Copy, Debug)]
-pub struct Ticket {
-    number: u64,
-    /// The notifications before it.
-    notifications: u64,
-}
+/// The number of a waiter in the line of an event, until a notification takes it out.
+#[derive(Clone, Copy, PartialEq, Eq, PartialOrd, Ord)]
+pub struct Ticket(NonZeroU64);
 
 /// Whom notifications took out of a line while a waiter was in it.
 #[derive(PartialEq)]
@@ -257,30 +254,25 @@ impl Event {
     /// Stands in line. The waiter has to try after this, before it waits.
     pub fn stand(&self, waker: Waker) -> Ticket {
         self.with_line(|line| {
-            line.last += 1;
-            let wakers = line.wakers.get_or_insert_default();
-            wakers.insert(line.last, waker);
-            let (number, notifications) = (line.last, line.notifications);
-            Ticket {
-                number,
-                notifications,
-            }
+            let ticket = Ticket(NonZeroU64::MIN.saturating_add(line.last));
+            line.last = ticket.0.get();
+            line.wakers.get_or_insert_default().insert(ticket, waker);
+            ticket
         })
     }
 
     /// Stays in line with this waker, after a try that found nothing. Returns whether it was still
     /// there.
     pub fn stay(&self, ticket: Ticket, waker: &Waker, panics: &mut Panics) -> bool {
-        let number = ticket.number;
-        let is_same = |line: &mut Line| Some(line.get_mut(number)?.will_wake(waker));
+        let is_same = |line: &mut Line| Some(line.get_mut(ticket)?.will_wake(waker));
         match is_same(&mut lock(&self.line)) {
             Some(false) => {}
             there => return there.is_some(),
         }
         let mut waker = waker.clone();
         let is_there = self.with_line(|line| {
-            let place = line.get_mut(number);
-            place.map(|place| swap(place, &mut waker)).is_some()
+            let noted = line.get_mut(ticket);
+            noted.map(|noted| swap(noted, &mut waker)).is_some()
         });
         // The one that isn't in line.
         panics.run_each([waker], drop);
@@ -289,16 +281,13 @@ impl Event {
 
     /// Leaves the line. Returns whom notifications took out since this one entered it.
     pub fn leave(&self, ticket: Ticket, panics: &mut Panics) -> Notified {
-        let (waker, notifications) = self.with_line(|line| {
-            let waker = line
-                .wakers
-                .as_mut()
-                .and_then(|it| it.remove(&ticket.number));
-            (waker, line.notifications)
+        let (waker, last_notified) = self.with_line(|line| {
+            let waker = line.wakers.as_mut().and_then(|it| it.remove(&ticket));
+            (waker, line.last_notified)
         });
         let notified = match waker {
             None => Notified::This,
-            Some(_) if notifications != ticket.notifications => Notified::Others,
+            Some(_) if ticket.0.get() <= last_notified => Notified::Others,
             Some(_) => Notified::None,
         };
         panics.run_each(waker, drop);

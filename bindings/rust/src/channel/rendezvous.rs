@@ -33,7 +33,6 @@
 //! post notifies: see [`event`](crate::event).
 //!
 //! **Order of locks**: the lines, by their address; the pairs; a waiter. User code runs while none is held.
-use super::core::Core;
 use super::select::{Begun, Case as _};
 use super::{Receiver, RecvTimeoutError, SendError, SendTimeoutError, Sender, TrySendError};
 use crate::event::{Again, Panics, Try, ignore_panics, lock, poll_until};
@@ -59,6 +58,9 @@ impl Role {
         }
     }
 }
+
+/// Why a call here finds a rendezvous.
+const MEETS: &str = "the channel has capacity 0";
 
 /// How long a take whose time is over waits for the item of a send that it has met.
 const GRACE: Duration = Duration::from_millis(1);
@@ -431,13 +433,6 @@ impl<T> Rendezvous<T> {
         })
     }
 
-    /// Takes this item off, if nobody took it.
-    pub fn withdraw(&self, number: u64, panics: &mut Panics) -> Option<T> {
-        let Offer { item, waker } = lock(&self.pairs).offers.remove(&number)?;
-        panics.run_each(waker, drop);
-        Some(item)
-    }
-
     /// Nobody meets any more. Sets this flag in the same step, and returns what it was.
     pub fn close(&self, closed: &AtomicBool) -> bool {
         let mut lines = lock(&self.lines);
@@ -538,14 +533,12 @@ pub fn try_meet(channel: &dyn Meets, role: Role) -> Try<Begun> {
     Ok(met.ok_or(Again::WhenNotified)?.wake())
 }
 
-impl<T> Core<T> {
-    /// A task that was given this item is dropped: the item goes to the next take.
-    pub fn give_back_item(&self, rendezvous: &Rendezvous<T>, item: T) {
-        if let Err((item, _lines)) = rendezvous.give(item) {
-            lock(&rendezvous.pairs).returned.push_back(item);
-        }
-        self.notify_item();
-    }
+/// How far the send of a task is, or that of a thread.
+pub enum OfferState<T> {
+    /// The item is here, until it is given or handed back.
+    Here(Option<T>),
+    /// It is posted under this number.
+    Posted(u64),
 }
 
 /// How far the take of a task is, or that of a thread.
@@ -567,9 +560,7 @@ impl<T> Receiver<T> {
         until: Option<Instant>,
     ) -> Result<T, RecvTimeoutError> {
         let (mut taker, mut panics) = (TakerState::Idle, Panics::default());
-        let polled = poll_until(until, |waker| {
-            self.poll_met(rendezvous, &mut taker, waker, &mut panics)
-        });
+        let polled = poll_until(until, |waker| self.poll_met(&mut taker, waker, &mut panics));
         if let Some(item) = polled {
             return item.ok_or(RecvTimeoutError::Disconnected);
         }
@@ -584,11 +575,11 @@ impl<T> Receiver<T> {
     /// None if the channel is closed.
     pub(super) fn poll_met(
         &self,
-        rendezvous: &Rendezvous<T>,
         taker: &mut TakerState,
         waker: &Waker,
         panics: &mut Panics,
     ) -> Poll<Option<T>> {
+        let rendezvous = self.rendezvous().expect(MEETS);
         loop {
             let pair = match taker {
                 TakerState::Met(pair) => *pair,
@@ -622,56 +613,80 @@ impl<T> Receiver<T> {
             }
         }
     }
+
+    /// A task's take is no more: an item that it was given goes to the next take.
+    pub(super) fn leave_met(&self, taker: TakerState, panics: &mut Panics) {
+        let rendezvous = self.rendezvous().expect(MEETS);
+        if let Some(item) = rendezvous.leave(taker, panics) {
+            if let Err((item, _lines)) = rendezvous.give(item) {
+                lock(&rendezvous.pairs).returned.push_back(item);
+            }
+            self.line().notify_one();
+        }
+    }
 }
 
 impl<T> Sender<T> {
     /// One poll of a send: gives the item to a take, or posts it, and then looks whether it was taken.
     pub(super) fn poll_posted(
         &self,
-        rendezvous: &Rendezvous<T>,
-        item: impl FnOnce() -> T,
-        offer: &mut Option<u64>,
+        offer: &mut OfferState<T>,
         waker: &Waker,
         panics: &mut Panics,
     ) -> Poll<Result<(), SendError<T>>> {
-        let left = if let Some(number) = *offer {
-            let polled = rendezvous.poll_offer(number, waker, panics);
-            if polled.is_pending() && !self.is_closed() {
-                return Poll::Pending;
+        let rendezvous = self.core().rendezvous.as_ref().expect(MEETS);
+        let left = match offer {
+            OfferState::Posted(number) => {
+                let polled = rendezvous.poll_offer(*number, waker, panics);
+                if polled.is_pending() && !self.is_closed() {
+                    return Poll::Pending;
+                }
+                self.withdraw(mem::replace(offer, OfferState::Here(None)), panics)
             }
-            *offer = None;
-            rendezvous.withdraw(number, panics)
-        } else {
-            let mut waker = Some(waker.clone());
-            let posted = rendezvous.post(item(), &mut waker);
-            panics.run_each(waker, drop);
-            if let Ok(Some(number)) = posted {
-                *offer = Some(number);
-                self.core().notify_item();
-                return Poll::Pending;
+            OfferState::Here(item) => {
+                let mut waker = Some(waker.clone());
+                let item = item.take().expect("the item isn't given yet");
+                let posted = rendezvous.post(item, &mut waker);
+                panics.run_each(waker, drop);
+                if let Ok(Some(number)) = posted {
+                    *offer = OfferState::Posted(number);
+                    self.core().notify_item();
+                    return Poll::Pending;
+                }
+                posted.err()
             }
-            posted.err()
         };
         Poll::Ready(left.map_or(Ok(()), |it| Err(SendError(it))))
+    }
+
+    /// A send ends. Gives the item, if nobody has it.
+    pub(super) fn withdraw(&self, offer: OfferState<T>, panics: &mut Panics) -> Option<T> {
+        let rendezvous = self.core().rendezvous.as_ref().expect(MEETS);
+        match offer {
+            OfferState::Here(item) => item,
+            OfferState::Posted(number) => {
+                let Offer { item, waker } = lock(&rendezvous.pairs).offers.remove(&number)?;
+                panics.run_each(waker, drop);
+                Some(item)
+            }
+        }
     }
 
     /// Sends to one that takes, and waits for one until this moment.
     #[cold]
     pub(super) fn meet_until(
         &self,
-        rendezvous: &Rendezvous<T>,
         item: T,
         until: Option<Instant>,
     ) -> Result<(), SendTimeoutError<T>> {
-        let (mut item, mut offer, mut panics) = (Some(item), None, Panics::default());
+        let (mut offer, mut panics) = (OfferState::Here(Some(item)), Panics::default());
         let polled = poll_until(until, |waker| {
-            let item = || item.take().expect("it is posted once");
-            self.poll_posted(rendezvous, item, &mut offer, waker, &mut panics)
+            self.poll_posted(&mut offer, waker, &mut panics)
         });
         if let Some(sent) = polled {
             return Ok(sent?);
         }
-        let left = offer.and_then(|number| rendezvous.withdraw(number, &mut panics));
+        let left = self.withdraw(offer, &mut panics);
         left.map_or(Ok(()), |item| Err(SendTimeoutError::Timeout(item)))
     }
 }

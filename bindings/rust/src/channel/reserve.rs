@@ -89,7 +89,7 @@ impl<T> Core<T> {
 
     /// Looks whether there is room, if these hints say that the last send found none.
     #[inline]
-    fn look_after_full(&self, hints: usize) -> Try<()> {
+    pub fn look_after_full(&self, hints: usize) -> Try<()> {
         if hints & WAS_FULL != 0 {
             self.has_room_beside(0)?;
             self.hints.fetch_and(!WAS_FULL, Ordering::Relaxed);

@@ -178,7 +178,7 @@ impl<T> Sender<T> {
         match (begun, &self.core().rendezvous) {
             (Begun::Met(pair), Some(rendezvous)) => rendezvous.send(pair, item).or_else(|item| {
                 // The take gave the pair up: the send waits for another one, as long as its select would have.
-                let sent = self.meet_until(rendezvous, item, until);
+                let sent = self.meet_until(item, until);
                 sent.map_err(|error| SendError(error.into_inner()))
             }),
             (Begun::Room, _) => {
