@@ -451,6 +451,16 @@ pub fn poll_until<R>(until: Option<Instant>, mut poll: impl FnMut(&Waker) -> Pol
     })
 }
 
+/// Tries until it is done. It tries again each millisecond at the latest, since a notification may be missed.
+pub fn wait_without_end<R>(
+    event: &Event,
+    rounds: Rounds,
+    mut attempt: impl FnMut() -> Option<R>,
+) -> R {
+    let attempt = || attempt().ok_or_else(Again::soon);
+    wait(event, rounds, None, attempt).expect("it waits without end")
+}
+
 /// Tries until it is done, or until this moment: then None. After these rounds it waits for notifications between
 /// its tries.
 pub fn wait<R>(

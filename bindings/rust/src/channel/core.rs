@@ -37,11 +37,7 @@ impl Side {
     /// With these passes of a queue of this number of groups.
     #[inline]
     fn new(handles: impl IntoIterator<Item = Handle>, shares: usize) -> Side {
-        let passes = handles.into_iter().map(|handle| Pass {
-            handle,
-            queue: 0,
-            shares,
-        });
+        let passes = handles.into_iter().map(|it| Pass::new(it, 0, shares));
         Side {
             line: Apart::default(),
             seats: Pool::new(passes),
@@ -309,7 +305,14 @@ impl<T> Core<T> {
     /// Sends by this seat. If the queue refuses, it tries once more.
     #[inline]
     pub fn send_or_again(&self, item: &mut Unsent<T>, mut seat: SeatGuard) -> Try<bool> {
-        match self.send_by(&mut seat, item) {
+        let code = self.send_by(&mut seat, item);
+        self.end_send(item, code, seat)
+    }
+
+    /// Ends a send by this seat, to which the queue gave this code. If the queue refused, it tries once more.
+    #[inline]
+    pub fn end_send(&self, item: &mut Unsent<T>, code: u32, seat: SeatGuard) -> Try<bool> {
+        match code {
             code::ACCEPTED => drop(seat),
             code => return self.send_again(item, code, seat),
         }
@@ -319,7 +322,7 @@ impl<T> Core<T> {
 
     /// Tries once more to send an item that the queue of this seat refused with this code.
     #[cold]
-    pub fn send_again(&self, item: &mut Unsent<T>, code: u32, seat: SeatGuard) -> Try<bool> {
+    fn send_again(&self, item: &mut Unsent<T>, code: u32, seat: SeatGuard) -> Try<bool> {
         match &self.row {
             Some(row) => self.send_further(row, item, code, seat),
             None => Ok(self.retry_after_refusal(code, seat)? && self.try_send(item)?),

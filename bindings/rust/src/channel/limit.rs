@@ -15,14 +15,11 @@ use super::core::{Core, Side};
 use super::pool::SeatGuard;
 use super::row::Row;
 use crate::event::{Again, Try, lock};
-use crate::queue::handle::code;
 use std::sync::atomic::{AtomicU64, Ordering};
-use std::thread;
-use std::time::Duration;
 
 /// The limit of a row, and the counts by which it is kept.
 pub struct Limit {
-    capacity: usize,
+    pub capacity: usize,
     /// How many items were given room.
     given: AtomicU64,
     /// How many of these have given it back. It grows after `given`, so a number that was read before is too small at most.
@@ -39,10 +36,6 @@ impl Limit {
             given_back: AtomicU64::new(0),
             taken: AtomicU64::new(0),
         }
-    }
-
-    pub fn capacity(&self) -> usize {
-        self.capacity
     }
 
     /// Whether these items are fewer than the limit, if this many were taken.
@@ -114,7 +107,7 @@ impl<T> Core<T> {
         Again::unless(!is_full || !is_same || self.is_closed())
     }
 
-    /// Tries to send by this seat, if there is room.
+    /// Tries to send by this seat, if there is room. The seat is held until the item is accepted.
     pub fn send_within_limit<'a>(
         &'a self,
         row: &Row,
@@ -129,22 +122,11 @@ impl<T> Core<T> {
             }
             seat = self.senders.seats.acquire();
         }
-        let sent = self.send_with_room(item, seat);
+        let sent = self.send_or_again(item, seat);
         if sent != Ok(true) {
             self.give_back_room();
         }
         sent
-    }
-
-    /// Sends an item that has room, by this seat, which it keeps until the item is accepted. Returns whether it is; if not, the
-    /// channel is closed.
-    fn send_with_room(&self, item: &mut Unsent<T>, mut seat: SeatGuard) -> Try<bool> {
-        match self.send_by(&mut seat, item) {
-            code::ACCEPTED => drop(seat),
-            code => return self.send_again(item, code, seat),
-        }
-        self.notify_item();
-        Ok(true)
     }
 
     /// Reserves room for one send. Returns whether it has; if not, the channel is closed.
@@ -160,20 +142,5 @@ impl<T> Core<T> {
             self.give_back_room();
         }
         Ok(!is_closed)
-    }
-
-    /// Sends to room that was reserved. Returns whether it is sent; if not, the channel is closed.
-    pub fn send_to_room_of_row(&self, item: &mut Unsent<T>) -> bool {
-        loop {
-            match self.send_with_room(item, self.senders.seats.acquire()) {
-                Ok(true) => return true,
-                Ok(false) => {
-                    self.give_back_room();
-                    return false;
-                }
-                // Memory is wanting for a further queue.
-                Err(_) => thread::sleep(Duration::from_millis(1)),
-            }
-        }
     }
 }

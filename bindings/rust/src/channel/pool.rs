@@ -9,7 +9,7 @@
 #![allow(unsafe_code)]
 
 use crate::backoff::FOR_OWN_SIDE;
-use crate::event::{Again, Apart, Event, Panics, wait};
+use crate::event::{Apart, Event, Panics, wait_without_end};
 use crate::queue::handle::Handle;
 use std::cell::{Cell, UnsafeCell};
 use std::iter;
@@ -38,6 +38,17 @@ pub struct Pass {
     pub queue: u64,
     /// How many groups that queue has.
     pub shares: usize,
+}
+
+impl Pass {
+    #[inline]
+    pub fn new(handle: Handle, queue: u64, shares: usize) -> Pass {
+        Pass {
+            handle,
+            queue,
+            shares,
+        }
+    }
 }
 
 /// A cache line for itself.
@@ -301,19 +312,21 @@ impl Pool {
         self.try_acquire().unwrap_or_else(|| self.acquire_another())
     }
 
+    /// Waits in line for a free seat. The holder's look at the line may come before this thread sees the store that frees the seat.
+    fn wait_for_free<R>(&self, attempt: impl FnMut() -> Option<R>) -> R {
+        wait_without_end(&self.free, FOR_OWN_SIDE, attempt)
+    }
+
     #[cold]
     pub fn acquire_another(&self) -> SeatGuard<'_> {
         let hint = HINT.get();
-        let first_free = || {
+        let (at, held) = self.wait_for_free(|| {
             let others = self.others();
             let mut around = hint..=hint + others.len();
-            let found = around.find_map(|at| Some((at, self.try_seat(self.seat_at(others, at))?)));
-            // The look at the line may come before the store for this thread: so it doesn't wait for a notification alone.
-            let (at, held) = found.ok_or_else(Again::soon)?;
-            HINT.set(at % MOST);
-            Ok(held)
-        };
-        wait(&self.free, FOR_OWN_SIDE, None, first_free).expect("it waits without end")
+            around.find_map(|at| Some((at, self.try_seat(self.seat_at(others, at))?)))
+        });
+        HINT.set(at % MOST);
+        held
     }
 
     /// All seats. A caller that comes to the end of the others knows those that were added before it came to the first one.
@@ -347,16 +360,12 @@ impl Pool {
     /// Waits until this seat was free once, in line.
     #[cold]
     fn wait_for(&self, seat: &Seat) {
-        let is_free = || (!seat.is_held()).then_some(()).ok_or_else(Again::soon);
-        wait(&self.free, FOR_OWN_SIDE, None, is_free).expect("it waits without end");
+        self.wait_for_free(|| (!seat.is_held()).then_some(()));
     }
 
     /// Acquires all seats, each once it is free. It waits in line for one whose holder doesn't run.
     pub fn acquire_all(&self) -> Vec<SeatGuard<'_>> {
-        let acquire = |seat| {
-            let attempt = || self.try_seat(seat).ok_or_else(Again::soon);
-            wait(&self.free, FOR_OWN_SIDE, None, attempt).expect("it waits without end")
-        };
+        let acquire = |seat| self.wait_for_free(|| self.try_seat(seat));
         self.seats().map(acquire).collect()
     }
 }

@@ -103,11 +103,7 @@ impl<T> Core<T> {
         let queue = seats[0][0].pass().0.queue + 1;
         let shares = alive.len();
         for ((side, seats), handles) in sides().zip(&mut seats).zip(handles) {
-            let mut passes = handles.into_iter().map(|handle| Pass {
-                handle,
-                queue,
-                shares,
-            });
+            let mut passes = handles.into_iter().map(|it| Pass::new(it, queue, shares));
             for (seat, pass) in seats.iter_mut().zip(passes.by_ref()) {
                 *seat.pass().0 = pass;
             }

@@ -130,19 +130,23 @@ impl<T> Core<T> {
 
     /// Sends to room that was reserved. Returns whether it is sent; if not, the channel is closed.
     pub fn send_to_room(&self, item: &mut Unsent<T>) -> bool {
-        if self.row.is_some() {
-            return self.send_to_room_of_row(item);
-        }
         loop {
             let mut seat = self.senders.seats.acquire();
             let code = self.send_by(&mut seat, item);
             if code == code::ACCEPTED {
-                self.hints.fetch_sub(RESERVED, Ordering::SeqCst);
+                if self.row.is_none() {
+                    self.hints.fetch_sub(RESERVED, Ordering::SeqCst);
+                }
                 drop(seat);
                 self.notify_item();
                 return true;
             }
-            match self.retry_after_refusal(code, seat) {
+            let tried = match &self.row {
+                Some(row) => self.send_further(row, item, code, seat),
+                None => self.retry_after_refusal(code, seat),
+            };
+            match tried {
+                Ok(true) if self.row.is_some() => return true,
                 Ok(true) => {}
                 Ok(false) => {
                     self.give_back_room();
@@ -187,11 +191,6 @@ impl<T> Core<T> {
         let mut seat = self.senders.seats.acquire();
         let code = self.send_by(&mut seat, item);
         drop(in_queue);
-        if code != code::ACCEPTED {
-            return self.send_again(item, code, seat);
-        }
-        drop(seat);
-        self.notify_item();
-        Ok(true)
+        self.end_send(item, code, seat)
     }
 }

@@ -131,7 +131,7 @@ impl Row {
 
     /// How many items it may hold; None if any number.
     pub fn capacity(&self) -> Option<usize> {
-        self.limit.as_ref().map(Limit::capacity)
+        self.limit.as_ref().map(|it| it.capacity)
     }
 
     fn lock(&self) -> Locked<'_> {
@@ -233,12 +233,7 @@ impl Locked<'_> {
             let (index, pass) = (seat.index(), seat.pass().0);
             if pass.queue < number {
                 let handle = replace(&mut queue.passes[side][index], Handle::empty());
-                let queue = number;
-                let next = Pass {
-                    handle,
-                    queue,
-                    shares,
-                };
+                let next = Pass::new(handle, number, shares);
                 self.released.push(replace(pass, next).handle);
             }
         };

@@ -3,7 +3,7 @@ use super::body::Parcel;
 use super::core::{Core, SENDERS, Side};
 use super::timer::Timer;
 use crate::backoff::{FOR_OTHERS, let_ahead};
-use crate::event::{Again, Event, Try, lock, wait};
+use crate::event::{Event, Try, lock, wait, wait_without_end};
 use std::panic::RefUnwindSafe;
 use std::sync::{Arc, OnceLock, Weak};
 use std::time::Instant;
@@ -95,8 +95,8 @@ impl<T> Core<T> {
             // Another thread may be dropping the last one, which then wakes the side's line: this waits until all is done that
             // comes of it. Nobody else waits there any more, so it takes away no notification.
             let side = self.side(side);
-            let is_lost = || side.is_lost().then_some(()).ok_or_else(Again::soon);
-            wait(&side.line, FOR_OTHERS, None, is_lost).expect("it waits without end");
+            let is_lost = || side.is_lost().then_some(());
+            wait_without_end(&side.line, FOR_OTHERS, is_lost);
             drop(lock(&self.in_queue));
         }
         shared
