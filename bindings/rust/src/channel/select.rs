@@ -534,14 +534,6 @@ impl<R> DerefMut for Entries<R> {
     }
 }
 
-/// Puts operations in a random order.
-#[inline]
-fn shuffle<R>(entries: &mut [Entry<R>]) {
-    for last in (1..entries.len()).rev() {
-        entries.swap(last, random_below(last + 1));
-    }
-}
-
 /// A select of these operations, in the order in which they are tried, until this moment.
 struct Turn<'s, R> {
     entries: &'s [Entry<R>],
@@ -558,7 +550,29 @@ enum Waited {
     Notified,
 }
 
-impl<R: Copy + Deref<Target: Case>> Turn<'_, R> {
+impl<'s, R: Copy + Deref<Target: Case>> Turn<'s, R> {
+    /// In the order of their indices if it is biased, and else in a random one.
+    #[inline]
+    fn new(
+        entries: &'s mut [Entry<R>],
+        is_biased: bool,
+        aim: Aim,
+        until: Option<Instant>,
+    ) -> Turn<'s, R> {
+        if is_biased {
+            entries.sort_by_key(|it| it.index);
+        } else {
+            for last in (1..entries.len()).rev() {
+                entries.swap(last, random_below(last + 1));
+            }
+        }
+        Turn {
+            entries,
+            aim,
+            until,
+        }
+    }
+
     /// Tries each until one is done, or the time is over.
     #[inline]
     fn wait(&self) -> Option<(Entry<R>, Begun)> {
@@ -639,11 +653,11 @@ impl<R: Copy + Deref<Target: Case>> Turn<'_, R> {
     /// operation wasn't tried after it, or was only looked at and is ready.
     fn stand_and_park(&self, parker: &Arc<Parker>) -> Waited {
         let is_over = self.is_over();
-        let mut lines: Vec<_> = vec![];
-        lines.extend(self.entries.iter().map(|it| {
+        let stand = |it: &'s Entry<R>| {
             let stands = !self.is_posted(it);
             stands.then(|| Standing::stand(it.case.line(), parker))
-        }));
+        };
+        let mut lines: Vec<_> = self.entries.iter().map(stand).collect();
         let all = 0..lines.len();
         let until = match self.try_each(all.clone()) {
             Ok((at, begun)) => return Waited::Done(at, begun),
@@ -708,27 +722,9 @@ impl<R: Copy + Deref<Target: Case>> Turn<'_, R> {
 }
 
 impl<'a> Select<'a> {
-    fn wait(
-        &mut self,
-        aim: Aim,
-        until: Option<Instant>,
-    ) -> Option<(Entry<&'a (dyn Case + Sync)>, Begun)> {
-        let entries = &mut self.entries[..];
-        if self.is_biased {
-            entries.sort_by_key(|it| it.index);
-        } else {
-            shuffle(entries);
-        }
-        Turn {
-            entries,
-            aim,
-            until,
-        }
-        .wait()
-    }
-
     fn select_until(&mut self, until: Option<Instant>) -> Option<SelectedOperation<'a>> {
-        let (Entry { index, case }, begun) = self.wait(Aim::Begin, until)?;
+        let turn = Turn::new(&mut self.entries, self.is_biased, Aim::Begin, until);
+        let (Entry { index, case }, begun) = turn.wait()?;
         Some(SelectedOperation::new(Entry { index, case }, begun, until))
     }
 
@@ -772,11 +768,7 @@ impl<'a> Select<'a> {
     /// # Ok::<(), vahepito::OpenError>(())
     /// ```
     pub fn select(&mut self) -> SelectedOperation<'a> {
-        loop {
-            if let Some(operation) = self.select_until(None) {
-                return operation;
-            }
-        }
+        self.select_until(None).expect("it waits without end")
     }
 
     /// Waits until an operation is ready, but not longer than this, and begins it.
@@ -831,7 +823,8 @@ impl<'a> Select<'a> {
     }
 
     fn ready_until(&mut self, until: Option<Instant>) -> Option<usize> {
-        Some(self.wait(Aim::Look, until)?.0.index)
+        let turn = Turn::new(&mut self.entries, self.is_biased, Aim::Look, until);
+        Some(turn.wait()?.0.index)
     }
 
     /// Returns the index of an operation that is ready, if there is one. Another thread may make it
@@ -876,11 +869,7 @@ impl<'a> Select<'a> {
     /// # Ok::<(), vahepito::OpenError>(())
     /// ```
     pub fn ready(&mut self) -> usize {
-        loop {
-            if let Some(index) = self.ready_until(None) {
-                return index;
-            }
-        }
+        self.ready_until(None).expect("it waits without end")
     }
 
     /// Waits until an operation is ready, but not longer than this, and returns its index.
@@ -941,17 +930,9 @@ pub fn select_arms<'a, const N: usize>(
         index: index.next().unwrap_or_default(),
         case,
     });
-    if !is_biased {
-        shuffle(&mut entries);
-    }
     // A moment beyond the clock's range never comes.
     let until = time.and_then(|time| Instant::now().checked_add(time));
-    let turn = Turn {
-        entries: &entries,
-        aim: Aim::Begin,
-        until,
-    };
-    let (entry, begun) = turn.wait()?;
+    let (entry, begun) = Turn::new(&mut entries, is_biased, Aim::Begin, until).wait()?;
     Some(SelectedOperation::new(entry, begun, until))
 }
 
