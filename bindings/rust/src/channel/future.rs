@@ -147,9 +147,7 @@ impl<T> Future for RecvFuture<'_, T> {
                     taken.map(|parcel| parcel.map(Parcel::unpack))
                 }
                 (Takes::InLine(ticket), Source::Timer(timer)) => {
-                    let attempt = || timer.try_take();
-                    let taken = poll_in_line(ticket, receiver, waker, panics, attempt);
-                    taken.map(|moment| moment.map(|it| timer.item_of(it)))
+                    poll_in_line(ticket, receiver, waker, panics, || timer.try_recv())
                 }
             }
         });

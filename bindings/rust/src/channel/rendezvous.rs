@@ -38,6 +38,7 @@ use super::{Receiver, RecvTimeoutError, SendError, SendTimeoutError, Sender, Try
 use crate::event::{Again, Panics, Try, ignore_panics, lock, poll_until};
 use std::collections::{BTreeMap, VecDeque};
 use std::mem::{self, swap};
+use std::ptr;
 use std::sync::atomic::{AtomicBool, Ordering};
 use std::sync::{Arc, Mutex, MutexGuard};
 use std::task::{Poll, Waker, ready};
@@ -133,8 +134,7 @@ impl Waiter {
     /// Takes it off these channels, and returns how it was met before.
     pub fn withdraw(self: &Arc<Waiter>, operations: &[Operation]) -> Option<Meeting> {
         for &Operation { channel, role, .. } in operations {
-            let mut lines = lock(channel.lines());
-            let posted = lines.posted(role);
+            let posted = &mut lock(channel.lines()).posted[role as usize];
             posted.retain(|other| !Arc::ptr_eq(&other.waiter, self));
         }
         lock(&self.0).met
@@ -152,13 +152,6 @@ pub struct Lines {
     is_closed: bool,
     /// By their roles.
     posted: [VecDeque<Posted>; 2],
-}
-
-impl Lines {
-    /// Those that are posted for this role.
-    fn posted(&mut self, role: Role) -> &mut VecDeque<Posted> {
-        &mut self.posted[role as usize]
-    }
 }
 
 /// An operation that has met another.
@@ -198,26 +191,21 @@ pub struct Operation<'a> {
 
 /// Meets one that is posted for one of these operations, or posts this waiter for all.
 pub fn meet_or_post(operations: &[Operation], waiter: &Arc<Waiter>) -> Option<(usize, Begun)> {
-    let address = |channel: &dyn Meets| std::ptr::from_ref(channel.lines()).addr();
-    let mut channels: Vec<&dyn Meets> = operations.iter().map(|it| it.channel).collect();
-    channels.sort_by_key(|channel| address(*channel));
-    channels.dedup_by_key(|channel| address(*channel));
-    let addresses: Vec<usize> = channels.iter().map(|channel| address(*channel)).collect();
-    let lines_of = |channel| addresses.partition_point(|other| *other < address(channel));
-    let mut locked: Vec<_> = channels
-        .iter()
-        .map(|channel| lock(channel.lines()))
-        .collect();
+    let mut all: Vec<_> = operations.iter().map(|it| it.channel.lines()).collect();
+    all.sort_by_key(|it| ptr::from_ref(*it));
+    all.dedup_by_key(|it| ptr::from_ref(*it));
+    let mut locked: Vec<_> = all.iter().map(|it| lock(it)).collect();
+    let index = |lines| all.partition_point(|it| ptr::from_ref(*it) < ptr::from_ref(lines));
     for &Operation { at, channel, role } in operations {
-        if let Some(met) = channel.begin(&mut locked[lines_of(channel)], role) {
+        let lines = &mut locked[index(channel.lines())];
+        if let Some(met) = channel.begin(lines, role) {
             drop(locked);
             return Some((at, met.wake()));
         }
     }
     for &Operation { at, channel, role } in operations {
-        let waiter = waiter.clone();
-        let posted = locked[lines_of(channel)].posted(role);
-        posted.push_back(Posted { waiter, at });
+        let (waiter, lines) = (waiter.clone(), &mut locked[index(channel.lines())]);
+        lines.posted[role as usize].push_back(Posted { waiter, at });
     }
     None
 }
@@ -262,7 +250,8 @@ impl<T> Pairs<T> {
 
     /// Meets the first waiter of the other role that nobody has met, with the item if it is at hand.
     fn meet(&mut self, lines: &mut Lines, role: Role, item: &mut Option<T>) -> Option<Met> {
-        while let Some(Posted { waiter, at }) = lines.posted(role.other()).pop_front() {
+        let posted = &mut lines.posted[role.other() as usize];
+        while let Some(Posted { waiter, at }) = posted.pop_front() {
             let pair = self.last + 1;
             if let Some(mut waits) = waiter.try_meet(Meeting { at, pair }) {
                 let (item, waker) = (item.take(), waits.waker.take());
@@ -509,10 +498,11 @@ impl<T> Meets for Rendezvous<T> {
     }
 
     fn look(&self, role: Role) -> Try<()> {
-        let mut lines = lock(&self.lines);
+        let lines = lock(&self.lines);
         let pairs = lock(&self.pairs);
         let has_item = role == Role::Take && pairs.offers.len() + pairs.returned.len() > 0;
-        Again::unless(has_item || lines.is_closed || !lines.posted(role.other()).is_empty())
+        let has_waiter = !lines.posted[role.other() as usize].is_empty();
+        Again::unless(has_item || has_waiter || lines.is_closed)
     }
 
     fn wait_for_pair(&self, begun: &Begun, role: Role, until: Option<Instant>) -> bool {
@@ -554,11 +544,8 @@ pub enum TakerState {
 impl<T> Receiver<T> {
     /// Takes an item of one that sends, and waits for one until this moment.
     #[cold]
-    pub(super) fn meet_until(
-        &self,
-        rendezvous: &Rendezvous<T>,
-        until: Option<Instant>,
-    ) -> Result<T, RecvTimeoutError> {
+    pub(super) fn meet_until(&self, until: Option<Instant>) -> Result<T, RecvTimeoutError> {
+        let rendezvous = self.rendezvous().expect(MEETS);
         let (mut taker, mut panics) = (TakerState::Idle, Panics::default());
         let polled = poll_until(until, |waker| self.poll_met(&mut taker, waker, &mut panics));
         if let Some(item) = polled {

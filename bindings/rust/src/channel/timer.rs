@@ -38,6 +38,11 @@ impl<T> Timer<T> {
         Ok(Some(at))
     }
 
+    /// Takes the item of the moment if that has come, as `try_take` does.
+    pub fn try_recv(&self) -> Try<Option<T>> {
+        Ok(self.try_take()?.map(|moment| self.item_of(moment)))
+    }
+
     /// The item of a moment that was taken.
     pub fn item_of(&self, moment: Instant) -> T {
         self.item.expect("a timer without items has no moment")(moment)
