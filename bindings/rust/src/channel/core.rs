@@ -388,8 +388,7 @@ impl<T> Core<T> {
             return Err(code::EMPTY);
         }
         let mut seat = self.acquire_seat(self.groups.of(group));
-        let (pass, line) = seat.pass();
-        let parcel = self.take_by(pass, line)?;
+        let parcel = self.take_by(&mut seat)?;
         self.count_taken(seat);
         Ok(parcel)
     }
@@ -454,8 +453,10 @@ impl<T> Core<T> {
         Some(kept.items.swap_remove(at).1)
     }
 
+    /// Takes an item by this seat. Gives the queue's code if there is none.
     #[allow(unsafe_code)]
-    pub fn take_by(&self, pass: &mut Pass, line: &Event) -> Result<Parcel<T>, u32> {
+    pub fn take_by(&self, seat: &mut SeatGuard) -> Result<Parcel<T>, u32> {
+        let (pass, line) = seat.pass();
         let words = pass.handle.take(words_of(self.copies), line)?;
         // SAFETY: what is in the queue was sent as the words of parcels, with these `copies`; each was
         // for as many groups as the queue has; and a group takes each item of the queue once.
@@ -481,8 +482,7 @@ impl<T> Core<T> {
             return self.close_row(row);
         }
         let mut seat = self.senders.seats.acquire();
-        let (pass, line) = seat.pass();
-        let closed = pass.handle.close(line);
+        let closed = seat.close();
         // While the seat is held, so that whoever has all seats knows it.
         self.set_closed();
         closed

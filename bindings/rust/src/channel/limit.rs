@@ -73,9 +73,8 @@ impl<T> Core<T> {
     /// Gets room for an item, if there is some.
     fn get_room(&self, row: &Row) -> bool {
         let taken_by_all = || self.alive().map(|group| group.seats.count()).min();
-        row.limit
-            .as_ref()
-            .is_none_or(|it| it.give_room(taken_by_all))
+        let limit = row.limit.as_ref();
+        limit.is_none_or(|it| it.give_room(taken_by_all))
     }
 
     /// Whether there seems to be room, or none will come. If it says no, there was none at some moment of this call.
@@ -89,10 +88,8 @@ impl<T> Core<T> {
             return Ok(());
         }
         let given_back = limit.given_back.load(Ordering::SeqCst);
-        let items = limit
-            .given
-            .load(Ordering::SeqCst)
-            .saturating_sub(given_back);
+        let given = limit.given.load(Ordering::SeqCst);
+        let items = given.saturating_sub(given_back);
         let has_room = |it: &Side| limit.has_room(items, it.seats.count());
         // The look without the seats is cheaper.
         if self.alive().all(has_room) {

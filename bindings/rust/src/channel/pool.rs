@@ -129,7 +129,7 @@ pub struct Pool {
 
 /// A seat that is held, until the drop.
 pub struct SeatGuard<'a> {
-    pool: &'a Pool,
+    pub pool: &'a Pool,
     seat: &'a Seat,
 }
 
@@ -163,6 +163,12 @@ impl<'a> SeatGuard<'a> {
         // one lasts no longer than the borrow of `self`, which gives the seat back at its drop.
         let pass = unsafe { &mut *self.seat.pass.get() };
         (pass, &self.pool.served)
+    }
+
+    /// Closes the queue of its pass. Returns whether that was open.
+    pub fn close(&mut self) -> bool {
+        let (pass, line) = self.pass();
+        pass.handle.close(line)
     }
 
     /// Its index among the seats, from 0.

@@ -175,9 +175,9 @@ pub trait Meets {
     fn begin(&self, lines: &mut Lines, role: Role) -> Option<Met>;
     /// Whether there seems to be one to meet, or nobody will be.
     fn look(&self, role: Role) -> Try<()>;
-    /// Whether what has begun is for good: whether a send still has its pair; and whether the pair of a take has its
-    /// item, for which it waits until this moment, or [`GRACE`].
-    fn wait_for_pair(&self, begun: &Begun, role: Role, until: Option<Instant>) -> bool;
+    /// Whether a pair is for good: whether a send still has it; and whether that of a take has its item, for which it waits
+    /// until this moment, or [`GRACE`].
+    fn wait_for_pair(&self, pair: u64, role: Role, until: Option<Instant>) -> bool;
 }
 
 /// An operation of a select that may meet another.
@@ -505,14 +505,13 @@ impl<T> Meets for Rendezvous<T> {
         Again::unless(has_item || has_waiter || lines.is_closed)
     }
 
-    fn wait_for_pair(&self, begun: &Begun, role: Role, until: Option<Instant>) -> bool {
-        match begun {
-            Begun::Met(pair) if role == Role::Send => lock(&self.pairs).pairs.contains_key(pair),
-            Begun::Met(pair) => {
+    fn wait_for_pair(&self, pair: u64, role: Role, until: Option<Instant>) -> bool {
+        match role {
+            Role::Send => lock(&self.pairs).pairs.contains_key(&pair),
+            Role::Take => {
                 let until = until.map(|until| until.max(Instant::now() + GRACE));
-                self.wait_for_item(*pair, until)
+                self.wait_for_item(pair, until)
             }
-            _ => true,
         }
     }
 }

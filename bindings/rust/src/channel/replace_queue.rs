@@ -32,14 +32,11 @@ impl<T> Core<T> {
 
     /// The configuration of a further queue: with as many passes for each side as it has seats, and all for the side that grows.
     fn next_config(&self, alive: &[usize], grows: Option<&Side>) -> Config {
-        let is_grown = |side| grows.is_some_and(|it| ptr::eq(it, side));
-        let count = |side: &Side, all| match is_grown(side) {
-            true => all,
-            false => side.seats.len() as u32,
+        let count = |side: &Side, all| match grows {
+            Some(grown) if ptr::eq(grown, side) => all,
+            _ => side.seats.len() as u32,
         };
-        let Config {
-            senders, receivers, ..
-        } = self.config;
+        let (senders, receivers) = (self.config.senders, self.config.receivers);
         let groups = alive.iter().map(|&it| count(self.side(it), receivers));
         Config {
             senders: count(&self.senders, senders),
@@ -80,7 +77,7 @@ impl<T> Core<T> {
             return Some(left_by_lost);
         }
         for seats in &mut others {
-            left_by_lost.extend(iter::from_fn(|| self.take_by(seats[0].pass().0, line).ok()));
+            left_by_lost.extend(iter::from_fn(|| self.take_by(&mut seats[0]).ok()));
             let empty = |pass: &mut Pass| pass.handle = Handle::empty();
             seats.iter_mut().for_each(|seat| empty(seat.pass().0));
         }

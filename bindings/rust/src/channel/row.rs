@@ -28,8 +28,8 @@
 use super::body::{Parcel, Unsent};
 use super::core::{Core, SENDERS};
 use super::limit::Limit;
-use super::pool::{Pass, Pool, SeatGuard};
-use crate::event::{Again, Event, Try, ignore_panics, lock};
+use super::pool::{Pass, SeatGuard};
+use crate::event::{Again, Try, ignore_panics, lock};
 use crate::queue::handle::{Handle, code, unexpected};
 use crate::queue::{self, Config, OpenError};
 use std::collections::VecDeque;
@@ -198,18 +198,12 @@ impl Locked<'_> {
         row.open_further(groups)
     }
 
-    /// Closes the last queue by this pass of it, and appends a further one for these groups. Gives None if there is
+    /// Closes the last queue by this seat, which is at it, and appends a further one for these groups. Gives None if there is
     /// no memory: nothing has changed then.
-    fn append(
-        &mut self,
-        row: &Row,
-        groups: Vec<usize>,
-        pass: &mut Pass,
-        line: &Event,
-    ) -> Option<()> {
+    fn append(&mut self, row: &Row, groups: Vec<usize>, seat: &mut SeatGuard) -> Option<()> {
         self.queues.queues.try_reserve(1).ok()?;
         let mut opened = self.take_spare(row, groups.len()).ok()?.into_iter();
-        pass.handle.close(line);
+        seat.close();
         let mut passes: Passes = self.queues.at.iter().map(|_| vec![]).collect();
         passes.insert(SENDERS, opened.next().expect("a queue has senders"));
         for (&group, opened) in groups.iter().zip(opened) {
@@ -226,7 +220,7 @@ impl Locked<'_> {
     }
 
     /// Lets this seat, and those of its side that are free, have their passes of the queue that the side is at.
-    fn fetch(&mut self, side: usize, number: u64, seats: &Pool, seat: &mut SeatGuard) {
+    fn fetch(&mut self, side: usize, number: u64, seat: &mut SeatGuard) {
         let queue = self.queues.queue(number);
         let shares = queue.groups.len();
         let mut fetch = |seat: &mut SeatGuard| {
@@ -238,7 +232,8 @@ impl Locked<'_> {
             }
         };
         fetch(seat);
-        seats.acquire_free().for_each(|mut free| fetch(&mut free));
+        let free = seat.pool.acquire_free();
+        free.for_each(|mut free| fetch(&mut free));
     }
 
     /// After a take of this group has found the end of the queue of this number: the queue that the group is at from now on. Gives
@@ -294,17 +289,16 @@ impl<T> Core<T> {
     /// was there already. Returns whether it has; if not, the channel is closed.
     fn next_for_senders(&self, row: &Row, seat: &mut SeatGuard) -> Try<bool> {
         let mut locked = row.lock();
-        let (pass, line) = seat.pass();
-        if pass.queue == locked.queues.last_number() {
+        if seat.pass().0.queue == locked.queues.last_number() {
             if locked.queues.is_closed {
                 return Ok(false);
             }
             let groups = self.groups_of_next(&locked.queues);
-            let appended = locked.append(row, groups, pass, line);
+            let appended = locked.append(row, groups, seat);
             appended.ok_or_else(Again::soon)?;
         }
         let last = locked.queues.last_number();
-        locked.fetch(SENDERS, last, &self.senders.seats, seat);
+        locked.fetch(SENDERS, last, seat);
         Ok(true)
     }
 
@@ -313,9 +307,7 @@ impl<T> Core<T> {
     fn next_for_group(&self, row: &Row, group: usize, seat: &mut SeatGuard) -> bool {
         let mut locked = row.lock();
         let next = locked.go_on(group, seat.pass().0.queue);
-        next.into_iter()
-            .for_each(|it| locked.fetch(group, it, &self.side(group).seats, seat));
-        next.is_some()
+        next.map(|it| locked.fetch(group, it, seat)).is_some()
     }
 
     /// Sends an item that the queue of this seat refused with this code, in a queue behind it.
@@ -350,8 +342,7 @@ impl<T> Core<T> {
     pub fn take_in_row(&self, row: &Row, group: usize) -> Try<Option<Parcel<T>>> {
         let mut seat = self.side(group).seats.acquire();
         loop {
-            let (pass, line) = seat.pass();
-            match self.take_by(pass, line) {
+            match self.take_by(&mut seat) {
                 Ok(parcel) => {
                     self.count_taken(seat);
                     return Ok(Some(parcel));
@@ -369,9 +360,8 @@ impl<T> Core<T> {
         let mut seat = self.senders.seats.acquire();
         let mut locked = row.lock();
         let last = locked.queues.last_number();
-        locked.fetch(SENDERS, last, &self.senders.seats, &mut seat);
-        let (pass, line) = seat.pass();
-        pass.handle.close(line);
+        locked.fetch(SENDERS, last, &mut seat);
+        seat.close();
         locked.set_spare(Spare::Wanted);
         // Under the lock, so that whoever found the queue closed knows it.
         self.set_closed();
@@ -386,9 +376,8 @@ impl<T> Core<T> {
         let groups = self.groups_of_next(&locked.queues);
         if !locked.queues.is_closed && groups.len() < locked.queues.last().groups.len() {
             let last = locked.queues.last_number();
-            locked.fetch(SENDERS, last, &self.senders.seats, &mut seat);
-            let (pass, line) = seat.pass();
-            locked.append(row, groups, pass, line);
+            locked.fetch(SENDERS, last, &mut seat);
+            locked.append(row, groups, &mut seat);
         }
         drop(locked);
         drop(seat);

@@ -315,11 +315,11 @@ impl<R: Deref<Target: Case>> Entry<R> {
     /// Whether what has begun is for good, with capacity 0: see [`Meets::wait_for_pair`].
     #[inline]
     fn wait_for_pair(&self, begun: &Begun, until: Option<Instant>) -> bool {
-        if !matches!(begun, Begun::Met(_)) {
+        let Begun::Met(pair) = *begun else {
             return true;
-        }
+        };
         let rendezvous = self.case.rendezvous();
-        rendezvous.is_none_or(|(channel, role)| channel.wait_for_pair(begun, role, until))
+        rendezvous.is_none_or(|(channel, role)| channel.wait_for_pair(pair, role, until))
     }
 }
 
@@ -605,7 +605,7 @@ impl<'s, R: Copy + Deref<Target: Case>> Turn<'s, R> {
         self.until.is_some_and(|until| until <= Instant::now())
     }
 
-    /// Whether it is posted for the other side to find: then it isn't in a line.
+    /// Whether it is posted for others to meet: then it isn't in a line.
     fn is_posted(&self, entry: &Entry<R>) -> bool {
         self.aim == Aim::Begin && entry.case.rendezvous().is_some()
     }
