@@ -80,10 +80,7 @@ impl<T> Sender<T> {
         core.look_after_full(core.hints.load(Ordering::Relaxed))?;
         let mut item = self.pack(here.take().expect("the item isn't sent yet"));
         match core.try_send(&mut item) {
-            Ok(true) => {
-                item.end();
-                Ok(Ok(()))
-            }
+            Ok(true) => Ok(Ok(())),
             Ok(false) => Ok(Err(SendError(item.into_inner()))),
             Err(again) => {
                 *here = Some(item.into_inner());
