@@ -119,7 +119,8 @@ impl<T> Core<T> {
             }
             seat = self.senders.seats.acquire();
         }
-        let sent = self.send_or_again(item, seat);
+        let code = self.send_by(&mut seat, item);
+        let sent = self.end_send(item, code, seat);
         if sent != Ok(true) {
             self.give_back_room();
         }

@@ -84,8 +84,8 @@ pub struct Meeting {
     pub pair: u64,
 }
 
-/// Notes this waker where this says, under the lock; or returns what this finds instead. The waker that isn't noted, or isn't
-/// any more, is dropped once the lock is released.
+/// Returns what this finds under the lock; or notes this waker where this says. The waker that isn't noted, or isn't any more, is
+/// dropped once the lock is released.
 fn poll_under_lock<S, R>(
     state: &Mutex<S>,
     waker: &Waker,
@@ -154,7 +154,7 @@ pub struct Lines {
     posted: [VecDeque<Posted>; 2],
 }
 
-/// An operation that has met another.
+/// An operation that has met another, or found the channel closed.
 pub struct Met {
     begun: Begun,
     /// The waker to call once no lock is held.
@@ -240,7 +240,7 @@ impl<T> Pairs<T> {
         self.last
     }
 
-    /// A pair with this item, whose take has this waker, where the other one has that which is called.
+    /// Makes a pair with this item and the waker of its take. The other waker is called.
     fn push(&mut self, taker: Option<Waker>, item: Option<T>, woken: Option<Waker>) -> Met {
         let number = self.next();
         self.pairs.insert(number, Pair { taker, item });

@@ -722,9 +722,16 @@ impl<'s, R: Copy + Deref<Target: Case>> Turn<'s, R> {
 }
 
 impl<'a> Select<'a> {
+    fn wait(
+        &mut self,
+        aim: Aim,
+        until: Option<Instant>,
+    ) -> Option<(Entry<&'a (dyn Case + Sync)>, Begun)> {
+        Turn::new(&mut self.entries, self.is_biased, aim, until).wait()
+    }
+
     fn select_until(&mut self, until: Option<Instant>) -> Option<SelectedOperation<'a>> {
-        let turn = Turn::new(&mut self.entries, self.is_biased, Aim::Begin, until);
-        let (Entry { index, case }, begun) = turn.wait()?;
+        let (Entry { index, case }, begun) = self.wait(Aim::Begin, until)?;
         Some(SelectedOperation::new(Entry { index, case }, begun, until))
     }
 
@@ -823,8 +830,7 @@ impl<'a> Select<'a> {
     }
 
     fn ready_until(&mut self, until: Option<Instant>) -> Option<usize> {
-        let turn = Turn::new(&mut self.entries, self.is_biased, Aim::Look, until);
-        Some(turn.wait()?.0.index)
+        Some(self.wait(Aim::Look, until)?.0.index)
     }
 
     /// Returns the index of an operation that is ready, if there is one. Another thread may make it
