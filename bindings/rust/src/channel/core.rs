@@ -370,9 +370,8 @@ impl<T> Core<T> {
         }
         let mut left_by_lost = vec![];
         if self.senders.seats.acquire().pass().0.queue == queue {
-            left_by_lost = self
-                .replace_queue(&mut in_queue, None)
-                .ok_or_else(Again::soon)?;
+            let left = self.replace_queue(&mut in_queue, None);
+            left_by_lost = left.ok_or_else(Again::soon)?;
         }
         drop(in_queue);
         // The item isn't sent yet, but this call may go on for others: it doesn't panic.

@@ -278,13 +278,8 @@ impl<T> Drop for Pairs<T> {
         let offers = offers.into_values().map(|it| (Some(it.item), it.waker));
         let (items, wakers): (Vec<_>, Vec<_>) = pairs.chain(offers).unzip();
         let mut panics = Panics::default();
-        panics.run_each(
-            items
-                .into_iter()
-                .flatten()
-                .chain(mem::take(&mut self.returned)),
-            drop,
-        );
+        panics.run_each(items.into_iter().flatten(), drop);
+        panics.run_each(mem::take(&mut self.returned), drop);
         panics.run_each(wakers, drop);
         panics.raise();
     }

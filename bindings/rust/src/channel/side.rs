@@ -43,10 +43,8 @@ fn note<S>(handles: &OnceLock<Weak<S>>, shared: &Arc<S>) {
 impl<T> Shared<T> {
     /// For the first sender.
     pub fn of_senders(core: Arc<Core<T>>) -> Arc<Shared<T>> {
-        let shared = Arc::new(Shared {
-            core,
-            side: SENDERS,
-        });
+        let side = SENDERS;
+        let shared = Arc::new(Shared { core, side });
         note(&shared.core.sender, &shared);
         shared
     }
