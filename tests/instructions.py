@@ -23,8 +23,8 @@ CALLS = 300
 
 # What the crate's user writes, and the most instructions that it may cost.
 IN_RUST = {
-    "send and recv of a word": ("let (s, r) = channel::<u64>(64)?;", "s.send(i).unwrap(); assert_eq!(r.recv(), Ok(i));", 731),
-    "try_send and try_recv of a word": ("let (s, r) = channel::<u64>(64)?;", "s.try_send(i).unwrap(); assert_eq!(r.try_recv(), Ok(i));", 748),
+    "send and recv of a word": ("let (s, r) = channel::<u64>(64)?;", "s.send(i).unwrap(); assert_eq!(r.recv(), Ok(i));", 730),
+    "try_send and try_recv of a word": ("let (s, r) = channel::<u64>(64)?;", "s.try_send(i).unwrap(); assert_eq!(r.try_recv(), Ok(i));", 743),
     "four words": ("let (s, r) = channel::<[u64; 4]>(64)?;", "s.send([i; 4]).unwrap(); assert_eq!(r.recv(), Ok([i; 4]));", 1063),
     "two groups": ("let (s, r) = groups::<u64>(64, 2)?;", "s.send(i).unwrap(); for r in &r { assert_eq!(r.recv(), Ok(i)); }", 1290),
     "a refused try_send": ("let (s, _r) = channel::<u64>(1)?; s.send(0).unwrap();", "assert!(s.try_send(i).is_err());", 181),
@@ -33,12 +33,12 @@ IN_RUST = {
     ),
     "an empty try_recv": ("let (_s, r) = channel::<u64>(64)?;", "assert!(r.try_recv().is_err() && i < calls);", 97),
     "send, and a select that takes": (
-        "let (s, r) = channel::<u64>(64)?;", "s.send(i).unwrap(); select! { recv(r) -> it => assert_eq!(it, Ok(i)) }", 850,
+        "let (s, r) = channel::<u64>(64)?;", "s.send(i).unwrap(); select! { recv(r) -> it => assert_eq!(it, Ok(i)) }", 845,
     ),
     "a select that sends, and recv": (
-        "let (s, r) = channel::<u64>(64)?;", "select! { send(s, i) -> it => it.unwrap() } assert_eq!(r.recv(), Ok(i));", 1021,
+        "let (s, r) = channel::<u64>(64)?;", "select! { send(s, i) -> it => it.unwrap() } assert_eq!(r.recv(), Ok(i));", 1020,
     ),
-    "after and its drop": ("", "let r = after(std::time::Duration::from_secs(100)); assert!(r.len() as u64 <= i);", 383),
+    "after and its drop": ("", "let r = after(std::time::Duration::from_secs(100)); assert!(r.len() as u64 <= i);", 380),
     "never and its drop": ("", "let r = never::<u64>(); assert!(r.len() as u64 <= i);", 289),
 }
 # Openings with a pair and the drop, in a program of their own: what the compiler inlines into `main` changes with its rows.
@@ -49,7 +49,19 @@ OPENINGS = {
 # The same pair with a bound and without one, in a program of their own too. By the limits the second one costs at most a twentieth more.
 BOUNDS = {
     f"send and recv of a word, {name}": (f"let (s, r) = {opening}?;", "s.send(i).unwrap(); assert_eq!(r.recv(), Ok(i));", limit)
-    for name, opening, limit in (("capacity 64", "channel::<u64>(64)", 735), ("without a bound", "unbounded::<u64>()", 752))
+    for name, opening, limit in (("capacity 64", "channel::<u64>(64)", 731), ("without a bound", "unbounded::<u64>()", 748))
+}
+# Futures that are ready at their first poll, in a program of their own too.
+CONTEXT = "let context = &mut std::task::Context::from_waker(std::task::Waker::noop());"
+FUTURES = {
+    "a try_send, and a ready recv_async": (
+        f"let (s, r) = channel::<u64>(64)?; {CONTEXT}",
+        "s.try_send(i).unwrap(); assert_eq!(std::pin::pin!(r.recv_async()).poll(context), std::task::Poll::Ready(Ok(i)));", 860,
+    ),
+    "a ready send_async, and a try_recv": (
+        f"let (s, r) = channel::<u64>(64)?; {CONTEXT}",
+        "assert!(std::pin::pin!(s.send_async(i)).poll(context).is_ready()); assert_eq!(r.try_recv(), Ok(i));", 854,
+    ),
 }
 # The pairs of the program in C: by handles, as the Rust crate makes them, by one pointer, and the calls that wait. The pointer's has 167 more: each call
 # looks for a free place, takes it by an exchange and gives it back by a store, and an item has room for four words. The calls that wait take a seat, and
@@ -177,7 +189,7 @@ def main():
         return 77
     with tempfile.TemporaryDirectory() as room:
         c, rows = build_c(room), []
-        for part, of_part in (("calls", IN_RUST), ("openings", OPENINGS), ("bounds", BOUNDS)):
+        for part, of_part in (("calls", IN_RUST), ("openings", OPENINGS), ("bounds", BOUNDS), ("futures", FUTURES)):
             rust = build_rust(os.path.join(room, part), of_part)
             rows += [(name, [rust, name], [limit]) for name, (_, _, limit) in of_part.items()]
         rows += [(name, [c, mode], limits) for name, (mode, *limits) in IN_C.items()]

@@ -23,8 +23,8 @@
 //! links a call that waits. The item, the room or the close that the call made is never pending then: a mark comes behind a send's item
 //! and behind a close, a take makes room by an addition, and these are locked instructions. On aarch64 the last store of a call may
 //! be pending when the call returns, but a load of `waiting` behind it is later in that order (`stlr`, `ldar`).
-//! A seat is taken by a sequentially consistent exchange. A look at counts that finds nothing loads each seat's flag so, until
-//! the seat was free once; beside a seat that stays taken it asks the queue. So a look at counts comes after a holder of the seat, and
+//! A seat is acquired by a sequentially consistent exchange. A look at counts that finds nothing loads each seat's flag so, until
+//! the seat was free once; beside a seat that stays held it asks the queue. So a look at counts comes after a holder of the seat, and
 //! sees what that holder has counted; or before, and then the holder's *check* comes after the look's *stand*. The other accesses to
 //! seats and counts need no more than acquire and release.
 //!
@@ -109,6 +109,7 @@ use std::cell::RefCell;
 use std::collections::BTreeMap;
 use std::iter;
 use std::mem::{forget, replace, swap};
+use std::num::NonZeroU64;
 use std::ops::Deref;
 use std::panic::{AssertUnwindSafe, catch_unwind, resume_unwind};
 use std::sync::atomic::{AtomicBool, AtomicUsize, Ordering};
@@ -173,16 +174,16 @@ pub fn drop_each<I>(all: impl IntoIterator<Item = I>) {
 #[derive(Default)]
 struct Line {
     /// The wakers by the numbers of their tickets, in order. None until somebody stands in line.
-    wakers: Option<BTreeMap<u64, Waker>>,
+    wakers: Option<BTreeMap<Ticket, Waker>>,
     /// The number of the last ticket: each has one of its own.
     last: u64,
-    /// How many notifications there were while somebody was in line.
-    notifications: u64,
+    /// The same number at the last notification.
+    last_notified: u64,
 }
 
 impl Line {
     fn pop(&mut self) -> Option<Waker> {
-        self.notifications += 1;
+        self.last_notified = self.last;
         Some(self.wakers.as_mut()?.pop_first()?.1)
     }
 
@@ -190,8 +191,8 @@ impl Line {
         self.wakers.as_ref().map_or(0, BTreeMap::len)
     }
 
-    fn get_mut(&mut self, number: u64) -> Option<&mut Waker> {
-        self.wakers.as_mut()?.get_mut(&number)
+    fn get_mut(&mut self, ticket: Ticket) -> Option<&mut Waker> {
+        self.wakers.as_mut()?.get_mut(&ticket)
     }
 }
 
@@ -219,13 +220,9 @@ impl<T> Deref for Apart<T> {
     }
 }
 
-/// A place in the line of an event, until a notification takes it out.
-#[derive(Clone, Copy, Debug)]
-pub struct Ticket {
-    number: u64,
-    /// The notifications before it.
-    notifications: u64,
-}
+/// The number of a waiter in the line of an event, until a notification takes it out.
+#[derive(Clone, Copy, PartialEq, Eq, PartialOrd, Ord)]
+pub struct Ticket(NonZeroU64);
 
 /// Whom notifications took out of a line while a waiter was in it.
 #[derive(PartialEq)]
@@ -260,30 +257,25 @@ impl Event {
     /// Stands in line. The waiter has to try after this, before it waits.
     pub fn stand(&self, waker: Waker) -> Ticket {
         self.with_line(|line| {
-            line.last += 1;
-            let wakers = line.wakers.get_or_insert_default();
-            wakers.insert(line.last, waker);
-            let (number, notifications) = (line.last, line.notifications);
-            Ticket {
-                number,
-                notifications,
-            }
+            let ticket = Ticket(NonZeroU64::MIN.saturating_add(line.last));
+            line.last = ticket.0.get();
+            line.wakers.get_or_insert_default().insert(ticket, waker);
+            ticket
         })
     }
 
     /// Stays in line with this waker, after a try that found nothing. Returns whether it was still
     /// there.
     pub fn stay(&self, ticket: Ticket, waker: &Waker, panics: &mut Panics) -> bool {
-        let number = ticket.number;
-        let is_same = |line: &mut Line| Some(line.get_mut(number)?.will_wake(waker));
+        let is_same = |line: &mut Line| Some(line.get_mut(ticket)?.will_wake(waker));
         match is_same(&mut lock(&self.line)) {
             Some(false) => {}
             there => return there.is_some(),
         }
         let mut waker = waker.clone();
         let is_there = self.with_line(|line| {
-            let place = line.get_mut(number);
-            place.map(|place| swap(place, &mut waker)).is_some()
+            let noted = line.get_mut(ticket);
+            noted.map(|noted| swap(noted, &mut waker)).is_some()
         });
         // The one that isn't in line.
         panics.run_each([waker], drop);
@@ -292,16 +284,13 @@ impl Event {
 
     /// Leaves the line. Returns whom notifications took out since this one entered it.
     pub fn leave(&self, ticket: Ticket, panics: &mut Panics) -> Notified {
-        let (waker, notifications) = self.with_line(|line| {
-            let waker = line
-                .wakers
-                .as_mut()
-                .and_then(|it| it.remove(&ticket.number));
-            (waker, line.notifications)
+        let (waker, last_notified) = self.with_line(|line| {
+            let waker = line.wakers.as_mut().and_then(|it| it.remove(&ticket));
+            (waker, line.last_notified)
         });
         let notified = match waker {
             None => Notified::This,
-            Some(_) if notifications != ticket.notifications => Notified::Others,
+            Some(_) if ticket.0.get() <= last_notified => Notified::Others,
             Some(_) => Notified::None,
         };
         panics.run_each(waker, drop);
@@ -416,15 +405,37 @@ impl Parker {
     }
 }
 
-/// The result of a try; or, if it is to be made again though nobody notifies, from which moment on.
-pub type Try<R> = Result<R, Option<Instant>>;
+/// The result of a try; or when the try is made again.
+pub type Try<R> = Result<R, Again>;
 
-/// It is made again once it is notified.
-pub const WHEN_NOTIFIED: Option<Instant> = None;
+/// When a try is made again that found nothing. The lesser of two is the earlier one.
+#[derive(Clone, Copy, Debug, PartialEq, Eq, PartialOrd, Ord)]
+pub enum Again {
+    /// From this moment on, though nobody notifies.
+    At(Instant),
+    /// Once somebody notifies.
+    WhenNotified,
+}
 
-/// It is made again after a millisecond.
-pub fn soon() -> Option<Instant> {
-    Some(Instant::now() + Duration::from_millis(1))
+impl Again {
+    /// After a millisecond, though nobody notifies.
+    pub fn soon() -> Again {
+        Again::At(Instant::now() + Duration::from_millis(1))
+    }
+
+    /// A try that is done if this holds, and is made again once somebody notifies if not.
+    #[inline]
+    pub fn unless(is_done: bool) -> Try<()> {
+        is_done.then_some(()).ok_or(Again::WhenNotified)
+    }
+
+    /// The moment until which a waiter parks whose time is over at this one.
+    pub fn before(self, until: Option<Instant>) -> Option<Instant> {
+        match self {
+            Again::At(moment) => Some(until.map_or(moment, |until| until.min(moment))),
+            Again::WhenNotified => until,
+        }
+    }
 }
 
 /// Polls until it is ready, or until this moment: then None. Between the polls it parks.
@@ -441,6 +452,16 @@ pub fn poll_until<R>(until: Option<Instant>, mut poll: impl FnMut(&Waker) -> Pol
             parker.park(until);
         }
     })
+}
+
+/// Tries until it is done. It tries again each millisecond at the latest, since a notification may be missed.
+pub fn wait_without_end<R>(
+    event: &Event,
+    rounds: Rounds,
+    mut attempt: impl FnMut() -> Option<R>,
+) -> R {
+    let attempt = || attempt().ok_or_else(Again::soon);
+    wait(event, rounds, None, attempt).expect("it waits without end")
 }
 
 /// Tries until it is done, or until this moment: then None. After these rounds it waits for notifications between
@@ -466,7 +487,7 @@ pub fn wait<R>(
                     event.pass_on(ticket, &mut Panics::default());
                     return Some(done);
                 }
-                Err(again) => parker.park(until.into_iter().chain(again).min()),
+                Err(again) => parker.park(again.before(until)),
             }
             event.leave(ticket, &mut Panics::default());
             if let Ok(done) = attempt() {

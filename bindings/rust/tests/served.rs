@@ -123,7 +123,7 @@ enum At {
     PassOn,
     /// The call has its answer: it looks whether the line was ever used.
     End,
-    /// The exchange by which a call gives its seat back, or takes it once more, and its check of the line. A notification that is passed on
+    /// The exchange by which a call gives its seat back, or holds it again, and its check of the line. A notification that is passed on
     /// has no exchange.
     Check(For),
     TakeOut(For),

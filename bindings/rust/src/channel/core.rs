@@ -3,7 +3,7 @@
 //!
 //! The queue below accepts a limited number of items in all, and each of its senders begins a limited number
 //! of sends. When either is used up, a further queue takes its place, and so it does when a group has lost
-//! its last receiver: while all seats are taken, the remaining items are moved over. For all other calls this
+//! its last receiver: while all seats are held, the remaining items are moved over. For all other calls this
 //! is one step. A channel without a bound, or with more places than one queue has, is a [`row`](super::row) of queues:
 //! no item is moved over there.
 //!
@@ -15,13 +15,11 @@ use super::rendezvous::Rendezvous;
 use super::row::{Row, Shape};
 use super::side::{Shared, Source};
 use crate::backoff::{FOR_OTHERS, FOR_OTHERS_AT_PACE, Rounds};
-use crate::event::{
-    Apart, Event, Panics, Try, WHEN_NOTIFIED, drop_each, ignore_panics, lock, soon,
-};
+use crate::event::{Again, Apart, Event, Panics, Try, drop_each, ignore_panics, lock};
 use crate::queue::handle::{self, Handle, code, hands_over, has_taken, unexpected};
 use crate::queue::{self, Config, MOST_GROUPS, OpenError};
 use std::iter;
-use std::mem::take;
+use std::mem;
 use std::sync::atomic::{AtomicBool, AtomicUsize, Ordering};
 use std::sync::{Arc, Mutex, OnceLock, Weak};
 use std::time::Duration;
@@ -43,11 +41,7 @@ impl Side {
     /// With these passes of a queue of this number of groups.
     #[inline]
     fn new(handles: impl IntoIterator<Item = Handle>, shares: usize) -> Side {
-        let passes = handles.into_iter().map(|handle| Pass {
-            handle,
-            queue: 0,
-            shares,
-        });
+        let passes = handles.into_iter().map(|it| Pass::new(it, 0, shares));
         Side {
             line: Apart::default(),
             seats: Pool::new(passes),
@@ -82,6 +76,10 @@ impl Side {
 
 /// A side is slow if an item takes longer than this while a call waits: longer than the park of a sender and that of a receiver.
 const PACE: Duration = Duration::from_micros(20);
+
+/// The number of the senders' side. Those of the groups follow, from 1.
+pub const SENDERS: usize = 0;
+
 /// A side of a channel of more items has all its seats from the opening on, so that no call has to move them over.
 const MOST_MOVED: u32 = 64;
 
@@ -162,7 +160,7 @@ struct Kept<T> {
 
 impl<T> Drop for Core<T> {
     fn drop(&mut self) {
-        let kept = take(&mut lock(&self.kept).items);
+        let kept = mem::take(&mut lock(&self.kept).items);
         if !kept.is_empty() {
             drop_each(kept.into_iter().map(|it| it.1));
         }
@@ -260,10 +258,10 @@ impl<T> Core<T> {
         })
     }
 
-    /// The side of the senders, which is 0, or of this group, from 1.
-    pub fn side(&self, at: usize) -> &Side {
-        match at {
-            0 => &self.senders,
+    /// The side of this number.
+    pub fn side(&self, number: usize) -> &Side {
+        match number {
+            SENDERS => &self.senders,
             group => self.groups.of(group),
         }
     }
@@ -293,27 +291,27 @@ impl<T> Core<T> {
     pub fn len(&self, side: usize) -> usize {
         let sent = self.senders.seats.count();
         let taken = match side {
-            0 => self.alive().map(|group| group.seats.count()).min(),
+            SENDERS => self.alive().map(|group| group.seats.count()).min(),
             group => Some(self.side(group).seats.count()),
         };
         let len = sent.saturating_sub(taken.unwrap_or(sent)) as usize;
         self.capacity().map_or(len, |it| len.min(it))
     }
 
-    /// Takes a free seat of this side, and waits for one. If the side has one seat alone and that is taken, it gets its others.
+    /// Acquires a free seat of this side, and waits for one. If the side has one seat alone and that is held, it gets its others.
     #[inline]
-    fn take_seat<'a>(&'a self, side: &'a Side) -> SeatGuard<'a> {
-        let seat = side.seats.try_take();
-        seat.unwrap_or_else(|| self.take_another_seat(side))
+    fn acquire_seat<'a>(&'a self, side: &'a Side) -> SeatGuard<'a> {
+        let seat = side.seats.try_acquire();
+        seat.unwrap_or_else(|| self.acquire_another_seat(side))
     }
 
     #[cold]
     #[inline(never)]
-    fn take_another_seat<'a>(&'a self, side: &'a Side) -> SeatGuard<'a> {
+    fn acquire_another_seat<'a>(&'a self, side: &'a Side) -> SeatGuard<'a> {
         if side.seats.len() == 1 && self.row.is_none() {
             self.add_seats(side);
         }
-        side.seats.take_another()
+        side.seats.acquire_another()
     }
 
     /// Tries to send this item. Returns whether it is sent; if not,
@@ -321,7 +319,7 @@ impl<T> Core<T> {
     /// for a further queue, nobody notifies when there is.
     #[inline]
     pub fn try_send(&self, item: &mut Unsent<T>) -> Try<bool> {
-        let seat = self.take_seat(&self.senders);
+        let seat = self.acquire_seat(&self.senders);
         let hints = self.hints.load(Ordering::SeqCst);
         if hints != 0 {
             return self.send_with_hints(item, seat, hints);
@@ -332,7 +330,14 @@ impl<T> Core<T> {
     /// Sends by this seat. If the queue refuses, it tries once more.
     #[inline]
     pub fn send_or_again(&self, item: &mut Unsent<T>, mut seat: SeatGuard) -> Try<bool> {
-        match self.send_by(&mut seat, item) {
+        let code = self.send_by(&mut seat, item);
+        self.end_send(item, code, seat)
+    }
+
+    /// Ends a send by this seat, to which the queue gave this code. If the queue refused, it tries once more.
+    #[inline]
+    pub fn end_send(&self, item: &mut Unsent<T>, code: u32, seat: SeatGuard) -> Try<bool> {
+        match code {
             code::ACCEPTED => drop(seat),
             code => return self.send_again(item, code, seat),
         }
@@ -342,7 +347,7 @@ impl<T> Core<T> {
 
     /// Tries once more to send an item that the queue of this seat refused with this code.
     #[cold]
-    pub fn send_again(&self, item: &mut Unsent<T>, code: u32, seat: SeatGuard) -> Try<bool> {
+    fn send_again(&self, item: &mut Unsent<T>, code: u32, seat: SeatGuard) -> Try<bool> {
         match &self.row {
             Some(row) => self.send_further(row, item, code, seat),
             None => Ok(self.retry_after_refusal(code, seat)? && self.try_send(item)?),
@@ -379,7 +384,7 @@ impl<T> Core<T> {
             code::CLOSED => self.set_closed(),
             code::FULL if !is_stale => {
                 self.hints.fetch_or(WAS_FULL, Ordering::Relaxed);
-                return Err(WHEN_NOTIFIED);
+                return Err(Again::WhenNotified);
             }
             code::FULL | code::SPENT | code::WORN => {}
             code => unexpected(code),
@@ -389,8 +394,9 @@ impl<T> Core<T> {
             return Ok(false);
         }
         let mut left_by_lost = vec![];
-        if self.senders.seats.take().pass().0.queue == queue {
-            left_by_lost = self.replace_queue(&mut in_queue, None).ok_or_else(soon)?;
+        if self.senders.seats.acquire().pass().0.queue == queue {
+            let left = self.replace_queue(&mut in_queue, None);
+            left_by_lost = left.ok_or_else(Again::soon)?;
         }
         drop(in_queue);
         // The item isn't sent yet, but this call may go on for others: it doesn't panic.
@@ -405,9 +411,8 @@ impl<T> Core<T> {
         if self.rendezvous.is_some() {
             return Err(code::EMPTY);
         }
-        let mut seat = self.take_seat(self.groups.of(group));
-        let (pass, line) = seat.pass();
-        let parcel = self.take_by(pass, line)?;
+        let mut seat = self.acquire_seat(self.groups.of(group));
+        let parcel = self.take_by(&mut seat)?;
         self.count_taken(seat);
         Ok(parcel)
     }
@@ -430,9 +435,7 @@ impl<T> Core<T> {
         }
         let found_none = &self.groups.of(group).found_none;
         if found_none.load(Ordering::Relaxed) {
-            if !self.may_have_item(group) {
-                return Err(WHEN_NOTIFIED);
-            }
+            Again::unless(self.may_have_item(group))?;
             found_none.store(false, Ordering::Relaxed);
         }
         match self.take(group) {
@@ -449,7 +452,7 @@ impl<T> Core<T> {
         match (code, &self.row) {
             (code::EMPTY, _) => {
                 self.side(group).found_none.store(true, Ordering::Relaxed);
-                return Err(WHEN_NOTIFIED);
+                return Err(Again::WhenNotified);
             }
             (code::ENDED, Some(row)) => return self.take_in_row(row, group),
             (code::ENDED, None) => self.set_closed(),
@@ -474,8 +477,10 @@ impl<T> Core<T> {
         Some(kept.items.swap_remove(at).1)
     }
 
+    /// Takes an item by this seat. Gives the queue's code if there is none.
     #[allow(unsafe_code)]
-    pub fn take_by(&self, pass: &mut Pass, line: &Event) -> Result<Parcel<T>, u32> {
+    pub fn take_by(&self, seat: &mut SeatGuard) -> Result<Parcel<T>, u32> {
+        let (pass, line) = seat.pass();
         let words = pass.handle.take(words_of(self.copies), line)?;
         // SAFETY: what is in the queue was sent as the words of parcels, with these `copies`; each was
         // for as many groups as the queue has; and a group takes each item of the queue once.
@@ -500,10 +505,9 @@ impl<T> Core<T> {
         if let Some(row) = &self.row {
             return self.close_row(row);
         }
-        let mut seat = self.senders.seats.take();
-        let (pass, line) = seat.pass();
-        let closed = pass.handle.close(line);
-        // While the seat is taken, so that whoever has all seats knows it.
+        let mut seat = self.senders.seats.acquire();
+        let closed = seat.close();
+        // While the seat is held, so that whoever has all seats knows it.
         self.set_closed();
         closed
     }
@@ -530,7 +534,7 @@ impl<T> Core<T> {
     pub fn last_handle_dropped(&self, side: usize) {
         let mut in_queue = lock(&self.in_queue);
         self.side(side).lost.store(true, Ordering::SeqCst);
-        let left_by_lost = if side == 0 || self.alive().next().is_none() {
+        let left_by_lost = if side == SENDERS || self.alive().next().is_none() {
             if !self.is_closed() {
                 self.close_queue();
             }
@@ -541,7 +545,7 @@ impl<T> Core<T> {
             self.replace_queue(&mut in_queue, None) // or there is no memory: a send tries again, once it finds no room
         };
         let mut lost = vec![];
-        if side != 0 && self.is_closed() {
+        if side != SENDERS && self.is_closed() {
             let lost_in_queue = in_queue.iter().filter(|&&it| self.side(it).is_lost());
             lost.extend(lost_in_queue.filter(|&&it| self.has_left(it)));
         }

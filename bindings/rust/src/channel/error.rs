@@ -1,5 +1,4 @@
 //! Why a channel's call wasn't done. An item that wasn't sent is handed back. The texts are crossbeam-channel's.
-use std::error::Error;
 
 /// Why [`send`](crate::Sender::send) didn't send: the channel is closed. It has the item. A selected send with
 /// capacity 0 has a further reason: see [`SelectedOperation::send`](crate::SelectedOperation::send).
@@ -20,9 +19,7 @@ impl<T> SendError<T> {
 
 fmt_by_text! { impl<T> Debug for SendError<T>: _ => "SendError(..)" }
 
-fmt_by_text! { impl<T> Display for SendError<T>: _ => "sending on a disconnected channel" }
-
-impl<T> Error for SendError<T> {}
+error_by_text! { impl<T> for SendError<T>: _ => "sending on a disconnected channel" }
 
 /// Why [`try_send`](crate::Sender::try_send) didn't send. It has the item.
 #[derive(Clone, Copy, PartialEq, Eq, Hash)]
@@ -73,13 +70,11 @@ fmt_by_text! {
     TrySendError::Disconnected(_) => "Disconnected(..)",
 }
 
-fmt_by_text! {
-    impl<T> Display for TrySendError<T>:
+error_by_text! {
+    impl<T> for TrySendError<T>:
     TrySendError::Full(_) => "sending on a full channel",
     TrySendError::Disconnected(_) => "sending on a disconnected channel",
 }
-
-impl<T> Error for TrySendError<T> {}
 
 impl<T> From<SendError<T>> for TrySendError<T> {
     fn from(SendError(item): SendError<T>) -> Self {
@@ -133,13 +128,11 @@ impl<T> SendTimeoutError<T> {
 
 fmt_by_text! { impl<T> Debug for SendTimeoutError<T>: _ => "SendTimeoutError(..)" }
 
-fmt_by_text! {
-    impl<T> Display for SendTimeoutError<T>:
+error_by_text! {
+    impl<T> for SendTimeoutError<T>:
     SendTimeoutError::Timeout(_) => "timed out waiting on send operation",
     SendTimeoutError::Disconnected(_) => "sending on a disconnected channel",
 }
-
-impl<T> Error for SendTimeoutError<T> {}
 
 impl<T> From<SendError<T>> for SendTimeoutError<T> {
     fn from(SendError(item): SendError<T>) -> Self {
@@ -152,9 +145,7 @@ impl<T> From<SendError<T>> for SendTimeoutError<T> {
 #[derive(Clone, Copy, Debug, PartialEq, Eq, Hash)]
 pub struct RecvError;
 
-fmt_by_text! { impl Display for RecvError: _ => "receiving on an empty and disconnected channel" }
-
-impl Error for RecvError {}
+error_by_text! { impl for RecvError: _ => "receiving on an empty and disconnected channel" }
 
 /// Why [`try_recv`](crate::Receiver::try_recv) gave no item.
 #[derive(Clone, Copy, Debug, PartialEq, Eq, Hash)]
@@ -187,13 +178,11 @@ impl TryRecvError {
     }
 }
 
-fmt_by_text! {
-    impl Display for TryRecvError:
+error_by_text! {
+    impl for TryRecvError:
     TryRecvError::Empty => "receiving on an empty channel",
     TryRecvError::Disconnected => "receiving on an empty and disconnected channel",
 }
-
-impl Error for TryRecvError {}
 
 impl From<RecvError> for TryRecvError {
     fn from(RecvError: RecvError) -> Self {
@@ -233,13 +222,11 @@ impl RecvTimeoutError {
     }
 }
 
-fmt_by_text! {
-    impl Display for RecvTimeoutError:
+error_by_text! {
+    impl for RecvTimeoutError:
     RecvTimeoutError::Timeout => "timed out waiting on receive operation",
     RecvTimeoutError::Disconnected => "channel is empty and disconnected",
 }
-
-impl Error for RecvTimeoutError {}
 
 impl From<RecvError> for RecvTimeoutError {
     fn from(RecvError: RecvError) -> Self {
@@ -251,32 +238,24 @@ impl From<RecvError> for RecvTimeoutError {
 #[derive(Clone, Copy, Debug, PartialEq, Eq, Hash)]
 pub struct TrySelectError;
 
-fmt_by_text! { impl Display for TrySelectError: _ => "all operations in select would block" }
-
-impl Error for TrySelectError {}
+error_by_text! { impl for TrySelectError: _ => "all operations in select would block" }
 
 /// Why [`select_timeout`](crate::Select::select_timeout) or [`select_deadline`](crate::Select::select_deadline)
 /// began nothing.
 #[derive(Clone, Copy, Debug, PartialEq, Eq, Hash)]
 pub struct SelectTimeoutError;
 
-fmt_by_text! { impl Display for SelectTimeoutError: _ => "timed out waiting on select" }
-
-impl Error for SelectTimeoutError {}
+error_by_text! { impl for SelectTimeoutError: _ => "timed out waiting on select" }
 
 /// Why [`try_ready`](crate::Select::try_ready) has no index.
 #[derive(Clone, Copy, Debug, PartialEq, Eq, Hash)]
 pub struct TryReadyError;
 
-fmt_by_text! { impl Display for TryReadyError: _ => "all operations in select would block" }
-
-impl Error for TryReadyError {}
+error_by_text! { impl for TryReadyError: _ => "all operations in select would block" }
 
 /// Why [`ready_timeout`](crate::Select::ready_timeout) or [`ready_deadline`](crate::Select::ready_deadline) has
 /// no index.
 #[derive(Clone, Copy, Debug, PartialEq, Eq, Hash)]
 pub struct ReadyTimeoutError;
 
-fmt_by_text! { impl Display for ReadyTimeoutError: _ => "timed out waiting on select" }
-
-impl Error for ReadyTimeoutError {}
+error_by_text! { impl for ReadyTimeoutError: _ => "timed out waiting on select" }

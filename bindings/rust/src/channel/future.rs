@@ -6,89 +6,78 @@
 //!
 //! **Panics of wakers** that are dropped end in the poll that is done, whose result would be lost; another poll
 //! raises the first of them again at its end, and so does the drop of a future.
-use super::body::{Parcel, Unsent};
-use super::rendezvous::TakerState;
+use super::body::Parcel;
+use super::rendezvous::{OfferState, TakerState};
+use super::select::Case;
 use super::side::Source;
 use super::{Receiver, RecvError, SendError, Sender};
-use crate::event::{Event, Panics, Ticket, Try};
+use crate::event::{Again, Panics, Ticket, Try};
 use std::borrow::Cow;
-use std::mem::take;
 use std::pin::Pin;
 use std::task::{Context, Poll, Waker};
 
-/// The place of a future in the line of its side.
-#[derive(Default)]
-struct Place(Option<Ticket>);
-
-impl Place {
-    /// Tries, unless it would seem to be in vain, and stays in line; or stands in line, and tries once more.
-    /// One that is still in line needs no try: the notification that takes it out is to come.
-    fn poll<R>(
-        &mut self,
-        line: &Event,
-        waker: &Waker,
-        panics: &mut Panics,
-        seems_in_vain: bool,
-        mut attempt: impl FnMut() -> Try<R>,
-    ) -> Poll<R> {
-        let mut tried = if seems_in_vain { Err(None) } else { attempt() };
-        let mut stays = |ticket| line.stay(ticket, waker, panics);
-        if tried.is_err() && !self.0.is_some_and(&mut stays) {
-            self.0 = Some(line.stand(waker.clone()));
-            tried = attempt();
-        }
-        match tried {
-            Ok(done) => {
-                self.leave(line, panics);
-                return Poll::Ready(done);
-            }
-            Err(again) => panics.run_each(again, |_| waker.wake_by_ref()),
-        }
-        Poll::Pending
+/// Tries, and stays in line; or stands in line, and tries again if there seems to be something. A future that is still in line
+/// needs no second try: the notification that takes it out is to come.
+fn poll_in_line<R>(
+    ticket: &mut Option<Ticket>,
+    case: &impl Case,
+    waker: &Waker,
+    panics: &mut Panics,
+    mut attempt: impl FnMut() -> Try<R>,
+) -> Poll<R> {
+    let mut tried = attempt();
+    let mut stays = |ticket| case.line().stay(ticket, waker, panics);
+    if tried.is_err() && !ticket.is_some_and(&mut stays) {
+        *ticket = Some(case.line().stand(waker.clone()));
+        tried = case.look().and_then(|()| attempt());
     }
-
-    /// Leaves the line without a further try.
-    fn leave(&mut self, line: &Event, panics: &mut Panics) {
-        if let Some(ticket) = self.0.take() {
-            line.pass_on(ticket, panics);
+    match tried {
+        Ok(done) => {
+            leave_line(ticket.take(), case, panics);
+            return Poll::Ready(done);
         }
+        // Nobody else wakes it at that moment.
+        Err(Again::At(_)) => panics.run_each([waker], Waker::wake_by_ref),
+        Err(Again::WhenNotified) => {}
+    }
+    Poll::Pending
+}
+
+/// Leaves the line without a further try.
+fn leave_line(ticket: Option<Ticket>, case: &impl Case, panics: &mut Panics) {
+    if let Some(ticket) = ticket {
+        case.line().pass_on(ticket, panics);
     }
 }
 
-/// How far the call of a future is.
-enum State<M> {
-    /// It waits in line, or hasn't begun.
-    InLine(Place),
-    /// The channel has capacity 0: how far it is there.
-    Meets(M),
-    Done,
+/// One poll by this call, which keeps the panics of wakers. The state is None once the future is done.
+fn poll_state<S, R>(
+    state: &mut Option<S>,
+    call: impl FnOnce(&mut S, &mut Panics) -> Poll<R>,
+) -> Poll<R> {
+    let begun = state.as_mut();
+    let begun = begun.expect("the future is done, and was polled again");
+    let mut panics = Panics::default();
+    let polled = call(begun, &mut panics);
+    match polled {
+        Poll::Pending => panics.raise(),
+        Poll::Ready(_) => *state = None,
+    }
+    polled
 }
 
-impl<M: Default> State<M> {
-    fn new(meets: bool) -> State<M> {
-        if meets {
-            State::Meets(M::default())
-        } else {
-            State::InLine(Place::default())
-        }
-    }
+/// How far a take is.
+enum Takes {
+    /// It waits in line, if it has a ticket.
+    InLine(Option<Ticket>),
+    /// The channel has capacity 0.
+    Meets(TakerState),
+}
 
-    fn is_done(&self) -> bool {
-        matches!(self, State::Done)
-    }
-
-    /// One poll by this call, which keeps the panics of wakers. After it the future is done, if it is ready.
-    fn poll<R>(&mut self, call: impl FnOnce(&mut Self, &mut Panics) -> Poll<R>) -> Poll<R> {
-        assert!(!self.is_done(), "the future is done, and was polled again");
-        let mut panics = Panics::default();
-        let polled = call(self, &mut panics);
-        if polled.is_pending() {
-            panics.raise();
-        } else {
-            *self = State::Done;
-        }
-        polled
-    }
+/// How far a send is. It has its item until that is sent, posted or handed back.
+enum Sends<T> {
+    InLine(Option<T>, Option<Ticket>),
+    Meets(OfferState<T>),
 }
 
 /// A take: see [`recv_async`](crate::Receiver::recv_async).
@@ -100,7 +89,7 @@ impl<M: Default> State<M> {
 pub struct RecvFuture<'a, T> {
     /// It borrows the receiver, or has it.
     receiver: Cow<'a, Receiver<T>>,
-    state: State<TakerState>,
+    state: Option<Takes>,
 }
 
 // No item is pinned.
@@ -108,9 +97,16 @@ impl<T> Unpin for RecvFuture<'_, T> {}
 
 impl<'a, T> RecvFuture<'a, T> {
     pub(super) fn new(receiver: Cow<'a, Receiver<T>>) -> Self {
-        let has_moments = matches!(&*receiver.0, Source::Timer(timer) if timer.capacity() != 0);
-        assert!(!has_moments, "a timer has no future: use the runtime's");
-        let state = State::new(receiver.rendezvous().is_some());
+        let state = match &*receiver.0 {
+            Source::Channel(shared) if shared.core.rendezvous.is_some() => {
+                Takes::Meets(TakerState::Idle)
+            }
+            Source::Timer(timer) if timer.capacity() != 0 => {
+                panic!("a timer has no future: use the runtime's")
+            }
+            _ => Takes::InLine(None),
+        };
+        let state = Some(state);
         RecvFuture { receiver, state }
     }
 
@@ -132,7 +128,7 @@ impl<'a, T> RecvFuture<'a, T> {
     /// ```
     #[must_use]
     pub fn is_terminated(&self) -> bool {
-        self.state.is_done()
+        self.state.is_none()
     }
 }
 
@@ -141,44 +137,33 @@ impl<T> Future for RecvFuture<'_, T> {
 
     fn poll(mut self: Pin<&mut Self>, context: &mut Context<'_>) -> Poll<Self::Output> {
         let (this, waker) = (&mut *self, context.waker());
-        let receiver = &this.receiver;
-        this.state.poll(|state, panics| {
-            let place = match (state, receiver.rendezvous()) {
-                (State::Meets(taker), Some(rendezvous)) => {
-                    let taken = receiver.poll_met(rendezvous, taker, waker, panics);
-                    return taken.map(|item| item.ok_or(RecvError));
-                }
-                (State::InLine(place), _) => place,
-                _ => unreachable!("it isn't done, and meets where it may"),
-            };
-            let line = receiver.line();
-            let taken = match &*receiver.0 {
-                Source::Channel(shared) => {
+        let receiver = &*this.receiver;
+        let taken = poll_state(&mut this.state, |state, panics| {
+            match (state, &*receiver.0) {
+                (Takes::Meets(taker), _) => receiver.poll_met(taker, waker, panics),
+                (Takes::InLine(ticket), Source::Channel(shared)) => {
                     let attempt = || shared.try_take();
-                    let taken = place.poll(line, waker, panics, receiver.is_empty(), attempt);
+                    let taken = poll_in_line(ticket, receiver, waker, panics, attempt);
                     taken.map(|parcel| parcel.map(Parcel::unpack))
                 }
-                Source::Timer(timer) => {
-                    let taken = place.poll(line, waker, panics, false, || timer.try_take());
-                    taken.map(|moment| moment.map(|it| timer.item_of(it)))
+                (Takes::InLine(ticket), Source::Timer(timer)) => {
+                    poll_in_line(ticket, receiver, waker, panics, || timer.try_recv())
                 }
-            };
-            taken.map(|item| item.ok_or(RecvError))
-        })
+            }
+        });
+        taken.map(|item| item.ok_or(RecvError))
     }
 }
 
 impl<T> Drop for RecvFuture<'_, T> {
     fn drop(&mut self) {
+        let Some(state) = self.state.take() else {
+            return;
+        };
         let (receiver, mut panics) = (&*self.receiver, Panics::default());
-        match (&mut self.state, receiver.rendezvous(), &*receiver.0) {
-            (State::InLine(place), ..) => place.leave(receiver.line(), &mut panics),
-            (State::Meets(taker), Some(rendezvous), Source::Channel(shared)) => {
-                if let Some(item) = rendezvous.leave(take(taker), &mut panics) {
-                    shared.core.give_back_item(rendezvous, item);
-                }
-            }
-            _ => {}
+        match state {
+            Takes::InLine(ticket) => leave_line(ticket, receiver, &mut panics),
+            Takes::Meets(taker) => receiver.leave_met(taker, &mut panics),
         }
         panics.raise();
     }
@@ -195,23 +180,19 @@ fmt_by_text! { impl<T> Debug for RecvFuture<'_, T>: _ => "RecvFuture { .. }" }
 pub struct SendFuture<'a, T> {
     /// It borrows the sender, or has it.
     sender: Cow<'a, Sender<T>>,
-    /// None once the item is handed back, or posted.
-    item: Option<Unsent<T>>,
-    /// With capacity 0 it has the number of the item, once that is posted.
-    state: State<Option<u64>>,
+    state: Option<Sends<T>>,
 }
 
 // No item is pinned.
 impl<T> Unpin for SendFuture<'_, T> {}
 
 impl<'a, T> SendFuture<'a, T> {
-    pub(super) fn new(sender: Cow<'a, Sender<T>>, item: Unsent<T>) -> Self {
-        let state = State::new(sender.core().rendezvous.is_some());
-        SendFuture {
-            sender,
-            item: Some(item),
-            state,
-        }
+    pub(super) fn new(sender: Cow<'a, Sender<T>>, item: T) -> Self {
+        let state = Some(match sender.core().rendezvous {
+            None => Sends::InLine(Some(item), None),
+            Some(_) => Sends::Meets(OfferState::Here(Some(item))),
+        });
+        SendFuture { sender, state }
     }
 
     /// Whether a poll was ready, as `is_terminated` of a `FusedFuture` says.
@@ -231,7 +212,7 @@ impl<'a, T> SendFuture<'a, T> {
     /// ```
     #[must_use]
     pub fn is_terminated(&self) -> bool {
-        self.state.is_done()
+        self.state.is_none()
     }
 }
 
@@ -240,42 +221,30 @@ impl<T> Future for SendFuture<'_, T> {
 
     fn poll(mut self: Pin<&mut Self>, context: &mut Context<'_>) -> Poll<Self::Output> {
         let (this, waker) = (&mut *self, context.waker());
-        let (sender, item) = (&this.sender, &mut this.item);
-        this.state.poll(|state, panics| {
-            let place = match (state, &sender.core().rendezvous) {
-                (State::Meets(offer), Some(rendezvous)) => {
-                    let item = || item.take().expect("the item isn't sent yet").into_inner();
-                    return sender.poll_posted(rendezvous, item, offer, waker, panics);
-                }
-                (State::InLine(place), _) => place,
-                _ => unreachable!("it isn't done, and meets where it may"),
-            };
-            let (line, is_full) = (sender.0.line(), sender.is_full());
-            let attempt = || match item {
-                Some(item) => sender.core().try_send(item),
-                None => Ok(false),
-            };
-            let sent = place.poll(line, waker, panics, is_full, attempt);
-            sent.map(|is_sent| match item.take() {
-                Some(item) if !is_sent => Err(SendError(item.into_inner())),
-                _ => Ok(()),
-            })
+        let sender = &*this.sender;
+        poll_state(&mut this.state, |state, panics| match state {
+            Sends::Meets(offer) => sender.poll_posted(offer, waker, panics),
+            Sends::InLine(item, ticket) => {
+                poll_in_line(ticket, sender, waker, panics, || sender.try_send_from(item))
+            }
         })
     }
 }
 
 impl<T> Drop for SendFuture<'_, T> {
     fn drop(&mut self) {
-        let mut panics = Panics::default();
-        match (&mut self.state, &self.sender.core().rendezvous) {
-            (State::InLine(place), _) => place.leave(self.sender.0.line(), &mut panics),
-            (State::Meets(offer), Some(rendezvous)) => {
-                let item = offer.and_then(|it| rendezvous.withdraw(it, &mut panics));
-                panics.run_each(item, drop);
+        let Some(state) = self.state.take() else {
+            return;
+        };
+        let (sender, mut panics) = (&*self.sender, Panics::default());
+        let item = match state {
+            Sends::InLine(item, ticket) => {
+                leave_line(ticket, sender, &mut panics);
+                item
             }
-            _ => {}
-        }
-        panics.run_each(self.item.take(), drop);
+            Sends::Meets(offer) => sender.withdraw(offer, &mut panics),
+        };
+        panics.run_each(item, drop);
         panics.raise();
     }
 }

@@ -1,6 +1,6 @@
 //! The limit of a [`row`](super::row): how many items it holds at most.
 //!
-//! A send takes a seat, gets room, and sends. It gets room by one exchange, if fewer items were given room than the limit and than
+//! A send acquires a seat, gets room, and sends. It gets room by one exchange, if fewer items were given room than the limit and than
 //! what every group has taken since; so there are never too many. A selected send gets its room at its selection, before
 //! it has a seat: that is its reservation. Room that isn't used is given back.
 //!
@@ -14,15 +14,12 @@ use super::body::Unsent;
 use super::core::{Core, Side};
 use super::pool::SeatGuard;
 use super::row::Row;
-use crate::event::{Try, WHEN_NOTIFIED, lock};
-use crate::queue::handle::code;
+use crate::event::{Again, Try, lock};
 use std::sync::atomic::{AtomicU64, Ordering};
-use std::thread;
-use std::time::Duration;
 
 /// The limit of a row, and the counts by which it is kept.
 pub struct Limit {
-    capacity: usize,
+    pub capacity: usize,
     /// How many items were given room.
     given: AtomicU64,
     /// How many of these have given it back. It grows after `given`, so a number that was read before is too small at most.
@@ -39,10 +36,6 @@ impl Limit {
             given_back: AtomicU64::new(0),
             taken: AtomicU64::new(0),
         }
-    }
-
-    pub fn capacity(&self) -> usize {
-        self.capacity
     }
 
     /// Whether these items are fewer than the limit, if this many were taken.
@@ -80,9 +73,8 @@ impl<T> Core<T> {
     /// Gets room for an item, if there is some.
     fn get_room(&self, row: &Row) -> bool {
         let taken_by_all = || self.alive().map(|group| group.seats.count()).min();
-        row.limit
-            .as_ref()
-            .is_none_or(|it| it.give_room(taken_by_all))
+        let limit = row.limit.as_ref();
+        limit.is_none_or(|it| it.give_room(taken_by_all))
     }
 
     /// Whether there seems to be room, or none will come. If it says no, there was none at some moment of this call.
@@ -96,10 +88,8 @@ impl<T> Core<T> {
             return Ok(());
         }
         let given_back = limit.given_back.load(Ordering::SeqCst);
-        let items = limit
-            .given
-            .load(Ordering::SeqCst)
-            .saturating_sub(given_back);
+        let given = limit.given.load(Ordering::SeqCst);
+        let items = given.saturating_sub(given_back);
         let has_room = |it: &Side| limit.has_room(items, it.seats.count());
         // The look without the seats is cheaper.
         if self.alive().all(has_room) {
@@ -111,14 +101,10 @@ impl<T> Core<T> {
             !has_room(group)
         });
         let is_same = given_back == limit.given_back.load(Ordering::SeqCst);
-        if is_full && is_same && !self.is_closed() {
-            Err(WHEN_NOTIFIED)
-        } else {
-            Ok(())
-        }
+        Again::unless(!is_full || !is_same || self.is_closed())
     }
 
-    /// Tries to send by this seat, if there is room.
+    /// Tries to send by this seat, if there is room. The seat is held until the item is accepted.
     pub fn send_within_limit<'a>(
         &'a self,
         row: &Row,
@@ -131,24 +117,14 @@ impl<T> Core<T> {
             if self.is_closed() {
                 return Ok(false);
             }
-            seat = self.senders.seats.take();
+            seat = self.senders.seats.acquire();
         }
-        let sent = self.send_with_room(item, seat);
+        let code = self.send_by(&mut seat, item);
+        let sent = self.end_send(item, code, seat);
         if sent != Ok(true) {
             self.give_back_room();
         }
         sent
-    }
-
-    /// Sends an item that has room, by this seat, which it keeps until the item is accepted. Returns whether it is; if not, the
-    /// channel is closed.
-    fn send_with_room(&self, item: &mut Unsent<T>, mut seat: SeatGuard) -> Try<bool> {
-        match self.send_by(&mut seat, item) {
-            code::ACCEPTED => drop(seat),
-            code => return self.send_again(item, code, seat),
-        }
-        self.notify_item();
-        Ok(true)
     }
 
     /// Reserves room for one send. Returns whether it has; if not, the channel is closed.
@@ -164,20 +140,5 @@ impl<T> Core<T> {
             self.give_back_room();
         }
         Ok(!is_closed)
-    }
-
-    /// Sends to room that was reserved. Returns whether it is sent; if not, the channel is closed.
-    pub fn send_to_room_of_row(&self, item: &mut Unsent<T>) -> bool {
-        loop {
-            match self.send_with_room(item, self.senders.seats.take()) {
-                Ok(true) => return true,
-                Ok(false) => {
-                    self.give_back_room();
-                    return false;
-                }
-                // Memory is wanting for a further queue.
-                Err(_) => thread::sleep(Duration::from_millis(1)),
-            }
-        }
     }
 }

@@ -1,15 +1,15 @@
-//! The seats of one side. A seat has a pass of the queue; a call takes a free seat, makes one call of
+//! The seats of one side. A seat has a pass of the queue; a call acquires a free seat, makes one call of
 //! the pass, and gives the seat back. So there may be any number of handles.
 //!
-//! To take a seat is one exchange, and to give it back one store, after which the line is looked at. A
+//! To acquire a seat is one exchange, and to give it back one store, after which the line is looked at. A
 //! caller that finds none free tries a few times more, and then parks: see [`event`](crate::event).
 //!
-//! **A side begins with one seat**, which is enough as long as one thread at a time calls. A call that finds the seat taken asks
-//! for the other seats ([`Core::take_seat`](super::core::Core::take_seat)). They are added once, while all seats are taken.
+//! **A side begins with one seat**, which is enough as long as one thread at a time calls. A call that finds the seat held asks
+//! for the other seats ([`Core::acquire_seat`](super::core::Core::acquire_seat)). They are added once, while all seats are held.
 #![allow(unsafe_code)]
 
 use crate::backoff::{FOR_A_LOOK, FOR_OWN_SIDE};
-use crate::event::{Apart, Event, Panics, soon, wait};
+use crate::event::{Apart, Event, Panics, wait_without_end};
 use crate::queue::handle::Handle;
 use std::cell::{Cell, UnsafeCell};
 use std::iter;
@@ -40,10 +40,21 @@ pub struct Pass {
     pub shares: usize,
 }
 
+impl Pass {
+    #[inline]
+    pub fn new(handle: Handle, queue: u64, shares: usize) -> Pass {
+        Pass {
+            handle,
+            queue,
+            shares,
+        }
+    }
+}
+
 /// A cache line for itself.
 #[repr(align(64))]
 struct Seat {
-    taken: AtomicBool,
+    held: AtomicBool,
     /// Its number among the seats, from 1.
     number: usize,
     /// How many items went through it. The holder alone writes it.
@@ -54,7 +65,7 @@ struct Seat {
 }
 
 // SAFETY: `pass` is reached by the holder of the seat alone ([`SeatGuard`]), and there is one at a time:
-// whoever sets `taken` from false to true, until it is set back. Threads so have the pass one after
+// whoever sets `held` from false to true, until it is set back. Threads so have the pass one after
 // another, each with what the one before it did, by an acquire and a release; which is to send it from
 // one to the next, and `Pass` is `Send`.
 unsafe impl Sync for Seat where Pass: Send {}
@@ -116,16 +127,16 @@ pub struct Pool {
     served: Apart<Event>,
 }
 
-/// A seat that is taken, until the drop.
+/// A seat that is held, until the drop.
 pub struct SeatGuard<'a> {
-    pool: &'a Pool,
+    pub pool: &'a Pool,
     seat: &'a Seat,
 }
 
 impl Seat {
     fn new(number: usize, pass: Pass) -> Seat {
         Seat {
-            taken: AtomicBool::new(false),
+            held: AtomicBool::new(false),
             number,
             count: AtomicU64::new(0),
             asked: AtomicU64::new(0),
@@ -139,8 +150,8 @@ impl Seat {
     }
 
     #[inline]
-    fn is_taken(&self) -> bool {
-        self.taken.load(Ordering::SeqCst)
+    fn is_held(&self) -> bool {
+        self.held.load(Ordering::SeqCst)
     }
 }
 
@@ -161,8 +172,14 @@ impl<'a> SeatGuard<'a> {
         }
     }
 
-    /// Its place among the seats, from 0.
-    pub fn place(&self) -> usize {
+    /// Closes the queue of its pass. Returns whether that was open.
+    pub fn close(&mut self) -> bool {
+        let (pass, line) = self.pass();
+        pass.handle.close(line)
+    }
+
+    /// Its index among the seats, from 0.
+    pub fn index(&self) -> usize {
         self.seat.number - 1
     }
 
@@ -180,8 +197,8 @@ impl<'a> SeatGuard<'a> {
 /// Gives a seat back, or keeps it, by an exchange. The exchange waits until the stores of the seat's call are in memory: one of them may
 /// have served a waiter of this line. Then it wakes all waiters.
 #[cold]
-fn store_and_wake(seat: &Seat, taken: bool, served: &Event) {
-    seat.taken.swap(taken, Ordering::SeqCst);
+fn store_and_wake(seat: &Seat, held: bool, served: &Event) {
+    seat.held.swap(held, Ordering::SeqCst);
     if served.has_waiters() {
         served.notify_all(&mut Panics::default());
     }
@@ -193,7 +210,7 @@ impl Drop for SeatGuard<'_> {
         if self.pool.served.was_used() {
             store_and_wake(self.seat, false, &self.pool.served);
         } else {
-            self.seat.taken.store(false, Ordering::Release);
+            self.seat.held.store(false, Ordering::Release);
         }
         self.pool.free.notify_one();
     }
@@ -273,7 +290,7 @@ impl Pool {
         }
     }
 
-    /// The seat at this place, of which the lowest bits count.
+    /// The seat at this index, of which the lowest bits count.
     #[inline]
     fn seat_at<'a>(&'a self, others: &'a [Other], at: usize) -> &'a Seat {
         match at & others.len() {
@@ -289,38 +306,40 @@ impl Pool {
         count.saturating_sub(seat.asked.swap(count, Ordering::Relaxed)) >= AHEAD_AFTER
     }
 
-    /// Takes this seat, if it is free.
+    /// Acquires this seat, if it is free.
     #[inline]
     fn try_seat<'a>(&'a self, seat: &'a Seat) -> Option<SeatGuard<'a>> {
-        let taken = seat.taken.swap(true, Ordering::SeqCst);
-        (!taken).then(|| SeatGuard { pool: self, seat })
+        let was_held = seat.held.swap(true, Ordering::SeqCst);
+        (!was_held).then(|| SeatGuard { pool: self, seat })
     }
 
-    /// Takes the seat that this thread tries first, if it is free.
+    /// Acquires the seat that this thread tries first, if it is free.
     #[inline]
-    pub fn try_take(&self) -> Option<SeatGuard<'_>> {
+    pub fn try_acquire(&self) -> Option<SeatGuard<'_>> {
         self.try_seat(self.seat())
     }
 
-    /// Takes a free seat, and waits for one.
+    /// Acquires a free seat, and waits for one.
     #[inline]
-    pub fn take(&self) -> SeatGuard<'_> {
-        self.try_take().unwrap_or_else(|| self.take_another())
+    pub fn acquire(&self) -> SeatGuard<'_> {
+        self.try_acquire().unwrap_or_else(|| self.acquire_another())
+    }
+
+    /// Waits in line for a free seat. The holder's look at the line may come before this thread sees the store that frees the seat.
+    fn wait_for_free<R>(&self, attempt: impl FnMut() -> Option<R>) -> R {
+        wait_without_end(&self.free, FOR_OWN_SIDE, attempt)
     }
 
     #[cold]
-    pub fn take_another(&self) -> SeatGuard<'_> {
+    pub fn acquire_another(&self) -> SeatGuard<'_> {
         let hint = HINT.get();
-        let first_free = || {
+        let (at, held) = self.wait_for_free(|| {
             let others = self.others();
-            let mut places = hint..=hint + others.len();
-            let found = places.find_map(|at| Some((at, self.try_seat(self.seat_at(others, at))?)));
-            // The look at the line may come before the store for this thread: so it doesn't wait for a notification alone.
-            let (at, held) = found.ok_or_else(soon)?;
-            HINT.set(at % MOST);
-            Ok(held)
-        };
-        wait(&self.free, FOR_OWN_SIDE, None, first_free).expect("it waits without end")
+            let mut around = hint..=hint + others.len();
+            around.find_map(|at| Some((at, self.try_seat(self.seat_at(others, at))?)))
+        });
+        HINT.set(at % MOST);
+        held
     }
 
     /// All seats. A caller that comes to the end of the others knows those that were added before it came to the first one.
@@ -329,23 +348,23 @@ impl Pool {
         iter::once(&self.first).chain(others)
     }
 
-    /// Takes each seat that is free.
-    pub fn take_free(&self) -> impl Iterator<Item = SeatGuard<'_>> {
+    /// Acquires each seat that is free.
+    pub fn acquire_free(&self) -> impl Iterator<Item = SeatGuard<'_>> {
         self.seats().filter_map(|seat| self.try_seat(seat))
     }
 
-    /// Waits until each seat was free once. So whoever had a seat has counted what went through it; and whoever takes a seat after
+    /// Waits until each seat was free once. So whoever had a seat has counted what went through it; and whoever acquires a seat after
     /// that sees what this thread did before.
     ///
     /// It looks for the other seats after it saw the first one free. A thread that adds seats has the first one meanwhile. So a seat that
     /// isn't looked at was added later, and what went through it came later.
     #[inline]
     pub fn wait_for_holders(&self) {
-        if self.first.is_taken() {
+        if self.first.is_held() {
             self.wait_for(&self.first);
         }
         for Other(seat) in self.others() {
-            if seat.is_taken() {
+            if seat.is_held() {
                 self.wait_for(seat);
             }
         }
@@ -354,11 +373,11 @@ impl Pool {
     /// Whether each seat was free once, now or after some pauses. A holder that doesn't run isn't waited for.
     #[inline]
     pub fn saw_each_free(&self) -> bool {
-        if self.first.is_taken() && !Pool::pauses_until_free(&self.first) {
+        if self.first.is_held() && !Pool::pauses_until_free(&self.first) {
             return false;
         }
         for Other(seat) in self.others() {
-            if seat.is_taken() && !Pool::pauses_until_free(seat) {
+            if seat.is_held() && !Pool::pauses_until_free(seat) {
                 return false;
             }
         }
@@ -367,23 +386,19 @@ impl Pool {
 
     #[cold]
     fn pauses_until_free(seat: &Seat) -> bool {
-        let free = FOR_A_LOOK.try_until(|| (!seat.is_taken()).then_some(()));
+        let free = FOR_A_LOOK.try_until(|| (!seat.is_held()).then_some(()));
         free.is_some()
     }
 
     /// Waits until this seat was free once, in line.
     #[cold]
     fn wait_for(&self, seat: &Seat) {
-        let is_free = || (!seat.is_taken()).then_some(()).ok_or_else(soon);
-        wait(&self.free, FOR_OWN_SIDE, None, is_free).expect("it waits without end");
+        self.wait_for_free(|| (!seat.is_held()).then_some(()));
     }
 
-    /// Takes all seats, each once it is free. It waits in line for one whose holder doesn't run.
-    pub fn take_all(&self) -> Vec<SeatGuard<'_>> {
-        let take = |seat| {
-            let attempt = || self.try_seat(seat).ok_or_else(soon);
-            wait(&self.free, FOR_OWN_SIDE, None, attempt).expect("it waits without end")
-        };
-        self.seats().map(take).collect()
+    /// Acquires all seats, each once it is free. It waits in line for one whose holder doesn't run.
+    pub fn acquire_all(&self) -> Vec<SeatGuard<'_>> {
+        let acquire = |seat| self.wait_for_free(|| self.try_seat(seat));
+        self.seats().map(acquire).collect()
     }
 }

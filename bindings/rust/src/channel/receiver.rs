@@ -74,10 +74,7 @@ impl<T> Receiver<T> {
     pub fn try_recv(&self) -> Result<T, TryRecvError> {
         let taken = match &*self.0 {
             Source::Channel(shared) => shared.try_take().map(|it| it.map(Parcel::unpack)),
-            Source::Timer(timer) => {
-                let taken = timer.try_take();
-                taken.map(|moment| moment.map(|it| timer.item_of(it)))
-            }
+            Source::Timer(timer) => timer.try_recv(),
         };
         match taken {
             Ok(Some(item)) => Ok(item),
@@ -101,16 +98,13 @@ impl<T> Receiver<T> {
     fn wait_for_item(&self, until: Option<Instant>) -> Result<T, RecvTimeoutError> {
         let taken = match &*self.0 {
             Source::Channel(shared) => {
-                if let Some(rendezvous) = &shared.core.rendezvous {
-                    return self.meet_until(rendezvous, until);
+                if shared.core.rendezvous.is_some() {
+                    return self.meet_until(until);
                 }
                 let taken = shared.wait(until, || shared.try_take());
                 taken.map(|parcel| parcel.map(Parcel::unpack))
             }
-            Source::Timer(timer) => {
-                let taken = wait(&timer.line, FOR_OTHERS, until, || timer.try_take());
-                taken.map(|moment| moment.map(|it| timer.item_of(it)))
-            }
+            Source::Timer(timer) => wait(&timer.line, FOR_OTHERS, until, || timer.try_recv()),
         };
         let taken = taken.ok_or(RecvTimeoutError::Timeout)?;
         taken.ok_or(RecvTimeoutError::Disconnected)

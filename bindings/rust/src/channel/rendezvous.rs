@@ -33,20 +33,35 @@
 //! post notifies: see [`event`](crate::event).
 //!
 //! **Order of locks**: the lines, by their address; the pairs; a waiter. User code runs while none is held.
-use super::core::Core;
 use super::select::{Begun, Case as _};
 use super::{Receiver, RecvTimeoutError, SendError, SendTimeoutError, Sender, TrySendError};
-use crate::event::{Panics, Try, WHEN_NOTIFIED, ignore_panics, lock, poll_until};
+use crate::event::{Again, Panics, Try, ignore_panics, lock, poll_until};
 use std::collections::{BTreeMap, VecDeque};
-use std::mem::{swap, take};
+use std::mem::{self, swap};
+use std::ptr;
 use std::sync::atomic::{AtomicBool, Ordering};
 use std::sync::{Arc, Mutex, MutexGuard};
 use std::task::{Poll, Waker, ready};
 use std::time::{Duration, Instant};
 
-/// The sides of a channel.
-pub const SENDS: usize = 0;
-pub const TAKES: usize = 1;
+/// The part of an operation when it meets another one, which has the other part.
+#[derive(Clone, Copy, PartialEq)]
+pub enum Role {
+    Send,
+    Take,
+}
+
+impl Role {
+    fn other(self) -> Role {
+        match self {
+            Role::Send => Role::Take,
+            Role::Take => Role::Send,
+        }
+    }
+}
+
+/// Why a call here finds a rendezvous.
+const MEETS: &str = "the channel has capacity 0";
 
 /// How long a take whose time is over waits for the item of a send that it has met.
 const GRACE: Duration = Duration::from_millis(1);
@@ -57,8 +72,36 @@ pub struct Waiter(Mutex<Waits>);
 struct Waits {
     /// None once it is used, until it is noted again.
     waker: Option<Waker>,
-    /// In which operation of its select, and the number of the pair.
-    met: Option<(usize, u64)>,
+    met: Option<Meeting>,
+}
+
+/// How a waiter was met.
+#[derive(Clone, Copy)]
+pub struct Meeting {
+    /// In which operation of its select.
+    pub at: usize,
+    /// The number of the pair.
+    pub pair: u64,
+}
+
+/// Returns what this finds under the lock; or notes this waker where this says. The waker that isn't noted, or isn't any more, is
+/// dropped once the lock is released.
+fn poll_under_lock<S, R>(
+    state: &Mutex<S>,
+    waker: &Waker,
+    panics: &mut Panics,
+    find: impl FnOnce(&mut S) -> Result<R, &mut Option<Waker>>,
+) -> Poll<R> {
+    let mut waker = Some(waker.clone());
+    let polled = match find(&mut lock(state)) {
+        Ok(found) => Poll::Ready(found),
+        Err(noted) => {
+            swap(noted, &mut waker);
+            Poll::Pending
+        }
+    };
+    panics.run_each(waker, drop);
+    polled
 }
 
 impl Waiter {
@@ -67,13 +110,12 @@ impl Waiter {
         Arc::new(Waiter(Mutex::new(Waits { waker, met })))
     }
 
-    /// Meets it, unless another call has, and gives its waker.
-    fn try_meet(&self, place: usize, pair: u64) -> Option<Option<Waker>> {
+    /// Meets it, unless another call has. It is locked then.
+    fn try_meet(&self, meeting: Meeting) -> Option<MutexGuard<'_, Waits>> {
         let mut waits = lock(&self.0);
-        let is_first = waits.met.is_none();
-        is_first.then(|| {
-            waits.met = Some((place, pair));
-            waits.waker.take()
+        waits.met.is_none().then(|| {
+            waits.met = Some(meeting);
+            waits
         })
     }
 
@@ -81,23 +123,18 @@ impl Waiter {
         lock(&self.0).waker.take()
     }
 
-    /// Waits on, with this waker. Gives the pair if it is met.
-    fn stay(&self, waker: &Waker, panics: &mut Panics) -> Option<u64> {
-        let mut waker = Some(waker.clone());
-        let mut waits = lock(&self.0);
-        let met = waits.met;
-        if met.is_none() {
-            swap(&mut waits.waker, &mut waker);
-        }
-        drop(waits);
-        panics.run_each(waker, drop);
-        Some(met?.1)
+    /// Gives the pair if it is met. If not, it waits on, with this waker.
+    fn poll(&self, waker: &Waker, panics: &mut Panics) -> Poll<u64> {
+        poll_under_lock(&self.0, waker, panics, |waits| match waits.met {
+            Some(met) => Ok(met.pair),
+            None => Err(&mut waits.waker),
+        })
     }
 
-    /// Takes it off these channels, and returns the one that met it before.
-    pub fn withdraw(self: &Arc<Waiter>, cases: &[Case]) -> Option<(usize, u64)> {
-        for (_, channel, side) in cases {
-            let posted = &mut lock(channel.lines()).posted[*side];
+    /// Takes it off these channels, and returns how it was met before.
+    pub fn withdraw(self: &Arc<Waiter>, operations: &[Operation]) -> Option<Meeting> {
+        for &Operation { channel, role, .. } in operations {
+            let posted = &mut lock(channel.lines()).posted[role as usize];
             posted.retain(|other| !Arc::ptr_eq(&other.waiter, self));
         }
         lock(&self.0).met
@@ -106,56 +143,69 @@ impl Waiter {
 
 struct Posted {
     waiter: Arc<Waiter>,
-    place: usize,
+    at: usize,
 }
 
-/// The waiters that are posted, of either side.
+/// The waiters that are posted.
 #[derive(Default)]
 pub struct Lines {
     is_closed: bool,
+    /// By their roles.
     posted: [VecDeque<Posted>; 2],
 }
 
-/// A begun operation, and the waker to call once no lock is held.
-type Met = (Begun, Option<Waker>);
+/// An operation that has met another, or found the channel closed.
+pub struct Met {
+    begun: Begun,
+    /// The waker to call once no lock is held.
+    woken: Option<Waker>,
+}
+
+impl Met {
+    fn wake(self) -> Begun {
+        ignore_panics(self.woken, Waker::wake);
+        self.begun
+    }
+}
 
 /// A channel of capacity 0, whatever its items are.
 pub trait Meets {
     fn lines(&self) -> &Mutex<Lines>;
-    /// Meets one for this side.
-    fn begin(&self, lines: &mut Lines, side: usize) -> Option<Met>;
+    /// Meets another in this role.
+    fn begin(&self, lines: &mut Lines, role: Role) -> Option<Met>;
     /// Whether there seems to be one to meet, or nobody will be.
-    fn look(&self, side: usize) -> Try<()>;
-    /// Whether what has begun is for good: whether a send still has its pair; and whether the pair of a take has its
-    /// item, for which it waits until this moment, or [`GRACE`].
-    fn wait_for_pair(&self, begun: &Begun, side: usize, until: Option<Instant>) -> bool;
+    fn look(&self, role: Role) -> Try<()>;
+    /// Whether a pair is for good: whether a send still has it; and whether that of a take has its item, for which it waits
+    /// until this moment, or [`GRACE`].
+    fn wait_for_pair(&self, pair: u64, role: Role, until: Option<Instant>) -> bool;
 }
 
-/// An operation of a select that may meet another: its place in the select, its channel, and its side.
-pub type Case<'a> = (usize, &'a dyn Meets, usize);
+/// An operation of a select that may meet another.
+#[derive(Clone, Copy)]
+pub struct Operation<'a> {
+    /// Its index in the order of the select.
+    pub at: usize,
+    pub channel: &'a dyn Meets,
+    pub role: Role,
+}
 
 /// Meets one that is posted for one of these operations, or posts this waiter for all.
-pub fn meet_or_post(cases: &[Case], waiter: &Arc<Waiter>) -> Option<(usize, Begun)> {
-    let address = |channel: &dyn Meets| std::ptr::from_ref(channel.lines()).addr();
-    let mut channels: Vec<&dyn Meets> = cases.iter().map(|case| case.1).collect();
-    channels.sort_by_key(|channel| address(*channel));
-    channels.dedup_by_key(|channel| address(*channel));
-    let addresses: Vec<usize> = channels.iter().map(|channel| address(*channel)).collect();
-    let lines_of = |channel| addresses.partition_point(|other| *other < address(channel));
-    let mut locked: Vec<_> = channels
-        .iter()
-        .map(|channel| lock(channel.lines()))
-        .collect();
-    for &(place, channel, side) in cases {
-        if let Some((begun, waker)) = channel.begin(&mut locked[lines_of(channel)], side) {
+pub fn meet_or_post(operations: &[Operation], waiter: &Arc<Waiter>) -> Option<(usize, Begun)> {
+    let mut all: Vec<_> = operations.iter().map(|it| it.channel.lines()).collect();
+    all.sort_by_key(|it| ptr::from_ref(*it));
+    all.dedup_by_key(|it| ptr::from_ref(*it));
+    let mut locked: Vec<_> = all.iter().map(|it| lock(it)).collect();
+    let index = |lines| all.partition_point(|it| ptr::from_ref(*it) < ptr::from_ref(lines));
+    for &Operation { at, channel, role } in operations {
+        let lines = &mut locked[index(channel.lines())];
+        if let Some(met) = channel.begin(lines, role) {
             drop(locked);
-            ignore_panics(waker, Waker::wake);
-            return Some((place, begun));
+            return Some((at, met.wake()));
         }
     }
-    for &(place, channel, side) in cases {
-        let waiter = waiter.clone();
-        locked[lines_of(channel)].posted[side].push_back(Posted { waiter, place });
+    for &Operation { at, channel, role } in operations {
+        let (waiter, lines) = (waiter.clone(), &mut locked[index(channel.lines())]);
+        lines.posted[role as usize].push_back(Posted { waiter, at });
     }
     None
 }
@@ -190,21 +240,25 @@ impl<T> Pairs<T> {
         self.last
     }
 
-    fn push(&mut self, taker: Option<Waker>, item: Option<T>) -> u64 {
+    /// Makes a pair with this item and the waker of its take. The other waker is called.
+    fn push(&mut self, taker: Option<Waker>, item: Option<T>, woken: Option<Waker>) -> Met {
         let number = self.next();
         self.pairs.insert(number, Pair { taker, item });
-        number
+        let begun = Begun::Met(number);
+        Met { begun, woken }
     }
 
-    /// Meets the first waiter of the other side that nobody has met, with the item if it is at hand.
-    fn meet(&mut self, lines: &mut Lines, side: usize, item: &mut Option<T>) -> Option<Met> {
-        while let Some(Posted { waiter, place }) = lines.posted[1 - side].pop_front() {
-            if let Some(waker) = waiter.try_meet(place, self.last + 1) {
-                let item = item.take();
+    /// Meets the first waiter of the other role that nobody has met, with the item if it is at hand.
+    fn meet(&mut self, lines: &mut Lines, role: Role, item: &mut Option<T>) -> Option<Met> {
+        let posted = &mut lines.posted[role.other() as usize];
+        while let Some(Posted { waiter, at }) = posted.pop_front() {
+            let pair = self.last + 1;
+            if let Some(mut waits) = waiter.try_meet(Meeting { at, pair }) {
+                let (item, waker) = (item.take(), waits.waker.take());
                 // A take is woken once there is an item.
-                let awaits = side == SENDS && item.is_none();
+                let awaits = role == Role::Send && item.is_none();
                 let (taker, woken) = if awaits { (waker, None) } else { (None, waker) };
-                return Some((Begun::Met(self.push(taker, item)), woken));
+                return Some(self.push(taker, item, woken));
             }
         }
         None
@@ -212,22 +266,20 @@ impl<T> Pairs<T> {
 
     fn take_offer(&mut self) -> Option<Met> {
         let (_, Offer { item, waker }) = self.offers.pop_first()?;
-        Some((Begun::Met(self.push(None, Some(item))), waker))
+        Some(self.push(None, Some(item), waker))
     }
 }
 
 /// There are some if futures or selected operations were forgotten.
 impl<T> Drop for Pairs<T> {
     fn drop(&mut self) {
-        let (pairs, offers) = (take(&mut self.pairs), take(&mut self.offers));
+        let (pairs, offers) = (mem::take(&mut self.pairs), mem::take(&mut self.offers));
         let pairs = pairs.into_values().map(|it| (it.item, it.taker));
         let offers = offers.into_values().map(|it| (Some(it.item), it.waker));
         let (items, wakers): (Vec<_>, Vec<_>) = pairs.chain(offers).unzip();
         let mut panics = Panics::default();
-        panics.run_each(
-            items.into_iter().flatten().chain(take(&mut self.returned)),
-            drop,
-        );
+        panics.run_each(items.into_iter().flatten(), drop);
+        panics.run_each(mem::take(&mut self.returned), drop);
         panics.run_each(wakers, drop);
         panics.raise();
     }
@@ -258,20 +310,20 @@ impl<T> Rendezvous<T> {
         let met = if lines.is_closed {
             None
         } else {
-            lock(&self.pairs).meet(&mut lines, SENDS, &mut item)
+            lock(&self.pairs).meet(&mut lines, Role::Send, &mut item)
         };
         if let Some(item) = item {
             return Err((item, lines));
         }
         drop(lines);
-        ignore_panics(met.and_then(|it| it.1), Waker::wake);
+        met.map(Met::wake);
         Ok(())
     }
 
     /// Takes an item of one that is posted. Gives None if the channel is closed.
     pub fn try_take(&self) -> Try<Option<T>> {
         let mut until = None;
-        while let Begun::Met(pair) = try_meet(self, TAKES)? {
+        while let Begun::Met(pair) = try_meet(self, Role::Take)? {
             let until = *until.get_or_insert_with(|| Instant::now() + GRACE);
             if self.wait_for_item(pair, Some(until)) {
                 return Ok(self.take(pair));
@@ -294,19 +346,13 @@ impl<T> Rendezvous<T> {
     /// Whether this pair has its item; or whether it is given up, if it isn't there. Otherwise its item, or that it
     /// is given up, wakes this waker.
     fn poll_pair(&self, number: u64, waker: &Waker, panics: &mut Panics) -> Poll<bool> {
-        let mut waker = Some(waker.clone());
-        let mut pairs = lock(&self.pairs);
-        let polled = match pairs.pairs.get_mut(&number) {
-            None => Poll::Ready(false),
-            Some(Pair { item: Some(_), .. }) => Poll::Ready(true),
-            Some(pair) => {
-                swap(&mut pair.taker, &mut waker);
-                Poll::Pending
+        poll_under_lock(&self.pairs, waker, panics, |pairs| {
+            match pairs.pairs.get_mut(&number) {
+                None => Ok(false),
+                Some(Pair { item: Some(_), .. }) => Ok(true),
+                Some(pair) => Err(&mut pair.taker),
             }
-        };
-        drop(pairs);
-        panics.run_each(waker, drop);
-        polled
+        })
     }
 
     /// Waits until this pair has its item, and returns whether it has. If not, the pair is given up: by the send, or
@@ -363,22 +409,12 @@ impl<T> Rendezvous<T> {
         }
     }
 
-    /// Whether this item is still posted. It stays so, for this waker.
-    fn keep_offer(&self, number: u64, waker: &Waker, panics: &mut Panics) -> bool {
-        let mut waker = Some(waker.clone());
-        let mut pairs = lock(&self.pairs);
-        let offer = pairs.offers.get_mut(&number);
-        let is_posted = offer.map(|it| swap(&mut it.waker, &mut waker)).is_some();
-        drop(pairs);
-        panics.run_each(waker, drop);
-        is_posted
-    }
-
-    /// Takes this item off, if nobody took it.
-    pub fn withdraw(&self, number: u64, panics: &mut Panics) -> Option<T> {
-        let Offer { item, waker } = lock(&self.pairs).offers.remove(&number)?;
-        panics.run_each(waker, drop);
-        Some(item)
+    /// Ready once this item isn't posted any more. If it is, it stays so for this waker.
+    fn poll_offer(&self, number: u64, waker: &Waker, panics: &mut Panics) -> Poll<()> {
+        poll_under_lock(&self.pairs, waker, panics, |pairs| {
+            let offer = pairs.offers.get_mut(&number);
+            offer.map_or(Ok(()), |it| Err(&mut it.waker))
+        })
     }
 
     /// Nobody meets any more. Sets this flag in the same step, and returns what it was.
@@ -400,22 +436,31 @@ impl<T> Rendezvous<T> {
         panics.run_each(wakers, Waker::wake);
     }
 
-    /// A take takes itself off. Gives its pair, if it is in one.
-    fn take_off(&self, taker: TakerState, panics: &mut Panics) -> Option<u64> {
+    /// A take that isn't one of several operations.
+    fn take_alone(&self) -> Operation<'_> {
+        Operation {
+            at: 0,
+            channel: self,
+            role: Role::Take,
+        }
+    }
+
+    /// Withdraws a take. Gives its pair, if it is in one.
+    fn withdraw_taker(&self, taker: TakerState, panics: &mut Panics) -> Option<u64> {
         match taker {
             TakerState::Idle => None,
             TakerState::Met(pair) => Some(pair),
             TakerState::Posted(waiter) => {
-                let met = waiter.withdraw(&[(0, self, TAKES)]);
+                let met = waiter.withdraw(&[self.take_alone()]);
                 panics.run_each(waiter.take_waker(), drop);
-                Some(met?.1)
+                Some(met?.pair)
             }
         }
     }
 
     /// A task's take is no more. Gives the item that it has already.
     pub fn leave(&self, taker: TakerState, panics: &mut Panics) -> Option<T> {
-        let pair = self.take_off(taker, panics)?;
+        let pair = self.withdraw_taker(taker, panics)?;
         let Pair { taker, item } = lock(&self.pairs).pairs.remove(&pair)?;
         panics.run_each(taker, drop);
         item
@@ -427,64 +472,57 @@ impl<T> Meets for Rendezvous<T> {
         &self.lines
     }
 
-    fn begin(&self, lines: &mut Lines, side: usize) -> Option<Met> {
-        let takes = side == TAKES;
+    fn begin(&self, lines: &mut Lines, role: Role) -> Option<Met> {
+        let takes = role == Role::Take;
         let pairs = &mut *lock(&self.pairs);
         if takes {
             if let Some(item) = pairs.returned.pop_front() {
-                return Some((Begun::Met(pairs.push(None, Some(item))), None));
+                return Some(pairs.push(None, Some(item), None));
             }
         }
         if lines.is_closed {
-            return Some((Begun::Closed, None));
+            let (begun, woken) = (Begun::Closed, None);
+            return Some(Met { begun, woken });
         }
         pairs.is_turn_of_offers ^= takes;
         if takes && pairs.is_turn_of_offers && !pairs.offers.is_empty() {
             return pairs.take_offer();
         }
-        let met = pairs.meet(lines, side, &mut None);
+        let met = pairs.meet(lines, role, &mut None);
         met.or_else(|| takes.then(|| pairs.take_offer()).flatten())
     }
 
-    fn look(&self, side: usize) -> Try<()> {
+    fn look(&self, role: Role) -> Try<()> {
         let lines = lock(&self.lines);
         let pairs = lock(&self.pairs);
-        let has_item = side == TAKES && pairs.offers.len() + pairs.returned.len() > 0;
-        if has_item || lines.is_closed || !lines.posted[1 - side].is_empty() {
-            Ok(())
-        } else {
-            Err(WHEN_NOTIFIED)
-        }
+        let has_item = role == Role::Take && pairs.offers.len() + pairs.returned.len() > 0;
+        let has_waiter = !lines.posted[role.other() as usize].is_empty();
+        Again::unless(has_item || has_waiter || lines.is_closed)
     }
 
-    fn wait_for_pair(&self, begun: &Begun, side: usize, until: Option<Instant>) -> bool {
-        match begun {
-            Begun::Met(pair) if side == SENDS => lock(&self.pairs).pairs.contains_key(pair),
-            Begun::Met(pair) => {
+    fn wait_for_pair(&self, pair: u64, role: Role, until: Option<Instant>) -> bool {
+        match role {
+            Role::Send => lock(&self.pairs).pairs.contains_key(&pair),
+            Role::Take => {
                 let until = until.map(|until| until.max(Instant::now() + GRACE));
-                self.wait_for_item(*pair, until)
+                self.wait_for_item(pair, until)
             }
-            _ => true,
         }
     }
 }
 
 /// Meets one that is posted for this operation alone.
-pub fn try_meet(channel: &dyn Meets, side: usize) -> Try<Begun> {
-    let met = channel.begin(&mut lock(channel.lines()), side);
-    let (begun, waker) = met.ok_or(WHEN_NOTIFIED)?;
-    ignore_panics(waker, Waker::wake);
-    Ok(begun)
+pub fn try_meet(channel: &dyn Meets, role: Role) -> Try<Begun> {
+    let met = channel.begin(&mut lock(channel.lines()), role);
+    Ok(met.ok_or(Again::WhenNotified)?.wake())
 }
 
-impl<T> Core<T> {
-    /// A task that was given this item is dropped: the item goes to the next take.
-    pub fn give_back_item(&self, rendezvous: &Rendezvous<T>, item: T) {
-        if let Err((item, _lines)) = rendezvous.give(item) {
-            lock(&rendezvous.pairs).returned.push_back(item);
-        }
-        self.notify_item();
-    }
+/// How far the send of a task is, or that of a thread.
+pub enum OfferState<T> {
+    /// The item is here, until it is given or handed back.
+    Here(Option<T>),
+    /// It is posted under this number.
+    Posted(u64),
 }
 
 /// How far the take of a task is, or that of a thread.
@@ -500,19 +538,14 @@ pub enum TakerState {
 impl<T> Receiver<T> {
     /// Takes an item of one that sends, and waits for one until this moment.
     #[cold]
-    pub(super) fn meet_until(
-        &self,
-        rendezvous: &Rendezvous<T>,
-        until: Option<Instant>,
-    ) -> Result<T, RecvTimeoutError> {
+    pub(super) fn meet_until(&self, until: Option<Instant>) -> Result<T, RecvTimeoutError> {
+        let rendezvous = self.rendezvous().expect(MEETS);
         let (mut taker, mut panics) = (TakerState::Idle, Panics::default());
-        let polled = poll_until(until, |waker| {
-            self.poll_met(rendezvous, &mut taker, waker, &mut panics)
-        });
+        let polled = poll_until(until, |waker| self.poll_met(&mut taker, waker, &mut panics));
         if let Some(item) = polled {
             return item.ok_or(RecvTimeoutError::Disconnected);
         }
-        let pair = rendezvous.take_off(taker, &mut panics);
+        let pair = rendezvous.withdraw_taker(taker, &mut panics);
         let grace = Some(Instant::now() + GRACE);
         let pair = pair.filter(|pair| rendezvous.wait_for_item(*pair, grace));
         let item = pair.and_then(|pair| rendezvous.take(pair));
@@ -523,25 +556,25 @@ impl<T> Receiver<T> {
     /// None if the channel is closed.
     pub(super) fn poll_met(
         &self,
-        rendezvous: &Rendezvous<T>,
         taker: &mut TakerState,
         waker: &Waker,
         panics: &mut Panics,
     ) -> Poll<Option<T>> {
+        let rendezvous = self.rendezvous().expect(MEETS);
         loop {
             let pair = match taker {
                 TakerState::Met(pair) => *pair,
-                TakerState::Posted(waiter) => match waiter.stay(waker, panics) {
-                    Some(pair) => pair,
-                    None if !self.is_closed() => return Poll::Pending,
-                    None => match rendezvous.leave(take(taker), panics) {
+                TakerState::Posted(waiter) => match waiter.poll(waker, panics) {
+                    Poll::Ready(pair) => pair,
+                    Poll::Pending if !self.is_closed() => return Poll::Pending,
+                    Poll::Pending => match rendezvous.leave(mem::take(taker), panics) {
                         None => continue,
                         taken => return Poll::Ready(taken),
                     },
                 },
                 TakerState::Idle => {
                     let waiter = Waiter::new(waker.clone());
-                    let Some((_, begun)) = meet_or_post(&[(0, rendezvous, TAKES)], &waiter) else {
+                    let Some((_, begun)) = meet_or_post(&[rendezvous.take_alone()], &waiter) else {
                         *taker = TakerState::Posted(waiter);
                         self.notify_posted();
                         return Poll::Pending;
@@ -561,55 +594,80 @@ impl<T> Receiver<T> {
             }
         }
     }
+
+    /// A task's take is no more: an item that it was given goes to the next take.
+    pub(super) fn leave_met(&self, taker: TakerState, panics: &mut Panics) {
+        let rendezvous = self.rendezvous().expect(MEETS);
+        if let Some(item) = rendezvous.leave(taker, panics) {
+            if let Err((item, _lines)) = rendezvous.give(item) {
+                lock(&rendezvous.pairs).returned.push_back(item);
+            }
+            self.line().notify_one();
+        }
+    }
 }
 
 impl<T> Sender<T> {
     /// One poll of a send: gives the item to a take, or posts it, and then looks whether it was taken.
     pub(super) fn poll_posted(
         &self,
-        rendezvous: &Rendezvous<T>,
-        item: impl FnOnce() -> T,
-        offer: &mut Option<u64>,
+        offer: &mut OfferState<T>,
         waker: &Waker,
         panics: &mut Panics,
     ) -> Poll<Result<(), SendError<T>>> {
-        let left = if let Some(number) = *offer {
-            if rendezvous.keep_offer(number, waker, panics) && !self.is_closed() {
-                return Poll::Pending;
+        let rendezvous = self.core().rendezvous.as_ref().expect(MEETS);
+        let left = match offer {
+            OfferState::Posted(number) => {
+                let polled = rendezvous.poll_offer(*number, waker, panics);
+                if polled.is_pending() && !self.is_closed() {
+                    return Poll::Pending;
+                }
+                self.withdraw(mem::replace(offer, OfferState::Here(None)), panics)
             }
-            *offer = None;
-            rendezvous.withdraw(number, panics)
-        } else {
-            let mut waker = Some(waker.clone());
-            let posted = rendezvous.post(item(), &mut waker);
-            panics.run_each(waker, drop);
-            if let Ok(Some(number)) = posted {
-                *offer = Some(number);
-                self.core().notify_item();
-                return Poll::Pending;
+            OfferState::Here(item) => {
+                let mut waker = Some(waker.clone());
+                let item = item.take().expect("the item isn't given yet");
+                let posted = rendezvous.post(item, &mut waker);
+                panics.run_each(waker, drop);
+                if let Ok(Some(number)) = posted {
+                    *offer = OfferState::Posted(number);
+                    self.core().notify_item();
+                    return Poll::Pending;
+                }
+                posted.err()
             }
-            posted.err()
         };
         Poll::Ready(left.map_or(Ok(()), |it| Err(SendError(it))))
+    }
+
+    /// A send ends. Gives the item, if nobody has it.
+    pub(super) fn withdraw(&self, offer: OfferState<T>, panics: &mut Panics) -> Option<T> {
+        let rendezvous = self.core().rendezvous.as_ref().expect(MEETS);
+        match offer {
+            OfferState::Here(item) => item,
+            OfferState::Posted(number) => {
+                let Offer { item, waker } = lock(&rendezvous.pairs).offers.remove(&number)?;
+                panics.run_each(waker, drop);
+                Some(item)
+            }
+        }
     }
 
     /// Sends to one that takes, and waits for one until this moment.
     #[cold]
     pub(super) fn meet_until(
         &self,
-        rendezvous: &Rendezvous<T>,
         item: T,
         until: Option<Instant>,
     ) -> Result<(), SendTimeoutError<T>> {
-        let (mut item, mut offer, mut panics) = (Some(item), None, Panics::default());
+        let (mut offer, mut panics) = (OfferState::Here(Some(item)), Panics::default());
         let polled = poll_until(until, |waker| {
-            let item = || item.take().expect("it is posted once");
-            self.poll_posted(rendezvous, item, &mut offer, waker, &mut panics)
+            self.poll_posted(&mut offer, waker, &mut panics)
         });
         if let Some(sent) = polled {
             return Ok(sent?);
         }
-        let left = offer.and_then(|number| rendezvous.withdraw(number, &mut panics));
+        let left = self.withdraw(offer, &mut panics);
         left.map_or(Ok(()), |item| Err(SendTimeoutError::Timeout(item)))
     }
 }

@@ -1,6 +1,6 @@
 //! A further queue in the place of a channel's present one.
 use super::body::{Parcel, words_of};
-use super::core::{Core, Side};
+use super::core::{Core, SENDERS, Side};
 use super::pool::Pass;
 use crate::event::{Event, Panics, ignore_panics};
 use crate::queue::handle::{Handle, code, unexpected};
@@ -32,14 +32,11 @@ impl<T> Core<T> {
 
     /// The configuration of a further queue: with as many passes for each side as it has seats, and all for the side that grows.
     fn next_config(&self, alive: &[usize], grows: Option<&Side>) -> Config {
-        let is_grown = |side| grows.is_some_and(|it| ptr::eq(it, side));
-        let count = |side: &Side, all| match is_grown(side) {
-            true => all,
-            false => side.seats.len() as u32,
+        let count = |side: &Side, all| match grows {
+            Some(grown) if ptr::eq(grown, side) => all,
+            _ => side.seats.len() as u32,
         };
-        let Config {
-            senders, receivers, ..
-        } = self.config;
+        let (senders, receivers) = (self.config.senders, self.config.receivers);
         let groups = alive.iter().map(|&it| count(self.side(it), receivers));
         Config {
             senders: count(&self.senders, senders),
@@ -70,15 +67,17 @@ impl<T> Core<T> {
         left_by_lost.try_reserve_exact(lost.len() * capacity).ok()?;
         // From here on no other thread makes a call, until the seats are given back, so none waits in this line.
         let line = &Event::default();
-        let sides = || iter::once(0).chain(alive.iter().copied());
-        let mut seats: Vec<_> = sides().map(|it| self.side(it).seats.take_all()).collect();
-        let take_all = |&side: &usize| self.side(side).seats.take_all();
-        let mut others: Vec<_> = lost.iter().map(take_all).collect();
+        let sides = || iter::once(SENDERS).chain(alive.iter().copied());
+        let mut seats: Vec<_> = sides()
+            .map(|it| self.side(it).seats.acquire_all())
+            .collect();
+        let acquire_all = |&side: &usize| self.side(side).seats.acquire_all();
+        let mut others: Vec<_> = lost.iter().map(acquire_all).collect();
         if self.is_closed() {
             return Some(left_by_lost);
         }
         for seats in &mut others {
-            left_by_lost.extend(iter::from_fn(|| self.take_by(seats[0].pass().0, line).ok()));
+            left_by_lost.extend(iter::from_fn(|| self.take_by(&mut seats[0]).ok()));
             let empty = |pass: &mut Pass| pass.handle = Handle::empty();
             seats.iter_mut().for_each(|seat| empty(seat.pass().0));
         }
@@ -101,11 +100,7 @@ impl<T> Core<T> {
         let queue = seats[0][0].pass().0.queue + 1;
         let shares = alive.len();
         for ((side, seats), handles) in sides().zip(&mut seats).zip(handles) {
-            let mut passes = handles.into_iter().map(|handle| Pass {
-                handle,
-                queue,
-                shares,
-            });
+            let mut passes = handles.into_iter().map(|it| Pass::new(it, queue, shares));
             for (seat, pass) in seats.iter_mut().zip(passes.by_ref()) {
                 *seat.pass().0 = pass;
             }

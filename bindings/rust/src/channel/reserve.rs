@@ -10,7 +10,7 @@
 use super::body::Unsent;
 use super::core::{Core, RESERVED, Side, WAS_FULL};
 use super::pool::{Pool, SeatGuard};
-use crate::event::{Try, WHEN_NOTIFIED, lock};
+use crate::event::{Again, Try, lock};
 use crate::queue::handle::code;
 use std::sync::atomic::Ordering;
 use std::thread;
@@ -32,11 +32,7 @@ impl<T> Core<T> {
         if !has_item() {
             self.senders.seats.wait_for_holders();
         }
-        if has_item() || self.is_closed() {
-            Ok(())
-        } else {
-            Err(WHEN_NOTIFIED)
-        }
+        Again::unless(has_item() || self.is_closed())
     }
 
     /// Whether a try to take an item for this group is worth its price. If it says no, there was no item at some moment of this
@@ -96,11 +92,7 @@ impl<T> Core<T> {
         let sent = self.senders.seats.count();
         let is_full = |it: &Side| self.is_full(it, sent, reserved, &sees_each_free);
         let is_full = self.groups.any(is_full);
-        if is_full && !self.is_closed() {
-            Err(WHEN_NOTIFIED)
-        } else {
-            Ok(())
-        }
+        Again::unless(!is_full || self.is_closed())
     }
 
     /// Whether there is no room for this group, if this number of items was sent and this number of places is reserved.
@@ -123,7 +115,7 @@ impl<T> Core<T> {
     /// Looks whether there is room, if these hints say that the last send found none. Beside a take under way whose thread doesn't run the
     /// queue is asked.
     #[inline]
-    fn look_after_full(&self, hints: usize) -> Try<()> {
+    pub fn look_after_full(&self, hints: usize) -> Try<()> {
         if hints & WAS_FULL != 0 {
             self.has_room_beside(0, Pool::saw_each_free)?;
             self.hints.fetch_and(!WAS_FULL, Ordering::Relaxed);
@@ -134,7 +126,7 @@ impl<T> Core<T> {
     /// Reserves room for one send. Returns whether it has; if not, the channel is closed.
     ///
     /// It counts the place first, and then waits until each of the senders' seats was free once. A send that had a seat before
-    /// has counted its item then. One that takes a seat later sees that a place is reserved, and waits for the lock.
+    /// has counted its item then. One that acquires a seat later sees that a place is reserved, and waits for the lock.
     pub fn reserve(&self) -> Try<bool> {
         if let Some(row) = &self.row {
             return self.reserve_in_row(row);
@@ -164,19 +156,23 @@ impl<T> Core<T> {
 
     /// Sends to room that was reserved. Returns whether it is sent; if not, the channel is closed.
     pub fn send_to_room(&self, item: &mut Unsent<T>) -> bool {
-        if self.row.is_some() {
-            return self.send_to_room_of_row(item);
-        }
         loop {
-            let mut seat = self.senders.seats.take();
+            let mut seat = self.senders.seats.acquire();
             let code = self.send_by(&mut seat, item);
             if code == code::ACCEPTED {
-                self.hints.fetch_sub(RESERVED, Ordering::SeqCst);
+                if self.row.is_none() {
+                    self.hints.fetch_sub(RESERVED, Ordering::SeqCst);
+                }
                 drop(seat);
                 self.notify_item();
                 return true;
             }
-            match self.retry_after_refusal(code, seat) {
+            let tried = match &self.row {
+                Some(row) => self.send_further(row, item, code, seat),
+                None => self.retry_after_refusal(code, seat),
+            };
+            match tried {
+                Ok(true) if self.row.is_some() => return true,
                 Ok(true) => {}
                 Ok(false) => {
                     self.give_back_room();
@@ -218,14 +214,9 @@ impl<T> Core<T> {
             return self.try_send(item);
         }
         self.has_room_beside_reserved(0)?;
-        let mut seat = self.senders.seats.take();
+        let mut seat = self.senders.seats.acquire();
         let code = self.send_by(&mut seat, item);
         drop(in_queue);
-        if code != code::ACCEPTED {
-            return self.send_again(item, code, seat);
-        }
-        drop(seat);
-        self.notify_item();
-        Ok(true)
+        self.end_send(item, code, seat)
     }
 }

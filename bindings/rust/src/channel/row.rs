@@ -26,15 +26,15 @@
 //!
 //! **Without memory** for a further queue nothing changes, and the send is tried again later.
 use super::body::{Parcel, Unsent};
-use super::core::Core;
+use super::core::{Core, SENDERS};
 use super::limit::Limit;
-use super::pool::{Pass, Pool, SeatGuard};
-use crate::event::{Event, Try, WHEN_NOTIFIED, ignore_panics, lock, soon};
+use super::pool::{Pass, SeatGuard};
+use crate::event::{Again, Try, ignore_panics, lock};
 use crate::queue::handle::{Handle, code, unexpected};
 use crate::queue::{self, Config, OpenError};
 use std::collections::VecDeque;
 use std::iter;
-use std::mem::{replace, take};
+use std::mem::{self, replace};
 use std::sync::{Mutex, MutexGuard};
 
 /// A list of fewer queues doesn't shrink.
@@ -131,7 +131,7 @@ impl Row {
 
     /// How many items it may hold; None if any number.
     pub fn capacity(&self) -> Option<usize> {
-        self.limit.as_ref().map(Limit::capacity)
+        self.limit.as_ref().map(|it| it.capacity)
     }
 
     fn lock(&self) -> Locked<'_> {
@@ -198,26 +198,20 @@ impl Locked<'_> {
         row.open_further(groups)
     }
 
-    /// Closes the last queue by this pass of it, and appends a further one for these groups. Gives None if there is
+    /// Closes the last queue by this seat, which is at it, and appends a further one for these groups. Gives None if there is
     /// no memory: nothing has changed then.
-    fn append(
-        &mut self,
-        row: &Row,
-        groups: Vec<usize>,
-        pass: &mut Pass,
-        line: &Event,
-    ) -> Option<()> {
+    fn append(&mut self, row: &Row, groups: Vec<usize>, seat: &mut SeatGuard) -> Option<()> {
         self.queues.queues.try_reserve(1).ok()?;
         let mut opened = self.take_spare(row, groups.len()).ok()?.into_iter();
-        pass.handle.close(line);
+        seat.close();
         let mut passes: Passes = self.queues.at.iter().map(|_| vec![]).collect();
-        passes.insert(0, opened.next().expect("a queue has senders"));
+        passes.insert(SENDERS, opened.next().expect("a queue has senders"));
         for (&group, opened) in groups.iter().zip(opened) {
             passes[group] = opened;
         }
         let last = self.queues.last_number();
         let last = self.queues.queue(last);
-        self.released.append(&mut last.passes[0]);
+        self.released.append(&mut last.passes[SENDERS]);
         let lost = last.groups.iter().filter(|it| !groups.contains(it));
         let lost: Vec<usize> = lost.copied().collect();
         self.queues.left.extend(lost);
@@ -226,24 +220,20 @@ impl Locked<'_> {
     }
 
     /// Lets this seat, and those of its side that are free, have their passes of the queue that the side is at.
-    fn fetch(&mut self, side: usize, number: u64, seats: &Pool, seat: &mut SeatGuard) {
+    fn fetch(&mut self, side: usize, number: u64, seat: &mut SeatGuard) {
         let queue = self.queues.queue(number);
         let shares = queue.groups.len();
         let mut fetch = |seat: &mut SeatGuard| {
-            let (place, pass) = (seat.place(), seat.pass().0);
+            let (index, pass) = (seat.index(), seat.pass().0);
             if pass.queue < number {
-                let handle = replace(&mut queue.passes[side][place], Handle::empty());
-                let queue = number;
-                let next = Pass {
-                    handle,
-                    queue,
-                    shares,
-                };
+                let handle = replace(&mut queue.passes[side][index], Handle::empty());
+                let next = Pass::new(handle, number, shares);
                 self.released.push(replace(pass, next).handle);
             }
         };
         fetch(seat);
-        seats.take_free().for_each(|mut free| fetch(&mut free));
+        let free = seat.pool.acquire_free();
+        free.for_each(|mut free| fetch(&mut free));
     }
 
     /// After a take of this group has found the end of the queue of this number: the queue that the group is at from now on. Gives
@@ -301,17 +291,16 @@ impl<T> Core<T> {
         // The refused call may have served a close whose caller has the lock.
         seat.wake_served();
         let mut locked = row.lock();
-        let (pass, line) = seat.pass();
-        if pass.queue == locked.queues.last_number() {
+        if seat.pass().0.queue == locked.queues.last_number() {
             if locked.queues.is_closed {
                 return Ok(false);
             }
             let groups = self.groups_of_next(&locked.queues);
-            let appended = locked.append(row, groups, pass, line);
-            appended.ok_or_else(soon)?;
+            let appended = locked.append(row, groups, seat);
+            appended.ok_or_else(Again::soon)?;
         }
         let last = locked.queues.last_number();
-        locked.fetch(0, last, &self.senders.seats, seat);
+        locked.fetch(SENDERS, last, seat);
         Ok(true)
     }
 
@@ -320,9 +309,7 @@ impl<T> Core<T> {
     fn next_for_group(&self, row: &Row, group: usize, seat: &mut SeatGuard) -> bool {
         let mut locked = row.lock();
         let next = locked.go_on(group, seat.pass().0.queue);
-        next.into_iter()
-            .for_each(|it| locked.fetch(group, it, &self.side(group).seats, seat));
-        next.is_some()
+        next.map(|it| locked.fetch(group, it, seat)).is_some()
     }
 
     /// Sends an item that the queue of this seat refused with this code, in a queue behind it.
@@ -355,15 +342,14 @@ impl<T> Core<T> {
 
     /// Tries to take an item for a group, of the queue that it is at or of those behind it. Gives None at the end of the channel.
     pub fn take_in_row(&self, row: &Row, group: usize) -> Try<Option<Parcel<T>>> {
-        let mut seat = self.side(group).seats.take();
+        let mut seat = self.side(group).seats.acquire();
         loop {
-            let (pass, line) = seat.pass();
-            match self.take_by(pass, line) {
+            match self.take_by(&mut seat) {
                 Ok(parcel) => {
                     self.count_taken(seat);
                     return Ok(Some(parcel));
                 }
-                Err(code::EMPTY) => return Err(WHEN_NOTIFIED),
+                Err(code::EMPTY) => return Err(Again::WhenNotified),
                 Err(code::ENDED) if self.next_for_group(row, group, &mut seat) => {}
                 Err(code::ENDED) => return Ok(None),
                 Err(code) => unexpected(code),
@@ -373,12 +359,11 @@ impl<T> Core<T> {
 
     /// Closes the last queue for good. Returns whether it was open.
     pub fn close_row(&self, row: &Row) -> bool {
-        let mut seat = self.senders.seats.take();
+        let mut seat = self.senders.seats.acquire();
         let mut locked = row.lock();
         let last = locked.queues.last_number();
-        locked.fetch(0, last, &self.senders.seats, &mut seat);
-        let (pass, line) = seat.pass();
-        pass.handle.close(line);
+        locked.fetch(SENDERS, last, &mut seat);
+        seat.close();
         locked.set_spare(Spare::Wanted);
         // Under the lock, so that whoever found the queue closed knows it.
         self.set_closed();
@@ -388,14 +373,13 @@ impl<T> Core<T> {
     /// Appends a queue without the groups that have lost their receivers, and gives what they haven't taken. If there is no memory,
     /// the next queue that is appended is without them.
     pub fn go_on_without_lost(&self, row: &Row) -> Vec<Parcel<T>> {
-        let mut seat = self.senders.seats.take();
+        let mut seat = self.senders.seats.acquire();
         let mut locked = row.lock();
         let groups = self.groups_of_next(&locked.queues);
         if !locked.queues.is_closed && groups.len() < locked.queues.last().groups.len() {
             let last = locked.queues.last_number();
-            locked.fetch(0, last, &self.senders.seats, &mut seat);
-            let (pass, line) = seat.pass();
-            locked.append(row, groups, pass, line);
+            locked.fetch(SENDERS, last, &mut seat);
+            locked.append(row, groups, &mut seat);
         }
         drop(locked);
         drop(seat);
@@ -404,7 +388,7 @@ impl<T> Core<T> {
 
     /// The items that are left by groups which have lost their receivers, and are in no queue from the last one on.
     fn left_by_lost(&self, row: &Row) -> Vec<Parcel<T>> {
-        let left = take(&mut row.lock().queues.left);
+        let left = mem::take(&mut row.lock().queues.left);
         let items = |group| iter::from_fn(move || self.try_recv(group).ok()?);
         left.into_iter().flat_map(items).collect()
     }

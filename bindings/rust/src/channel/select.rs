@@ -24,14 +24,14 @@
 //! is a load of each, and counts again. A holder before that has counted; a holder after that sees the waiter in line. So a look that finds nothing
 //! is the look of [`event`](crate::event)'s argument: at some moment of it there was nothing.
 use super::core::Core;
-use super::rendezvous::{Meets, SENDS, TAKES, Waiter, meet_or_post, try_meet};
+use super::rendezvous::{Meets, Operation, Role, Waiter, meet_or_post, try_meet};
 use super::side::Source;
 use super::{
     ReadyTimeoutError, Receiver, RecvError, SelectTimeoutError, SendError, Sender, TryReadyError,
     TrySelectError,
 };
 use crate::backoff::FOR_OTHERS;
-use crate::event::{Event, Notified, Panics, Parker, Ticket, Try};
+use crate::event::{Again, Event, Notified, Panics, Parker, Ticket, Try};
 use std::cell::Cell;
 use std::hash::{BuildHasher, Hasher, RandomState};
 use std::ops::{Deref, DerefMut, Range};
@@ -61,9 +61,9 @@ pub enum Begun {
 pub trait Case {
     /// The line in which one waits for it.
     fn line(&self) -> &Event;
-    /// The channel and the side at which it is posted, if the channel has capacity 0.
-    fn rendezvous(&self) -> Option<(&dyn Meets, usize)>;
-    /// It is posted: notifies those of the other side that aren't.
+    /// The channel where it is posted, and its role there, if the channel has capacity 0.
+    fn rendezvous(&self) -> Option<(&dyn Meets, Role)>;
+    /// It is posted: notifies those of the other role that aren't.
     fn notify_posted(&self);
     /// Begins it, if it is ready.
     fn begin(&self) -> Try<Begun>;
@@ -78,8 +78,8 @@ impl<T> Case for Receiver<T> {
         self.line()
     }
 
-    fn rendezvous(&self) -> Option<(&dyn Meets, usize)> {
-        Some((self.rendezvous()?, TAKES))
+    fn rendezvous(&self) -> Option<(&dyn Meets, Role)> {
+        Some((self.rendezvous()?, Role::Take))
     }
 
     fn notify_posted(&self) {
@@ -95,7 +95,7 @@ impl<T> Case for Receiver<T> {
     fn look(&self) -> Try<()> {
         match &*self.0 {
             Source::Channel(shared) => match &shared.core.rendezvous {
-                Some(rendezvous) => rendezvous.look(TAKES),
+                Some(rendezvous) => rendezvous.look(Role::Take),
                 None => shared.core.seems_to_have_item(shared.side),
             },
             Source::Timer(timer) => timer.look(),
@@ -113,7 +113,7 @@ impl<T> Receiver<T> {
     fn begin_take(&self, keep: impl FnOnce(&Core<T>, T) -> Begun) -> Try<Begun> {
         match &*self.0 {
             Source::Channel(shared) => match &shared.core.rendezvous {
-                Some(rendezvous) => try_meet(&**rendezvous, TAKES),
+                Some(rendezvous) => try_meet(&**rendezvous, Role::Take),
                 None => Ok(match shared.try_take()? {
                     Some(parcel) => keep(&shared.core, parcel.unpack()),
                     None => Begun::Closed,
@@ -140,8 +140,8 @@ impl<T> Case for Sender<T> {
         self.0.line()
     }
 
-    fn rendezvous(&self) -> Option<(&dyn Meets, usize)> {
-        Some((self.core().rendezvous.as_deref()?, SENDS))
+    fn rendezvous(&self) -> Option<(&dyn Meets, Role)> {
+        Some((self.core().rendezvous.as_deref()?, Role::Send))
     }
 
     fn notify_posted(&self) {
@@ -150,7 +150,7 @@ impl<T> Case for Sender<T> {
 
     fn begin(&self) -> Try<Begun> {
         if let Some(rendezvous) = self.core().rendezvous.as_deref() {
-            return try_meet(rendezvous, SENDS);
+            return try_meet(rendezvous, Role::Send);
         }
         let has_room = self.core().reserve()?;
         Ok(if has_room { Begun::Room } else { Begun::Closed })
@@ -158,7 +158,7 @@ impl<T> Case for Sender<T> {
 
     fn look(&self) -> Try<()> {
         match &self.core().rendezvous {
-            Some(rendezvous) => rendezvous.look(SENDS),
+            Some(rendezvous) => rendezvous.look(Role::Send),
             None => self.core().seems_to_have_room(),
         }
     }
@@ -178,7 +178,7 @@ impl<T> Sender<T> {
         match (begun, &self.core().rendezvous) {
             (Begun::Met(pair), Some(rendezvous)) => rendezvous.send(pair, item).or_else(|item| {
                 // The take gave the pair up: the send waits for another one, as long as its select would have.
-                let sent = self.meet_until(rendezvous, item, until);
+                let sent = self.meet_until(item, until);
                 sent.map_err(|error| SendError(error.into_inner()))
             }),
             (Begun::Room, _) => {
@@ -194,8 +194,8 @@ impl<T> Sender<T> {
     }
 }
 
-/// A thread's place in line. Its drop passes on the notification that took it out, if no try came after it.
-struct Place<'a> {
+/// A thread that stands in line. Its drop passes on the notification that took it out, if no try came after it.
+struct Standing<'a> {
     event: &'a Event,
     /// Until it leaves the line.
     ticket: Option<Ticket>,
@@ -203,10 +203,10 @@ struct Place<'a> {
     notified: bool,
 }
 
-impl<'a> Place<'a> {
+impl<'a> Standing<'a> {
     /// Stands in line. The thread has to try after this, before it parks.
-    fn stand(event: &'a Event, parker: &Arc<Parker>) -> Place<'a> {
-        Place {
+    fn stand(event: &'a Event, parker: &Arc<Parker>) -> Standing<'a> {
+        Standing {
             event,
             ticket: Some(event.stand(parker.clone().into())),
             notified: false,
@@ -226,7 +226,7 @@ impl<'a> Place<'a> {
     }
 }
 
-impl Drop for Place<'_> {
+impl Drop for Standing<'_> {
     fn drop(&mut self) {
         self.leave();
         if self.notified {
@@ -264,7 +264,7 @@ impl<T> Case for TakeArm<'_, T> {
         self.receiver.line()
     }
 
-    fn rendezvous(&self) -> Option<(&dyn Meets, usize)> {
+    fn rendezvous(&self) -> Option<(&dyn Meets, Role)> {
         Case::rendezvous(self.receiver)
     }
 
@@ -315,11 +315,11 @@ impl<R: Deref<Target: Case>> Entry<R> {
     /// Whether what has begun is for good, with capacity 0: see [`Meets::wait_for_pair`].
     #[inline]
     fn wait_for_pair(&self, begun: &Begun, until: Option<Instant>) -> bool {
-        if !matches!(begun, Begun::Met(_)) {
+        let Begun::Met(pair) = *begun else {
             return true;
-        }
+        };
         let rendezvous = self.case.rendezvous();
-        rendezvous.is_none_or(|(channel, side)| channel.wait_for_pair(begun, side, until))
+        rendezvous.is_none_or(|(channel, role)| channel.wait_for_pair(pair, role, until))
     }
 }
 
@@ -475,9 +475,9 @@ impl<'a> Select<'a> {
     /// # Ok::<(), vahepito::OpenError>(())
     /// ```
     pub fn remove(&mut self, index: usize) {
-        let place = self.entries.iter().position(|it| it.index == index);
-        let place = place.expect("the select has an operation with this index");
-        self.entries.remove(place);
+        let at = self.entries.iter().position(|it| it.index == index);
+        let at = at.expect("the select has an operation with this index");
+        self.entries.remove(at);
     }
 }
 
@@ -503,9 +503,9 @@ impl<R: Copy> Entries<R> {
         }
     }
 
-    fn remove(&mut self, place: usize) {
+    fn remove(&mut self, at: usize) {
         let mut all = self.to_vec();
-        all.remove(place);
+        all.remove(at);
         *self = Entries::Many(all);
     }
 }
@@ -534,14 +534,6 @@ impl<R> DerefMut for Entries<R> {
     }
 }
 
-/// Puts operations in a random order.
-#[inline]
-fn shuffle<R>(entries: &mut [Entry<R>]) {
-    for last in (1..entries.len()).rev() {
-        entries.swap(last, random_below(last + 1));
-    }
-}
-
 /// A select of these operations, in the order in which they are tried, until this moment.
 struct Turn<'s, R> {
     entries: &'s [Entry<R>],
@@ -551,14 +543,36 @@ struct Turn<'s, R> {
 
 /// The end of a wait in all lines.
 enum Waited {
-    /// The operation at this place has begun.
+    /// The operation at this index has begun.
     Done(usize, Begun),
     /// There was no notification: each operation wasn't ready when it was looked at.
     Quietly,
     Notified,
 }
 
-impl<R: Copy + Deref<Target: Case>> Turn<'_, R> {
+impl<'s, R: Copy + Deref<Target: Case>> Turn<'s, R> {
+    /// In the order of their indices if it is biased, and else in a random one.
+    #[inline]
+    fn new(
+        entries: &'s mut [Entry<R>],
+        is_biased: bool,
+        aim: Aim,
+        until: Option<Instant>,
+    ) -> Turn<'s, R> {
+        if is_biased {
+            entries.sort_by_key(|it| it.index);
+        } else {
+            for last in (1..entries.len()).rev() {
+                entries.swap(last, random_below(last + 1));
+            }
+        }
+        Turn {
+            entries,
+            aim,
+            until,
+        }
+    }
+
     /// Tries each until one is done, or the time is over.
     #[inline]
     fn wait(&self) -> Option<(Entry<R>, Begun)> {
@@ -575,24 +589,23 @@ impl<R: Copy + Deref<Target: Case>> Turn<'_, R> {
         })
     }
 
-    /// Tries each of these once. Gives the place of the first that is begun; if none is, when to try again though
-    /// nobody notifies.
-    fn try_each(&self, places: Range<usize>) -> Try<(usize, Begun)> {
-        let mut moment = None;
-        for place in places {
-            match self.entries[place].attempt(self.aim) {
-                Ok(begun) => return Ok((place, begun)),
-                Err(again) => moment = again.into_iter().chain(moment).min(),
+    /// Tries each of these once. Gives the index of the first that is begun.
+    fn try_each(&self, range: Range<usize>) -> Try<(usize, Begun)> {
+        let mut earliest = Again::WhenNotified;
+        for at in range {
+            match self.entries[at].attempt(self.aim) {
+                Ok(begun) => return Ok((at, begun)),
+                Err(again) => earliest = again.min(earliest),
             }
         }
-        Err(moment)
+        Err(earliest)
     }
 
     fn is_over(&self) -> bool {
         self.until.is_some_and(|until| until <= Instant::now())
     }
 
-    /// Whether it is posted for the other side to find: then it isn't in a line.
+    /// Whether it is posted for others to meet: then it isn't in a line.
     fn is_posted(&self, entry: &Entry<R>) -> bool {
         self.aim == Aim::Begin && entry.case.rendezvous().is_some()
     }
@@ -618,8 +631,8 @@ impl<R: Copy + Deref<Target: Case>> Turn<'_, R> {
             Parker::with(|parker| {
                 loop {
                     match self.stand_and_park(parker) {
-                        Waited::Done(place, begun) => {
-                            let entry = self.entries[place];
+                        Waited::Done(at, begun) => {
+                            let entry = self.entries[at];
                             if entry.wait_for_pair(&begun, self.until) {
                                 return Some((entry, begun));
                             }
@@ -640,46 +653,45 @@ impl<R: Copy + Deref<Target: Case>> Turn<'_, R> {
     /// operation wasn't tried after it, or was only looked at and is ready.
     fn stand_and_park(&self, parker: &Arc<Parker>) -> Waited {
         let is_over = self.is_over();
-        let mut places: Vec<_> = vec![];
-        places.extend(self.entries.iter().map(|it| {
+        let stand = |it: &'s Entry<R>| {
             let stands = !self.is_posted(it);
-            stands.then(|| Place::stand(it.case.line(), parker))
-        }));
-        let all = 0..places.len();
-        let moment = match self.try_each(all.clone()) {
-            Ok((place, begun)) => return Waited::Done(place, begun),
-            Err(moment) => moment,
+            stands.then(|| Standing::stand(it.case.line(), parker))
         };
-        let until = self.until.into_iter().chain(moment).min();
-        let posts = places.iter().any(Option::is_none);
+        let mut lines: Vec<_> = self.entries.iter().map(stand).collect();
+        let all = 0..lines.len();
+        let until = match self.try_each(all.clone()) {
+            Ok((at, begun)) => return Waited::Done(at, begun),
+            Err(again) => again.before(self.until),
+        };
+        let posts = lines.iter().any(Option::is_none);
         if posts && !is_over {
-            if let Some((place, begun)) = self.meet(until, parker) {
-                return Waited::Done(place, begun);
+            if let Some((at, begun)) = self.meet(until, parker) {
+                return Waited::Done(at, begun);
             }
         } else if !is_over {
             parker.park(until);
         }
         let mut is_quiet = true;
-        for place in places.iter_mut().flatten() {
-            is_quiet &= place.leave();
+        for line in lines.iter_mut().flatten() {
+            is_quiet &= line.leave();
         }
         if is_quiet && is_over {
             return Waited::Quietly;
         }
         // The one that was notified comes first.
-        let is_notified = |it: &Option<Place>| it.as_ref().is_some_and(|it| it.notified);
-        let first = places.iter().position(is_notified);
+        let is_notified = |it: &Option<Standing>| it.as_ref().is_some_and(|it| it.notified);
+        let first = lines.iter().position(is_notified);
         let notified = first.and_then(|at| self.try_each(at..at + 1).ok());
         let done = notified.or_else(|| self.try_each(all.clone()).ok());
         let tried = match (&done, self.aim) {
-            (&Some((place, _)), Aim::Begin) => place..place + 1,
+            (&Some((at, _)), Aim::Begin) => at..at + 1,
             (Some(_), Aim::Look) => 0..0,
             (None, _) => all,
         };
-        let tried = places[tried].iter_mut().flatten();
-        tried.for_each(|place| place.notified = false);
+        let tried = lines[tried].iter_mut().flatten();
+        tried.for_each(|line| line.notified = false);
         match done {
-            Some((place, begun)) => Waited::Done(place, begun),
+            Some((at, begun)) => Waited::Done(at, begun),
             None if is_quiet => Waited::Quietly,
             None => Waited::Notified,
         }
@@ -688,23 +700,23 @@ impl<R: Copy + Deref<Target: Case>> Turn<'_, R> {
     /// Posts the operations of channels of capacity 0, parks, and takes them off. Gives the one that has met
     /// another.
     fn meet(&self, until: Option<Instant>, parker: &Arc<Parker>) -> Option<(usize, Begun)> {
-        let cases = self.entries.iter().enumerate().filter_map(|(place, it)| {
-            let (channel, side) = it.case.rendezvous()?;
-            Some((place, channel, side))
+        let operations = self.entries.iter().enumerate().filter_map(|(at, it)| {
+            let (channel, role) = it.case.rendezvous()?;
+            Some(Operation { at, channel, role })
         });
-        let cases: Vec<_> = cases.collect();
+        let operations: Vec<_> = operations.collect();
         let waiter = Waiter::new(parker.clone().into());
-        let met = meet_or_post(&cases, &waiter);
+        let met = meet_or_post(&operations, &waiter);
         if met.is_none() {
-            cases
-                .iter()
-                .for_each(|case| self.entries[case.0].case.notify_posted());
+            for it in &operations {
+                self.entries[it.at].case.notify_posted();
+            }
             parker.spin();
             parker.park(until);
         }
         met.or_else(|| {
-            let (place, pair) = waiter.withdraw(&cases)?;
-            Some((place, Begun::Met(pair)))
+            let met = waiter.withdraw(&operations)?;
+            Some((met.at, Begun::Met(met.pair)))
         })
     }
 }
@@ -715,18 +727,7 @@ impl<'a> Select<'a> {
         aim: Aim,
         until: Option<Instant>,
     ) -> Option<(Entry<&'a (dyn Case + Sync)>, Begun)> {
-        let entries = &mut self.entries[..];
-        if self.is_biased {
-            entries.sort_by_key(|it| it.index);
-        } else {
-            shuffle(entries);
-        }
-        Turn {
-            entries,
-            aim,
-            until,
-        }
-        .wait()
+        Turn::new(&mut self.entries, self.is_biased, aim, until).wait()
     }
 
     fn select_until(&mut self, until: Option<Instant>) -> Option<SelectedOperation<'a>> {
@@ -774,11 +775,7 @@ impl<'a> Select<'a> {
     /// # Ok::<(), vahepito::OpenError>(())
     /// ```
     pub fn select(&mut self) -> SelectedOperation<'a> {
-        loop {
-            if let Some(operation) = self.select_until(None) {
-                return operation;
-            }
-        }
+        self.select_until(None).expect("it waits without end")
     }
 
     /// Waits until an operation is ready, but not longer than this, and begins it.
@@ -878,11 +875,7 @@ impl<'a> Select<'a> {
     /// # Ok::<(), vahepito::OpenError>(())
     /// ```
     pub fn ready(&mut self) -> usize {
-        loop {
-            if let Some(index) = self.ready_until(None) {
-                return index;
-            }
-        }
+        self.ready_until(None).expect("it waits without end")
     }
 
     /// Waits until an operation is ready, but not longer than this, and returns its index.
@@ -943,17 +936,9 @@ pub fn select_arms<'a, const N: usize>(
         index: index.next().unwrap_or_default(),
         case,
     });
-    if !is_biased {
-        shuffle(&mut entries);
-    }
     // A moment beyond the clock's range never comes.
     let until = time.and_then(|time| Instant::now().checked_add(time));
-    let turn = Turn {
-        entries: &entries,
-        aim: Aim::Begin,
-        until,
-    };
-    let (entry, begun) = turn.wait()?;
+    let (entry, begun) = Turn::new(&mut entries, is_biased, Aim::Begin, until).wait()?;
     Some(SelectedOperation::new(entry, begun, until))
 }
 

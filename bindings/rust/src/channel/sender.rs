@@ -1,11 +1,13 @@
 //! The senders of a channel.
 use super::body::Unsent;
-use super::core::Core;
+use super::core::{Core, SENDERS};
 use super::future::SendFuture;
 use super::side::Shared;
 use super::{SendError, SendTimeoutError, TrySendError};
+use crate::event::Try;
 use std::borrow::Cow;
 use std::sync::Arc;
+use std::sync::atomic::Ordering;
 use std::time::{Duration, Instant};
 
 /// A sender of a channel, which [`channel`](crate::channel()) or [`groups`](crate::groups()) opens.
@@ -72,11 +74,26 @@ impl<T> Sender<T> {
         }
     }
 
+    /// Tries to send the item that is here, where it stays if it is tried again.
+    pub(super) fn try_send_from(&self, here: &mut Option<T>) -> Try<Result<(), SendError<T>>> {
+        let core = self.core();
+        core.look_after_full(core.hints.load(Ordering::Relaxed))?;
+        let mut item = self.pack(here.take().expect("the item isn't sent yet"));
+        match core.try_send(&mut item) {
+            Ok(true) => Ok(Ok(())),
+            Ok(false) => Ok(Err(SendError(item.into_inner()))),
+            Err(again) => {
+                *here = Some(item.into_inner());
+                Err(again)
+            }
+        }
+    }
+
     /// Sends, and waits for room until this moment.
     #[inline]
     fn send_until(&self, item: T, until: Option<Instant>) -> Sent<T> {
-        if let Some(rendezvous) = &self.core().rendezvous {
-            return self.meet_until(rendezvous, item, until);
+        if self.core().rendezvous.is_some() {
+            return self.meet_until(item, until);
         }
         let mut item = self.pack(item);
         match self.core().try_send(&mut item) {
@@ -168,7 +185,7 @@ impl<T> Sender<T> {
     /// }
     /// ```
     pub fn send_async(&self, item: T) -> SendFuture<'_, T> {
-        SendFuture::new(Cow::Borrowed(self), self.pack(item))
+        SendFuture::new(Cow::Borrowed(self), item)
     }
 
     /// The same as [`send_async`](Sender::send_async), as a future that has the sender. So a task may return
@@ -187,7 +204,6 @@ impl<T> Sender<T> {
     /// }
     /// ```
     pub fn into_send_async(self, item: T) -> SendFuture<'static, T> {
-        let item = self.pack(item);
         SendFuture::new(Cow::Owned(self), item)
     }
 
@@ -240,7 +256,7 @@ impl<T> Sender<T> {
     /// ```
     #[must_use]
     pub fn len(&self) -> usize {
-        self.core().len(0)
+        self.core().len(SENDERS)
     }
 
     /// Whether [`len`](Sender::len) is 0.

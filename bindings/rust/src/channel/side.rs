@@ -1,9 +1,9 @@
 //! The parts that the handles of both sides have in common: their count, the end of a side, and the wait.
 use super::body::Parcel;
-use super::core::{Core, Side};
+use super::core::{Core, SENDERS, Side};
 use super::timer::Timer;
 use crate::backoff::{FOR_OTHERS, let_ahead};
-use crate::event::{Event, Try, lock, soon, wait};
+use crate::event::{Event, Try, lock, wait, wait_without_end};
 use std::panic::RefUnwindSafe;
 use std::sync::{Arc, OnceLock, Weak};
 use std::time::Instant;
@@ -15,7 +15,7 @@ const ROOM_AHEAD: usize = 16;
 /// The part that all handles of a side share. Its drop is the end of the last of them.
 pub struct Shared<T> {
     pub core: Arc<Core<T>>,
-    /// 0 is the side of the senders, and each other one is a group of receivers.
+    /// The number of its side.
     pub side: usize,
 }
 
@@ -43,7 +43,8 @@ fn note<S>(handles: &OnceLock<Weak<S>>, shared: &Arc<S>) {
 impl<T> Shared<T> {
     /// For the first sender.
     pub fn of_senders(core: Arc<Core<T>>) -> Arc<Shared<T>> {
-        let shared = Arc::new(Shared { core, side: 0 });
+        let side = SENDERS;
+        let shared = Arc::new(Shared { core, side });
         note(&shared.core.sender, &shared);
         shared
     }
@@ -101,8 +102,8 @@ impl<T> Core<T> {
             // Another thread may be dropping the last one, which then wakes the side's line: this waits until all is done that
             // comes of it. Nobody else waits there any more, so it takes away no notification.
             let side = self.side(side);
-            let is_lost = || side.is_lost().then_some(()).ok_or_else(soon);
-            wait(&side.line, FOR_OTHERS, None, is_lost).expect("it waits without end");
+            let is_lost = || side.is_lost().then_some(());
+            wait_without_end(&side.line, FOR_OTHERS, is_lost);
             drop(lock(&self.in_queue));
         }
         shared
@@ -110,7 +111,7 @@ impl<T> Core<T> {
 
     /// The part that the senders share, if one is left.
     pub fn upgrade_sender(&self) -> Option<Arc<Shared<T>>> {
-        self.upgrade(&self.sender, 0)
+        self.upgrade(&self.sender, SENDERS)
     }
 
     /// The part that the receivers of this group share, if one is left.

@@ -83,7 +83,7 @@ fn a_side_whose_seat_is_taken_gets_the_others() {
     (0..5).for_each(|number| sender.send(number).unwrap());
     let mut number = 5;
     while seats() == [1, 1] {
-        let held = core.senders.seats.take();
+        let held = core.senders.seats.acquire();
         thread::scope(|scope| {
             let sends = scope.spawn(|| sender.try_send(number));
             // If the thread begins later, it finds the seat free, and this is tried again.

@@ -12,3 +12,11 @@ macro_rules! fmt_by_text {
         }
     };
 }
+
+/// Makes an error of a type, whose `Display` is a text for each of these patterns.
+macro_rules! error_by_text {
+    (impl$(<$item:ident>)? for $type:ty: $($texts:tt)+) => {
+        fmt_by_text! { impl$(<$item>)? Display for $type: $($texts)+ }
+        impl$(<$item>)? std::error::Error for $type {}
+    };
+}

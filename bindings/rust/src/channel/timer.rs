@@ -1,7 +1,7 @@
 //! Timers, and a receiver that has no item. None has a queue or a thread: a call that waits parks until the moment.
 use super::Receiver;
 use super::side::Source;
-use crate::event::{Event, Panics, Try, WHEN_NOTIFIED, lock};
+use crate::event::{Again, Event, Panics, Try, lock};
 use std::sync::atomic::{AtomicBool, Ordering};
 use std::sync::{Arc, Mutex};
 use std::time::{Duration, Instant};
@@ -25,10 +25,10 @@ impl<T> Timer<T> {
             return Ok(None);
         }
         let mut due = lock(&self.due);
-        let at = due.ok_or(WHEN_NOTIFIED)?;
+        let at = due.ok_or(Again::WhenNotified)?;
         let now = Instant::now();
         if now < at {
-            return Err(Some(at));
+            return Err(Again::At(at));
         }
         let next = |every: Duration| {
             let from = if now - at < every { at } else { now };
@@ -36,6 +36,11 @@ impl<T> Timer<T> {
         };
         *due = self.every.and_then(next);
         Ok(Some(at))
+    }
+
+    /// Takes the item of the moment if that has come, as `try_take` does.
+    pub fn try_recv(&self) -> Try<Option<T>> {
+        Ok(self.try_take()?.map(|moment| self.item_of(moment)))
     }
 
     /// The item of a moment that was taken.
@@ -47,8 +52,8 @@ impl<T> Timer<T> {
     pub fn look(&self) -> Try<()> {
         match *lock(&self.due) {
             _ if self.is_closed() => Ok(()),
-            None => Err(WHEN_NOTIFIED),
-            Some(at) if Instant::now() < at => Err(Some(at)),
+            None => Err(Again::WhenNotified),
+            Some(at) if Instant::now() < at => Err(Again::At(at)),
             Some(_) => Ok(()),
         }
     }

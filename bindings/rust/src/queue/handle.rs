@@ -5,7 +5,7 @@
 use super::{Config, OpenError, Word};
 pub use super::{Words, code, unexpected};
 use crate::backoff::FOR_OWN_SIDE;
-use crate::event::{Event, soon, wait};
+use crate::event::{Event, wait_without_end};
 use std::ffi::c_void;
 use std::mem::size_of;
 use std::ptr::{null_mut, read_volatile};
@@ -158,10 +158,10 @@ fn answered(first: u32, line: &Event, turn: impl FnMut() -> u32) -> u32 {
 #[cold]
 fn wait_until_served(line: &Event, mut turn: impl FnMut() -> u32) -> u32 {
     let turn = || match turn() {
-        code::WAITING => Err(soon()),
-        code => Ok(code),
+        code::WAITING => None,
+        code => Some(code),
     };
-    wait(line, FOR_OWN_SIDE, None, turn).expect("it waits without end")
+    wait_without_end(line, FOR_OWN_SIDE, turn)
 }
 
 impl Drop for Handle {
