@@ -27,19 +27,19 @@ IN_RUST = {
     "try_send and try_recv of a word": ("let (s, r) = channel::<u64>(64)?;", "s.try_send(i).unwrap(); assert_eq!(r.try_recv(), Ok(i));", 743),
     "four words": ("let (s, r) = channel::<[u64; 4]>(64)?;", "s.send([i; 4]).unwrap(); assert_eq!(r.recv(), Ok([i; 4]));", 1063),
     "two groups": ("let (s, r) = groups::<u64>(64, 2)?;", "s.send(i).unwrap(); for r in &r { assert_eq!(r.recv(), Ok(i)); }", 1290),
-    "a refused try_send": ("let (s, _r) = channel::<u64>(1)?; s.send(0).unwrap();", "assert!(s.try_send(i).is_err());", 181),
+    "a refused try_send": ("let (s, _r) = channel::<u64>(1)?; s.send(0).unwrap();", "assert!(s.try_send(i).is_err());", 183),
     "the same with 4,096 places": (
-        "let (s, _r) = channel::<u64>(4096)?; (0..4096).for_each(|i| s.send(i).unwrap());", "assert!(s.try_send(i).is_err());", 240,
+        "let (s, _r) = channel::<u64>(4096)?; (0..4096).for_each(|i| s.send(i).unwrap());", "assert!(s.try_send(i).is_err());", 243,
     ),
-    "an empty try_recv": ("let (_s, r) = channel::<u64>(64)?;", "assert!(r.try_recv().is_err() && i < calls);", 97),
+    "an empty try_recv": ("let (_s, r) = channel::<u64>(64)?;", "assert!(r.try_recv().is_err() && i < calls);", 77),
     "send, and a select that takes": (
         "let (s, r) = channel::<u64>(64)?;", "s.send(i).unwrap(); select! { recv(r) -> it => assert_eq!(it, Ok(i)) }", 845,
     ),
     "a select that sends, and recv": (
-        "let (s, r) = channel::<u64>(64)?;", "select! { send(s, i) -> it => it.unwrap() } assert_eq!(r.recv(), Ok(i));", 1020,
+        "let (s, r) = channel::<u64>(64)?;", "select! { send(s, i) -> it => it.unwrap() } assert_eq!(r.recv(), Ok(i));", 999,
     ),
     "after and its drop": ("", "let r = after(std::time::Duration::from_secs(100)); assert!(r.len() as u64 <= i);", 380),
-    "never and its drop": ("", "let r = never::<u64>(); assert!(r.len() as u64 <= i);", 289),
+    "never and its drop": ("", "let r = never::<u64>(); assert!(r.len() as u64 <= i);", 290),
 }
 # Openings with a pair and the drop, in a program of their own: what the compiler inlines into `main` changes with its rows.
 OPENINGS = {
