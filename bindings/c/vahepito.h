@@ -30,8 +30,8 @@
  *
  * An item takes up room until each group has taken it. An item has one to four words of 64 bits.
  *
- * **Waits.** A call spins for about 10 microseconds, and then parks. It parks at once if the
- * last call that was parked for the same thing slept longer than 50 microseconds. A parked call takes no
+ * **Waits.** A call spins for about 10 microseconds, yields five times, and then parks. It parks at once if an item has taken
+ * more than 20 microseconds since the last wait for the same thing. A parked call takes no
  * processor time; the call that makes room or an item wakes it. Each call, those whose names end in _now too, also waits for its answer while
  * another thread serves its side: it spins and yields for about 20 microseconds, and then parks. So a thread of high priority lets the
  * thread that it waits for run. A signal ends no wait, and no call is a cancellation point. A moment is one of CLOCK_MONOTONIC, as
