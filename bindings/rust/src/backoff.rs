@@ -17,9 +17,9 @@ pub const FOR_OTHERS: Rounds = Rounds(7, 0);
 pub const FOR_OTHERS_AT_PACE: Rounds = Rounds(7, 5);
 /// Until a call that has a seat is over, if it runs: a call takes some hundred nanoseconds.
 pub const FOR_A_LOOK: Rounds = Rounds(5, 0);
-/// Until the own side goes on: about 25 microseconds, and then some yields, by which the thread that serves runs if it was preempted.
+/// Until the own side goes on: about 25 microseconds. With yields before the park the slowest calls last longer.
 /// The thread sanitizer sees neither std's parks nor what std does within its locks: under it no thread parks here.
-pub const FOR_OWN_SIDE: Rounds = Rounds(9, if cfg!(vahepito_tsan) { 1 << 31 } else { 64 });
+pub const FOR_OWN_SIDE: Rounds = Rounds(9, if cfg!(vahepito_tsan) { 1 << 31 } else { 0 });
 
 impl Rounds {
     /// Tries before each round, until it is done, or until the rounds are over.
