@@ -14,7 +14,19 @@ pub struct Rounds(u32, u32);
 /// run again some milliseconds later, though an item came at once, while one that is parked is woken.
 pub const FOR_OTHERS: Rounds = Rounds(7, 0);
 /// The same while many items pass: then the threads that a yield lets run are the channel's own, and parks take longer than items.
-pub const FOR_OTHERS_AT_PACE: Rounds = Rounds(7, 5);
+const FOR_OTHERS_AT_PACE: Rounds = Rounds(7, 5);
+
+/// Until something comes from the other side, which is slow or isn't.
+pub const fn for_others(is_slow: bool) -> Rounds {
+    if is_slow {
+        FOR_OTHERS
+    } else {
+        FOR_OTHERS_AT_PACE
+    }
+}
+
+/// A side is slow if an item takes longer than this: longer than the park of a sender and that of a receiver.
+pub const PACE: Duration = Duration::from_micros(20);
 /// Until a call that has a seat is over, if it runs: a call takes some hundred nanoseconds.
 pub const FOR_A_LOOK: Rounds = Rounds(5, 0);
 /// Until the own side goes on: about 25 microseconds. With yields before the park the slowest calls last longer.

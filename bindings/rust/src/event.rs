@@ -103,7 +103,7 @@
 //! `tests/wakeups.rs` searches all interleavings of these steps in small models, and finds the lost wake-up
 //! if one of them is left out; `tests/looks.rs` does the same for a look at the counts of seats, and `tests/served.rs` for calls that
 //! another one serves.
-use crate::backoff::{FOR_OTHERS, Rounds};
+use crate::backoff::{PACE, Rounds, for_others};
 use std::any::Any;
 use std::cell::RefCell;
 use std::collections::BTreeMap;
@@ -112,7 +112,7 @@ use std::mem::{forget, replace, swap};
 use std::num::NonZeroU64;
 use std::ops::Deref;
 use std::panic::{AssertUnwindSafe, catch_unwind, resume_unwind};
-use std::sync::atomic::{AtomicBool, AtomicUsize, Ordering};
+use std::sync::atomic::{AtomicBool, AtomicU32, AtomicUsize, Ordering};
 use std::sync::{Arc, Mutex, MutexGuard, PoisonError};
 use std::task::{Poll, Wake, Waker};
 use std::thread::{self, Thread, panicking};
@@ -349,10 +349,15 @@ impl Event {
     }
 }
 
+/// How many waits of a thread don't yield after a long one. Beside a busy process each wait that yields is long.
+const AFTER_LONG: u32 = 64;
+
 /// A thread that parks until it is woken.
 pub struct Parker {
     thread: Thread,
     woken: AtomicBool,
+    /// How many further waits don't yield, since a wait was long. Its own thread alone has it.
+    parks: AtomicU32,
 }
 
 impl Wake for Parker {
@@ -377,8 +382,11 @@ impl Parker {
     pub fn with<R>(wait: impl FnOnce(&Arc<Parker>) -> R) -> R {
         let idle = PARKERS.try_with(|idle| idle.borrow_mut().pop());
         let parker = idle.ok().flatten().unwrap_or_else(|| {
-            let (thread, woken) = (thread::current(), AtomicBool::new(false));
-            Arc::new(Parker { thread, woken })
+            Arc::new(Parker {
+                thread: thread::current(),
+                woken: AtomicBool::new(false),
+                parks: AtomicU32::new(0),
+            })
         });
         let done = wait(&parker);
         // Its parks may have used up a token of the thread that was for another waiter, such as an executor whose poll this is.
@@ -388,9 +396,18 @@ impl Parker {
         done
     }
 
-    /// Waits a little for a waker that is near.
-    pub fn spin(&self) {
-        FOR_OTHERS.try_until(|| self.woken.load(Ordering::SeqCst).then_some(()));
+    /// Until it is woken, or this moment. It waits a little for a waker that is near, and then parks.
+    pub fn wait(&self, until: Option<Instant>) {
+        let (begin, parks) = (Instant::now(), self.parks.load(Ordering::Relaxed));
+        for_others(parks > 0).try_until(|| self.woken.load(Ordering::SeqCst).then_some(()));
+        self.park(until);
+        let is_long = begin.elapsed() > PACE;
+        let parks = if is_long {
+            AFTER_LONG
+        } else {
+            parks.saturating_sub(1)
+        };
+        self.parks.store(parks, Ordering::Relaxed);
     }
 
     /// Until it is woken, or this moment. It may be woken by a notification of an earlier wait.
@@ -448,8 +465,7 @@ pub fn poll_until<R>(until: Option<Instant>, mut poll: impl FnMut(&Waker) -> Pol
                 Poll::Pending if until.is_some_and(|it| it <= Instant::now()) => return None,
                 Poll::Pending => {}
             }
-            parker.spin();
-            parker.park(until);
+            parker.wait(until);
         }
     })
 }

@@ -14,7 +14,7 @@ use super::pool::{Pass, Pool, SeatGuard};
 use super::rendezvous::Rendezvous;
 use super::row::{Row, Shape};
 use super::side::{Shared, Source};
-use crate::backoff::{FOR_OTHERS, FOR_OTHERS_AT_PACE, Rounds};
+use crate::backoff::{PACE, Rounds, for_others};
 use crate::event::{Again, Apart, Event, Panics, Try, drop_each, ignore_panics, lock};
 use crate::queue::handle::{self, Handle, code, hands_over, has_taken, unexpected};
 use crate::queue::{self, Config, MOST_GROUPS, OpenError};
@@ -58,11 +58,7 @@ impl Side {
 
     /// How a call waits for the other side before it parks.
     pub fn rounds(&self) -> Rounds {
-        if self.is_slow.load(Ordering::Relaxed) {
-            FOR_OTHERS
-        } else {
-            FOR_OTHERS_AT_PACE
-        }
+        for_others(self.is_slow.load(Ordering::Relaxed))
     }
 
     /// Notes how long a call waited, and how many items the other side passed meanwhile.
@@ -73,9 +69,6 @@ impl Side {
         }
     }
 }
-
-/// A side is slow if an item takes longer than this while a call waits: longer than the park of a sender and that of a receiver.
-const PACE: Duration = Duration::from_micros(20);
 
 /// The number of the senders' side. Those of the groups follow, from 1.
 pub const SENDERS: usize = 0;

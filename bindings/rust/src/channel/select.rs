@@ -711,8 +711,7 @@ impl<'s, R: Copy + Deref<Target: Case>> Turn<'s, R> {
             for it in &operations {
                 self.entries[it.at].case.notify_posted();
             }
-            parker.spin();
-            parker.park(until);
+            parker.wait(until);
         }
         met.or_else(|| {
             let met = waiter.withdraw(&operations)?;
