@@ -192,34 +192,32 @@ static void waiting_is_parking(void) {
     free_queue();
 }
 
-enum { SLOW = 6, FAST = 4000 };
+enum { SLOW = 6 };
 
-/* Takes slow items and then fast ones. */
-static void *takes_at_a_pace(void *told) {
+static void *takes_slow_items(void *told) {
     for (int item = 0; item < SLOW; item++) {
         if (item == 2) yields = 0;
         check(vahepito_take(queue, 1, NULL, NULL) == VAHEPITO_GOT, "a slow item comes");
     }
     check(yields == 0, "after two slow items a take parks at once");
-    check(queue->pace[1].is_slow == 1, "the side is slow");
-    bool was_fast = false;
-    for (int item = 0; item < FAST; item++) {
-        check(vahepito_take(queue, 1, NULL, NULL) == VAHEPITO_GOT, "a fast item comes");
-        was_fast |= queue->pace[1].is_slow == 0;
-    }
-    check(was_fast, "the side isn't slow among many fast items");
     return told;
 }
 
 /* A take yields before it parks, but not if items come slowly. */
 static void pace_is_noted(void) {
+    vahepito_internal_pace pace = {0, 0, 0};
     open_for(1);
-    start(&taking[0], takes_at_a_pace, NULL);
+    start(&taking[0], takes_slow_items, NULL);
     for (int item = 0; item < SLOW; item++) sleep_for(20), check(vahepito_send(queue, 1, NULL) == VAHEPITO_ACCEPTED, "there is room");
-    sleep_for(20);
-    for (int item = 0; item < FAST; item++) check(vahepito_send(queue, 1, NULL) == VAHEPITO_ACCEPTED, "there is room in the end");
     check(!pthread_join(taking[0], NULL), "a receiver ends");
+    check(queue->pace[1].is_slow == 1, "the side is slow");
     free_queue();
+    vahepito_internal_note(&pace, 1);
+    sleep_for(1);
+    vahepito_internal_note(&pace, 2);
+    check(pace.is_slow == 1, "one item in a millisecond is slow");
+    vahepito_internal_note(&pace, 1000000000);
+    check(pace.is_slow == 0, "a thousand million items in less than an hour are not");
 }
 
 static void *takes_to_its_end(void *receiver) {
