@@ -428,7 +428,7 @@ impl<T> Core<T> {
         }
         let found_none = &self.groups.of(group).found_none;
         if found_none.load(Ordering::Relaxed) {
-            Again::unless(self.may_have_item(group))?;
+            self.look_before_take(group)?;
             found_none.store(false, Ordering::Relaxed);
         }
         match self.take(group) {

@@ -360,40 +360,43 @@ impl Pool {
     /// isn't looked at was added later, and what went through it came later.
     #[inline]
     pub fn wait_for_holders(&self) {
-        if self.first.is_held() {
-            self.wait_for(&self.first);
-        }
-        for Other(seat) in self.others() {
-            if seat.is_held() {
-                self.wait_for(seat);
-            }
-        }
+        self.sees_each_free(|seat| {
+            self.wait_for(seat);
+            true
+        });
     }
 
     /// Whether each seat was free once, now or after some pauses. A holder that doesn't run isn't waited for.
     #[inline]
-    pub fn saw_each_free(&self) -> bool {
-        if self.first.is_held() && !Pool::pauses_until_free(&self.first) {
+    pub fn pause_for_holders(&self) -> bool {
+        self.sees_each_free(Pool::pause_for)
+    }
+
+    /// Whether each seat was free once; of one that is held, this says whether it was.
+    #[inline(always)]
+    fn sees_each_free(&self, becomes_free: impl Fn(&Seat) -> bool) -> bool {
+        let stays_held = |seat: &Seat| seat.is_held() && !becomes_free(seat);
+        if stays_held(&self.first) {
             return false;
         }
         for Other(seat) in self.others() {
-            if seat.is_held() && !Pool::pauses_until_free(seat) {
+            if stays_held(seat) {
                 return false;
             }
         }
         true
     }
 
-    #[cold]
-    fn pauses_until_free(seat: &Seat) -> bool {
-        let free = FOR_A_LOOK.try_until(|| (!seat.is_held()).then_some(()));
-        free.is_some()
-    }
-
     /// Waits until this seat was free once, in line.
     #[cold]
     fn wait_for(&self, seat: &Seat) {
         self.wait_for_free(|| (!seat.is_held()).then_some(()));
+    }
+
+    #[cold]
+    fn pause_for(seat: &Seat) -> bool {
+        let free = FOR_A_LOOK.try_until(|| (!seat.is_held()).then_some(()));
+        free.is_some()
     }
 
     /// Acquires all seats, each once it is free. It waits in line for one whose holder doesn't run.

@@ -26,23 +26,24 @@ impl<T> Core<T> {
     /// Whether there seems to be an item for this group, or none will come. If it says no, there was none at
     /// some moment of this call.
     pub fn seems_to_have_item(&self, group: usize) -> Try<()> {
+        self.look_for_item(group, wait_for_holders)
+    }
+
+    /// The same, which also says yes if a send is under way whose thread doesn't run: the queue's own answer doesn't wait for that
+    /// thread.
+    #[inline]
+    pub fn look_before_take(&self, group: usize) -> Try<()> {
+        self.look_for_item(group, Pool::pause_for_holders)
+    }
+
+    /// It says yes if it doesn't see each seat of the senders free.
+    #[inline(always)]
+    fn look_for_item(&self, group: usize, sees_each_free: impl Fn(&Pool) -> bool) -> Try<()> {
         // In this order, so that the number of items is never too small.
         let taken = self.side(group).seats.count();
         let has_item = || taken < self.senders.seats.count();
-        if !has_item() {
-            self.senders.seats.wait_for_holders();
-        }
-        Again::unless(has_item() || self.is_closed())
-    }
-
-    /// Whether a try to take an item for this group is worth its price. If it says no, there was no item at some moment of this
-    /// call, and more will come. It says yes if a send is under way whose thread doesn't run: the queue's own answer doesn't wait for
-    /// that thread.
-    #[inline]
-    pub fn may_have_item(&self, group: usize) -> bool {
-        let taken = self.side(group).seats.count();
-        let has_item = || taken < self.senders.seats.count();
-        has_item() || !self.senders.seats.saw_each_free() || has_item() || self.is_closed()
+        let seems = has_item() || !sees_each_free(&self.senders.seats) || has_item();
+        Again::unless(seems || self.is_closed())
     }
 
     /// Whether there seems to be room that isn't reserved, or none will come. If it says no, there was none at
@@ -117,7 +118,7 @@ impl<T> Core<T> {
     #[inline]
     pub fn look_after_full(&self, hints: usize) -> Try<()> {
         if hints & WAS_FULL != 0 {
-            self.has_room_beside(0, Pool::saw_each_free)?;
+            self.has_room_beside(0, Pool::pause_for_holders)?;
             self.hints.fetch_and(!WAS_FULL, Ordering::Relaxed);
         }
         Ok(())

@@ -90,7 +90,10 @@ impl<T> Shared<T> {
 
     /// The side for which its calls wait: the senders, or of a sender the first group.
     fn other_side(&self) -> &Side {
-        self.core.side(if self.side == 0 { 1 } else { 0 })
+        match self.side {
+            SENDERS => self.core.groups.of(1),
+            _ => &self.core.senders,
+        }
     }
 }
 
