@@ -203,12 +203,20 @@ static void *takes_slow_items(void *told) {
     return told;
 }
 
+static void until_a_take_waits(void) {
+    while (!vahepito_internal_has_waiting(&queue->receivers[0])) sleep_for(1);
+}
+
 /* A take yields before it parks, but not if items come slowly. */
 static void pace_is_noted(void) {
     vahepito_internal_pace pace = {0, 0, 0};
     open_for(1);
     start(&taking[0], takes_slow_items, NULL);
-    for (int item = 0; item < SLOW; item++) sleep_for(20), check(vahepito_send(queue, 1, NULL) == VAHEPITO_ACCEPTED, "there is room");
+    for (int item = 0; item < SLOW; item++) {
+        until_a_take_waits();
+        sleep_for(20);
+        check(vahepito_send(queue, 1, NULL) == VAHEPITO_ACCEPTED, "there is room");
+    }
     check(!pthread_join(taking[0], NULL), "a receiver ends");
     check(queue->pace[1].is_slow == 1, "the side is slow");
     free_queue();
