@@ -1,5 +1,8 @@
 //! One burst of a channel: `channel MODE QUEUE NUMBER MILLISECONDS`; `bench/channel.py` calls it, and has the
 //! words for what the numbers are that each mode prints. The queue is this crate, or a peer.
+#[path = "../../timed.rs"]
+mod timed;
+
 use std::collections::VecDeque;
 use std::hint::black_box;
 use std::pin::Pin;
@@ -8,6 +11,7 @@ use std::sync::{Arc, Barrier, Mutex};
 use std::task::{Context, Wake, Waker};
 use std::thread;
 use std::time::{Duration, Instant};
+use timed::{percentile, timed};
 
 const CAPACITY: usize = 64;
 
@@ -58,8 +62,7 @@ macro_rules! channel {
     };
 }
 
-channel!(Ours, vahepito, |capacity| vahepito::channel(capacity)
-    .unwrap());
+channel!(Ours, vahepito, |capacity| vahepito::channel(capacity).unwrap());
 #[cfg(feature = "crossbeam-channel")]
 channel!(Crossbeam, crossbeam_channel, crossbeam_channel::bounded);
 
@@ -144,49 +147,28 @@ fn blocked<C: Channel>(time: Duration) -> f64 {
 fn slowest<C: Channel>(part: usize, time: Duration) -> f64 {
     let (sender, receiver) = C::open(1024);
     let stop = &AtomicBool::new(false);
-    let mut times = thread::scope(|scope| {
+    thread::scope(|scope| {
         for _ in 0..4 {
             let receiver = receiver.clone();
             scope.spawn(move || while C::recv(&receiver).is_some_and(|item: u64| item < 16) {});
         }
         let sending = (0..16).map(|number: u64| {
             let sender = sender.clone();
-            scope.spawn(move || {
-                let (mut random, mut times) = (number, vec![]);
-                while !stop.load(Relaxed) {
-                    random = random
-                        .wrapping_mul(6_364_136_223_846_793_005)
-                        .wrapping_add(1_442_695_040_888_963_407);
-                    let work = Duration::from_nanos((random >> 33) % 10_000);
-                    let begin = Instant::now();
-                    while begin.elapsed() < work {}
-                    let begin = Instant::now();
-                    if C::try_send(&sender, number) {
-                        times.push(begin.elapsed().as_nanos());
-                    }
-                }
-                times
-            })
+            scope.spawn(move || timed(number, || (!stop.load(Relaxed)).then(|| C::try_send(&sender, number))))
         });
         let sending: Vec<_> = sending.collect();
         thread::sleep(time);
         stop.store(true, Relaxed);
-        let times = sending
-            .into_iter()
-            .flat_map(|it| it.join().unwrap())
-            .collect::<Vec<_>>();
+        let mut times: Vec<_> = sending.into_iter().flat_map(|it| it.join().unwrap()).collect();
         (0..4).for_each(|_| C::send(&sender, 16));
-        times
-    });
-    times.sort();
-    times[times.len() * part / 10_000] as f64
+        percentile(&mut times, part as f64 / 10_000.0)
+    })
 }
 
 /// The same as `blocked`, of a select over two channels of this capacity, to which the items go in turn.
 #[cfg(feature = "select")]
 fn select<C: Channel>(capacity: usize, time: Duration) -> f64 {
-    let (senders, receivers): (Vec<_>, Vec<_>) =
-        (0..2).map(|_| C::open::<Instant>(capacity)).unzip();
+    let (senders, receivers): (Vec<_>, Vec<_>) = (0..2).map(|_| C::open::<Instant>(capacity)).unzip();
     let receivers: [_; 2] = receivers.try_into().ok().expect("there are two");
     let waits = thread::spawn(move || {
         let mut times = vec![];
@@ -265,9 +247,7 @@ fn tasks(time: Duration) -> f64 {
         // Until the first task pauses.
         loop {
             let next = ready.lock().unwrap().pop_front().expect("a task is ready");
-            let polled = all[next]
-                .as_mut()
-                .poll(&mut Context::from_waker(&wakers[next]));
+            let polled = all[next].as_mut().poll(&mut Context::from_waker(&wakers[next]));
             assert!(polled.is_pending());
             if PAUSED.swap(false, Relaxed) {
                 break;

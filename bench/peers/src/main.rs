@@ -7,6 +7,8 @@ mod exports;
 mod polled;
 mod queues;
 mod steps;
+#[path = "../../timed.rs"]
+mod timed;
 
 use clock::processors;
 use queues::*;
@@ -15,6 +17,7 @@ use std::sync::Barrier;
 use std::sync::atomic::{AtomicBool, Ordering::Relaxed};
 use std::thread;
 use std::time::{Duration, Instant};
+use timed::{percentile, timed};
 
 const PROCESS: i32 = 2;
 const THREAD: i32 = 3;
@@ -129,39 +132,6 @@ fn full<Q: Queue>(it: &Burst) -> Vec<f64> {
     let (mut senders, _receivers) = it.open::<Q>();
     while Q::try_send(&mut senders[0], 1) {}
     each(it, |body| assert!(!Q::try_send(&mut senders[0], body)))
-}
-
-/// The value below which this part of them lies.
-fn percentile(values: &mut [f64], part: f64) -> f64 {
-    values.sort_by(f64::total_cmp);
-    values
-        .get((values.len() as f64 * part) as usize)
-        .copied()
-        .unwrap_or(f64::NAN)
-}
-
-/// Does this call with 0 to 10 us of other work before each, until it says that it's over; the nanoseconds of each that
-/// passed an item.
-fn timed(seed: u64, mut call: impl FnMut() -> Option<bool>) -> Vec<f64> {
-    let (mut random, mut times) = (seed, Vec::new());
-    loop {
-        random = random
-            .wrapping_mul(6_364_136_223_846_793_005)
-            .wrapping_add(1_442_695_040_888_963_407);
-        let work = Duration::from_nanos((random >> 33) % 10_000);
-        let start = Instant::now();
-        while start.elapsed() < work {
-            std::hint::spin_loop();
-        }
-        let start = Instant::now();
-        let passed = call();
-        let time = start.elapsed();
-        match passed {
-            Some(true) => times.push(time.as_nanos() as f64),
-            Some(false) => thread::yield_now(),
-            None => return times,
-        }
-    }
 }
 
 /// Senders that don't wait, timed, and receivers that do this with their receiver, the number of their thread, and what
