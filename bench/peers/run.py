@@ -430,16 +430,12 @@ def picture(title, joined, unit, rows, numbers):
 def main():
     parser = argparse.ArgumentParser(description=__doc__, formatter_class=argparse.RawDescriptionHelpFormatter)
     parser.add_argument("--seconds", type=int, default=420)
-    parser.add_argument("--print", action="store_true")
     parser.add_argument("--again", action="store_true")
-    parser.add_argument("--all", action="store_true")
-    parser.add_argument("--busy", action="store_true")
-    parser.add_argument("--busy-tail", action="store_true")
-    parser.add_argument("--tail", action="store_true")
-    parser.add_argument("--steps", action="store_true")
-    parser.add_argument("--unbounded", action="store_true")
+    what = parser.add_mutually_exclusive_group()
+    for name in ("print", "all", "busy", "busy-tail", "tail", "steps", "unbounded"):
+        what.add_argument(f"--{name}", action="store_true")
     options = parser.parse_args()
-    if options.all and (options.again or options.print):
+    if options.all and options.again:
         parser.error("--all measures, and writes")
     kept = os.path.join(OUT, "last.json")
     if options.again:
