@@ -18,25 +18,30 @@ void __real_free(void *);
 
 /* how many allocations were asked for, which of them is refused (0: none), and how many blocks there are */
 static long asked, refused, blocks;
+/* and the most bytes that were asked for */
+static size_t largest;
 
-static int is_refused(void) { return ++asked == refused; }
+static int is_refused(size_t size) {
+    if (size > largest) largest = size;
+    return ++asked == refused;
+}
 
 void *__wrap_malloc(size_t size) {
-    if (is_refused()) return NULL;
+    if (is_refused(size)) return NULL;
     void *at = __real_malloc(size);
     blocks += at != NULL;
     return at;
 }
 
 int __wrap_posix_memalign(void **at, size_t alignment, size_t size) {
-    if (is_refused()) return ENOMEM;
+    if (is_refused(size)) return ENOMEM;
     int refusal = __real_posix_memalign(at, alignment, size);
     blocks += refusal == 0;
     return refusal;
 }
 
 void *__wrap_realloc(void *old, size_t size) {
-    if (is_refused()) return NULL;
+    if (is_refused(size)) return NULL;
     void *at = __real_realloc(old, size);
     blocks += old == NULL && at != NULL;
     return at;
@@ -230,8 +235,28 @@ static void use_row(void) {
     check(blocks == 0, "and in the end all");
 }
 
+/* A queue without a bound, and the most bytes that its further queue asks for, perhaps after each of the allocations was refused once. */
+static size_t further_queue(int are_refused) {
+    vahepito_queue *const queue = vahepito_create(0);
+    uint32_t code;
+    check(queue != NULL, "the queue is opened");
+    for (uint64_t item = 0; item < 64; item++) check(vahepito_send(queue, item, NULL) == VAHEPITO_ACCEPTED, "there is room for 64 items");
+    for (refused = are_refused;; refused++) {
+        asked = 0, largest = 0;
+        code = vahepito_send(queue, 64, NULL);
+        if (asked < refused || refused == 0) break;
+        check(code == VAHEPITO_NO_MEMORY, "a further queue is refused");
+    }
+    refused = 0;
+    check(code == VAHEPITO_ACCEPTED && asked > 0, "and then it is there");
+    vahepito_destroy(queue, NULL, NULL);
+    check(blocks == 0, "and in the end all is freed");
+    return largest;
+}
+
 int main(void) {
     use_row();
+    check(further_queue(1) == further_queue(0), "a queue that was refused asks for no more than before");
     for (uint32_t groups = 1; groups <= 8; groups++) use_pointer(groups);
     for (uint32_t groups = 1; groups <= MOST_GROUPS; groups++) use_queue(groups);
     printf("%s\n", "all memory is free");

@@ -541,9 +541,12 @@ static __attribute__((noinline)) uint32_t vahepito_internal_next_for_senders(vah
     if (vahepito_internal_is_closed(queue)) {
         code = VAHEPITO_CLOSED;
     } else if (queue->last->number == number) {
-        if (!queue->has_bound && queue->config.capacity < MOST_CAPACITY) queue->config.capacity *= 4;
+        const uint32_t capacity = queue->config.capacity;
+        if (!queue->has_bound && capacity < MOST_CAPACITY) queue->config.capacity = 4 * capacity;
         vahepito_internal_part *const next = vahepito_internal_append(queue, &code);
-        if (next) {
+        if (!next) {
+            if (!queue->has_bound) queue->config.capacity = capacity;
+        } else {
             (void)vahepito_internal_close_last(queue, &next->base);
             next->number = number + 1;
             queue->last->next = next;
@@ -1102,8 +1105,8 @@ const char *vahepito_text(uint32_t code) {
 struct timespec vahepito_after(uint64_t nanoseconds) {
     struct timespec moment;
     (void)clock_gettime(CLOCK_MONOTONIC, &moment);
-    nanoseconds += (uint64_t)moment.tv_nsec;
-    moment.tv_sec += (time_t)(nanoseconds / 1000000000u);
-    moment.tv_nsec = (long)(nanoseconds % 1000000000u);
+    const uint64_t rest = nanoseconds % 1000000000u + (uint64_t)moment.tv_nsec;
+    moment.tv_sec += (time_t)(nanoseconds / 1000000000u + rest / 1000000000u);
+    moment.tv_nsec = (long)(rest % 1000000000u);
     return moment;
 }

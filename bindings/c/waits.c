@@ -263,6 +263,9 @@ static void moments(void) {
     check(vahepito_take_until(queue, 1, &item, &moment, &number) == VAHEPITO_EMPTY, "the moment is over");
     check(item.words[0] == 0 && number == 0, "and there is no item");
     check(vahepito_take_until(queue, 1, NULL, &wrong, NULL) == VAHEPITO_EMPTY, "no such moment comes");
+    moment = vahepito_after(UINT64_MAX);
+    check(moment.tv_nsec >= 0 && moment.tv_nsec < 1000000000, "the last moment has nanoseconds that are some");
+    check((uint64_t)(moment.tv_sec - vahepito_after(0).tv_sec) - UINT64_MAX / 1000000000 <= 1, "and comes in 584 years");
     moment = vahepito_after(30000000);
     check(vahepito_take_until(queue, 1, &item, &moment, NULL) == VAHEPITO_EMPTY, "no item comes");
     check(nanoseconds(CLOCK_MONOTONIC) - from >= 30000000, "until the moment");
