@@ -59,6 +59,14 @@ void one_thread() {
     check(!left[0].take(), "and ends the takes");
 }
 
+void defaults_and_moments() {
+    vahepito::config config;
+    config.groups = 0;
+    auto [sender, receivers] = vahepito::open<int>(config);
+    check(receivers.size() == 1 && sender.send(7) && receivers[0].take() == 7, "no groups are one");
+    check(!receivers[0].take_until(vahepito::moment::min()) && !receivers[0].ended(), "the first moment of all has come");
+}
+
 std::uint64_t many_threads() {
     constexpr std::uint32_t each = 4, items = 2000;
     vahepito::config config;
@@ -90,5 +98,6 @@ std::uint64_t many_threads() {
 
 int main() {
     one_thread();
+    defaults_and_moments();
     std::printf("%llu items\n", static_cast<unsigned long long>(many_threads()));
 }

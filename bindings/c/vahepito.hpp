@@ -61,9 +61,9 @@ protected:
 };
 
 inline timespec time_of(moment until) {
-    const auto since = until.time_since_epoch();
-    const auto seconds = std::chrono::floor<std::chrono::seconds>(since);
-    return {std::time_t(seconds.count()), long(std::chrono::nanoseconds(since - seconds).count())};
+    constexpr std::int64_t second = 1000000000;
+    const std::int64_t since = std::chrono::nanoseconds(until.time_since_epoch()).count(), rest = since % second;
+    return {std::time_t(since / second - (rest < 0)), long(rest < 0 ? rest + second : rest)};
 }
 
 template <class T> constexpr std::size_t words = (sizeof(T) + 7) / 8;
@@ -142,7 +142,7 @@ template <class T> std::pair<sender<T>, std::vector<receiver<T>>> open(const con
     const std::uint32_t code = vahepito_create_as(&attributes, &shared->at);
     if (code != VAHEPITO_DONE) throw error(code);
     std::vector<receiver<T>> receivers;
-    for (std::uint32_t group = 1; group <= config.groups; group++) receivers.emplace_back(shared, group);
+    for (std::uint32_t group = 1; group == 1 || group <= config.groups; group++) receivers.emplace_back(shared, group);
     return {sender<T>(shared), std::move(receivers)};
 }
 } // namespace vahepito
