@@ -35,7 +35,7 @@
  * processor time; the call that makes room or an item wakes it. Each call, those whose names end in _now too, also waits for its answer while
  * another thread serves its side: it spins and yields for about 20 microseconds, and then parks. So a thread of high priority lets the
  * thread that it waits for run. A signal ends no wait, and no call is a cancellation point. A moment is one of CLOCK_MONOTONIC, as
- * clock_gettime gives it and vahepito_after computes it; NULL is none.
+ * clock_gettime gives it and vahepito_after computes it; NULL is none. If its nanoseconds aren't from 0 to 999,999,999, it has come.
  *
  * **It isn't used up.** The queue is a row of proved queues. Each of these accepts a number of items; then it is closed, and a further one
  * follows, which takes memory, and for which other sends wait. If memory is refused, the send returns NO_MEMORY, and may be repeated.
@@ -61,10 +61,10 @@
  * The caller must do the following, and nothing checks it:
  * - vahepito_destroy is called once. By then all calls have returned, and no call comes later: by joins, a lock or a flag.
  * - No pointer is NULL but those that may be, the pointers of one call point to different variables, and of an array there are as many
- *   elements as the count says. Each out-parameter but that of vahepito_create_as may be NULL, and needs no value before; it is written, with
- *   0 if the code gives it no meaning.
- * - No call is made from a signal handler, or from the forked child of a process with threads, and no thread is cancelled asynchronously
- *   in a call.
+ *   elements as the count says. Each out-parameter may be NULL but that of vahepito_create_as and the items of vahepito_take_many. It needs no
+ *   value before, and is written, with 0 if the code gives it no meaning; of the items the first `count` are written.
+ * - No call is made from a signal handler, or in a forked child of a queue that was opened before the fork, and no thread is cancelled
+ *   asynchronously in a call.
  * - malloc, posix_memalign, realloc and free are one allocator's.
  *
  * vahepito_raw.h has calls of the proved library itself, none of which waits: for those who poll, with a ticket for a call that waits for its
@@ -170,7 +170,8 @@ typedef struct {
 #define VAHEPITO_ATTRIBUTES {VAHEPITO_VERSION, 64, 1, 1, 0, 0, 0, 0}
 
 /* Opens a queue. Any thread may call.
- * DONE: *queue is the pointer. BAD_VERSION, BAD_SENDERS to BAD_PER_SENDER, BAD_GROUPS, BAD_WORDS, NO_MEMORY: *queue is NULL. (BAD_SENDERS is of `places`.) */
+ * DONE: *queue is the pointer. BAD_VERSION, BAD_SENDERS to BAD_PER_SENDER, BAD_GROUPS, BAD_WORDS, NO_MEMORY: *queue is NULL. (BAD_SENDERS is of
+ * `places`. Too many places or groups are found first.) */
 uint32_t vahepito_create_as(const vahepito_attributes *attributes, vahepito_queue **queue);
 
 /* Opens a queue of this capacity (0: any number), else as VAHEPITO_ATTRIBUTES says. NULL if it isn't opened. Any thread may call. */

@@ -75,7 +75,7 @@
  *   has: joins, a lock or a flag.
  * - No other pointer is NULL, every out-parameter is an initialised variable, the pointers of one call point to different
  *   variables, and of an array there are as many elements as the count says.
- * - No call is made from a signal handler, or from the forked child of a process with threads.
+ * - No call is made from a signal handler, or in a forked child of a queue that was opened before the fork.
  * - malloc, realloc and free are one allocator's.
  *
  * Every call writes its out-parameters, with 0 in each field that its code gives no meaning.
