@@ -10,3 +10,5 @@ pub mod Use
 pub mod OneQueue
 pub mod Wrong
 pub mod SmallRun
+pub mod Threads
+pub mod SmallThreads

@@ -226,7 +226,7 @@ it_walks = refl
 good_run : Good small_run
 good_run = walked oldest_first [] record { first = tt; second = tt; others = λ q. refl; used = tt } it_walks
 
-all_runs : (q : ℕ) → IsRun small_list (moves_at q small_run)
+pub all_runs : (q : ℕ) → IsRun small_list (moves_at q small_run)
 all_runs zero = good_run.first
 all_runs (suc zero) = good_run.second
 all_runs (suc (suc q)) = subst (λ (l : List Move). IsRun small_list l) (sym (good_run.others q)) tt

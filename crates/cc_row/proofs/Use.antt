@@ -106,7 +106,7 @@ there_inside : (cfg : Config) (x : Chain) → IsThere cfg x → (g : ℕ) → x 
 there_inside cfg Chain.Send there g is = absurd (cc)
 there_inside cfg (Chain.Take y) there g is = let same : y ≡ g = cc in omega (arith, there, same)
 
-any_prefix : {X : Type 0} (p : X → Bool) (a b : List X) → IsPrefix a b → list_any p a ≡ true → list_any p b ≡ true
+pub any_prefix : {X : Type 0} (p : X → Bool) (a b : List X) → IsPrefix a b → list_any p a ≡ true → list_any p b ≡ true
 any_prefix {X} p a b front is = ap (λ (l : List X). list_any p l) front.1 ∙ any-append p a front.0 ∙ ap (λ (c : Bool). c || list_any p front.0) is
 
 -- ---- what was used by now

@@ -6,3 +6,5 @@ pub mod Queues
 pub mod OneQueue
 pub mod Runs
 pub mod SmallRun
+pub mod Threads
+pub mod SmallThreads

@@ -6,6 +6,8 @@ ghost use Rattle.cc_row.specs.OneQueue.{OneQueueIsARow};
 ghost use Rattle.cc_row.specs.SmallRows.{SmallRows};
 ghost use Rattle.cc_row.specs.SmallRun.{SmallRun};
 ghost use Rattle.cc_row.specs.WrongRows.{WrongRows};
+ghost use Rattle.cc_row.specs.SmallThreads.{SmallThreads};
+ghost use Rattle.cc_row.specs.Threads.{ThreadsMakeRows, LeftQueuesRest};
 
 /// Queues in a row, of which each is used after the one before it was closed, are one queue without a bound.
 pub fn rows_are_queues()
@@ -51,4 +53,24 @@ pub fn rows_are_linearizable()
 #[tactic(auto, using(crate::proofs::SmallRun::small_run_is))]
 pub fn small_run()
     ensures { SmallRun }
+{}
+
+/// Threads that keep the rules of a row make one queue of its queues, in every interleaving. A thread makes calls at a queue that was the last
+/// one, or its group's, when the thread looked. A further queue is appended once a close of the last one was answered, and a group goes on
+/// once a take of the group returned Ended.
+#[tactic(auto, using(crate::proofs::Threads::threads_make_rows))]
+pub fn threads_make_rows()
+    ensures { ThreadsMakeRows }
+{}
+
+/// Once the senders and all groups have gone on from a queue, and each seat was seen away from the queue since, no thread makes a move there.
+#[tactic(auto, using(crate::proofs::Threads::left_queues_rest))]
+pub fn left_queues_rest()
+    ensures { LeftQueuesRest }
+{}
+
+/// The threads of the small run keep the rules.
+#[tactic(auto, using(crate::proofs::SmallThreads::small_threads_are))]
+pub fn small_threads()
+    ensures { SmallThreads }
 {}

@@ -6,6 +6,7 @@
 mod laws;
 
 pub use laws::{
-    chains_are_rows, exact_queues_are_one, one_queue_is_a_row, rows_are_linearizable,
-    rows_are_queues, small_row, small_run, wrong_rows_are_refused,
+    chains_are_rows, exact_queues_are_one, left_queues_rest, one_queue_is_a_row,
+    rows_are_linearizable, rows_are_queues, small_row, small_run, small_threads, threads_make_rows,
+    wrong_rows_are_refused,
 };
