@@ -15,6 +15,12 @@
  * difference: at bells, of which there are none; at the counts of lines, if no call of the model waits; at loads, under the lock, of what is stored
  * under the lock alone; and while all seats are taken. A step that no other process hinders or sees comes first.
  *
+ * The code keeps the rules of which crates/cc_row proves that a row by them is one queue (`threads_make_rows`), and that nobody uses a queue
+ * that is freed (`left_queues_rest`). A call is made in a seat, at a queue that was the last one, or its group's, at some moment since the seat was taken.
+ * A seat is given back without a call. A further queue is appended if the last one was closed and the row wasn't; a group goes on to the next
+ * queue if a take of the group found the end; who takes the lock finds the last queue of an open row open. A queue is freed once the senders and
+ * all groups have gone on, and each seat was free since, or taken later.
+ *
  * The answers are checked by an oracle that knows no row. It is one queue, first in, first out, whose calls take effect at one moment between
  * their begin and their return. With each state go all orders of the calls that explain the answers so far. A length is, for the slowest group, what
  * was accepted at one moment of the call less what was taken at a later one.
@@ -51,9 +57,15 @@ struct layout {
     size_t size, seats, seat;
 };
 
+/* The words that are stored under the lock alone: whether the row is closed, the last queue, and the queue of each group. */
+enum guarded { CLOSED_WORD, LAST_WORD, AT_WORDS };
+
 extern const struct layout code_layout;
 enum field code_field(const void *queue, const void *place, uint32_t *number);
 enum field code_part_field(size_t offset);
+const void *code_queue_of(const void *queue, uint32_t side), *code_pass_of(const void *part);
+uint32_t code_number_of(const void *part);
+bool code_is_closed(const void *queue);
 void code_begin(size_t seat, uint32_t threads);
 size_t code_seat(void);
 int model_lock(void), model_unlock(void), model_memory(void **memory, size_t alignment, size_t size);
@@ -80,7 +92,9 @@ enum field code_field(const void *of, const void *place, uint32_t *number) {
     *number = 0;
     if (LIES_IN(config.capacity)) return queue->has_bound ? FIXED : LOCKED;
     if (LIES_IN(first) || LIES_IN(retired)) return LOCKED;
-    if (LIES_IN(last) || LIES_IN(at) || LIES_IN(is_closed)) return GUARDED;
+    if (LIES_IN(is_closed)) return *number = CLOSED_WORD, GUARDED;
+    if (LIES_IN(last)) return *number = LAST_WORD, GUARDED;
+    if (LIES_IN(at)) return *number = AT_WORDS + (uint32_t)((vahepito_internal_part *const *)place - queue->at), GUARDED;
     if (LIES_IN(special)) return WORD;
     if (LIES_IN(senders)) return LINE;
     if (LIES_IN(receivers)) return *number = 1 + (uint32_t)((const vahepito_internal_line *)place - queue->receivers), LINE;
@@ -92,6 +106,17 @@ enum field code_part_field(size_t offset) {
     const bool is_locked = offset == offsetof(vahepito_internal_part, next) || offset == offsetof(vahepito_internal_part, unseen);
     return is_locked ? LOCKED : FIXED;
 }
+
+/* The last queue of the row, or the queue that a group is at; a pass of a queue; the number of a queue; and whether the row is closed. The
+ * search looks here, and not the code. */
+#define UNSEEN __attribute__((no_sanitize_thread))
+UNSEEN const void *code_queue_of(const void *of, uint32_t side) {
+    const vahepito_queue *const queue = of;
+    return side == 0 ? queue->last : queue->at[side - 1];
+}
+const void *code_pass_of(const void *part) { return &((const vahepito_internal_part *)part)->handles[0].pass; }
+UNSEEN uint32_t code_number_of(const void *part) { return (uint32_t)((const vahepito_internal_part *)part)->number; }
+UNSEEN bool code_is_closed(const void *queue) { return ((const vahepito_queue *)queue)->is_closed; }
 
 /* Before each step of a process: the seat at which it looks first, or 0 if it has none yet, and how many threads have one; and after a step. */
 void code_begin(size_t seat, uint32_t threads) { vahepito_internal_own = seat * sizeof(vahepito_internal_seat), vahepito_internal_threads = threads; }
@@ -150,7 +175,7 @@ struct pending {
 /* A queue of the library. */
 struct raw {
     uint8_t capacity, life, per_sender, accepted, closed, shares, taken[GROUPS], begun[PLACES], items[ITEMS];
-    uint8_t is_live[SIDES][PLACES], is_observed;
+    uint8_t is_live[SIDES][PLACES], is_observed, has_ended[GROUPS];
     struct pending pending[SIDES][PLACES];
 };
 
@@ -172,6 +197,8 @@ static struct {
     uint32_t block_count, used, raw_count, order_count;
     uint32_t lock; /* which process, from 1 */
     uint32_t refusals;
+    /* Of each seat that is taken, from 1, with 1 added: the number of the last queue when it was taken, and of the queue of each group. */
+    uint8_t since[1 + PLACES][SIDES];
 } world;
 
 static struct process processes[PROCESSES];
@@ -287,6 +314,75 @@ static void atomic(const void *place, enum access access, int order) {
     if (field == GUARDED && access != LOAD && !is_locked()) is_wrong("it is stored without the lock");
 }
 
+/* ---- the rules of a row */
+
+/* The number of the queue that a thread would find now: to send to, or to take from for a group. */
+static uint32_t found_now(uint32_t side) { return code_number_of(code_queue_of(queue, side)); }
+
+static struct raw *raw_of_part(const void *part) {
+    const vahepito_pass *const pass = code_pass_of(part);
+    return &raws[((uintptr_t)pass->at - 65536) / PLACES / SIDES];
+}
+
+static bool has_close(const struct raw *raw) {
+    bool has = raw->closed != 0;
+    for (uint32_t place = 0; place < PLACES; place++) has |= raw->pending[0][place].kind == CLOSE;
+    return has;
+}
+
+static void seat_changed(uint32_t seat, bool is_taken) {
+    for (uint32_t side = 0; side < SIDES; side++) {
+        world.since[seat][side] = is_taken && side <= model->groups ? (uint8_t)(found_now(side) + 1) : 0;
+        for (uint32_t number = 0; number < world.raw_count; number++)
+            if (raws[number].pending[side][seat - 1].kind != 0) is_wrong("a seat changes in its call");
+    }
+}
+
+/* An atomic has changed, which had this value before. */
+static void changed(const void *place, uint64_t before) {
+    const struct block *const block = current < 0 ? NULL : block_of(place);
+    uint32_t number;
+    if (!block || block != blocks) return;
+    const enum field field = code_field(queue, place, &number);
+    if (field == SEAT && number != 0 && number <= model->places) {
+        const bool is_taken = *(const uint32_t *)place != 0;
+        if (is_taken != (before != 0)) seat_changed(number, is_taken);
+    } else if (field == GUARDED && number == LAST_WORD) {
+        const void *const last = (const void *)(uintptr_t)before;
+        if (code_is_closed(queue) || !raw_of_part(last)->closed) is_wrong("a queue is appended to one that isn't closed, or to a closed row");
+        if (found_now(0) != code_number_of(last) + 1) is_wrong("the next number isn't that of the next queue");
+    } else if (field == GUARDED && number >= AT_WORDS) {
+        const void *const at = (const void *)(uintptr_t)before;
+        const uint32_t group = number - AT_WORDS;
+        if (!raw_of_part(at)->has_ended[group]) is_wrong("a group goes on from a queue that hasn't ended for it");
+        if (code_number_of(at) >= found_now(0) || found_now(group + 1) != code_number_of(at) + 1) is_wrong("a group doesn't go on to the next queue");
+    }
+}
+
+/* A process has taken the lock: so it may append, or close the row. */
+static void check_open(void) {
+    if (!code_is_closed(queue) && has_close(raw_of_part(code_queue_of(queue, 0)))) is_wrong("the last queue of an open row is closed");
+}
+
+/* A process makes a call by the pass of this side of this seat. */
+static void check_found(const vahepito_pass *pass, uint32_t side, uint32_t seat) {
+    const struct block *const block = block_of(pass);
+    if (current < 0 || !block) return;
+    const uint32_t number = code_number_of(&memory[block->start]);
+    if (world.since[seat][side] == 0) is_wrong("a call is made without a seat");
+    if (number + 1 < world.since[seat][side] || number > found_now(side)) is_wrong("a call is made at a queue that wasn't found since the seat was taken");
+}
+
+/* A part is freed that was shown. */
+static void check_left(const void *part) {
+    const uint32_t number = code_number_of(part);
+    for (uint32_t side = 0; side <= model->groups; side++) {
+        if (number >= found_now(side)) is_wrong("a queue is freed that isn't left");
+        for (uint32_t seat = 1; seat <= model->places; seat++)
+            if (world.since[seat][side] != 0 && number + 1 >= world.since[seat][side]) is_wrong("a queue is freed that a call may have found");
+    }
+}
+
 /* A part is shown once its pointer is stored. */
 static void show(uint64_t pointer) {
     for (uint32_t k = 1; k < world.block_count; k++)
@@ -316,6 +412,7 @@ void *__tsan_memset(void *to, int byte, size_t size) { return plain(to, true), m
         atomic(place, UPDATE, order);                                                                                \
         const uint##bits##_t found = *place;                                                                         \
         *place = (uint##bits##_t)(operation);                                                                        \
+        changed(place, found);                                                                                       \
         return found;                                                                                                \
     }
 
@@ -330,8 +427,10 @@ void *__tsan_memset(void *to, int byte, size_t size) { return plain(to, true), m
     }                                                                                                                \
     void __tsan_atomic##bits##_store(uint##bits##_t *place, uint##bits##_t value, int order) {                       \
         atomic(place, STORE, order);                                                                                 \
+        const uint##bits##_t before = *place;                                                                        \
         *place = value;                                                                                              \
         show(value);                                                                                                 \
+        changed(place, before);                                                                                      \
     }                                                                                                                \
     uint##bits##_t __tsan_atomic##bits##_compare_exchange_val(uint##bits##_t *place, uint##bits##_t old, uint##bits##_t value, int order, int other) { \
         (void)other;                                                                                                 \
@@ -362,7 +461,9 @@ void __tsan_func_exit(void) {}
 
 int model_lock(void) {
     step(TAKE_LOCK, 0);
-    if (current >= 0) world.lock = (uint32_t)current + 1;
+    if (current < 0) return 0;
+    world.lock = (uint32_t)current + 1;
+    check_open();
     return 0;
 }
 
@@ -397,6 +498,7 @@ void model_free(void *place) {
     struct block *const block = block_of(place);
     if (!block || place != &memory[block->start]) is_wrong("no memory is freed");
     if (!is_locked()) is_wrong("memory is freed without the lock");
+    if (current >= 0 && block->is_shown) check_left(place);
     for (int other = 0; other < process_count; other++)
         if (other != current && (processes[other].reads >> (block - blocks) & 1) != 0) is_wrong("a part is freed that a process may read");
     block->is_free = 1;
@@ -476,6 +578,7 @@ static void take_effect(struct raw *raw, uint32_t side, struct pending *it) {
         it->code = *taken < raw->accepted ? VAHEPITO_GOT : raw->closed ? VAHEPITO_ENDED : VAHEPITO_EMPTY;
         it->value = it->code == VAHEPITO_EMPTY ? 0 : *taken;
         if (it->code == VAHEPITO_GOT) it->got = raw->items[(*taken)++];
+        if (it->code == VAHEPITO_ENDED) raw->has_ended[side - 1] = 1;
     } else {
         uint8_t least = raw->taken[0];
         if (model->groups > 1 && raw->taken[1] < least) least = raw->taken[1];
@@ -497,8 +600,9 @@ static uint32_t answer(struct pass_at at, uint64_t *value, uint8_t *got) {
     return code;
 }
 
-static void begin(struct pass_at at, uint8_t kind, uint8_t item) {
+static void begin(const vahepito_pass *pass, struct pass_at at, uint8_t kind, uint8_t item) {
     if (at.pending->kind != 0) is_wrong("a pass has two calls");
+    check_found(pass, at.side, at.number + 1);
     *at.pending = (struct pending){kind, item, 0, 0, 0, 0};
 }
 
@@ -510,7 +614,7 @@ uint32_t vahepito_try_send_words(vahepito_pass *sender, const uint64_t *words, s
     *place = 0;
     if (at.raw->begun[at.number] == at.raw->per_sender) return VAHEPITO_WORN;
     at.raw->begun[at.number]++;
-    begin(at, TRY_SEND, (uint8_t)*words);
+    begin(sender, at, TRY_SEND, (uint8_t)*words);
     return current >= 0 && model->has_turns ? VAHEPITO_WAITING : answer(at, place, &got);
 }
 
@@ -545,7 +649,7 @@ uint32_t vahepito_try_take_words(vahepito_pass *receiver, vahepito_item *item, u
     (void)served;
     step(model->has_turns ? BEGIN : TRY_TAKE, 0);
     const struct pass_at at = find(receiver, false);
-    begin(at, TRY_TAKE, 0);
+    begin(receiver, at, TRY_TAKE, 0);
     if (current < 0 || !model->has_turns) return answer_of_take(at, item, total);
     return *total = 0, VAHEPITO_WAITING;
 }
@@ -560,7 +664,7 @@ uint32_t vahepito_try_take(vahepito_pass *receiver, vahepito_word_item *item, ui
 
 uint32_t vahepito_begin_close(vahepito_pass *sender) {
     if (model->has_turns) step(BEGIN, 0);
-    begin(find(sender, true), CLOSE, 0);
+    begin(sender, find(sender, true), CLOSE, 0);
     return VAHEPITO_BEGUN;
 }
 
