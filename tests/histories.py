@@ -112,10 +112,10 @@ LANES = """{"thread":"a","begin":1,"end":2,"send":11}
 LANE_ROWS = [
     (("", ""), "lanes: 2 of 2 lanes are clean\n"),
     (('"take":11}', '"take":13}'), "lanes: thread a: judge fault: taken twice: lines 6 and 9 took one item\nlanes: 1 of 2 lanes are clean\n"),
-    (('"take":13}', '"take":99}'), "lanes: thread no line: judge fault: never sent: line 9 took an item that no line sent\nlanes: 2 of 3 lanes are clean\n"),
+    (('"take":13}', '"take":99}'), "lanes: thread no line: judge fault: never sent: line 9 took an item that no accepted send sent\nlanes: 2 of 3 lanes are clean\n"),
     (('"thread":"d","begin":13,"take":null', '"thread":"d","begin":13,"end":14,"take":null'),
      "lanes: thread a: judge fault: overtaken: line 3 had ended before line 4 began; the item of line 3 is never taken, after line 9 took the other\nlanes: 1 of 2 lanes are clean\n"),
-    (('"take":13}', '"take":99}\n{"ends":"whole"}'), "lanes: thread no line: judge fault: never sent: line 9 took an item that no line sent\nlanes: 2 of 3 lanes are clean\n"),
+    (('"take":13}', '"take":99}\n{"ends":"whole"}'), "lanes: thread no line: judge fault: never sent: line 9 took an item that no accepted send sent\nlanes: 2 of 3 lanes are clean\n"),
     (('"take":13}', '"take":99}\n{"ends":"early"}'), "lanes: 3 of 3 lanes are clean\n"),
     (('"take":13}', '"take":13}\n{"ends":"whole"}\n{"ends":"whole"}'), ""),
 ]

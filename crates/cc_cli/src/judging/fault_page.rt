@@ -151,7 +151,7 @@ const left = stay => (stay.sends.length > 1 ? 'one of ' + list([...stay.sends.ma
 const sent = stay => left(stay) + (stay.closed ? ', sent before the queue was closed (' + line(stay.closed) + '),' : '');
 const until = stay => (stay.take ? 'until ' + line(stay.take) + ' began to take it' : stay.next ? 'at least until ' + line(stay.next) + ' began' : 'to the end, since no call took it');
 const WHY = {
-  'never sent': f => 'Line ' + f.take + ' took ' + of(f.take) + ', and no line sent it. No order has a send of this item before the take.',
+  'never sent': f => 'Line ' + f.take + ' took ' + of(f.take) + ', and no accepted send sent it. No order has a send of this item before the take.',
   'taken before sent': f => 'The take of ' + of(f.take) + ' (' + line(f.take) + ') had ended before its send (' + line(f.send) + ') began. Each order that agrees with real time has the take first, and a queue can\\'t return an item that it doesn\\'t have.',
   'taken twice': f => 'Lines ' + f.first + ' and ' + f.second + ' both took ' + of(f.first) + '. A queue returns each item once.',
   'overtaken': f => 'The send of ' + left(stays[0]) + ' (' + list(stays[0].sends.map(line), 'and') + ') had ended before the send of ' + of(f.send) + ' (' + line(f.send) + ') began, so the first is ahead of the second in the queue. Line ' + f.take + ' took the second, while the first was in the queue ' + until(stays[0]) + '.',
@@ -159,7 +159,7 @@ const WHY = {
   'closed early': f => 'Line ' + f.call + ' found the queue closed, and had ended before any close began.',
   'not full': f => 'Line ' + f.call + ' found the queue full. At no moment of this call can the queue have held ' + f.capacity + ' items: count each item whose send had begun, but none whose take had ended.',
   'too many': f => 'When line ' + f.call + ' had ended, the sends of ' + (f.sends.length > 20 ? f.sends.length + ' lines' : list(f.sends.map(line), 'and')) + ' had ended too. So few takes had begun that may have their items that more than ' + f.capacity + ' of them were in the queue.',
-  'not empty': f => 'Line ' + f.take + ' found the queue empty. At each moment of this call an item was in the queue for certain: ' + list(stays.map(stay => sent(stay) + ' ' + until(stay)), 'and then') + '.',
+  'not empty': f => 'Line ' + f.take + (f.ended ? ' found the queue closed and empty. At each moment of this call at which the queue can have been closed' : ' found the queue empty. At each moment of this call') + ' an item was in the queue for certain: ' + list(stays.map(stay => sent(stay) + ' ' + until(stay)), 'and then') + '.',
 };
 const sure = stays.map(stay => {
   const sends = stay.sends.map(number => at.get(number)).filter(Boolean);

@@ -6,6 +6,7 @@ ghost use Rattle.cc_cli.specs.Names.{AnswerFault};
 
 use crate::judging::choice::{Choice, beside_fault, first_calls};
 use crate::judging::fault_page::{BACK, FRONT, MIDDLE};
+use crate::judging::verdict_line::found_end;
 use cc_io::{Sink, WriteFault, write_bytes};
 use cc_judge::{Fault, Stay, Verdict};
 use cc_log::{Log, Said, Shown, body_text};
@@ -207,6 +208,9 @@ fn push_fault(
         Fault::NotEmpty { call, stays } => {
             text.push_str(",\"kind\":\"not empty\"")?;
             push_line(alloc, text, log, "take", *call)?;
+            if found_end(log, *call) {
+                text.push_str(",\"ended\":true")?;
+            }
             push_stays(alloc, text, log, stays.as_slice())
         }
         Fault::Reopened { closed, send } => {

@@ -1,6 +1,6 @@
 //! The line of a verdict.
 
-use cc_judge::{Fault, Stay, Verdict};
+use cc_judge::{Act, Fault, Stay, Verdict};
 use cc_log::{Ending, Log};
 use std::alloc::{AllocError, Global};
 
@@ -126,12 +126,21 @@ fn items(alloc: Global, log: &Log, stays: &[Stay]) -> Result<String, AllocError>
     Ok(text)
 }
 
+/// Whether the call at a place found the end of a queue whose closes the log has.
+pub fn found_end(log: &Log, place: usize) -> bool {
+    let is_end = match log.calls.get(place) {
+        Some(call) => matches!(call.act, Act::Ended),
+        None => false,
+    };
+    is_end && log.rules.closes
+}
+
 /// The text of a fault.
 fn fault_text(alloc: Global, log: &Log, fault: &Fault) -> Result<String, AllocError> {
     match fault {
         Fault::NeverSent { take } => {
             format!(in alloc;
-                "judge fault: never sent: {} took an item that no line sent\n",
+                "judge fault: never sent: {} took an item that no accepted send sent\n",
                 line(alloc, log, *take)?
             )
         }
@@ -187,8 +196,13 @@ fn fault_text(alloc: Global, log: &Log, fault: &Fault) -> Result<String, AllocEr
         }
         Fault::NotEmpty { call, stays } => {
             let items = items(alloc, log, stays.as_slice())?;
+            let found = if found_end(log, *call) {
+                "found the queue closed and empty, and at all its times at which the queue can have been closed it held an item"
+            } else {
+                "found none, and at all its times the queue held an item"
+            };
             format!(in alloc;
-                "judge fault: not empty: {} found none, and at all its times the queue held an item{items}\n",
+                "judge fault: not empty: {} {found}{items}\n",
                 line(alloc, log, *call)?
             )
         }
