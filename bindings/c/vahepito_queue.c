@@ -1081,9 +1081,9 @@ const char *vahepito_text(uint32_t code) {
     case VAHEPITO_NO_MEMORY: return "memory was refused";
     case VAHEPITO_NO_PASS: return "the vahepito_call has no ticket";
     case VAHEPITO_WRONG_SIDE: return "the ticket is that of a call of the other side";
-    case VAHEPITO_BUSY: return "no place was free, or the vahepito_call has a ticket";
+    case VAHEPITO_BUSY: return "each place was in use or exhausted, or the vahepito_call has a ticket";
     case VAHEPITO_NOT_BEGUN: return "the ticket is that of another call of its side";
-    case VAHEPITO_WORN: return "each place for sends that was free has begun as many as it may";
+    case VAHEPITO_WORN: return "each place for sends has begun as many as it may";
     case VAHEPITO_WAITING: return "the answer is not there yet";
     case VAHEPITO_ACCEPTED: return "the item was accepted";
     case VAHEPITO_FULL: return "there was no room";

@@ -1,7 +1,7 @@
 /* Vahepito for C, calls of the proved library itself, none of which waits, over one of its queues. vahepito.h has a queue whose calls wait, and which
- * is never used up. A program that polls, and wants no other thread to be waited for, makes the calls here.
+ * is never used up. The calls here are for programs that poll and may not wait for another thread.
  *
- * Link libvahepito.a, and after it libvahepito_heap.a (memory comes from malloc, realloc and free).
+ * Link libvahepito.a, and after it libvahepito_heap.a (memory comes from malloc, posix_memalign, realloc and free).
  *
  * vahepito_new opens a queue and gives one pointer to it, which all threads share. vahepito_free frees the queue. Between the
  * two any number of threads send, take and close. A thread makes its calls by a vahepito_call of its own: this struct has
@@ -76,7 +76,7 @@
  * - No other pointer is NULL, every out-parameter is an initialised variable, the pointers of one call point to different
  *   variables, and of an array there are as many elements as the count says.
  * - No call is made from a signal handler, or in a forked child of a queue that was opened before the fork.
- * - malloc, realloc and free are one allocator's.
+ * - malloc, posix_memalign, realloc and free are one allocator's.
  *
  * Every call writes its out-parameters, with 0 in each field that its code gives no meaning.
  *
@@ -102,7 +102,7 @@ typedef struct {
 } vahepito_config;
 
 /* The bound is the greatest number of waiting calls of its kind (sends and closes, or takes of one group) that one thread
- * serves in a row, before it hands over to the next in line. If it is below about a quarter of the places, and there
+ * serves in a row, before it hands over to the next in line. If it is below half of the places, and there
  * are more threads than processors, the next is often a thread that doesn't run at the moment, and all other calls of its
  * kind wait until it does. 64 is right for every queue, as no kind has more places. The higher it is, the more calls one call may
  * serve before it returns; with 1 a call serves only its own. */
@@ -140,9 +140,9 @@ enum vahepito_raw_code {
     /* the call could not be made, and nothing has changed */
     VAHEPITO_NO_PASS = 9,     /* a turn: there is no ticket */
     VAHEPITO_WRONG_SIDE = 10, /* a turn: the ticket is that of the other side */
-    VAHEPITO_BUSY = 11,       /* no place was free, or the caller has a ticket */
+    VAHEPITO_BUSY = 11,       /* each place was in use or exhausted, or the caller has a ticket */
     VAHEPITO_NOT_BEGUN = 12,  /* a turn: the ticket is that of another call of its side */
-    VAHEPITO_WORN = 13,       /* each sender's place that was free has begun as many sends as it may */
+    VAHEPITO_WORN = 13,       /* each place for sends is exhausted: it has begun as many as it may */
 
     /* on the way */
     VAHEPITO_WAITING = 15, /* its answer is not there yet: turn again */
@@ -187,8 +187,8 @@ void vahepito_free(vahepito_raw *queue);
 
 /* A send of `count` words, which are copied. The thread that has the vahepito_call calls, as for all calls below.
  * ACCEPTED with the place, FULL, CLOSED, SPENT. WAITING: turn.
- * BAD_WORDS, LONG: no such item is sent. BUSY: no place was free, or `call` has a ticket. WORN: each sender's place that was
- * free has begun `per_sender` sends. Nothing has changed by these four. */
+ * BAD_WORDS, LONG: no such item is sent. BUSY: each place was in use or exhausted, or `call` has a ticket. WORN: each place for
+ * sends is exhausted: it has begun `per_sender` sends. Nothing has changed by these four. */
 uint32_t vahepito_call_send(vahepito_call *call, const uint64_t *words, size_t count, uint64_t *place);
 
 /* One turn of a send that waits.

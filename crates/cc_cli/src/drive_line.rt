@@ -173,7 +173,7 @@ answered, and how many in a second; an answer may be that the queue is full or e
 interrupted run stays.
 
 A combiner serves as many calls as the bound allows, and hands over to the next in line. With
-more threads than processors, a bound below a quarter of a side's threads is slow: the next in line
+more threads than processors, a bound below half of a side's threads is slow: the next in line
 is often a thread that doesn't run, and the side waits for it.
 
 Each thread has a stack as large as the limit on stacks (`ulimit -s`); 128 KiB are enough. At

@@ -11,7 +11,7 @@ pub struct Config {
     /// How many items the queue holds at once, 1 to 4,096.
     pub capacity: u32,
     /// How many calls one turn serves at most before it hands over to the next in line, 1 to 1,024.
-    /// Below about a quarter of the senders or receivers, the next in line often doesn't run at the
+    /// Below half of the senders or receivers, the next in line often doesn't run at the
     /// moment, and its side waits for it.
     pub bound: u32,
     /// How many items the queue accepts in all, 1 to 2^48.
