@@ -3,7 +3,7 @@
  *     cc -O2 -pthread -I bindings/c bench/waits.c bindings/c/vahepito_queue.c bindings/rust/lib/x86_64-unknown-linux-gnu/libvahepito{,_heap}.a -o /tmp/waits
  *     /tmp/waits [ROUNDS]
  *
- * A round (of 15) measures either queue once, in an order that changes. It prints the table of docs/BENCH.md: medians of the
+ * A round (of ROUNDS, 15 if none are given; docs/BENCH.md has 21) measures either queue once, in an order that changes. It prints the table of docs/BENCH.md: medians of the
  * rounds, with quartiles. Capacity 64. */
 #define _GNU_SOURCE
 #include "vahepito.h"

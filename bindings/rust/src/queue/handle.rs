@@ -1,4 +1,4 @@
-//! The exports of the proved library, as `bindings/c/vahepito.h` declares them, and a handle that
+//! The exports of the proved library, as `bindings/c/handles.h` declares them, and a handle that
 //! keeps what they ask for. No other file calls them.
 #![allow(unsafe_code)]
 
