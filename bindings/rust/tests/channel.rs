@@ -290,10 +290,10 @@ fn a_drain_takes_what_is_there() {
 /// A drain ends while others send and take, and has no more than the channel can hold.
 #[test]
 fn a_drain_ends_beside_others() {
-    const ITEMS: u32 = 20_000;
+    let all = rounds(20_000) as u32;
     let (sender, receiver) = channel(8).unwrap();
     thread::scope(|scope| {
-        scope.spawn(move || (0..ITEMS).for_each(|number| sender.send(number).unwrap()));
+        scope.spawn(move || (0..all).for_each(|number| sender.send(number).unwrap()));
         let other = receiver.clone();
         let takes = scope.spawn(move || other.iter().count());
         let mut drained = 0;
@@ -302,7 +302,7 @@ fn a_drain_ends_beside_others() {
             assert!(items.len() <= 8 && items.is_sorted(), "{items:?}");
             drained += items.len();
         }
-        assert_eq!(drained + takes.join().unwrap(), ITEMS as usize);
+        assert_eq!(drained + takes.join().unwrap(), all as usize);
     });
 }
 
