@@ -3,7 +3,7 @@
 
     tests/readme.py [--gate | --list]
 
-debootstrap makes the smallest variant of this machine's Debian, from this machine's mirror, in out/debian, which git ignores. It is
+debootstrap makes the smallest variant of this machine's Debian, from this machine's mirror, in ~/.cache/vahepito/debian. It is
 made once: README's first commands install the packages there, and other packages in README, or another Debian, make it again. The
 tracked files of the clone are put into /root/vahepito, in a folder for temporary files that is the home of the user in there.
 
@@ -31,7 +31,8 @@ import tempfile
 import time
 
 TOP = pathlib.Path(__file__).resolve().parent.parent
-KEPT = TOP / "out" / "debian"
+# Outside of the tree, since `rt ci` refuses one that has links.
+KEPT = pathlib.Path(os.environ.get("XDG_CACHE_HOME") or pathlib.Path.home() / ".cache") / "vahepito" / "debian"
 ENVIRONMENT = {"HOME": "/root", "PATH": "/usr/local/sbin:/usr/local/bin:/usr/sbin:/usr/bin:/sbin:/bin", "LANG": "C.UTF-8", "VAHEPITO_ROUNDS": "5"}
 # What makes the same commands cheaper, in the gate.
 CHEAPER = {"VAHEPITO_ROUNDS": "2", "RUSTDOC": "true", "CARGO_TARGET_DIR": "/root/target", "CARGO_PROFILE_DEV_DEBUG": "none", "CARGO_INCREMENTAL": "0"}
@@ -120,7 +121,7 @@ def have_base(packages):
         return base
     shutil.rmtree(KEPT, ignore_errors=True)
     KEPT.mkdir(parents=True)
-    print(f"readme: makes a {codename} in {base.relative_to(TOP)}, this once", flush=True)
+    print(f"readme: makes a {codename} in {base}, this once", flush=True)
     making = KEPT / "making"
     done = subprocess.run(["debootstrap", "--variant=minbase", codename, str(making), address], stdin=subprocess.DEVNULL, capture_output=True, text=True)
     if done.returncode != 0:

@@ -249,7 +249,8 @@ $(tail -n 1 "$made/looked")
 
 $(closing_of "$target")
 END
-    rm "$made"/{looked,optimized.ll}
+    # `rt ci` refuses a tree that has links.
+    rm -r "$made"/{looked,optimized.ll} "$watched"
     if [ -n "$update" ]; then
         mkdir -p "$kept" && cp "$made"/* "$kept/" && echo "library: $kept is what was built, in $((SECONDS - start)) s"
         return
