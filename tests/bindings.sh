@@ -29,8 +29,9 @@ if ! has make || ! has cc; then
 else
     done=1
     make -k -s -C bindings/c "$([ -n "$quick" ] && echo check || echo check-all)" OUT="$room/c" </dev/null || failed=$((failed + 1))
-    # The sanitizers see the programs alone, which are the same.
-    strict=(check check-valgrind)
+    # The sanitizers see the programs alone, which are the same; and the searches over interleavings have a model of the library.
+    mapfile -t strict < <(make -s -C bindings/c names | tr ' ' '\n' | grep -vxE 'check-(row_)?interleavings')
+    strict+=(check-valgrind)
     [ -z "$quick" ] || strict=(check-version check-groups_threads check-hand_over check-waits)
     echo "$tests: C: the same over the strict archive"
     make -k -s -C bindings/c "${strict[@]}" STRICT=yes OUT="$room/strict" </dev/null || failed=$((failed + 1))
@@ -46,6 +47,8 @@ if ! cargo --version >/dev/null 2>&1; then
     skip 'the crate in Rust' 'cargo is not on this machine'
     end_steps
 fi
+# A search over the interleavings of a model calls nothing: once is enough.
+searches=(--skip interleaving --skip the_search)
 chosen=(--tests)
 # Without valgrind and the rest no lines are needed.
 if [ -n "$quick" ]; then
@@ -53,8 +56,8 @@ if [ -n "$quick" ]; then
     chosen=(--test threads --test hand_over)
 fi
 limit=600 step 'Rust: tests' cargo "${options[@]}" test
-limit=600 step 'Rust: tests with the feature strict' env "VAHEPITO_ROUNDS=${VAHEPITO_ROUNDS:-25}" cargo "${options[@]}" test "${chosen[@]}" --features strict
-limit=600 step 'Rust: tests with the feature unproved' env "VAHEPITO_ROUNDS=${VAHEPITO_ROUNDS:-5}" cargo "${options[@]}" test "${chosen[@]}" --features unproved
+limit=600 step 'Rust: tests with the feature strict' env "VAHEPITO_ROUNDS=${VAHEPITO_ROUNDS:-25}" cargo "${options[@]}" test "${chosen[@]}" --features strict -- "${searches[@]}"
+limit=600 step 'Rust: tests with the feature unproved' env "VAHEPITO_ROUNDS=${VAHEPITO_ROUNDS:-5}" cargo "${options[@]}" test "${chosen[@]}" --features unproved -- "${searches[@]}"
 mkdir "$room/logs"
 step 'Rust: calls over rows of queues are recorded' env "VAHEPITO_LOGS=$room/logs" "VAHEPITO_ROUNDS=${VAHEPITO_ROUNDS:-50}" \
     cargo "${options[@]}" test --lib judged -- --ignored
@@ -85,9 +88,9 @@ if cargo clippy --version >/dev/null 2>&1; then
 else
     skip 'Rust: clippy' 'it is not on this machine'
 fi
-# Two tests look at how much memory the process has, which says nothing under another allocator; two search a model,
-# and call nothing. Of the rounds of the long tests a few are enough from here on; all were made by the tests above.
-fewer=(--skip frees_the_queue --skip cheap_in_memory --skip interleaving --skip the_search)
+# Two tests look at how much memory the process has, which says nothing under another allocator. Of the rounds of the long tests a few
+# are enough from here on; all were made by the tests above.
+fewer=(--skip frees_the_queue --skip cheap_in_memory "${searches[@]}")
 # Its dependencies are Debian's librust-futures-core-dev and librust-futures-sink-dev.
 registry=/usr/share/cargo/registry
 if compgen -G "$registry/futures-core-*" >/dev/null && compgen -G "$registry/futures-sink-*" >/dev/null; then
@@ -140,7 +143,7 @@ package=$room/$(basename "$package" .crate)
 export CARGO_TARGET_DIR=$room/of_package
 # So the tests of the one are those of the other.
 step 'Rust: the package has what the copy has' bash -c "for it in build.rs src tests examples lib README.md; do diff -r '$room/copy/'\$it '$package/'\$it || exit; done"
-limit=600 step 'Rust: the tests of the package' bash -c "cd '$package' && VAHEPITO_ROUNDS=2 cargo ${options[*]} test --tests"
+limit=600 step 'Rust: the tests of the package' bash -c "cd '$package' && VAHEPITO_ROUNDS=2 cargo ${options[*]} test --tests -- ${searches[*]}"
 cargo clippy --version >/dev/null 2>&1 &&
     step 'Rust: clippy on the package' bash -c "cd '$package' && cargo clippy --quiet --offline --all-targets -- -D warnings"
 mkdir -p "$room/repository/bindings" && cp -r "$room/copy" "$room/repository/bindings/rust"
