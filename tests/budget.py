@@ -1,14 +1,15 @@
 #!/usr/bin/env python3
 """Whether the gate stays within its price: the processor seconds of its parts, and the limit of docs/GATE.md.
 
-Usage: tests/budget.py --yard           prints the processor seconds of a fixed piece of work on this machine, now
+Usage: tests/budget.py --yard           prints the time, and the processor seconds of a fixed piece of work on this machine, now
        tests/budget.py --yards          prints them now, and again every ten minutes until it is killed
-       tests/budget.py PARTS YARDS      compares: PARTS has a line `SECONDS NAME` for each part, YARDS a line for each such number
+       tests/budget.py PARTS YARDS      compares: PARTS has a line `SECONDS END NAME` for each part, one after another, YARDS the lines of --yards
 
 The piece of work is the proof of the toolchain's own template of a library, from nothing. docs/GATE.md has the limit, in
-processor minutes, and the seconds that this work takes on the host of its table. On a slower host the limit is higher by as much as
-the work takes longer there, by the mean of what was measured while the gate ran and at its end: a host's speed changes with its
-load. The exit status is 0 if the sum of all parts is within the limit.
+processor minutes, and the seconds that this work takes on the host of its table. A part counts less on a slower host, by as much as
+the work took longer while the part ran: by the mean of what was measured then, or else by what was measured nearest to it. For a
+host's speed changes with its load, and four proofs at once are another load than one test. The exit status is 0 if the sum of all
+parts is within the limit.
 """
 
 import os
@@ -46,42 +47,57 @@ def yard() -> float:
     return after.ru_utime - before.ru_utime + after.ru_stime - before.ru_stime
 
 
+def print_yard() -> None:
+    seconds = yard()
+    print(f"{time.time():.0f} {seconds:.1f}", flush=True)
+
+
 def print_yards() -> None:
     """Prints what the work takes, again and again; when it is killed, its folder goes first."""
     signal.signal(signal.SIGTERM, lambda *_: sys.exit(0))
     while True:
-        print(f"{yard():.1f}", flush=True)
+        print_yard()
         time.sleep(PAUSE)
 
 
-def verdict(parts: list[tuple[float, str]], yards: list[float], text: str) -> tuple[list[str], bool]:
-    """What is said of these parts, and whether they are within the limit that this text has."""
+def yard_between(yards: list[tuple[float, float]], start: float, end: float) -> float:
+    """What the work took between these times: the mean, or of none the nearest."""
+    within = [seconds for at, seconds in yards if start <= at <= end]
+    if within:
+        return sum(within) / len(within)
+    return min(yards, key=lambda it: abs(it[0] - (start + end) / 2))[1]
+
+
+def verdict(parts: list[tuple[float, float, str]], yards: list[tuple[float, float]], text: str) -> tuple[list[str], bool]:
+    """What is said of these parts, each with its seconds, its end and its name, and whether they are within the limit that this text has."""
     found = LIMIT.search(text)
     if not found or not yards or not parts:
         return ["budget: docs/GATE.md has no limit, or nothing was measured"], False
     minutes, there = int(found[1]), float(found[2])
-    scale = sum(yards) / len(yards) / there
-    spent = sum(seconds for seconds, _ in parts) / 60
-    said = [f"budget: {seconds:8.1f} s  {name}" for seconds, name in sorted(parts, reverse=True)[:SHOWN]]
-    seen = ", ".join(f"{seconds:.1f}" for seconds in yards)
+    starts = [parts[0][1], *(end for _, end, _ in parts)]
+    counted = [seconds * there / yard_between(yards, start, end) for start, (seconds, end, _) in zip(starts, parts)]
+    spent, price = sum(seconds for seconds, _, _ in parts) / 60, sum(counted) / 60
+    said = [f"budget: {seconds:8.1f} s, counted as {as_there:8.1f} s  {name}" for as_there, (seconds, _, name) in sorted(zip(counted, parts), reverse=True)[:SHOWN]]
+    seen = ", ".join(f"{seconds:.1f}" for _, seconds in yards)
     said.append(f"budget: the yardstick took {seen} s, and {there} s on the host of docs/GATE.md")
-    said.append(f"budget: {spent:.1f} processor minutes; the limit is {minutes * scale:.1f} here, where the work takes {scale:.2f} times as long")
-    return said, spent <= minutes * scale
+    said.append(f"budget: {spent:.1f} processor minutes, which are {price:.1f} there; the limit is {minutes}")
+    return said, price <= minutes
 
 
 def main() -> int:
     words = sys.argv[1:]
     if words == ["--yard"]:
-        print(f"{yard():.1f}")
+        print_yard()
         return 0
     if words == ["--yards"]:
         print_yards()
     if len(words) != 2:
         print(__doc__, file=sys.stderr)
         return 64
-    lines = [line.split(" ", 1) for line in Path(words[0]).read_text().splitlines()]
-    yards = [float(word) for word in Path(words[1]).read_text().split()]
-    said, within = verdict([(float(seconds), name) for seconds, name in lines], yards, (TOP / "docs/GATE.md").read_text())
+    lines = [line.split(" ", 2) for line in Path(words[0]).read_text().splitlines()]
+    yards = [line.split() for line in Path(words[1]).read_text().splitlines()]
+    parts = [(float(seconds), float(end), name) for seconds, end, name in lines]
+    said, within = verdict(parts, [(float(at), float(seconds)) for at, seconds in yards], (TOP / "docs/GATE.md").read_text())
     print("\n".join(said))
     return int(not within)
 
