@@ -626,3 +626,81 @@ fn items_of_one_thread_are_selected() {
     };
     assert_eq!(told, 7);
 }
+
+/// A timer that is closed keeps the item that is due, and has none after that.
+#[test]
+fn a_closed_timer_gives_what_was_due() {
+    let moment = Instant::now();
+    for (timer, gives) in [
+        (vahepito::at(moment), true),
+        (tick(Duration::from_nanos(1)), true),
+        (after(LONG), false),
+        (tick(LONG), false),
+    ] {
+        thread::sleep(Duration::from_millis(1));
+        assert!(timer.close() && timer.is_closed());
+        assert_eq!((timer.len(), timer.is_empty()), (gives.into(), !gives));
+        assert_eq!(timer.try_recv().is_ok(), gives);
+        assert_eq!((timer.len(), timer.drain().len()), (0, 0));
+        assert_eq!(timer.recv(), Err(RecvError));
+        assert!(!timer.close());
+    }
+}
+
+/// Owns its receivers, and changes itself in the arms of a select over them.
+struct Actor {
+    numbers: Receiver<u32>,
+    stop: Receiver<()>,
+    seen: u32,
+}
+
+impl Actor {
+    fn add(&mut self, number: u32) {
+        self.seen += number;
+    }
+
+    fn run(&mut self) {
+        loop {
+            select! {
+                recv(self.numbers) -> number => match number {
+                    Ok(number) => self.add(number),
+                    Err(_) => self.numbers = never(),
+                },
+                recv(self.stop) -> _ => {
+                    self.add(1);
+                    break;
+                }
+            }
+        }
+    }
+}
+
+/// An arm may change what the select was over: its operation is done by then.
+#[test]
+fn arms_change_the_handles() {
+    let ((sender, numbers), (stopper, stop)) = (open(2), open(1));
+    sender.send(3).unwrap();
+    let mut actor = Actor {
+        numbers,
+        stop,
+        seen: 0,
+    };
+    thread::scope(|scope| {
+        scope.spawn(|| actor.run());
+        drop(sender);
+        stopper.send(()).unwrap();
+    });
+    assert_eq!(actor.seen % 3, 1, "the stop may come before the number");
+
+    let (sender, receiver) = open::<u32>(1);
+    select! {
+        recv(receiver) -> _ => unreachable!("there is none"),
+        default => drop(receiver),
+    }
+    select! {
+        send(sender, 7) -> sent => {
+            assert!(sent.is_err(), "there is no receiver any more");
+            drop(sender);
+        }
+    };
+}

@@ -238,11 +238,10 @@ impl<T> Receiver<T> {
         TryIter(self)
     }
 
-    /// Takes the items that are there now, and none that are sent later. The items leave the channel at once, also
-    /// if the iterator isn't used: the drop of the iterator drops those that it hasn't given. Another receiver may
-    /// take some of the items first.
+    /// Takes as many items as there are now, or fewer if another receiver takes some of them. Then later items may come in their place.
+    /// The items leave the channel at once, also if the iterator isn't used: the drop of the iterator drops those that it hasn't given.
     ///
-    /// A channel of capacity 0 holds no items, so the iterator gives none.
+    /// A channel of capacity 0 has a length of 0, so the iterator gives none.
     ///
     /// # Panics
     ///

@@ -150,27 +150,27 @@ macro_rules! __select {
     (@wait $biased:literal $time:tt
         [$([$index:tt ($case:expr) $result:tt $call:tt $made:expr])*] $body:expr) => {
         match $crate::select_arms([$($case),*], $biased, $time) {
-            ::core::option::Option::Some(operation) =>
-                $crate::__select!(@make operation $([$index $result $call $made])*),
-            ::core::option::Option::None => $body,
+            selected => $crate::__select!(@make selected ($body) $([$index $result $call $made])*),
         }
     };
 
-    (@make $operation:ident) => {
-        ::core::unreachable!("no other operation is selected")
-    };
-    (@make $operation:ident [($index:expr) ($result:pat) $call:tt $body:expr] $($others:tt)*) => {
-        if $operation.index() == $index {
-            let $result = $crate::__select!(@complete $operation $call);
+    // What is selected is moved before an arm is evaluated, on each path: so the arm may change the handles, or drop them.
+    (@make $selected:ident ($none:expr)) => {{
+        ::core::mem::drop($selected);
+        $none
+    }};
+    (@make $selected:ident $none:tt [($index:expr) ($result:pat) $call:tt $body:expr] $($others:tt)*) => {
+        if $selected.as_ref().is_some_and(|operation| operation.index() == $index) {
+            let $result = $crate::__select!(@complete $selected $call);
             $body
         } else {
-            $crate::__select!(@make $operation $($others)*)
+            $crate::__select!(@make $selected $none $($others)*)
         }
     };
-    (@complete $operation:ident (take $arm:ident)) => {
-        $arm.complete($operation)
+    (@complete $selected:ident (take $arm:ident)) => {
+        $arm.complete($selected.unwrap())
     };
-    (@complete $operation:ident (send $arm:ident $item:expr)) => {
-        $operation.send($arm, $item)
+    (@complete $selected:ident (send $arm:ident $item:expr)) => {
+        $selected.unwrap().send($arm, $item)
     };
 }

@@ -19,13 +19,12 @@ pub struct Timer<T> {
 
 impl<T> Timer<T> {
     /// Takes the moment if it has come. The next one comes a period after it, or, if a whole period
-    /// has passed, after now. Gives None if the timer is closed.
+    /// has passed, after now. Gives None if the timer is closed, and no moment is left.
     pub fn try_take(&self) -> Try<Option<Instant>> {
-        if self.is_closed() {
-            return Ok(None);
-        }
         let mut due = lock(&self.due);
-        let at = due.ok_or(Again::WhenNotified)?;
+        let Some(at) = *due else {
+            return Again::unless(self.is_closed()).map(|()| None);
+        };
         let now = Instant::now();
         if now < at {
             return Err(Again::At(at));
@@ -34,7 +33,7 @@ impl<T> Timer<T> {
             let from = if now - at < every { at } else { now };
             from.checked_add(every)
         };
-        *due = self.every.and_then(next);
+        *due = self.every.filter(|_| !self.is_closed()).and_then(next);
         Ok(Some(at))
     }
 
@@ -51,8 +50,7 @@ impl<T> Timer<T> {
     /// Whether there is an item, or none will come.
     pub fn look(&self) -> Try<()> {
         match *lock(&self.due) {
-            _ if self.is_closed() => Ok(()),
-            None => Err(Again::WhenNotified),
+            None => Again::unless(self.is_closed()),
             Some(at) if Instant::now() < at => Err(Again::At(at)),
             Some(_) => Ok(()),
         }
@@ -71,8 +69,12 @@ impl<T> Timer<T> {
         self.closed.load(Ordering::SeqCst)
     }
 
+    /// A moment that has come stays, and none follows.
     pub fn close(&self) -> bool {
+        let mut due = lock(&self.due);
+        *due = due.filter(|at| *at <= Instant::now());
         let was_open = !self.closed.swap(true, Ordering::SeqCst);
+        drop(due);
         let mut panics = Panics::default();
         self.line.notify_all(&mut panics);
         panics.raise();
