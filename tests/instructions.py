@@ -33,10 +33,10 @@ IN_RUST = {
     ),
     "an empty try_recv": ("let (_s, r) = channel::<u64>(64)?;", "assert!(r.try_recv().is_err() && i < calls);", 77),
     "send, and a select that takes": (
-        "let (s, r) = channel::<u64>(64)?;", "s.send(i).unwrap(); select! { recv(r) -> it => assert_eq!(it, Ok(i)) }", 845,
+        "let (s, r) = channel::<u64>(64)?;", "s.send(i).unwrap(); select! { recv(r) -> it => assert_eq!(it, Ok(i)) }", 825,
     ),
     "a select that sends, and recv": (
-        "let (s, r) = channel::<u64>(64)?;", "select! { send(s, i) -> it => it.unwrap() } assert_eq!(r.recv(), Ok(i));", 999,
+        "let (s, r) = channel::<u64>(64)?;", "select! { send(s, i) -> it => it.unwrap() } assert_eq!(r.recv(), Ok(i));", 980,
     ),
     "after and its drop": ("", "let r = after(std::time::Duration::from_secs(100)); assert!(r.len() as u64 <= i);", 380),
     "never and its drop": ("", "let r = never::<u64>(); assert!(r.len() as u64 <= i);", 290),
