@@ -154,7 +154,7 @@ macro_rules! __select {
         }
     };
 
-    // What is selected is moved before an arm is evaluated, on each path: so the arm may change the handles, or drop them.
+    // The operation is moved before an arm is evaluated, on each path: so the arm may change the handles, or drop them.
     (@make $selected:ident ($none:expr)) => {{
         ::core::mem::drop($selected);
         $none
