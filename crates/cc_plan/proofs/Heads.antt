@@ -6,12 +6,12 @@ use Rattle.json.specs.declared.token.Token.{Token}
 use Rattle.serde_json.specs.Data.{Data}
 use Rattle.serde_json.specs.Find.{as_u64, as_str}
 use Rattle.std.specs.Str.{bytes_eq}
-use Rattle.cc_plan.specs.Json.{listed, body_as, is_number, is_word, number_in, ranged, whole_number}
+use Rattle.cc_plan.specs.Json.{listed, body_as, is_body, is_number, is_word, whole_number}
 use Rattle.cc_model.specs.Body.{body_of}
 use Rattle.cc_plan.specs.Names.{Body}
 use Rattle.cc_plan.specs.ReceiptsShape.{is_total}
 use Rattle.cc_plan.specs.ReceiptsValues.{total_in}
-use Rattle.cc_plan.specs.Spelled.{Spells, Tests, Gets, Opens}
+use Rattle.cc_plan.specs.Spelled.{Spells, IsGiven, Reads, Opens}
 use Rattle.cc_plan.specs.Head.{Began, Begins, head_of, numeric, whole_of, text_of, is_null, is_array}
 use Rattle.cc_plan.specs.declared.tokens.head.Head.{Head}
 use Rattle.cc_plan.proofs.Spelled.{spelled_number, spelled_string, spelled_boolean, spelled_null, spelled_array, spelled_object, no_key, no_end_array, no_end_object, no_bad, no_tokens}
@@ -46,28 +46,6 @@ begun Token.Bad new d rest h = absurd (no_bad new d rest h)
 pub none_begun : (old new : List spec.Token) (d : Data) (rest : List spec.Token) → old ≡ [] → Spells old d rest → ⊥
 none_begun old new d rest is h = no_tokens d rest (subst (λ ts. Spells ts d rest) is h)
 
-whole_numeric : (head : Head) (f : ℕ → Option ℕ) → IsSome (option_and_then f (whole_of head)) → numeric head ≡ true
-whole_numeric (Head.Number n) f some = refl
-whole_numeric (Head.Text s) f some = some
-whole_numeric Head.Null f some = some
-whole_numeric Head.Array f some = some
-whole_numeric Head.Other f some = some
-
-mapped_numeric : {A : Type 0} (f : ℕ → A) (head : Head) → IsSome (option_map f (whole_of head)) → numeric head ≡ true
-mapped_numeric f (Head.Number n) some = refl
-mapped_numeric f (Head.Text s) some = some
-mapped_numeric f Head.Null some = some
-mapped_numeric f Head.Array some = some
-mapped_numeric f Head.Other some = some
-
-whole_some : (head : Head) → IsSome (whole_of head) → IsSome (option_and_then Some (whole_of head))
-whole_some (Head.Number None) some = some
-whole_some (Head.Number (Some n)) some = some
-whole_some (Head.Text s) some = some
-whole_some Head.Null some = some
-whole_some Head.Array some = some
-whole_some Head.Other some = some
-
 ends : {d : Data} (head : Head) (new rest : List spec.Token) → Begins head new d rest → (numeric head || is_null head) ≡ true → new ≡ rest
 ends (Head.Number n) new rest b e = b.number_ends refl
 ends (Head.Text s) new rest b e = never e
@@ -89,53 +67,51 @@ gave_text Head.Null of some = some
 gave_text Head.Array of some = some
 gave_text Head.Other of some = some
 
--- ---- what a test of the first token says of the value
+there : {A : Type 0} (o : Option A) → is_some o ≡ true → IsSome o
+there None e = never e
+there (Some a) e = refl
+
+-- ---- what the first token says of the value
 
 module _ (old new : List spec.Token) (head : Head) (began : Began old head new) where
-  pub tests_number : (result : Bool) → result ≡ numeric head → Tests is_number old result new
-  tests_number result is = λ d rest h. let b = began d rest h in (is ∙ sym b.number, λ yes. b.number_ends (sym is ∙ yes))
+  pub is_given_whole : (given : Option ℕ) → given ≡ whole_of head → IsGiven whole_number old given
+  is_given_whole given is = λ d rest h. is ∙ sym (began d rest h).whole
 
-  pub tests_total : (result : Bool) → result ≡ (numeric head || is_null head) → Tests is_total old result new
-  tests_total result is = λ d rest h.
+  pub reads_whole : (fits : Bool) (given : Option ℕ) → fits ≡ numeric head → given ≡ whole_of head → Reads is_number whole_number old fits given new
+  reads_whole fits given are is = λ d rest h.
       let b = began d rest h in
-      (is ∙ sym (ap₂ (λ x y. x || y) b.number b.null), λ yes. ends head new rest b (sym is ∙ yes))
-
-  pub gets_whole : (result : Option ℕ) → result ≡ whole_of head → Gets whole_number old result new
-  gets_whole result is = λ d rest h.
-      let b = began d rest h in
-      (is ∙ sym b.whole, λ some. b.number_ends (whole_numeric head Some (whole_some head (subst IsSome is some))))
+      (are ∙ sym b.number, λ yes. (is ∙ sym b.whole, b.number_ends (sym are ∙ yes)))
 
   pub opens_array : (result : Bool) → result ≡ is_array head → Opens old result new
   opens_array result is = λ d rest h.
       let b = began d rest h in
       (λ no. b.no_array (sym is ∙ no), λ yes. b.array (sym is ∙ yes))
 
-  pub gets_number : (low high : ℕ) (result : Option ℕ) → result ≡ option_and_then (ranged low high) (whole_of head) → Gets (number_in low high) old result new
-  gets_number low high result is = λ d rest h.
+  pub reads_text : {A : Type 0} (of : List ℕ → Option A) (fits : Bool) (given : Option A) → fits ≡ is_some given → given ≡ option_and_then of (text_of head)
+      → Reads (λ d. is_some (option_and_then of (as_str d))) (λ d. option_and_then of (as_str d)) old fits given new
+  reads_text of fits given are is = λ d rest h.
       let b = began d rest h in
-      (is ∙ ap (option_and_then (ranged low high)) (sym b.whole), λ some. b.number_ends (whole_numeric head (ranged low high) (subst IsSome is some)))
+      let same = is ∙ sym (ap (option_and_then of) b.text) in
+      (are ∙ ap is_some same, λ yes. (same, b.text_ends (gave_text head of (there _ (sym (ap is_some is) ∙ sym are ∙ yes)))))
 
-  pub tests_word : (word : List ℕ) (result : Bool) → result ≡ unwrap_or (option_map (λ s. bytes_eq s word) (text_of head)) false → Tests (is_word word) old result new
-  tests_word word result is = λ d rest h.
+  pub says_word : (word : List ℕ) (result : Bool) → result ≡ unwrap_or (option_map (λ s. bytes_eq s word) (text_of head)) false
+      → (d : Data) (rest : List spec.Token) → Spells old d rest → (result ≡ is_word word d) × (result ≡ true → new ≡ rest)
+  says_word word result is = λ d rest h.
       let b = began d rest h in
       (is ∙ sym (ap (λ o. unwrap_or (option_map (λ s. bytes_eq s word) o) false) b.text), λ e. b.text_ends (has_text head word (sym is ∙ e)))
 
-  pub gets_text : {A : Type 0} (of : List ℕ → Option A) (result : Option A) → result ≡ option_and_then of (text_of head) → Gets (λ d. option_and_then of (as_str d)) old result new
-  gets_text of result is = λ d rest h.
+  pub reads_one : (version : ℕ) (fits : Bool) (given : Option Body) → (version ≡ 2 → ⊥) → fits ≡ numeric head → given ≡ option_map (λ w. body_of (w ∷ [])) (whole_of head) → Reads (is_body version) (body_as version) old fits given new
+  reads_one version fits given one are is = rw (ne_eqb version 2 one) (λ d rest h.
       let b = began d rest h in
-      (is ∙ sym (ap (option_and_then of) b.text), λ some. b.text_ends (gave_text head of (subst IsSome is some)))
+      (are ∙ sym b.number, λ yes. (is ∙ ap (option_map (λ w. body_of (w ∷ []))) (sym b.whole), b.number_ends (sym are ∙ yes))))
 
-  pub gets_one : (version : ℕ) (result : Option Body) → (version ≡ 2 → ⊥) → result ≡ option_map (λ w. body_of (w ∷ [])) (whole_of head) → Gets (body_as version) old result new
-  gets_one version result one is = rw (ne_eqb version 2 one) (λ d rest h.
-      let b = began d rest h in
-      (is ∙ ap (option_map (λ w. body_of (w ∷ []))) (sym b.whole), λ some. b.number_ends (mapped_numeric (λ w. body_of (w ∷ [])) head (subst IsSome is some))))
-
-  pub gets_null : (result : Bool) → result ≡ is_null head → result ≡ true → Gets (λ d. total_in (Some d)) old (Some None) new
-  gets_null result is given = λ d rest h.
-      let b = began d rest h in
-      (ap (λ x. if x then Some None else option_map Some (whole_number d)) (sym given ∙ is ∙ sym b.null), λ _. b.null_ends (sym is ∙ given))
-
-  pub gets_total : (is_none : Bool) → is_none ≡ is_null head → is_none ≡ false → (result : Option (Option ℕ)) → result ≡ option_map Some (whole_of head) → Gets (λ d. total_in (Some d)) old result new
-  gets_total is_none is other result given = λ d rest h.
-      let b = began d rest h in
-      (given ∙ ap (option_map Some) (sym b.whole) ∙ ap (λ x. if x then Some None else option_map Some (whole_number d)) (sym other ∙ is ∙ sym b.null), λ some. b.number_ends (mapped_numeric Some head (subst IsSome given some)))
+  pub reads_total : (fits : Bool) (given : Option (Option ℕ)) → fits ≡ (numeric head || is_null head) → given ≡ (if is_null head then Some None else option_map Some (whole_of head))
+      → Reads is_total (λ d. total_in (Some d)) old fits given new
+  reads_total fits given are gives = λ d rest h.
+      let b = began d rest h in (
+        are ∙ sym (ap₂ (λ x y. x || y) b.number b.null),
+        λ yes. (
+          gives ∙ ap₂ (λ x o. if x then Some None else option_map Some o) (sym b.null) (sym b.whole),
+          ends head new rest b (sym are ∙ yes),
+        ),
+      )

@@ -14,6 +14,7 @@ pub mod Rows
 pub mod Words
 pub mod CallLists
 pub mod Keyed
+pub mod PlanFound
 pub mod Digits
 pub mod Lines
 pub mod Valid

@@ -1,5 +1,5 @@
 -- Texts that are JSON.
-use Rattle.std.specs.Prelude.{ℕ, ◌≡◌, Bool, true, false, List, [], ◌∷◌, Option, Some, None, MatchOption, is_some, unwrap_or}
+use Rattle.std.specs.Prelude.{ℕ, ◌≡◌, Bool, true, false, List, [], ◌∷◌, Option, Some, None, MatchOption, is_some, option_map, unwrap_or}
 use Rattle.json.specs.Token.{Token}
 use Rattle.json.specs.Lex.{tokens}
 use Rattle.json.specs.Json.{skip_value}
@@ -50,3 +50,8 @@ pub record IsAt (text key : List ℕ) (before : List Token) : Type 0 where
 -- how many members of the root come before the one with the key, if there is one
 abbrev pub IsPlace : (text key : List ℕ) → Option ℕ → Type 0
 IsPlace text key place = MatchOption place (get key (tree text) ≡ None) (λ n. (before : List Token) × (value_in text n ≡ Some before) × IsAt text key before)
+
+-- what is read at a key of the root: whether the value has its shape, and if so, what it gives; or what is told of an absent one
+pub record IsAtKey {A : Type 0} (test : Data → Bool) (of : Data → Option A) (absent : Option A) (at : Option Data) (fits : Bool) (given : Option A) : Type 0 where
+  pub shape : fits ≡ unwrap_or (option_map test at) (is_some absent)
+  pub value : fits ≡ true → given ≡ unwrap_or (option_map of at) absent

@@ -4,7 +4,6 @@ pub mod Spelled
 pub mod Members
 pub mod Document
 pub mod Head
-pub mod Shapes
 pub mod Closures
 pub mod Refusal
 pub mod Answers
@@ -15,12 +14,14 @@ pub mod Calls
 pub mod Plan
 pub mod PlanShape
 pub mod PlanValues
+pub mod PlanFound
 pub mod PlanOf
 pub mod PlanLaws
 pub mod Version
 pub mod Receipts
 pub mod ReceiptsShape
 pub mod ReceiptsValues
+pub mod ReceiptsFound
 pub mod ReceiptsOf
 pub mod Report
 pub mod Rows

@@ -39,11 +39,15 @@ pass_of (letter ∷ digits) = if letter == 115 then option_map Pass.Sender (numb
 abbrev pub named : Data → Option Pass
 named d = option_and_then pass_of (as_str d)
 
+-- the text of a pass
+abbrev pub is_named : Data → Bool
+is_named d = is_some (named d)
+
 -- ---- the whole tree
 
 -- a pass name and a number
 abbrev pub is_entry : Data → Bool
-is_entry d = unwrap_or (option_map (λ p. is_some (named p.0) && is_number p.1) (option_and_then pair_of (elements d))) false
+is_entry d = unwrap_or (option_map (λ p. is_named p.0 && is_number p.1) (option_and_then pair_of (elements d))) false
 
 -- a key of plans of this version
 abbrev pub is_plan_key : (version : ℕ) → List ℕ → Bool

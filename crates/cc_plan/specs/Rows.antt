@@ -1,40 +1,62 @@
--- The elements of a row that are left, one after another.
-use Rattle.std.specs.Prelude.{ℕ, ◌≡◌, IsSome, Bool, true, ◌-◌, ◌^◌, List, drop, Option, Some, None, option_and_then, slice_get, if◌then◌else◌}
-use Rattle.json.specs.Token.{Token}
+-- The elements of a row, column by column.
+use Rattle.std.specs.Prelude.{ℕ, ◌&&◌, ◌-◌, ◌^◌, Bool, List, drop, Option, Some, None, option_map, option_and_then, slice_get, if◌then◌else◌, zero, suc, ⊤}
 use Rattle.serde_json.specs.Data.{Data}
-use Rattle.cc_plan.specs.Names.{Pass, SendReceipt, TakeReceipt}
-use Rattle.cc_plan.specs.Json.{is_nil, number_in, body_as}
-use Rattle.cc_plan.specs.PlanShape.{named}
+use Rattle.cc_plan.specs.Names.{Body, Pass, SendReceipt, TakeReceipt}
+use Rattle.cc_plan.specs.Json.{is_nil, is_number, is_body, number_in, body_as}
+use Rattle.cc_plan.specs.PlanShape.{is_named, named}
 use Rattle.cc_plan.specs.ReceiptsValues.{most_receivers}
-use Rattle.cc_plan.specs.Spelled.{Lists, GetsAll}
+use Rattle.cc_plan.specs.Spelled.{first_is}
 
--- what is read of the first of the elements that are left
-pub record GetsFirst {A : Type 0} (of : Data → Option A) (old : List Token) (result : Option A) (new : List Token) : Type 0 where
-  pub first : (ds : List Data) (rest : List Token) → Lists old ds rest → (result ≡ option_and_then of (slice_get ds 0)) × (IsSome result → Lists new (drop 1 ds) rest)
+-- a first element that passes, and others that do
+abbrev pub first_and : (Data → Bool) → (List Data → Bool) → List Data → Bool
+first_and test others ds = first_is test ds && others (drop 1 ds)
 
--- whether none is left, and then the bracket that closes the array was read
-pub record GetsEnd (old : List Token) (result : Bool) (new : List Token) : Type 0 where
-  pub end : (ds : List Data) (rest : List Token) → Lists old ds rest → (result ≡ is_nil ds) × (result ≡ true → new ≡ rest)
+-- what two give, if both give something
+abbrev pub both : {A B : Type 0} → Option A → Option B → Option (A × B)
+both a b = option_and_then (λ x. option_map (λ y. (x, y)) b) a
 
--- what is read of all of them, which make up a row
-pub record GetsRow {B : Type 0} (of : List Data → Option B) (old : List Token) (result : Option B) (new : List Token) : Type 0 where
-  pub row : GetsAll of old result new
+-- what the first element gives, and what the others give
+abbrev pub first_with : {A B : Type 0} → (Data → Option A) → (List Data → Option B) → List Data → Option (A × B)
+first_with of others ds = both (option_and_then of (slice_get ds 0)) (others (drop 1 ds))
 
--- what the first element gives, and then the others
-unfoldable pub first_then : {A B : Type 0} → (Data → Option A) → (A → List Data → Option B) → List Data → Option B
-first_then of others ds = option_and_then (λ a. others a (drop 1 ds)) (option_and_then of (slice_get ds 0))
+-- nothing, if no element is left
+abbrev pub nothing : List Data → Option ⊤
+nothing ds = if is_nil ds then Some tt else None
 
--- a value, if no element is left
-unfoldable pub last : {B : Type 0} → B → List Data → Option B
-last b ds = if is_nil ds then Some b else None
+-- a number of numbers, and others that pass
+abbrev pub numbers_and : ℕ → (List Data → Bool) → List Data → Bool
+numbers_and zero others = others
+numbers_and (suc n) others = first_and is_number (numbers_and n others)
 
-unfoldable pub entry_row : List Data → Option (Pass × ℕ)
-entry_row = first_then named (λ pass. first_then (number_in 1 100000) (λ steps. last (pass, steps)))
+-- ---- an entry of a schedule: a pass and a number
 
-unfoldable pub send_row : (version : ℕ) → List Data → Option SendReceipt
-send_row version = first_then (number_in 1 64) (λ sender. first_then (number_in 1 (2 ^ 32 - 1)) (λ number. first_then (number_in 0 (2 ^ 64 - 1)) (λ place. first_then (body_as version) (λ body.
-    last (record { sender = sender; number = number; place = place; body = body })))))
+abbrev pub is_entry_row : List Data → Bool
+is_entry_row = first_and is_named (first_and is_number is_nil)
 
-unfoldable pub take_row : (version : ℕ) → List Data → Option TakeReceipt
-take_row version = first_then (number_in 1 (most_receivers version)) (λ receiver. first_then (number_in 0 (2 ^ 64 - 1)) (λ place. first_then (number_in 1 64) (λ sender. first_then (number_in 1 (2 ^ 32 - 1)) (λ number. first_then (body_as version) (λ body.
-    last (record { receiver = receiver; item = record { place = place; sender = sender; number = number; body = body } }))))))
+abbrev pub entry_columns : List Data → Option (Pass × (ℕ × ⊤))
+entry_columns = first_with named (first_with (number_in 1 100000) nothing)
+
+abbrev pub entry_of_columns : Pass × (ℕ × ⊤) → Pass × ℕ
+entry_of_columns p = (p.0, p.1.0)
+
+-- ---- a receipt of a send: three numbers and a body
+
+abbrev pub is_send_row : (version : ℕ) → List Data → Bool
+is_send_row version = numbers_and 3 (first_and (is_body version) is_nil)
+
+abbrev pub send_columns : (version : ℕ) → List Data → Option (ℕ × (ℕ × (ℕ × (Body × ⊤))))
+send_columns version = first_with (number_in 1 64) (first_with (number_in 1 (2 ^ 32 - 1)) (first_with (number_in 0 (2 ^ 64 - 1)) (first_with (body_as version) nothing)))
+
+abbrev pub send_of_columns : ℕ × (ℕ × (ℕ × (Body × ⊤))) → SendReceipt
+send_of_columns p = record { sender = p.0; number = p.1.0; place = p.1.1.0; body = p.1.1.1.0 }
+
+-- ---- a receipt of a take: four numbers and a body
+
+abbrev pub is_take_row : (version : ℕ) → List Data → Bool
+is_take_row version = numbers_and 4 (first_and (is_body version) is_nil)
+
+abbrev pub take_columns : (version : ℕ) → List Data → Option (ℕ × (ℕ × (ℕ × (ℕ × (Body × ⊤)))))
+take_columns version = first_with (number_in 1 (most_receivers version)) (first_with (number_in 0 (2 ^ 64 - 1)) (first_with (number_in 1 64) (first_with (number_in 1 (2 ^ 32 - 1)) (first_with (body_as version) nothing))))
+
+abbrev pub take_of_columns : ℕ × (ℕ × (ℕ × (ℕ × (Body × ⊤)))) → TakeReceipt
+take_of_columns p = record { receiver = p.0; item = record { place = p.1.0; sender = p.1.1.0; number = p.1.1.1.0; body = p.1.1.1.1.0 } }

@@ -1,10 +1,10 @@
 -- The values that the tokens of a text spell.
-use Rattle.std.specs.Prelude.{ℕ, ◌≡◌, Bool, true, false, List, drop, Option, Some, None, IsSome, option_map, length, nat_le, if◌then◌else◌}
+use Rattle.std.specs.Prelude.{ℕ, ◌≡◌, ◌++◌, Bool, true, false, List, [], ◌∷◌, drop, slice_get, Option, Some, None, option_map, option_and_then, length, nat_le, if◌then◌else◌}
 use Rattle.json.specs.Token.{Token}
 use Rattle.json.specs.Json.{value, items}
 use Rattle.serde_json.specs.Data.{Data, Items}
 use Rattle.serde_json.specs.Read.{of_json, of_items, converted}
-use Rattle.cc_plan.specs.Json.{listed, elements, each, whole_number}
+use Rattle.cc_plan.specs.Json.{listed, elements, each, is_nil, whole_number}
 use Rattle.cc_plan.specs.Names.{Body}
 use Rattle.cc_model.specs.Range.{within}
 use Rattle.cc_model.specs.Body.{body_of}
@@ -22,30 +22,35 @@ pub record Lists (ts : List Token) (ds : List Data) (rest : List Token) : Type 0
   pub is : converted of_items (items (value depth) turns ts) ≡ Some (found, rest)
   pub are : listed found ≡ ds
 
--- the answer of a test of the value that begins at the old tokens, which were read if it passed
-abbrev pub Tests : (Data → Bool) → (old : List Token) → Bool → (new : List Token) → Type 0
-Tests test old result new = (d : Data) (rest : List Token) → Spells old d rest → (result ≡ test d) × (result ≡ true → new ≡ rest)
+-- a first element that passes
+abbrev pub first_is : (Data → Bool) → List Data → Bool
+first_is test [] = false
+first_is test (d ∷ ds) = test d
 
--- the same of the elements that are left of an array
-pub record TestsAll (test : List Data → Bool) (old : List Token) (result : Bool) (new : List Token) : Type 0 where
-  pub says : (ds : List Data) (rest : List Token) → Lists old ds rest → (result ≡ test ds) × (result ≡ true → new ≡ rest)
+-- what is read of the value that begins at the old tokens: whether it has its shape; and if it has, what it gives, and the tokens after it
+abbrev pub Reads : {A : Type 0} → (test : Data → Bool) → (of : Data → Option A) → (old : List Token) → (fits : Bool) → (given : Option A) → (new : List Token) → Type 0
+Reads test of old fits given new = (d : Data) (rest : List Token) → Spells old d rest → (fits ≡ test d) × (fits ≡ true → (given ≡ of d) × (new ≡ rest))
 
--- what is read of the value that begins at the old tokens, which were read if it gave something
-abbrev pub Gets : {A : Type 0} → (Data → Option A) → (old : List Token) → Option A → (new : List Token) → Type 0
-Gets of old result new = (d : Data) (rest : List Token) → Spells old d rest → (result ≡ of d) × (IsSome result → new ≡ rest)
+-- what the value gives, whatever its shape
+abbrev pub IsGiven : {A : Type 0} → (of : Data → Option A) → (old : List Token) → (given : Option A) → Type 0
+IsGiven of old given = (d : Data) (rest : List Token) → Spells old d rest → given ≡ of d
 
--- the same of the elements that are left of an array
-abbrev pub GetsAll : {A : Type 0} → (List Data → Option A) → (old : List Token) → Option A → (new : List Token) → Type 0
-GetsAll of old result new = (ds : List Data) (rest : List Token) → Lists old ds rest → (result ≡ of ds) × (IsSome result → new ≡ rest)
+-- what is read of the elements that are left of an array: the same as of a value
+pub record ReadsAll {A : Type 0} (test : List Data → Bool) (of : List Data → Option A) (old : List Token) (fits : Bool) (given : Option A) (new : List Token) : Type 0 where
+  pub all : (ds : List Data) (rest : List Token) → Lists old ds rest → (fits ≡ test ds) × (fits ≡ true → (given ≡ of ds) × (new ≡ rest))
+
+-- the same of the first of the elements that are left
+pub record ReadsFirst {A : Type 0} (test : Data → Bool) (of : Data → Option A) (old : List Token) (fits : Bool) (given : Option A) (new : List Token) : Type 0 where
+  pub first : (ds : List Data) (rest : List Token) → Lists old ds rest → (fits ≡ first_is test ds) × (fits ≡ true → (given ≡ option_and_then of (slice_get ds 0)) × Lists new (drop 1 ds) rest)
 
 -- whether the value is an array, of which the bracket that opens it was read
 abbrev pub Opens : (old : List Token) → Bool → (new : List Token) → Type 0
 Opens old result new = (d : Data) (rest : List Token) → Spells old d rest
     → (result ≡ false → elements d ≡ None) × (result ≡ true → (ds : List Data) × (elements d ≡ Some ds) × Lists new ds rest)
 
--- the answer of a test of the elements that are left of an array, of which this number was read if they passed
-pub record TestsPart (test : List Data → Bool) (n : ℕ) (old : List Token) (result : Bool) (new : List Token) : Type 0 where
-  pub says : (ds : List Data) (rest : List Token) → Lists old ds rest → (result ≡ test ds) × (result ≡ true → Lists new (drop n ds) rest)
+-- whether none is left, and then the bracket that closes the array was read
+pub record Closes (old : List Token) (result : Bool) (new : List Token) : Type 0 where
+  pub end : (ds : List Data) (rest : List Token) → Lists old ds rest → (result ≡ is_nil ds) × (result ≡ true → new ≡ rest)
 
 -- at most this number, if one is given
 abbrev pub few : Option ℕ → ℕ → Bool
@@ -60,6 +65,12 @@ is_full (Some most) n = nat_le most n
 -- what each element gives, if they are few and each gives something
 abbrev pub each_of_few : {A : Type 0} → Option ℕ → (Data → Option A) → List Data → Option (List A)
 each_of_few most of ds = if few most (length ds) then each of ds else None
+
+-- one more of few, if both are given
+abbrev pub and_one : {A : Type 0} → Option ℕ → Option (List A) → Option A → Option (List A)
+and_one most None given = None
+and_one most (Some done) None = None
+and_one most (Some done) (Some x) = if is_full most (length done) then None else Some (done ++ x ∷ [])
 
 -- a body of the words, if they are one to four
 abbrev pub body_of_all : List Data → Option Body

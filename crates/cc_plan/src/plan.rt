@@ -1,17 +1,16 @@
 //! A plan, and how it is read.
 ghost use Rattle.std.specs.Prelude.{◌≡◌, ◌≤◌, not, IfOk, IsErrOf, OnOk, length};
 ghost use Rattle.std.specs.List.{position};
-ghost use Rattle.cc_plan.specs.Document.{tree};
 ghost use Rattle.cc_plan.specs.Answers.{Gives};
 ghost use Rattle.cc_plan.specs.Plan.{plan_value};
 ghost use Rattle.cc_plan.specs.PlanLaws.{Valid};
-ghost use Rattle.cc_plan.specs.PlanOf.{plan_of, values_of, values_of_tree, with_known_passes, has_pass};
+ghost use Rattle.cc_plan.specs.PlanOf.{plan_of, values_of, with_known_passes, has_pass};
 ghost use Rattle.cc_io.specs.Input.{input_limit};
 ghost use Rattle.cc_plan.specs.Names.{PlanFault};
 
 use crate::fault::PlanFault;
 use crate::reading::Reading;
-use crate::tokens::document::{Document, parse};
+use crate::tokens::document::parse;
 use cc_model::{Config, Pass, is_within};
 use std::alloc::Global;
 
@@ -34,12 +33,12 @@ pub struct Plan {
 
 mod calls;
 mod compact_call;
-pub mod shape;
+mod found;
+pub mod keys;
 mod values;
 
 pub use calls::Calls;
-use shape::has_plan_shape;
-use values::values;
+use values::values_in;
 
 /// The plan that the bytes describe, or why they describe none: a fault of the whole shape is reported before one
 /// of a range, a range in the order of the keys, and an unknown pass last.
@@ -73,20 +72,6 @@ fn read_values(alloc: Global, bytes: &[u8], reading: &mut Reading) -> Result<Pla
 {
     let document = parse(bytes, &mut reading.scratch)?;
     values_in(alloc, &document, reading)
-}
-
-/// The values that the text describes.
-fn values_in(
-    alloc: Global,
-    document: &Document<'_>,
-    reading: &mut Reading,
-) -> Result<Plan, PlanFault>
-    ensures { Gives plan_value result (values_of_tree (tree document.now)) }
-{
-    if !has_plan_shape(document, reading)? {
-        return Err(PlanFault::Shape);
-    }
-    values(alloc, document, reading)
 }
 
 /// The plan, unless its schedule names a pass that isn't there.

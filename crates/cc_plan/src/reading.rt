@@ -21,7 +21,7 @@ pub struct Reading {
     pub missing: Option<&'static str>,
     /// The first value in the order of the table that has another shape.
     pub misshaped: Option<Stop>,
-    /// The last list that is out of its range.
+    /// The first value in the order of the table that is out of its range.
     pub out_of_range: Option<Stop>,
 }
 
@@ -37,23 +37,20 @@ impl Reading {
     }
 }
 
-/// Keeps the stop if there is none yet, and the value didn't pass.
-pub fn note_shape(first: &mut Option<Stop>, passes: bool, stop: Stop) {
-    if !passes && first.is_none() {
-        *first = Some(stop);
+/// Notes how a value was refused, if it was: the first one of another shape, and the first one out of its range.
+pub fn note(reading: &mut Reading, key: &'static str, fits: bool, is_given: bool, offset: usize) {
+    let stop = Stop { key, offset };
+    if !fits && reading.misshaped.is_none() {
+        reading.misshaped = Some(stop);
+    }
+    if fits && !is_given && reading.out_of_range.is_none() {
+        reading.out_of_range = Some(stop);
     }
 }
 
-/// Keeps the key if there is none yet, and it has to be there.
-pub fn note_missing(first: &mut Option<&'static str>, may_miss: bool, key: &'static str) {
-    if !may_miss && first.is_none() {
-        *first = Some(key);
-    }
-}
-
-/// Keeps the stop if the list gave nothing.
-pub fn note_range(last: &mut Option<Stop>, is_given: bool, stop: Stop) {
-    if !is_given {
-        *last = Some(stop);
+/// Notes that a key has to be there and isn't, if it is the first one.
+pub fn note_missing(reading: &mut Reading, key: &'static str) {
+    if reading.missing.is_none() {
+        reading.missing = Some(key);
     }
 }

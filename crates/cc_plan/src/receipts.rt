@@ -1,15 +1,14 @@
 //! Receipts, and how they are read.
 ghost use Rattle.std.specs.Prelude.{◌≡◌, ◌≤◌, IsErrOf, length};
-ghost use Rattle.cc_plan.specs.Document.{tree};
 ghost use Rattle.cc_plan.specs.Answers.{Gives};
 ghost use Rattle.cc_plan.specs.Receipts.{receipts_value};
-ghost use Rattle.cc_plan.specs.ReceiptsOf.{receipts_of, receipts_of_tree};
+ghost use Rattle.cc_plan.specs.ReceiptsOf.{receipts_of};
 ghost use Rattle.cc_io.specs.Input.{input_limit};
 ghost use Rattle.cc_plan.specs.Names.{PlanFault};
 
 use crate::fault::PlanFault;
 use crate::reading::Reading;
-use crate::tokens::document::{Document, parse};
+use crate::tokens::document::parse;
 use cc_audit::{SendReceipt, TakeReceipt};
 use std::alloc::Global;
 
@@ -25,11 +24,11 @@ pub struct Receipts {
     pub total: Option<u64>,
 }
 
-pub mod shape;
+mod found;
+pub mod keys;
 mod values;
 
-use shape::has_receipts_shape;
-use values::values;
+use values::receipts_in;
 
 /// The receipts that the bytes describe, or why they describe none.
 pub fn read_receipts(alloc: Global, bytes: &[u8]) -> Result<Receipts, PlanFault>
@@ -48,18 +47,4 @@ pub fn read(alloc: Global, bytes: &[u8], reading: &mut Reading) -> Result<Receip
 {
     let document = parse(bytes, &mut reading.scratch)?;
     receipts_in(alloc, &document, reading)
-}
-
-/// The receipts that the text describes.
-fn receipts_in(
-    alloc: Global,
-    document: &Document<'_>,
-    reading: &mut Reading,
-) -> Result<Receipts, PlanFault>
-    ensures { Gives receipts_value result (receipts_of_tree (tree document.now)) }
-{
-    if !has_receipts_shape(document, reading)? {
-        return Err(PlanFault::Shape);
-    }
-    values(alloc, document, reading)
 }

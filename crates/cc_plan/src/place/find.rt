@@ -54,7 +54,7 @@ fn table_in(document: &Document<'_>, kind: Kind, scratch: &mut Scratch) -> Resul
 {
     let version = table(document, scratch)?;
     let groups = match document.at("groups", scratch)? {
-        Some(mut reader) => whole_number(&mut reader).unwrap_or(1),
+        Some(mut reader) => whole_number(&mut reader).value.unwrap_or(1),
         None => 1,
     };
     Ok(Table {

@@ -2,8 +2,8 @@
 
 use super::values::{Found, ValueKind, end_before};
 use super::wanted::{Kind, Table};
-use crate::plan::shape::is_plan_key;
-use crate::receipts::shape::is_receipts_key;
+use crate::plan::keys::is_plan_key;
+use crate::receipts::keys::is_receipts_key;
 use crate::tokens::document::Document;
 use crate::tokens::members::skip_value;
 use json::{Reader, Scratch};

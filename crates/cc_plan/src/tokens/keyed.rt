@@ -1,83 +1,120 @@
 //! Values at the keys of a text's root.
-ghost use Rattle.std.specs.Prelude.{◌≡◌, ◌≤◌, IfOk, IfSome, option_map, option_and_then, unwrap_or};
+ghost use Rattle.std.specs.Prelude.{◌≡◌, ◌≤◌, IfOk, IfSome, Some, None, is_some, length, map, option_map, option_and_then};
 ghost use Rattle.serde_json.specs.Find.{get};
-ghost use Rattle.cc_plan.specs.Document.{tree};
-ghost use Rattle.cc_plan.specs.Json.{elements, number_in};
+ghost use Rattle.cc_plan.specs.Calls.{calls_in};
+ghost use Rattle.cc_plan.specs.Document.{tree, IsAtKey};
+ghost use Rattle.cc_plan.specs.Json.{elements, is_list_of, is_number, number_in};
+ghost use Rattle.cc_plan.specs.PlanShape.{is_call};
+ghost use Rattle.cc_plan.specs.PlanValues.{calls_of};
+ghost use Rattle.cc_plan.specs.ReceiptsShape.{is_total};
+ghost use Rattle.cc_plan.specs.ReceiptsValues.{total_in};
 ghost use Rattle.cc_plan.specs.Spelled.{each_of_few};
 
-use crate::reading::{Reading, Stop, note_missing, note_range, note_shape};
-use crate::tokens::array::array_of;
+use crate::plan::Calls;
+use crate::reading::{Reading, note, note_missing};
 use crate::tokens::document::Document;
-use crate::tokens::list::Shape;
-use crate::tokens::part::Part;
-use crate::tokens::value::number_in;
-use json::Scratch;
+use crate::tokens::judged::Judged;
+use crate::tokens::list::{Part, list_of};
+use crate::tokens::{call, value};
 use std::alloc::{AllocError, Global};
 
-/// Whether the value at the key has the shape; `if_absent` if there is no value.
-pub fn has<S: Shape>(
-    document: &Document<'_>,
-    key: &'static str,
-    shape: &S,
-    if_absent: bool,
-    reading: &mut Reading,
-) -> Result<bool, AllocError>
-    ensures { IfOk result (λ has. has ≡ unwrap_or (option_map (S.test shape.now) (get key.now (tree document.now))) if_absent) }
+/// What was read at a key, with a note if it is refused.
+pub fn noted<T: Drop>(at: Judged<T>, key: &'static str, reading: &mut Reading) -> Judged<T>
+    ensures { (result.fits ≡ at.fits) × (result.value ≡ at.value) }
 {
-    match document.at(key, &mut reading.scratch)? {
-        Some(mut reader) => {
-            let passes = shape.passes(&mut reader);
-            let offset = reader.offset();
-            note_shape(&mut reading.misshaped, passes, Stop { key, offset });
-            Ok(passes)
-        }
-        None => {
-            note_missing(&mut reading.missing, if_absent, key);
-            Ok(if_absent)
-        }
+    note(reading, key, at.fits, at.value.is_some(), at.stop);
+    at
+}
+
+/// What is told of a key that isn't there: a value, or that it has to be there.
+pub fn absent<T: Drop>(told: Option<T>, key: &'static str, reading: &mut Reading) -> Judged<T>
+    ensures { (result.fits ≡ is_some told) × (result.value ≡ told) }
+{
+    let fits = told.is_some();
+    if !fits {
+        note_missing(reading, key);
+    }
+    Judged {
+        fits,
+        value: told,
+        stop: 0,
     }
 }
 
 /// The whole number at the key, from 1 to a limit.
 pub fn number_at(
     document: &Document<'_>,
-    key: &str,
+    key: &'static str,
     high: u64,
-    scratch: &mut Scratch,
-) -> Result<Option<u64>, AllocError>
-    ensures value { IfOk result (λ n. n ≡ option_and_then (number_in 1 high) (get key.now (tree document.now))) }
-    ensures range { IfOk result (λ n. IfSome n (λ n. (1 ≤ n) × (n ≤ high))) }
+    reading: &mut Reading,
+) -> Result<Judged<u64>, AllocError>
+    ensures value { IfOk result (λ at. IsAtKey is_number (number_in 1 high) None (get key.now (tree document.now)) at.fits at.value) }
+    ensures range { IfOk result (λ at. IfSome at.value (λ n. (1 ≤ n) × (n ≤ high))) }
 {
-    match document.at(key, scratch)? {
-        Some(mut reader) => Ok(number_in(&mut reader, 1, high)),
-        None => Ok(None),
+    match document.at(key, &mut reading.scratch)? {
+        Some(mut reader) => {
+            let at = value::number_in(&mut reader, 1, high);
+            Ok(noted(at, key, reading))
+        }
+        None => Ok(absent(None, key, reading)),
+    }
+}
+
+/// The total at the key, if one is given.
+pub fn total_at(
+    document: &Document<'_>,
+    key: &'static str,
+    reading: &mut Reading,
+) -> Result<Judged<Option<u64>>, AllocError>
+    ensures { IfOk result (λ at. IsAtKey is_total (λ d. total_in (Some d)) (Some None) (get key.now (tree document.now)) at.fits at.value) }
+{
+    match document.at(key, &mut reading.scratch)? {
+        Some(mut reader) => {
+            let at = value::total(&mut reader);
+            Ok(noted(at, key, reading))
+        }
+        None => Ok(absent(Some(None), key, reading)),
     }
 }
 
 /// The parts of the array at the key, if there are at most as many as is allowed.
-pub fn array_at<P: Part>(
+pub fn list_at<P: Part>(
     alloc: Global,
     document: &Document<'_>,
     key: &'static str,
     part: &P,
     most: Option<usize>,
     reading: &mut Reading,
-) -> Result<Option<Vec<P::Value>>, AllocError>
-    ensures { IfOk result (λ all. option_map (λ v. v.items) all
-        ≡ option_and_then (λ d. option_and_then (each_of_few most (P.value part.now)) (elements d))
-        (get key.now (tree document.now))) }
+) -> Result<Judged<Vec<P::Value>>, AllocError>
+    ensures { IfOk result (λ at. IsAtKey (is_list_of (P.test part.now)) (λ d. option_and_then (each_of_few most (P.value part.now)) (elements d)) None
+        (get key.now (tree document.now)) at.fits (option_map (λ v. v.items) at.value)) }
 {
     match document.at(key, &mut reading.scratch)? {
         Some(mut reader) => {
-            let all = array_of(alloc, &mut reader, part, most)?;
-            let offset = reader.offset();
-            note_range(
-                &mut reading.out_of_range,
-                all.is_some(),
-                Stop { key, offset },
-            );
-            Ok(all)
+            let at = list_of(alloc, &mut reader, part, most)?;
+            Ok(noted(at, key, reading))
         }
-        None => Ok(None),
+        None => Ok(absent(None, key, reading)),
+    }
+}
+
+/// The calls of each sender at the key, of at most 64.
+pub fn senders_at(
+    alloc: Global,
+    document: &Document<'_>,
+    key: &'static str,
+    version: u32,
+    reading: &mut Reading,
+) -> Result<Judged<Vec<Calls>>, AllocError>
+    ensures value { IfOk result (λ at. IsAtKey (is_list_of (is_list_of (is_call version))) (λ d. option_and_then (each_of_few (Some 64) (calls_of version)) (elements d)) None
+        (get key.now (tree document.now)) at.fits (option_map (λ v. map calls_in v.items) at.value)) }
+    ensures range { IfOk result (λ at. IfSome at.value (λ v. length v.items ≤ 64)) }
+{
+    match document.at(key, &mut reading.scratch)? {
+        Some(mut reader) => {
+            let at = call::senders(alloc, &mut reader, version)?;
+            Ok(noted(at, key, reading))
+        }
+        None => Ok(absent(None, key, reading)),
     }
 }

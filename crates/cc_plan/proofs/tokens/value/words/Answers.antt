@@ -1,29 +1,24 @@
-use Rattle.std.proofs.Common.{ap, length, refl, arith, ◌∙◌}
-use Rattle.std.proofs.lemmas.List.{length-set}
-use Rattle.cc_plan.proofs.Gathered.{gathered_more}
-use Rattle.cc_plan.specs.Json.{whole_number}
-use Rattle.cc_plan.proofs.Words.{too_many, no_word, put_behind, put_count, ended_body, ended_empty}
+use Rattle.std.proofs.Common.{Some, refl, arith}
+use Rattle.cc_plan.specs.Json.{is_number, whole_number}
+use Rattle.cc_plan.specs.Spelled.{body_of_all}
+use Rattle.cc_plan.proofs.Gathered.{gathers_all, gathers_misfit, gathers_more, gathers_none}
+use Rattle.cc_plan.proofs.Words.{made_body, made_of}
 use Rattle.cc_plan.proofs.tokens.value.words.Goals as goal
 
-pub returns-then-count-eq4-clause-value : goal.returns-then-count-eq4-clause-value
-returns-then-count-eq4-clause-value c = too_many _ _ _ c.take_end_array.new.self _ c.words.invariant.gathered c.words-test.ensures (put_count _ _ c.words.invariant.four c.words.invariant.at_most ∙ c.if-count-eq4.true)
+pub words-init : goal.words-init
+words-init c = record { gathers = gathers_none is_number (Some 4) whole_number c.args.reader.now _ refl; four = refl; few = omega arith }
 
-pub returns-in_default-clause-value : goal.returns-in_default-clause-value
-returns-in_default-clause-value c = no_word _ _ _ c.whole_number.new.reader _ c.words.invariant.gathered c.words-test.ensures c.in_default.ensures.value
+pub returns-then-not-word-clause-value : goal.returns-then-not-word-clause-value
+returns-then-not-word-clause-value c =
+    gathers_misfit is_number (Some 4) whole_number _ _ _ _ c.words.invariant.gathers c.words-test.ensures _ _ _ c.whole_number-word.ensures.value (grind arith) body_of_all _ _ _ c.misfit.ensures.0
 
 pub words-preserved : goal.words-preserved
-words-preserved c =
-    let i = c.words.invariant in record {
-      gathered = gathered_more whole_number _ _ _ c.whole_number.new.reader _ i.gathered c.words-test.ensures c.in-Some.word _ c.in-Some.ensures.value (put_behind c.words.words c.words.count _ c.in-Some.word (omega (arith, i.four, i.at_most, c.if-count-eq4.false)) refl);
-      at_most = omega (arith, i.at_most, c.if-count-eq4.false);
-      four = length-set c.words.words c.words.count c.in-Some.word ∙ i.four;
-      shorter = omega (arith, i.shorter, c.in-Some.ensures.shorter refl, ap length c.words-test.ensures.1);
-    }
-
-pub returns-then-count-eq0-clause-value : goal.returns-then-count-eq0-clause-value
-returns-then-count-eq0-clause-value c = ended_empty _ _ _ _ c.words.invariant.gathered c.words-test.ensures (put_count _ _ c.words.invariant.four c.words.invariant.at_most ∙ c.if-count-eq0.true)
+words-preserved c = record {
+  gathers = gathers_more is_number (Some 4) whole_number _ _ _ _ c.words.invariant.gathers c.words-test.ensures _ _ _ c.whole_number-word.ensures.value (grind arith) (c.whole_number-word.ensures.shorter (grind arith)) _ c.with_word-count.ensures.words;
+  four = c.type_inv.words;
+  few = c.with_word-count.ensures.few;
+}
 
 pub returns-clause-value : goal.returns-clause-value
 returns-clause-value c =
-    let count = put_count _ _ c.words.invariant.four c.words.invariant.at_most in
-    ended_body _ _ _ _ c.words.invariant.gathered c.words-test.ensures (omega (arith, count, c.if-count-eq0.false)) (omega (arith, count, c.words.invariant.at_most)) _ c.new.ensures.some c.new.ensures.none
+    made_body _ _ _ _ _ (gathers_all is_number (Some 4) whole_number _ _ _ _ _ c.words.invariant.gathers c.words-test.ensures refl) (made_of _ _ _ c.words.invariant.four c.words.invariant.few c.body_of_words-body.ensures)
