@@ -1,9 +1,11 @@
 -- The members of the root of a text, one after another.
-use Rattle.std.proofs.Common.{◌≡◌, ◌+◌, ◌⊎◌, inl, inr, add-one, ℕ, zero, suc, ◌-◌, ◌<◌, ◌≤◌, List, length, Option, Some, None, option_map, option_and_then, refl, sym, ap, subst, Bool, true, false, ◌&&◌, true≢false, bytes_eq, Ordering, Less, Equal, Greater, nat_cmp, is_eq, ◌∙◌, arith}
+use Rattle.std.proofs.Common.{◌≡◌, ◌+◌, ℕ, zero, suc, ◌-◌, ◌<◌, ◌≤◌, List, length, Option, Some, None, option_map, option_and_then, refl, sym, ap, subst, Bool, true, false, ◌&&◌, true≢false, if◌then◌else◌, get_or, replicate, ◌≢◌, [], ◌∷◌, bytes_eq, Ordering, Less, Equal, Greater, nat_cmp, is_eq, ◌∙◌, arith}
 use Rattle.std.specs.Cmp.Lexicographic.{slice_cmp}
 use Rattle.std.specs.List.{list_all}
 use Rattle.std.specs.Ordering.{match_ordering}
 use Rattle.std.proofs.lemmas.Map.Text.{is_eq-slice_cmp}
+use Rattle.std.proofs.lemmas.Grind.{get_or-set_at}
+use Rattle.std.proofs.lemmas.List.{get_or-set_other}
 use Rattle.std.proofs.lemmas.Slice.Eq.{bytes_eq-Decides}
 use Rattle.json.specs.Token.{Token}
 use Rattle.json.specs.Json.{read_key, members, skip_value, value}
@@ -13,7 +15,7 @@ use Rattle.serde_json.specs.Find.{get_member}
 use Rattle.serde_json.specs.Read.{of_json, of_members, converted}
 use Rattle.serde_json.proofs.Views.{get_member-put, get_member-put_other}
 use Rattle.cc_plan.specs.Json.{keys}
-use Rattle.cc_plan.specs.Members.{after_key, after_member, after_members, Holds, IsLast}
+use Rattle.cc_plan.specs.Members.{after_key, after_member, after_members, format_keys, number_from, key_number, with_place, AreLast, Holds, IsLast}
 use Rattle.cc_plan.proofs.Passed.{converted_some, member_passed, member_refused, key_refused, members_over}
 
 -- the members before the tokens that are left, and those tokens
@@ -133,20 +135,6 @@ module _ {P : Members → Type 0} (ts left : List Token) (so_far : SoFar P ts le
       let d = value_passed ts i.0 left s r k ms i.1 named passed holds in
       (put k d.0 i.0, one_read ts i.0 left s r k d.0 i.1 named d.1 less, more i.0 d.0 d.1 i.2)
 
--- so many members come before the tokens that are left, and of them this is the last one with the key
-abbrev pub LastSoFar : (key : List ℕ) (ts left : List Token) → ℕ → Option ℕ → Type 0
-LastSoFar key ts left n last = SoFar (λ found. (after_members n ts ≡ Some left) × IsLast key ts found last) ts left
-
--- the member after them is the last one with the key, or the one before is
-pub last_so_far : (key : List ℕ) (ts left s r : List Token) (k : List ℕ) (n : ℕ) (last now : Option ℕ) → LastSoFar key ts left n last → read_key left ≡ Some (Some k, s) → skip_value 126 s ≡ Some r → length r < length s
-    → ((true ≡ bytes_eq k key) × (now ≡ Some n)) ⊎ ((false ≡ bytes_eq k key) × (now ≡ last)) → LastSoFar key ts r (n + 1) now
-last_so_far key ts left s r k n last now so_far named passed less (inl here) =
-    one_so_far ts left so_far s r k named passed less
-    (λ found d spelled i. (rw add-one (one_after n ts left r i.0 (member_after left s r k named passed)), rw here.1 (last_here key ts found n left s r k d (same_key k key here.0) i.0 named spelled)))
-last_so_far key ts left s r k n last now so_far named passed less (inr other) =
-    one_so_far ts left so_far s r k named passed less
-    (λ found d spelled i. (rw add-one (one_after n ts left r i.0 (member_after left s r k named passed)), rw other.1 (last_before key ts found k d last (other_key k key other.0) i.1)))
-
 -- ---- the keys
 
 once : (a b : Bool) → (a && b) ≡ (a && (a && b))
@@ -179,3 +167,52 @@ turned false false = refl
 
 pub known_put : (known : List ℕ → Bool) (k : List ℕ) (d : Data) (found : Members) (all now : Bool) → all ≡ list_all known (keys found) → now ≡ known k → (all && now) ≡ list_all known (keys (put k d found))
 known_put known k d found all now so_far told = turned all now ∙ ap (λ b. b && all) told ∙ ap (λ b. known k && b) so_far ∙ sym (keys_put known k d found)
+
+-- ---- the keys by their numbers
+
+less_at : (n : ℕ) (k : List ℕ) (ks : List (List ℕ)) (i : ℕ) (b : Bool) (others : Option ℕ) → (others ≡ Some i → (n + 1 ≤ i) × (i < n + 1 + length ks)) → (if b then Some n else others) ≡ Some i → (n ≤ i) × (i < n + length (k ∷ ks))
+less_at n k ks i true others more e = let same : n ≡ i = cc in (omega (arith, same), omega (arith, same))
+less_at n k ks i false others more e = let there = more e in (omega (arith, there), omega (arith, there))
+
+number_less : (n : ℕ) (ks : List (List ℕ)) (key : List ℕ) (i : ℕ) → number_from n ks key ≡ Some i → (n ≤ i) × (i < n + length ks)
+number_less n [] key i e = absurd (cc)
+number_less n (k ∷ ks) key i e = less_at n k ks i (bytes_eq key k) (number_from (n + 1) ks key) (number_less (n + 1) ks key i) e
+
+same_at : (n : ℕ) (k : List ℕ) (ks : List (List ℕ)) (key other : List ℕ) (i : ℕ) (a b : Bool) → bytes_eq key k ≡ a → bytes_eq other k ≡ b → (number_from (n + 1) ks key ≡ Some i → number_from (n + 1) ks other ≡ Some i → key ≡ other)
+    → (if a then Some n else number_from (n + 1) ks key) ≡ Some i → (if b then Some n else number_from (n + 1) ks other) ≡ Some i → key ≡ other
+same_at n k ks key other i true true x y more e f = same_key key k (sym x) ∙ sym (same_key other k (sym y))
+same_at n k ks key other i true false x y more e f = let here : n ≡ i = cc in let there = number_less (n + 1) ks other i f in let never : ⊥ = omega (arith, here, there.0) in absurd never
+same_at n k ks key other i false true x y more e f = let here : n ≡ i = cc in let there = number_less (n + 1) ks key i e in let never : ⊥ = omega (arith, here, there.0) in absurd never
+same_at n k ks key other i false false x y more e f = more e f
+
+same_number : (n : ℕ) (ks : List (List ℕ)) (key other : List ℕ) (i : ℕ) → number_from n ks key ≡ Some i → number_from n ks other ≡ Some i → key ≡ other
+same_number n [] key other i e f = absurd (cc)
+same_number n (k ∷ ks) key other i e f = same_at n k ks key other i (bytes_eq key k) (bytes_eq other k) refl refl (same_number (n + 1) ks key other i) e f
+
+none_there : (n i : ℕ) → get_or {A = Option ℕ} (replicate n None) i None ≡ None
+none_there zero i = refl
+none_there (suc n) zero = refl
+none_there (suc n) (suc i) = none_there n i
+
+pub none_last : (ts : List Token) → AreLast ts no_members (replicate 11 None)
+none_last ts = λ key i known. subst (λ o. IsLast key ts no_members o) (sym (none_there 11 i)) refl
+
+module _ (ts : List Token) (found : Members) (n : ℕ) (left s r : List Token) (k : List ℕ) (d : Data) (places : List (Option ℕ)) (long : length places ≡ 11) (are : AreLast ts found places) (reached : after_members n ts ≡ Some left)
+    (named : read_key left ≡ Some (Some k, s)) (spelled : converted of_json (value 126 s) ≡ Some (d, r)) where
+  before_it : (key : List ℕ) (i : ℕ) → key_number key ≡ Some i → false ≡ bytes_eq k key → IsLast key ts (put k d found) (get_or places i None)
+  before_it key i known other = last_before key ts found k d (get_or places i None) (other_key k key other) (are key i known)
+
+  at_number : (key : List ℕ) (i : ℕ) → key_number key ≡ Some i → (number : Option ℕ) → key_number k ≡ number → (b : Bool) → bytes_eq k key ≡ b → IsLast key ts (put k d found) (get_or (with_place places number n) i None)
+  at_number key i known None number true same = let is : k ≡ key = same_key k key (sym same) in absurd (cc)
+  at_number key i known None number false same = before_it key i known (sym same)
+  at_number key i known (Some j) number true same =
+      let is : k ≡ key = same_key k key (sym same) in
+      let here : i ≡ j = cc in
+      let less = number_less 0 format_keys key i known in
+      subst (λ o. IsLast key ts (put k d found) o) (sym (get_or-set_at places j i (Some n) None here (omega (arith, less, long, here)))) (last_here key ts found n left s r k d is reached named spelled)
+  at_number key i known (Some j) number false same =
+      let apart : i ≢ j = λ here. other_key k key (sym same) (same_number 0 format_keys key k i known (number ∙ ap Some (sym here))) in
+      subst (λ o. IsLast key ts (put k d found) o) (sym (get_or-set_other places j i (Some n) None apart)) (before_it key i known (sym same))
+
+  pub last_with : AreLast ts (put k d found) (with_place places (key_number k) n)
+  last_with = λ key i known. at_number key i known (key_number k) refl (bytes_eq k key) refl

@@ -1,12 +1,12 @@
 -- Texts that are JSON.
-use Rattle.std.specs.Prelude.{ℕ, ◌≡◌, Bool, true, false, List, [], ◌∷◌, Option, Some, None, MatchOption, is_some, option_map, unwrap_or}
+use Rattle.std.specs.Prelude.{ℕ, ◌≡◌, Bool, true, false, List, [], ◌∷◌, Option, Some, None, MatchOption, get_or, is_some, option_map, unwrap_or}
 use Rattle.json.specs.Token.{Token}
 use Rattle.json.specs.Lex.{tokens}
 use Rattle.json.specs.Json.{skip_value}
 use Rattle.serde_json.specs.Data.{Data, null, Members}
 use Rattle.serde_json.specs.Find.{get, as_object}
 use Rattle.serde_json.specs.Read.{read, number_of}
-use Rattle.cc_plan.specs.Members.{value_in, Holds}
+use Rattle.cc_plan.specs.Members.{value_in, Holds, key_number}
 use Rattle.cc_plan.specs.Spelled.{Spells}
 
 -- the tree of a text that is JSON
@@ -50,6 +50,10 @@ pub record IsAt (text key : List ℕ) (before : List Token) : Type 0 where
 -- how many members of the root come before the one with the key, if there is one
 abbrev pub IsPlace : (text key : List ℕ) → Option ℕ → Type 0
 IsPlace text key place = MatchOption place (get key (tree text) ≡ None) (λ n. (before : List Token) × (value_in text n ≡ Some before) × IsAt text key before)
+
+-- the same of the keys of plans and of receipts, by their numbers
+abbrev pub ArePlaces : (text : List ℕ) → List (Option ℕ) → Type 0
+ArePlaces text places = (key : List ℕ) (i : ℕ) → key_number key ≡ Some i → IsPlace text key (get_or places i None)
 
 -- what is read at a key of the root: whether the value has its shape, and if so, what it gives; or what is told of an absent one
 pub record IsAtKey {A : Type 0} (test : Data → Bool) (of : Data → Option A) (absent : Option A) (at : Option Data) (fits : Bool) (given : Option A) : Type 0 where

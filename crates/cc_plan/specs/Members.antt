@@ -1,5 +1,6 @@
 -- The members of the root of a text, one after another.
-use Rattle.std.specs.Prelude.{ℕ, zero, suc, ◌≡◌, List, [], ◌∷◌, length, Option, Some, None, MatchOption, option_map, option_and_then}
+use Rattle.std.specs.Prelude.{ℕ, zero, suc, ◌+◌, ◌≡◌, List, [], ◌∷◌, codes, length, get_or, set, if◌then◌else◌, Option, Some, None, MatchOption, option_map, option_and_then}
+use Rattle.std.specs.Str.{bytes_eq}
 use Rattle.json.specs.Token.{Token}
 use Rattle.json.specs.Lex.{tokens}
 use Rattle.json.specs.Json.{read_key, members, skip_value, value}
@@ -58,3 +59,25 @@ pub record Stands (key : List ℕ) (ts : List Token) (ms : Members) (place : ℕ
 -- the last member with the key
 abbrev pub IsLast : (key : List ℕ) → List Token → Members → Option ℕ → Type 0
 IsLast key ts ms place = MatchOption place (get_member key ms ≡ None) (λ n. Stands key ts ms n)
+
+-- ---- the keys of plans and of receipts
+
+abbrev pub format_keys : List (List ℕ)
+format_keys = codes "version" ∷ codes "groups" ∷ codes "capacity" ∷ codes "bound" ∷ codes "life" ∷ codes "senders" ∷ codes "receivers" ∷ codes "schedule" ∷ codes "total" ∷ codes "accepted" ∷ codes "taken" ∷ []
+
+-- the place of a key in a list that begins at this number
+abbrev pub number_from : ℕ → List (List ℕ) → (key : List ℕ) → Option ℕ
+number_from n [] key = None
+number_from n (k ∷ ks) key = if bytes_eq key k then Some n else number_from (n + 1) ks key
+
+abbrev pub key_number : (key : List ℕ) → Option ℕ
+key_number = number_from 0 format_keys
+
+-- the places with another one, if it has a number
+abbrev pub with_place : List (Option ℕ) → (number : Option ℕ) → ℕ → List (Option ℕ)
+with_place places None place = places
+with_place places (Some i) place = set places i (Some place)
+
+-- the last members with these keys, by the numbers of the keys
+abbrev pub AreLast : List Token → Members → List (Option ℕ) → Type 0
+AreLast ts ms places = (key : List ℕ) (i : ℕ) → key_number key ≡ Some i → IsLast key ts ms (get_or places i None)

@@ -1,7 +1,8 @@
 //! The refusal of an input, with its place.
-ghost use Rattle.std.specs.Prelude.{◌≡◌, IfOk, is_some};
+ghost use Rattle.std.specs.Prelude.{◌≡◌, IfOk, IsSome, is_some};
 ghost use Rattle.serde_json.specs.Find.{get};
 ghost use Rattle.cc_plan.specs.Document.{tree};
+ghost use Rattle.cc_plan.specs.Members.{key_number};
 ghost use Rattle.cc_plan.specs.Why.{IsDue, Tells, kind_in, kind_of};
 
 use crate::fault::PlanFault;
@@ -123,6 +124,7 @@ fn kind_in(document: &Document<'_>, scratch: &mut Scratch) -> Result<Kind, Alloc
 
 /// Whether the root has the key.
 fn has_key(document: &Document<'_>, key: &str, scratch: &mut Scratch) -> Result<bool, AllocError>
+    requires { IsSome (key_number key.now) }
     ensures { IfOk result (λ has. has ≡ is_some (get key.now (tree document.now))) }
 {
     match document.at(key, scratch)? {

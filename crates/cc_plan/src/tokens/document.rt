@@ -1,5 +1,5 @@
 //! Texts that are JSON.
-ghost use Rattle.std.specs.Prelude.{◌≡◌, ◌<◌, ◌≤◌, ◌^◌, ℕ, Bool, List, IfNone, IfOk, IfSome, IsErrOf, OnOk, Some, None, is_some, length};
+ghost use Rattle.std.specs.Prelude.{◌≡◌, ◌<◌, ◌≤◌, ◌^◌, ℕ, Bool, List, IfNone, IfOk, IfSome, IsErrOf, IsSome, OnOk, Some, None, is_some, length};
 ghost use Rattle.std.specs.Bool.{MatchBool};
 ghost use Rattle.std.specs.List.{list_all};
 ghost use Rattle.json.specs.Lex.{tokens};
@@ -12,11 +12,11 @@ ghost use Rattle.cc_plan.specs.Closures.{TestsText};
 ghost use Rattle.cc_plan.specs.Json.{json_of, has_only};
 ghost use Rattle.cc_plan.specs.Refusal.{tree_of, or_no_json};
 ghost use Rattle.cc_plan.specs.Names.{PlanFault};
-ghost use Rattle.cc_plan.specs.Members.{after_begin_object, value_in};
-ghost use Rattle.cc_plan.specs.Document.{tree, is_value, fits, IsRoot, IsAt, IsPlace};
+ghost use Rattle.cc_plan.specs.Members.{after_begin_object, key_number, value_in};
+ghost use Rattle.cc_plan.specs.Document.{tree, is_value, fits, ArePlaces, IsRoot, IsAt, IsPlace};
 
 use crate::fault::PlanFault;
-use crate::tokens::members::{have_known_keys, last_place, skip_to_value};
+use crate::tokens::members::{KEYS, have_known_keys, last_places, key_number, skip_to_value};
 use crate::tokens::number::is_finite;
 use cc_io::INPUT_LIMIT;
 use json::{Reader, Scratch, Token};
@@ -30,17 +30,20 @@ const MAX_DEPTH: usize = 127;
 #[derive(Drop)]
 pub struct Document<'a> {
     text: &'a str,
+    /// How many members of the root come before the last one with each key, by the numbers of the keys.
+    places: [Option<usize>; KEYS],
 }
 
 impl<'a> Model for Document<'a> {
     ghost use Rattle.std.specs.Prelude.{ℕ, List, IsSome};
     ghost use Rattle.serde_json.specs.Read.{read};
+    ghost use Rattle.cc_plan.specs.Document.{ArePlaces};
 
     ghost Value = { List ℕ };
 
     ghost view = { λ a. a.text.now };
 
-    ghost invariant = { λ a. IsSome (read a.text.now) };
+    ghost invariant = { λ a. IsSome (read a.text.now) × ArePlaces a.text.now a.places };
 }
 
 /// The JSON text that an input is, or that it is too long or no JSON.
@@ -66,7 +69,33 @@ fn read_text<'a>(bytes: &'a [u8], scratch: &mut Scratch) -> Result<Document<'a>,
     if !is_json(text, scratch)? {
         return Err(PlanFault::NotJson);
     }
-    Ok(Document { text })
+    let places = places_in(text, scratch)?;
+    Ok(Document { text, places })
+}
+
+/// The places of the keys in the root of a text that is JSON.
+fn places_in(text: &str, scratch: &mut Scratch) -> Result<[Option<usize>; KEYS], AllocError>
+    requires { IsSome (read text.now) }
+    ensures { IfOk result (λ places. ArePlaces text.now places) }
+{
+    match members_in(text, scratch)? {
+        Some(mut reader) => Ok(last_places(&mut reader)),
+        None => Ok([None; KEYS]),
+    }
+}
+
+/// A reader of the members of the root of a text that is JSON, if that is an object.
+fn members_in<'s>(text: &'s str, scratch: &'s mut Scratch) -> Result<Option<Reader<'s>>, AllocError>
+    requires { IsSome (read text.now) }
+    ensures found { IfOk result (λ found. found ≡ after_begin_object (tokens text.now)) }
+    ensures root { IfOk result (λ found. IsRoot text.now found) }
+    ensures short { IfOk result (λ found. IfSome found (λ reader. length reader < 2 ^ 64)) }
+{
+    let mut reader = Reader::new(text, scratch)?;
+    if !skip_begin_object(&mut reader) {
+        return Ok(None);
+    }
+    Ok(Some(reader))
 }
 
 /// Whether a text is JSON.
@@ -120,7 +149,7 @@ fn skip_begin_object(reader: &mut Reader<'_>) -> bool
 }
 
 impl<'a> Document<'a> {
-    /// A reader at the value of this key of the root, of several members with the key the last.
+    /// A reader at the value of this key of plans or of receipts, of several members with the key the last.
     pub fn at<'s>(
         &self,
         key: &str,
@@ -128,11 +157,11 @@ impl<'a> Document<'a> {
     ) -> Result<Option<Reader<'s>>, AllocError>
     where
         'a: 's,
-        ensures none { IfOk result (λ found. IfNone found (get key.now (tree self.now) ≡ None)) }
-        ensures some { IfOk result (λ found. IfSome found
+        ensures none { IsSome (key_number key.now) → IfOk result (λ found. IfNone found (get key.now (tree self.now) ≡ None)) }
+        ensures some { IsSome (key_number key.now) → IfOk result (λ found. IfSome found
             (λ reader. IsAt self.now key.now reader)) }
     {
-        match self.place_of(key, scratch)? {
+        match self.place_of(key) {
             Some(place) => self.value_at(place, scratch),
             None => Ok(None),
         }
@@ -161,13 +190,13 @@ impl<'a> Document<'a> {
         self.text
     }
 
-    /// How many members of the root come before the last one with the key, if there is one.
-    fn place_of(&self, key: &str, scratch: &mut Scratch) -> Result<Option<usize>, AllocError>
-        ensures { IfOk result (λ place. IsPlace self.now key.now place) }
+    /// How many members of the root come before the last one with this key of plans or of receipts, if there is one.
+    fn place_of(&self, key: &str) -> Option<usize>
+        ensures { IsSome (key_number key.now) → IsPlace self.now key.now result }
     {
-        match self.members(scratch)? {
-            Some(mut reader) => Ok(last_place(&mut reader, key)),
-            None => Ok(None),
+        match key_number(key) {
+            Some(i) => self.places[i],
+            None => None,
         }
     }
 
@@ -198,10 +227,6 @@ impl<'a> Document<'a> {
         ensures root { IfOk result (λ found. IsRoot self.now found) }
         ensures short { IfOk result (λ found. IfSome found (λ reader. length reader < 2 ^ 64)) }
     {
-        let mut reader = Reader::new(self.text, scratch)?;
-        if !skip_begin_object(&mut reader) {
-            return Ok(None);
-        }
-        Ok(Some(reader))
+        members_in(self.text, scratch)
     }
 }

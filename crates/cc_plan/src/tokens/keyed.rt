@@ -1,9 +1,10 @@
 //! Values at the keys of a text's root.
-ghost use Rattle.std.specs.Prelude.{◌≡◌, ◌≤◌, IfOk, IfSome, Some, None, is_some, length, map, option_map, option_and_then};
+ghost use Rattle.std.specs.Prelude.{◌≡◌, ◌≤◌, IfOk, IfSome, IsSome, Some, None, is_some, length, map, option_map, option_and_then};
 ghost use Rattle.serde_json.specs.Find.{get};
 ghost use Rattle.cc_plan.specs.Calls.{calls_in};
 ghost use Rattle.cc_plan.specs.Document.{tree, IsAtKey};
 ghost use Rattle.cc_plan.specs.Json.{elements, is_list_of, is_number, number_in};
+ghost use Rattle.cc_plan.specs.Members.{key_number};
 ghost use Rattle.cc_plan.specs.PlanShape.{is_call};
 ghost use Rattle.cc_plan.specs.PlanValues.{calls_of};
 ghost use Rattle.cc_plan.specs.ReceiptsShape.{is_total};
@@ -48,6 +49,7 @@ pub fn number_at(
     high: u64,
     reading: &mut Reading,
 ) -> Result<Judged<u64>, AllocError>
+    requires { IsSome (key_number key.now) }
     ensures value { IfOk result (λ at. IsAtKey is_number (number_in 1 high) None (get key.now (tree document.now)) at.fits at.value) }
     ensures range { IfOk result (λ at. IfSome at.value (λ n. (1 ≤ n) × (n ≤ high))) }
 {
@@ -66,6 +68,7 @@ pub fn total_at(
     key: &'static str,
     reading: &mut Reading,
 ) -> Result<Judged<Option<u64>>, AllocError>
+    requires { IsSome (key_number key.now) }
     ensures { IfOk result (λ at. IsAtKey is_total (λ d. total_in (Some d)) (Some None) (get key.now (tree document.now)) at.fits at.value) }
 {
     match document.at(key, &mut reading.scratch)? {
@@ -86,6 +89,7 @@ pub fn list_at<P: Part>(
     most: Option<usize>,
     reading: &mut Reading,
 ) -> Result<Judged<Vec<P::Value>>, AllocError>
+    requires { IsSome (key_number key.now) }
     ensures { IfOk result (λ at. IsAtKey (is_list_of (P.test part.now)) (λ d. option_and_then (each_of_few most (P.value part.now)) (elements d)) None
         (get key.now (tree document.now)) at.fits (option_map (λ v. v.items) at.value)) }
 {
@@ -106,6 +110,7 @@ pub fn senders_at(
     version: u32,
     reading: &mut Reading,
 ) -> Result<Judged<Vec<Calls>>, AllocError>
+    requires { IsSome (key_number key.now) }
     ensures value { IfOk result (λ at. IsAtKey (is_list_of (is_list_of (is_call version))) (λ d. option_and_then (each_of_few (Some 64) (calls_of version)) (elements d)) None
         (get key.now (tree document.now)) at.fits (option_map (λ v. map calls_in v.items) at.value)) }
     ensures range { IfOk result (λ at. IfSome at.value (λ v. length v.items ≤ 64)) }

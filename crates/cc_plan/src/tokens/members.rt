@@ -1,12 +1,12 @@
 //! The members of the root of a text, one after another.
-ghost use Rattle.std.specs.Prelude.{◌≡◌, ◌<◌, ◌^◌, ℕ, Bool, IsTrue, List, Some, None, length};
+ghost use Rattle.std.specs.Prelude.{◌≡◌, ◌<◌, ◌^◌, ℕ, Bool, IfSome, IsTrue, List, Some, None, length};
 ghost use Rattle.std.specs.Bool.{MatchBool};
 ghost use Rattle.std.specs.List.{list_all};
 ghost use Rattle.serde_json.specs.Data.{Members};
 ghost use Rattle.json.specs.Json.{skip_value};
 ghost use Rattle.cc_plan.specs.Closures.{TestsText};
 ghost use Rattle.cc_plan.specs.Json.{keys};
-ghost use Rattle.cc_plan.specs.Members.{after_key, after_member, after_members, value_behind, Holds, IsLast};
+ghost use Rattle.cc_plan.specs.Members.{after_key, after_member, after_members, value_behind, with_place, key_number, AreLast, Holds};
 
 use json::Reader;
 
@@ -60,27 +60,59 @@ pub fn skip_to_value(reader: &mut Reader<'_>, place: usize) -> bool
     skip_members(reader, place) && skip_key(reader)
 }
 
-/// How many members come before the last one with the key, if there is one.
-pub fn last_place(reader: &mut Reader<'_>, key: &str) -> Option<usize>
-    requires { length reader.old < 2 ^ 64 }
-    ensures { (ms : Members) → Holds reader.old ms → IsLast key.now reader.old ms result }
+/// The number of keys that plans and receipts have.
+pub const KEYS: usize = 11;
+
+/// The number of a key of plans or of receipts.
+pub fn key_number(key: &str) -> Option<usize>
+    ensures number { result ≡ key_number key.now }
+    ensures few { IfSome result (λ i. i < 11) }
 {
-    let mut last = None;
+    match key {
+        "version" => Some(0),
+        "groups" => Some(1),
+        "capacity" => Some(2),
+        "bound" => Some(3),
+        "life" => Some(4),
+        "senders" => Some(5),
+        "receivers" => Some(6),
+        "schedule" => Some(7),
+        "total" => Some(8),
+        "accepted" => Some(9),
+        "taken" => Some(10),
+        _ => None,
+    }
+}
+
+/// How many members come before the last one with each key of plans and of receipts, by the numbers of the keys.
+pub fn last_places(reader: &mut Reader<'_>) -> [Option<usize>; KEYS]
+    requires { length reader.old < 2 ^ 64 }
+    ensures { (ms : Members) → Holds reader.old ms → AreLast reader.old ms result }
+{
+    let mut places = [None; KEYS];
     let mut place = 0;
     'members: loop {
         match reader.next_key() {
             Ok(Some(name)) => {
-                if name == key {
-                    last = Some(place);
-                }
+                put_place(&mut places, key_number(name), place);
                 if !skip_value(reader) {
-                    return None;
+                    return places;
                 }
                 place += 1;
             }
-            Ok(None) => return last,
-            Err(_) => return None,
+            Ok(None) => return places,
+            Err(_) => return places,
         }
+    }
+}
+
+/// Puts a place at the number of a key, if it has one.
+fn put_place(places: &mut [Option<usize>; KEYS], number: Option<usize>, place: usize)
+    requires { IfSome number (λ i. i < 11) }
+    ensures { places.new ≡ with_place places.old number place }
+{
+    if let Some(i) = number {
+        places[i] = Some(place);
     }
 }
 
