@@ -77,7 +77,7 @@
 //! Wakers and items have calls that the user wrote: a waker's clone, wake and drop; an item's clone and drop; the drop
 //! of a panic's payload. Each may block, call the channel, or panic. None runs while a lock or a seat is held. This table
 //! has every place at which one runs, what was done before it, and what becomes of its panic. [`Panics`] catches
-//! panics, and [`Unsent`](crate::channel::body::Unsent) keeps unwinding from an item that the queue has. `tests/user_code.rs`
+//! panics, and [`Unsent`](crate::channel::body::Unsent) keeps unwinding from an item that the queue has. `tests/channel/user_code.rs`
 //! makes each of them panic.
 //!
 //! | user code | place | done before it | its panic |
@@ -100,8 +100,8 @@
 //!
 //! An item's drop on an error that a call returned, or on what it took, is the caller's.
 //!
-//! `tests/wakeups.rs` searches all interleavings of these steps in small models, and finds the lost wake-up
-//! if one of them is left out; `tests/looks.rs` does the same for a look at the counts of seats, and `tests/served.rs` for calls that
+//! `tests/channel/wakeups.rs` searches all interleavings of these steps in small models, and finds the lost wake-up
+//! if one of them is left out; `tests/channel/looks.rs` does the same for a look at the counts of seats, and `tests/channel/served.rs` for calls that
 //! another one serves.
 use crate::backoff::{PACE, Rounds, for_others};
 use std::any::Any;

@@ -1,8 +1,6 @@
 //! Channels of any type: every answer, handles, and what becomes of items.
-#[path = "../src/channel/rounds.rs"]
-mod rounds;
 
-use rounds::rounds;
+use crate::rounds::rounds;
 use std::collections::BTreeSet;
 use std::error::Error;
 use std::panic::{AssertUnwindSafe, catch_unwind};

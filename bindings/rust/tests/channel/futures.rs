@@ -1,10 +1,7 @@
 //! Sends and takes as futures, polled by a loop that parks.
-mod polling;
-#[path = "../src/channel/rounds.rs"]
-mod rounds;
 
-use polling::{Woken, poll};
-use rounds::rounds;
+use crate::polling::{Woken, poll};
+use crate::rounds::rounds;
 use std::panic::{AssertUnwindSafe, catch_unwind};
 use std::pin::pin;
 use std::sync::Arc;

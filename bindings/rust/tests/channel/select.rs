@@ -1,10 +1,7 @@
 //! Selects over several channels, channels of capacity 0, and timers.
-mod parking;
-#[path = "../src/channel/rounds.rs"]
-mod rounds;
 
-use parking::parked;
-use rounds::rounds;
+use crate::parking::parked;
+use crate::rounds::rounds;
 use std::collections::HashSet;
 use std::panic::{AssertUnwindSafe, catch_unwind};
 use std::pin::pin;

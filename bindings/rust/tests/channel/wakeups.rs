@@ -1,12 +1,9 @@
 //! No wake-up is lost: a search over all interleavings of the waiting (`src/event.rs` says
 //! what its steps are) and of the rendezvous (`src/channel/rendezvous.rs`), and threads that stop for good where one
 //! is lost.
-mod parking;
-#[path = "../src/channel/rounds.rs"]
-mod rounds;
 
-use parking::parked;
-use rounds::rounds;
+use crate::parking::parked;
+use crate::rounds::rounds;
 use std::collections::HashSet;
 use std::sync::mpsc;
 use std::thread;

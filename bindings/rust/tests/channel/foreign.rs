@@ -1,8 +1,7 @@
 //! User code (an item's drop or clone, a waker) that takes long, blocks, panics, or comes back to
 //! the channel: it holds up nobody, and loses nobody's notification.
-mod polling;
 
-use polling::{Woken, poll};
+use crate::polling::{Woken, poll};
 use std::panic::{AssertUnwindSafe, catch_unwind, resume_unwind};
 use std::pin::Pin;
 use std::sync::atomic::{AtomicBool, AtomicUsize, Ordering};

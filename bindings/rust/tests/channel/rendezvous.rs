@@ -1,10 +1,7 @@
 //! Channels of capacity 0: pairs that are given up, calls whose time is over, and tasks.
-mod polling;
-#[path = "../src/channel/rounds.rs"]
-mod rounds;
 
-use polling::{Woken, poll};
-use rounds::rounds;
+use crate::polling::{Woken, poll};
+use crate::rounds::rounds;
 use std::panic::{AssertUnwindSafe, catch_unwind, resume_unwind};
 use std::sync::Arc;
 use std::sync::atomic::{AtomicBool, Ordering};
