@@ -319,10 +319,10 @@ static void atomic(const void *place, enum access access, int order) {
 /* The number of the queue that a thread would find now: to send to, or to take from for a group. */
 static uint32_t found_now(uint32_t side) { return code_number_of(code_queue_of(queue, side)); }
 
-static struct raw *raw_of_part(const void *part) {
-    const vahepito_pass *const pass = code_pass_of(part);
-    return &raws[((uintptr_t)pass->at - 65536) / PLACES / SIDES];
-}
+/* The number of a pass: by its queue, its side and its place there. */
+static uint32_t number_in(const vahepito_pass *pass) { return (uint32_t)((uintptr_t)pass->at - 65536); }
+
+static struct raw *raw_of_part(const void *part) { return &raws[number_in(code_pass_of(part)) / PLACES / SIDES]; }
 
 static bool has_close(const struct raw *raw) {
     bool has = raw->closed != 0;
@@ -553,7 +553,7 @@ struct pass_at {
 
 static struct pass_at find(const vahepito_pass *pass, bool is_sender) {
     (void)block_of(pass);
-    const uint32_t at = (uint32_t)((uintptr_t)pass->at - 65536), side = at / PLACES % SIDES;
+    const uint32_t at = number_in(pass), side = at / PLACES % SIDES;
     if (!pass->live || at / PLACES / SIDES >= world.raw_count) is_wrong("no pass is used");
     struct raw *const raw = &raws[at / PLACES / SIDES];
     if (!raw->is_live[side][at % PLACES]) is_wrong("a pass is used that was dropped");
@@ -724,7 +724,7 @@ uint32_t vahepito_observe(vahepito_pass *pass, vahepito_raw **observer) {
 uint32_t vahepito_drop(vahepito_pass *pass) {
     (void)block_of(pass);
     if (!pass->live) is_wrong("a pass is dropped twice");
-    const struct pass_at at = find(pass, ((uintptr_t)pass->at - 65536) / PLACES % SIDES == 0);
+    const struct pass_at at = find(pass, number_in(pass) / PLACES % SIDES == 0);
     if (at.pending->kind != 0) is_wrong("a pass is dropped in its call");
     at.raw->is_live[at.side][at.number] = 0, at.raw->shares--;
     *pass = (vahepito_pass)VAHEPITO_PASS_EMPTY;
