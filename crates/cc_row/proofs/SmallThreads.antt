@@ -4,6 +4,7 @@ use Rattle.std.proofs.lemmas.Bool.{cases_eq}
 use Rattle.cc_model.specs.Body.{body_of}
 use Rattle.cc_runs.specs.State.{State}
 use Rattle.cc_runs.specs.Run.{IsIdle, reached, moved}
+use Rattle.cc_runs.specs.Passes.{pass_of}
 use Rattle.cc_runs.specs.declared.phase.Phase.{Phase}
 use Rattle.cc_runs.proofs.Chains.Frame.{hold_here, hold_apart}
 use Rattle.cc_row.specs.Names.{Call, Move, Setting}
@@ -13,11 +14,11 @@ use Rattle.cc_row.specs.Threads.{Role, RowEvent, moves_of, moves_there, HasFound
 use Rattle.cc_row.specs.SmallThreads.{small_row, with_moves, takes_first, sends_second, fills_first, small_threads, SmallThreads}
 use Rattle.cc_row.proofs.Merge.{moves_here, moves_else}
 use Rattle.cc_row.proofs.SmallRun.{all_runs}
-use Rattle.cc_row.proofs.Threads.{mover, idle_first}
+use Rattle.cc_row.proofs.Threads.{idle_first}
 
 -- ---- what other passes don't see
 
-stands_still : (c : Setting) (s : State) (m : Move) (y : ℕ) → y ≢ mover m → (moved c s m).stand y ≡ s.stand y
+stands_still : (c : Setting) (s : State) (m : Move) (y : ℕ) → y ≢ pass_of m → (moved c s m).stand y ≡ s.stand y
 stands_still c s (Move.Begin p call known) y ne = hold_apart s.stand p y _ ne
 stands_still c s (Move.Step p) y ne = hold_apart s.stand p y _ ne
 stands_still c s (Move.Take p) y ne = hold_apart s.stand p y _ ne
@@ -28,7 +29,7 @@ state_at q events = reached (queues q) (moves_there q events)
 -- a move of this pass of this queue
 record IsOf (q p : ℕ) (m : RowMove) : Type 0 where
   at : m.at ≡ q
-  by : mover m.move ≡ p
+  by : pass_of m.move ≡ p
 
 -- another pass stands as it did
 apart : (q p : ℕ) (m : RowMove) (earlier : List RowEvent) → IsOf q p m → (x y : ℕ) → (x ≡ q → y ≡ p → ⊥) → (state_at x (RowEvent.Moves m ∷ earlier)).stand y ≡ (state_at x earlier).stand y

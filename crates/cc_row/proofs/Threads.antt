@@ -9,6 +9,7 @@ use Rattle.cc_runs.specs.Step.{stepped}
 use Rattle.cc_runs.specs.Lines.{event_at}
 use Rattle.cc_runs.specs.OnChain.{IsChain, IsChainOf, calls_on, answers_on}
 use Rattle.cc_runs.specs.Run.{IsRun, IsIdle, IsFinished, history_of, reached, moved, passes, nowhere}
+use Rattle.cc_runs.specs.Passes.{pass_of}
 use Rattle.cc_runs.specs.declared.phase.Event.{Event}
 use Rattle.cc_runs.specs.declared.phase.Phase.{Phase}
 use Rattle.cc_runs.proofs.RunPrefixes.{prefixes_begin}
@@ -112,12 +113,6 @@ none_some is = cc
 grown : (c : Setting) (m : Move) (moves : List Move) (x : Chain) (p : Answer → Bool) → IsRun c (m ∷ moves) → list_any p (answers_on x (history_of c moves)) ≡ true → list_any p (answers_on x (history_of c (m ∷ moves))) ≡ true
 grown c m moves Chain.Send p run is = any_prefix p _ _ (prefixes_begin c (m ∷ []) moves run).1.sends.answers is
 grown c m moves (Chain.Take g) p run is = any_prefix p _ _ ((prefixes_begin c (m ∷ []) moves run).1.takes g).answers is
-
--- the pass that makes a move
-abbrev pub mover : Move → ℕ
-mover (Move.Begin p call known) = p
-mover (Move.Step p) = p
-mover (Move.Take p) = p
 
 module _ (r : RowSetting) where
   abbrev c : ℕ → Setting
@@ -399,16 +394,16 @@ module _ (r : RowSetting) where
   }
 
   -- whoever makes a move at a queue has found that queue
-  has_found : (m : RowMove) (earlier : List RowEvent) → Runs (m ∷ moves_of earlier) → BeginsWhereFound r m.at m.move earlier → Kept earlier → HasFound r m.at (mover m.move) earlier × (mover m.move < passes (c m.at))
+  has_found : (m : RowMove) (earlier : List RowEvent) → Runs (m ∷ moves_of earlier) → BeginsWhereFound r m.at m.move earlier → Kept earlier → HasFound r m.at (pass_of m.move) earlier × (pass_of m.move < passes (c m.at))
   has_found m earlier runs found k = by m.move (run_here m (moves_of earlier) runs m.at refl) found
     where
-      by : (move : Move) → IsRun (c m.at) (move ∷ moves_there m.at earlier) → BeginsWhereFound r m.at move earlier → HasFound r m.at (mover move) earlier × (mover move < passes (c m.at))
+      by : (move : Move) → IsRun (c m.at) (move ∷ moves_there m.at earlier) → BeginsWhereFound r m.at move earlier → HasFound r m.at (pass_of move) earlier × (pass_of move < passes (c m.at))
       by (Move.Begin p call known) run found = (found, run.1.0)
       by (Move.Step p) run found = (k.busy m.at p (λ idle. run.1.1 (idle_event _ idle)), run.1.0)
       by (Move.Take p) run found = (k.busy m.at p (λ idle. idle_unfinished _ idle run.1.1), run.1.0)
 
   within : (m : RowMove) (earlier : List RowEvent) → Runs (m ∷ moves_of earlier) → BeginsWhereFound r m.at m.move earlier → Kept earlier → m.at ≤ last_of earlier
-  within m earlier runs found k = by (chain_of (c m.at).config (mover m.move)) (is_reached m.at (mover m.move) earlier k (has_found m earlier runs found k).0)
+  within m earlier runs found k = by (chain_of (c m.at).config (pass_of m.move)) (is_reached m.at (pass_of m.move) earlier k (has_found m earlier runs found k).0)
     where
       by : (x : Chain) → IsReached m.at x earlier → m.at ≤ last_of earlier
       by Chain.Send near = near
@@ -515,8 +510,8 @@ left_queues_rest r q m later since kept left away here =
     let before : List RowEvent = later ++ since in
     let runs : Runs r (moves_of (later ++ since)) = runs_before r m (moves_of (later ++ since)) kept.runs in
     let found = has_found r m (later ++ since) kept.runs kept.rules.1 (good r (later ++ since) runs kept.rules.0).kept in
-    let seat : ℕ = r.seats m.at (mover m.move) in
-    let was : WasAway (r.seats m.at (mover m.move)) q later since = away (r.seats m.at (mover m.move)) in
-    none_came r m.at (mover m.move) was.after (was.before ++ since) kept.serves found.1 (subst (λ (z : ℕ). IsLeft r z (was.before ++ since)) (sym here) (left_stays r q was.before since left))
+    let seat : ℕ = r.seats m.at (pass_of m.move) in
+    let was : WasAway (r.seats m.at (pass_of m.move)) q later since = away (r.seats m.at (pass_of m.move)) in
+    none_came r m.at (pass_of m.move) was.after (was.before ++ since) kept.serves found.1 (subst (λ (z : ℕ). IsLeft r z (was.before ++ since)) (sym here) (left_stays r q was.before since left))
     (λ has. was.away (record { role = has.role; queue = m.at }) has.looks here)
-    (subst (λ (l : List RowEvent). HasFound r m.at (mover m.move) l) (ap (λ (l : List RowEvent). l ++ since) was.split ∙ append_assoc was.after was.before since) found.0)
+    (subst (λ (l : List RowEvent). HasFound r m.at (pass_of m.move) l) (ap (λ (l : List RowEvent). l ++ since) was.split ∙ append_assoc was.after was.before since) found.0)

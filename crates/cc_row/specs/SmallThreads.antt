@@ -18,8 +18,8 @@ with_moves (m ∷ moves) earlier = RowEvent.Moves m ∷ with_moves moves earlier
 -- each step of the small threads, the first one in the last definition
 
 -- a take from the second queue
-abbrev pub small_events : List RowEvent → List RowEvent
-small_events earlier = with_moves (takes 1 22 []) (RowEvent.Looks 2 (Role.Takes 0) ∷ RowEvent.GoesOn 0 ∷ RowEvent.Leaves 2 ∷ earlier)
+abbrev pub takes_second : List RowEvent → List RowEvent
+takes_second earlier = with_moves (takes 1 22 []) (RowEvent.Looks 2 (Role.Takes 0) ∷ RowEvent.GoesOn 0 ∷ RowEvent.Leaves 2 ∷ earlier)
 
 -- two takes from the first one
 abbrev pub takes_first : List RowEvent → List RowEvent
@@ -34,7 +34,7 @@ abbrev pub fills_first : List RowEvent
 fills_first = with_moves (makes 0 0 Call.Close 20 (sends 0 19 (sends 0 27 []))) (RowEvent.Looks 0 Role.Sends ∷ [])
 
 abbrev pub small_threads : List RowEvent
-small_threads = small_events (takes_first (sends_second fills_first))
+small_threads = takes_second (takes_first (sends_second fills_first))
 
 pub record SmallThreads : Type 0 where
   pub kept : IsKept small_row small_threads
