@@ -1,4 +1,4 @@
--- The plan of what is read at its keys.
+-- The plan of the values at its keys.
 use Rattle.std.proofs.Common.{◌≡◌, ◌/◌, ℕ, true, List, codes, length, Some, None, option_and_then, unwrap_or, Ok, Err, refl, sym, ap, ◌∙◌}
 use Rattle.serde_json.specs.Data.{Data}
 use Rattle.serde_json.specs.Find.{get}

@@ -55,7 +55,7 @@ IsPlace text key place = MatchOption place (get key (tree text) ≡ None) (λ n.
 abbrev pub ArePlaces : (text : List ℕ) → List (Option ℕ) → Type 0
 ArePlaces text places = (key : List ℕ) (i : ℕ) → key_number key ≡ Some i → IsPlace text key (get_or places i None)
 
--- what is read at a key of the root: whether the value has its shape, and if so, what it gives; or what is told of an absent one
+-- the value at a key of the root: whether it has its shape, and if so, what it gives; or a default, if the key is absent
 pub record IsAtKey {A : Type 0} (test : Data → Bool) (of : Data → Option A) (absent : Option A) (at : Option Data) (fits : Bool) (given : Option A) : Type 0 where
   pub shape : fits ≡ unwrap_or (option_map test at) (is_some absent)
   pub value : fits ≡ true → given ≡ unwrap_or (option_map of at) absent

@@ -1,4 +1,4 @@
--- What is read at the keys of a plan.
+-- The values at the keys of a plan.
 use Rattle.std.specs.Prelude.{ℕ, ◌≡◌, ◌≤◌, ◌^◌, true, codes, length, map, Some, None, List, Option, option_map, option_and_then, if◌then◌else◌}
 use Rattle.serde_json.specs.Data.{Data}
 use Rattle.serde_json.specs.Find.{get}

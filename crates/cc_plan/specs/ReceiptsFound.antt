@@ -1,4 +1,4 @@
--- What is read at the keys of receipts.
+-- The values at the keys of receipts.
 use Rattle.std.specs.Prelude.{◌≡◌, true, codes, option_map, option_and_then}
 use Rattle.serde_json.specs.Data.{Data}
 use Rattle.serde_json.specs.Find.{get}

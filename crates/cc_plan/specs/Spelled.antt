@@ -35,7 +35,7 @@ Reads test of old fits given new = (d : Data) (rest : List Token) → Spells old
 abbrev pub IsGiven : {A : Type 0} → (of : Data → Option A) → (old : List Token) → (given : Option A) → Type 0
 IsGiven of old given = (d : Data) (rest : List Token) → Spells old d rest → given ≡ of d
 
--- what is read of the elements that are left of an array: the same as of a value
+-- the same of the elements that are left of an array
 pub record ReadsAll {A : Type 0} (test : List Data → Bool) (of : List Data → Option A) (old : List Token) (fits : Bool) (given : Option A) (new : List Token) : Type 0 where
   pub all : (ds : List Data) (rest : List Token) → Lists old ds rest → (fits ≡ test ds) × (fits ≡ true → (given ≡ of ds) × (new ≡ rest))
 

@@ -1,4 +1,4 @@
-//! What is read at the keys of a plan.
+//! The values at the keys of a plan.
 ghost use Rattle.std.specs.Prelude.{◌≡◌, ◌≤◌, ℕ, true, IfOk, IfSome, Some, None, length, option_and_then, nat_eq, if◌then◌else◌};
 ghost use Rattle.cc_plan.specs.Document.{tree};
 ghost use Rattle.cc_plan.specs.PlanFound.{AreNumbers, AreLists, IsFound};
@@ -18,7 +18,7 @@ use crate::version::version;
 use cc_model::Pass;
 use std::alloc::{AllocError, Global};
 
-/// What is read at the keys of a plan.
+/// The values at the keys of a plan.
 #[derive(Drop)]
 pub struct Found {
     /// Whether the root is an object of the keys of its table, each but `version` there, with values of their shapes.
@@ -59,7 +59,7 @@ pub struct Lists {
     pub schedule: Option<Vec<(Pass, u32)>>,
 }
 
-/// What is read at the keys of a plan.
+/// The values at the keys of a plan.
 #[tactic(auto, unfolding(crate::specs::PlanShape::has_plan_shape))]
 pub fn found_in(
     alloc: Global,

@@ -1,4 +1,4 @@
-//! The plan of what is read at its keys.
+//! The plan of the values at its keys.
 ghost use Rattle.std.specs.Prelude.{◌≡◌, ◌≤◌, IfSome, Some, None, option_map, option_and_then, length, if◌then◌else◌, true, ◌/◌};
 ghost use Rattle.cc_plan.specs.Answers.{Gives};
 ghost use Rattle.cc_plan.specs.Document.{tree};

@@ -1,4 +1,4 @@
-//! What is read at the keys of receipts.
+//! The values at the keys of receipts.
 ghost use Rattle.std.specs.Prelude.{IfOk};
 ghost use Rattle.cc_plan.specs.Document.{tree};
 ghost use Rattle.cc_plan.specs.ReceiptsFound.{AreParts};

@@ -1,4 +1,4 @@
-//! The receipts of what is read at their keys.
+//! The receipts of the values at their keys.
 ghost use Rattle.cc_plan.specs.Answers.{Gives};
 ghost use Rattle.cc_plan.specs.Document.{tree};
 ghost use Rattle.cc_plan.specs.Receipts.{receipts_value};

@@ -16,7 +16,7 @@ ghost use Rattle.cc_plan.specs.Members.{after_begin_object, key_number, value_in
 ghost use Rattle.cc_plan.specs.Document.{tree, is_value, fits, ArePlaces, IsRoot, IsAt, IsPlace};
 
 use crate::fault::PlanFault;
-use crate::tokens::members::{KEYS, have_known_keys, last_places, key_number, skip_to_value};
+use crate::tokens::members::{KEYS, have_known_keys, key_number, last_places, skip_to_value};
 use crate::tokens::number::is_finite;
 use cc_io::INPUT_LIMIT;
 use json::{Reader, Scratch, Token};

@@ -1,20 +1,20 @@
-//! What is read of a value.
+//! Values as they are read.
 
 ghost use Rattle.std.specs.Prelude.{◌≡◌, ◌&&◌, false, None};
 ghost use Rattle.cc_plan.specs.Rows.{both};
 
-/// What was read of a value: whether it has its shape, and what it gives.
+/// A value as it was read.
 #[derive(Clone, Copy, Drop)]
 pub struct Judged<T> {
-    /// Whether it has its shape. If it hasn't, not all of it was read.
+    /// Whether the value has its shape. If not, a part of it may not have been read.
     pub fits: bool,
-    /// What it gives, if it has its shape and is in its range.
+    /// The part that the value gives, if it has its shape and is in its range.
     pub value: Option<T>,
     /// How far the text had been read when the value was refused, in bytes.
     pub stop: usize,
 }
 
-/// A value of another shape, of which all was read up to this place.
+/// A value of another shape, which was read up to this place.
 pub fn misfit<T>(stop: usize) -> Judged<T>
     ensures { (result.fits ≡ false) × (result.value ≡ None) }
 {
@@ -25,12 +25,12 @@ pub fn misfit<T>(stop: usize) -> Judged<T>
     }
 }
 
-/// The place of the first refusal, of what was kept before and of what is kept now.
+/// The place at which a list was refused: this one, if it was kept before and isn't now.
 pub fn first_stop(stop: usize, was_kept: bool, is_kept: bool, at: usize) -> usize {
     if was_kept && !is_kept { at } else { stop }
 }
 
-/// Two parts that follow each other, as one.
+/// Two values that follow each other, as one.
 pub fn both<A: Drop, B: Drop>(first: Judged<A>, others: Judged<B>) -> Judged<(A, B)>
     ensures fits { result.fits ≡ (first.fits && others.fits) }
     ensures value { result.value ≡ both first.value others.value }

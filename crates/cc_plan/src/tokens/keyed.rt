@@ -19,7 +19,7 @@ use crate::tokens::list::{Part, list_of};
 use crate::tokens::{call, value};
 use std::alloc::{AllocError, Global};
 
-/// What was read at a key, with a note if it is refused.
+/// The value at a key, with a note if it is refused.
 pub fn noted<T: Drop>(at: Judged<T>, key: &'static str, reading: &mut Reading) -> Judged<T>
     ensures { (result.fits ≡ at.fits) × (result.value ≡ at.value) }
 {
@@ -27,17 +27,17 @@ pub fn noted<T: Drop>(at: Judged<T>, key: &'static str, reading: &mut Reading) -
     at
 }
 
-/// What is told of a key that isn't there: a value, or that it has to be there.
-pub fn absent<T: Drop>(told: Option<T>, key: &'static str, reading: &mut Reading) -> Judged<T>
-    ensures { (result.fits ≡ is_some told) × (result.value ≡ told) }
+/// The value of a key that isn't there: a default, or else a refusal, with a note.
+pub fn absent<T: Drop>(default: Option<T>, key: &'static str, reading: &mut Reading) -> Judged<T>
+    ensures { (result.fits ≡ is_some default) × (result.value ≡ default) }
 {
-    let fits = told.is_some();
+    let fits = default.is_some();
     if !fits {
         note_missing(reading, key);
     }
     Judged {
         fits,
-        value: told,
+        value: default,
         stop: 0,
     }
 }

@@ -20,9 +20,11 @@ members-preserved c =
       few = omega (arith, i.few, less, lesser);
       long = c.type_inv.places;
       last = one_so_far _ _ i.last c.next_key.new.self _ c.in-Ok-Some.name.now named passes lesser
-          (λ found d spelled so_far. (rw add-one (one_after c.members.place _ c.members.reader _ so_far.0 (member_after c.members.reader c.next_key.new.self _ c.in-Ok-Some.name.now named passes)),
-              subst (λ ps. AreLast c.args.reader.now (put c.in-Ok-Some.name.now d found) ps) (sym (c.put_place.ensures ∙ ap (λ o. with_place c.members.places o c.members.place) c.key_number.ensures.number))
-              (last_with _ found c.members.place c.members.reader c.next_key.new.self _ c.in-Ok-Some.name.now d c.members.places i.long so_far.1 so_far.0 named spelled)));
+          (λ found d spelled so_far. (
+            rw add-one (one_after c.members.place _ c.members.reader _ so_far.0 (member_after c.members.reader c.next_key.new.self _ c.in-Ok-Some.name.now named passes)),
+            subst (λ ps. AreLast c.args.reader.now (put c.in-Ok-Some.name.now d found) ps) (sym (c.put_place.ensures ∙ ap (λ o. with_place c.members.places o c.members.place) c.key_number.ensures.number))
+                (last_with _ found c.members.place c.members.reader c.next_key.new.self _ c.in-Ok-Some.name.now d c.members.places i.long so_far.1 so_far.0 named spelled),
+          ));
     }
 
 pub returns-then-not-skip_value : goal.returns-then-not-skip_value
