@@ -112,7 +112,7 @@ if has valgrind; then
     lost='definite,indirect'
     valgrind="valgrind -q --fair-sched=yes --error-exitcode=99 --leak-check=full --show-leak-kinds=$lost --errors-for-leak-kinds=$lost"
     limit=600 step 'Rust: under valgrind' env "CARGO_TARGET_$(tr 'a-z-' 'A-Z_' <<<"$host")_RUNNER=$valgrind" \
-        VAHEPITO_ROUNDS=2 cargo "${options[@]}" test --tests -- "${fewer[@]}"
+        VAHEPITO_ROUNDS=1 cargo "${options[@]}" test --tests -- "${fewer[@]}"
 else
     skip 'Rust: under valgrind' 'valgrind is not on this machine'
 fi
@@ -143,7 +143,7 @@ package=$room/$(basename "$package" .crate)
 export CARGO_TARGET_DIR=$room/of_package
 # So the tests of the one are those of the other.
 step 'Rust: the package has what the copy has' bash -c "for it in build.rs src tests examples lib README.md; do diff -r '$room/copy/'\$it '$package/'\$it || exit; done"
-limit=600 step 'Rust: the tests of the package' bash -c "cd '$package' && VAHEPITO_ROUNDS=2 cargo ${options[*]} test --tests -- ${searches[*]}"
+limit=600 step 'Rust: the tests of the package' bash -c "cd '$package' && VAHEPITO_ROUNDS=1 cargo ${options[*]} test --tests -- ${searches[*]}"
 cargo clippy --version >/dev/null 2>&1 &&
     step 'Rust: clippy on the package' bash -c "cd '$package' && cargo clippy --quiet --offline --all-targets -- -D warnings"
 mkdir -p "$room/repository/bindings" && cp -r "$room/copy" "$room/repository/bindings/rust"
