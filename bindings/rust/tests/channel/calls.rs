@@ -1,5 +1,4 @@
 //! Channels of any type: every answer, handles, and what becomes of items.
-
 use crate::rounds::rounds;
 use std::collections::BTreeSet;
 use std::error::Error;

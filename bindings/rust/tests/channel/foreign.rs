@@ -1,6 +1,6 @@
 //! User code (an item's drop or clone, a waker) that takes long, blocks, panics, or comes back to
 //! the channel: it holds up nobody, and loses nobody's notification.
-
+use crate::ends::ends;
 use crate::polling::{Woken, poll};
 use std::panic::{AssertUnwindSafe, catch_unwind, resume_unwind};
 use std::pin::Pin;
@@ -13,16 +13,6 @@ use std::time::{Duration, Instant};
 use vahepito::{Receiver, RecvError, Sender, TryRecvError, channel, groups};
 
 const SOON: Duration = Duration::from_millis(30);
-
-/// Does this on a thread of its own that has a minute.
-fn ends<T: Send + 'static>(what: impl FnOnce() -> T + Send + 'static) -> T {
-    let (tell, told) = mpsc::channel();
-    let thread = thread::spawn(move || tell.send(what()));
-    let given = told.recv_timeout(Duration::from_secs(60));
-    let given = given.expect("this doesn't come back, or it panics");
-    thread.join().unwrap().unwrap();
-    given
-}
 
 /// An item whose drop does this. A clone does nothing.
 struct OnDrop(Option<Arc<dyn Fn() + Send + Sync>>);

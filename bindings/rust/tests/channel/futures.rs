@@ -1,5 +1,4 @@
 //! Sends and takes as futures, polled by a loop that parks.
-
 use crate::polling::{Woken, poll};
 use crate::rounds::rounds;
 use std::panic::{AssertUnwindSafe, catch_unwind};

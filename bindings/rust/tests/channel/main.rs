@@ -1,6 +1,7 @@
 //! The calls of a channel, by threads and by tasks, and models of how they wait. One program has these tests, which is linked
 //! faster than one for each file.
 mod calls;
+mod ends;
 mod foreign;
 mod futures;
 mod looks;

@@ -1,5 +1,5 @@
 //! Channels of capacity 0: pairs that are given up, calls whose time is over, and tasks.
-
+use crate::ends::ends;
 use crate::polling::{Woken, poll};
 use crate::rounds::rounds;
 use std::panic::{AssertUnwindSafe, catch_unwind, resume_unwind};
@@ -19,16 +19,6 @@ const LONG: Duration = Duration::from_secs(50);
 
 fn open<T>(capacity: usize) -> (Sender<T>, Receiver<T>) {
     channel(capacity).unwrap()
-}
-
-/// Does this on a thread of its own that has a minute.
-fn ends<T: Send + 'static>(what: impl FnOnce() -> T + Send + 'static) -> T {
-    let (tell, told) = mpsc::channel();
-    let thread = thread::spawn(move || tell.send(what()));
-    let given = told.recv_timeout(Duration::from_secs(60));
-    let given = given.expect("this doesn't come back, or it panics");
-    thread.join().unwrap().unwrap();
-    given
 }
 
 /// A thread that selects a send, and has its item once this gives it; or panics then. It returns whether it sent.

@@ -1,5 +1,4 @@
 //! Selects over several channels, channels of capacity 0, and timers.
-
 use crate::parking::parked;
 use crate::rounds::rounds;
 use std::collections::HashSet;

@@ -1,11 +1,10 @@
 //! No wake-up is lost: a search over all interleavings of the waiting (`src/event.rs` says
 //! what its steps are) and of the rendezvous (`src/channel/rendezvous.rs`), and threads that stop for good where one
 //! is lost.
-
+use crate::ends::ends_within;
 use crate::parking::parked;
 use crate::rounds::rounds;
 use std::collections::HashSet;
-use std::sync::mpsc;
 use std::thread;
 use std::time::Duration;
 use vahepito::{Receiver, RecvTimeoutError, SendError, Sender, channel};
@@ -970,18 +969,7 @@ fn the_search_finds_each_fault_of_a_meeting() {
 
 /// Does this on a thread of its own. It stops for good where one wake-up is lost, and has two minutes.
 fn ends(what: impl FnOnce() + Send + 'static) {
-    let (tell, told) = mpsc::channel();
-    let thread = thread::spawn(move || {
-        what();
-        tell.send(()).unwrap();
-    });
-    let over = told.recv_timeout(Duration::from_secs(120));
-    assert_ne!(
-        over,
-        Err(mpsc::RecvTimeoutError::Timeout),
-        "a wake-up is lost"
-    );
-    thread.join().unwrap();
+    ends_within(Duration::from_secs(120), what);
 }
 
 /// Now and then so long a pause that the other side parks.
