@@ -27,9 +27,6 @@ module _ (text key : List ℕ) (found : Option (List Token)) (reader : List Toke
   pub given_at : {A : Type 0} (of : Option Data → Option A) (given : Option A) → IsGiven (λ d. of (Some d)) reader given → given ≡ of (get key (tree text))
   given_at of given gives = gives is_at.found is_at.rest is_at.spelled ∙ sym (ap of is_at.got)
 
-pub none_at : {A : Type 0} (test : Data → Bool) (of : Data → Option A) (absent : Option A) (at : Option Data) (fits : Bool) (given : Option A) → at ≡ None → (fits ≡ is_some absent) × (given ≡ absent) → IsAtKey test of absent at fits given
-none_at test of absent at fits given none told = rw none (record { shape = told.0; value = λ _. told.1 })
-
 -- a value that has to be there
 pub must_give : {A : Type 0} (of : Data → Option A) (at : Option Data) → unwrap_or (option_map of at) None ≡ option_and_then of at
 must_give of None = refl

@@ -38,9 +38,11 @@ pub closes : (old : List Token) (over : Bool) (new : List Token) → MatchBool o
 closes old over new ends = record { end = λ ds rest h. ends_list old ds rest h over new ends }
 
 -- the same number, by other words
-pub same_first : (low low' high high' : ℕ) (old new : List Token) (fits : Bool) (given same : Option ℕ) → low' ≡ low → high' ≡ high → ReadsFirst is_number (number_in low' high') old fits given new → same ≡ given → ReadsFirst is_number (number_in low high) old fits same new
-same_first low low' high high' old new fits given same from to reads is =
-    subst (λ o. ReadsFirst is_number (number_in low high) old fits o new) (sym is) (subst (λ n. ReadsFirst is_number (number_in n high) old fits given new) from (subst (λ n. ReadsFirst is_number (number_in low' n) old fits given new) to reads))
+pub same_first : (low low' high high' : ℕ) (old new : List Token) (fits told : Bool) (given same : Option ℕ) → low' ≡ low → high' ≡ high → ReadsFirst is_number (number_in low' high') old fits given new → told ≡ fits → same ≡ given
+    → ReadsFirst is_number (number_in low high) old told same new
+same_first low low' high high' old new fits told given same from to reads fit is =
+    subst (λ b. ReadsFirst is_number (number_in low high) old b same new) (sym fit) (subst (λ o. ReadsFirst is_number (number_in low high) old fits o new) (sym is)
+        (subst (λ n. ReadsFirst is_number (number_in n high) old fits given new) from (subst (λ n. ReadsFirst is_number (number_in low' n) old fits given new) to reads)))
 
 -- ---- the others
 

@@ -29,14 +29,7 @@ fn named(document: &Document<'_>, scratch: &mut Scratch) -> Result<Option<Judged
     ensures value { IfOk result (λ version. unwrap_or (option_map (λ j. j.value) version) (Some 1) ≡ version_of (tree document.now)) }
 {
     match document.at("version", scratch)? {
-        Some(mut reader) => {
-            let version = number_in(&mut reader, 1, 2);
-            Ok(Some(Judged {
-                fits: version.fits,
-                value: small(version.value),
-                stop: version.stop,
-            }))
-        }
+        Some(mut reader) => Ok(Some(small(number_in(&mut reader, 1, 2)))),
         None => Ok(None),
     }
 }

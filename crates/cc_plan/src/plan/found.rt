@@ -89,16 +89,16 @@ fn numbers_in(document: &Document<'_>, reading: &mut Reading) -> Result<Numbers,
 {
     let version = version(document, reading)?;
     let table = version.value.unwrap_or(1);
-    let groups = groups(document, table, reading)?;
-    let capacity = number_at(document, "capacity", 4096, reading)?;
-    let bound = number_at(document, "bound", 1024, reading)?;
+    let groups = small(groups(document, table, reading)?);
+    let capacity = small(number_at(document, "capacity", 4096, reading)?);
+    let bound = small(number_at(document, "bound", 1024, reading)?);
     let life = number_at(document, "life", 1 << 48, reading)?;
     Ok(Numbers {
         fit: version.fits && groups.fits && capacity.fits && bound.fits && life.fits,
         version: version.value,
-        groups: small(groups.value),
-        capacity: small(capacity.value),
-        bound: small(bound.value),
+        groups: groups.value,
+        capacity: capacity.value,
+        bound: bound.value,
         life: life.value,
     })
 }

@@ -1,8 +1,9 @@
 //! The plan of the values at its keys.
-ghost use Rattle.std.specs.Prelude.{◌≡◌, ◌≤◌, IfSome, Some, None, option_map, option_and_then, length, if◌then◌else◌, true, ◌/◌};
+ghost use Rattle.std.specs.Prelude.{◌≡◌, ◌≤◌, IfSome, option_map, length, true};
 ghost use Rattle.cc_plan.specs.Answers.{Gives};
 ghost use Rattle.cc_plan.specs.Document.{tree};
 ghost use Rattle.cc_plan.specs.Plan.{plan_value};
+ghost use Rattle.cc_plan.specs.PlanFound.{filled};
 ghost use Rattle.cc_plan.specs.PlanOf.{config_of, values_of_tree};
 ghost use Rattle.cc_plan.specs.PlanValues.{fill_groups};
 
@@ -79,8 +80,7 @@ pub fn values_in(
 /// The receivers, if they make up the groups.
 fn if_filled(all: Option<Vec<u32>>, groups: u32) -> Option<Vec<u32>>
     requires { (1 ≤ groups) × (groups ≤ 8) }
-    ensures value { option_map (λ v. v.items) result
-        ≡ option_and_then (λ xs. if fill_groups groups (length xs) then Some xs else None) (option_map (λ v. v.items) all) }
+    ensures value { option_map (λ v. v.items) result ≡ filled groups (option_map (λ v. v.items) all) }
     ensures range { IfSome result (λ v. length v.items ≤ 512) }
 {
     let all = all?;

@@ -32,12 +32,7 @@ impl Part for Takes {
     ghost value = { λ _. number_in 0 65536 };
 
     fn read(&self, reader: &mut Reader<'_>) -> Judged<u32> {
-        let takes = number_in(reader, 0, 65_536);
-        Judged {
-            fits: takes.fits,
-            value: small(takes.value),
-            stop: takes.stop,
-        }
+        small(number_in(reader, 0, 65_536))
     }
 }
 

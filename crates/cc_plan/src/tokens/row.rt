@@ -79,12 +79,7 @@ fn next_small(reader: &mut Reader<'_>, low: u32, high: u32) -> Judged<u32>
     ensures value { ReadsFirst is_number (number_in low high) reader.old result.fits result.value reader.new }
     ensures shorter { IsTrue result.fits → length reader.new < length reader.old }
 {
-    let number = next_number(reader, u64::from(low), u64::from(high));
-    Judged {
-        fits: number.fits,
-        value: small(number.value),
-        stop: number.stop,
-    }
+    small(next_number(reader, u64::from(low), u64::from(high)))
 }
 
 /// An entry of a schedule: a pass, and up to how many steps it makes.

@@ -47,13 +47,18 @@ pub fn number_in(reader: &mut Reader<'_>, low: u64, high: u64) -> Judged<u64>
 }
 
 /// The same number, which 32 bits hold.
-pub fn small(number: Option<u64>) -> Option<u32>
-    requires { IfSome number (λ n. n < 2 ^ 32) }
-    ensures { result ≡ number }
+pub fn small(number: Judged<u64>) -> Judged<u32>
+    requires { IfSome number.value (λ n. n < 2 ^ 32) }
+    ensures fits { result.fits ≡ number.fits }
+    ensures value { result.value ≡ number.value }
 {
-    match number {
-        Some(n) => Some(n as u32),
-        None => None,
+    Judged {
+        fits: number.fits,
+        value: match number.value {
+            Some(n) => Some(n as u32),
+            None => None,
+        },
+        stop: number.stop,
     }
 }
 

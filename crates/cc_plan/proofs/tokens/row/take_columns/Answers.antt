@@ -4,7 +4,7 @@ use Rattle.cc_plan.proofs.tokens.row.take_columns.Goals as goal
 
 pub returns-clause-value : goal.returns-clause-value
 returns-clause-value c =
-    reads_with _ _ _ _ _ _ _ _ _ _ _ _ _ (same_first _ _ _ _ _ _ _ _ _ refl c.most_receivers.ensures c.next_small-receiver.ensures.value refl)
+    reads_with _ _ _ _ _ _ _ _ _ _ _ _ _ (same_first _ _ _ _ _ _ _ _ _ _ refl c.most_receivers.ensures c.next_small-receiver.ensures.value refl refl)
     (reads_with _ _ _ _ _ _ _ _ _ _ _ _ _ c.next_number-place.ensures.value
     (reads_with _ _ _ _ _ _ _ _ _ _ _ _ _ c.next_small-sender.ensures.value
     (reads_with _ _ _ _ _ _ _ _ _ _ _ _ _ c.next_small-number.ensures.value
