@@ -1,5 +1,8 @@
 -- Refused claims: for each kind of mistake a small case, and a claim about it that the clause doesn't admit.
-use Rattle.std.specs.Prelude.{◌≡◌, ◌≢◌, ℕ, ◌<◌, ◌≤◌, [], ◌∷◌, length, Option, Some, None, Err}
+use Rattle.std.specs.Prelude.{◌≡◌, ◌≢◌, ℕ, ◌+◌, ◌<◌, ◌≤◌, Bool, List, All, [], ◌∷◌, length, slice_index, Option, Some, None, Ok, Err}
+use mathlib.Core.Option.{some, none}
+use lib.ListN.{get_elem?}
+use Rattle.atomic_table.specs.Table.{State}
 use Rattle.std.specs.declared.alloc.Global.{Global}
 use Rattle.std.specs.declared.result.Result.{Result}
 use Rattle.std.specs.declared.vec.Vec.{Vec}
@@ -18,7 +21,12 @@ use Rattle.cc_passes.specs.Results.{only}
 use Rattle.cc_passes.specs.Calls.{IsExhausted, TriesSend, TurnsSend}
 use Rattle.cc_passes.specs.Made.{IsMade, TakesIn}
 use Rattle.cc_passes.specs.Noting.{After}
-use Rattle.cc_passes.specs.Passes.{HasIdlePassOf}
+use Rattle.cc_passes.specs.Passes.{HasIdlePassOf, abandoned_of}
+use Rattle.cc_passes.specs.Kept.{Guarded}
+use Rattle.cc_passes.specs.Tried.{GaveNone}
+use Rattle.cc_passes.specs.declared.pool.place.Place.{Place}
+use Rattle.cc_passes.specs.declared.pool.pooled.Tried.{Tried}
+use Rattle.cc_passes.specs.declared.pool.kept.TheConstants.{FREE}
 use Rattle.cc_passes.specs.Caller.{IsOutside, SendsBy, TurnsBy}
 use Rattle.cc_passes.specs.Looks.{FindsAccepted}
 use Rattle.cc_passes.specs.Opened.{HasPool}
@@ -58,5 +66,13 @@ pub record RefusedClaims : Type 0 where
   -- a caller's note is of another queue, and a pass heeds it
   pub note_of_another_queue : (n : Noted) (now : Option Noted) (body : Result Body ℕ) (v : Walk) (new : Option Pass) (told : SendResult) → Refused (n.table_id ≡ v.table_id)
       → Refused (After (Some n) now (TriesSend body) (Some (Pass.Sender v)) new told)
+  -- a send was made by a sender that began two
+  pub begins_two_sends : (body : Body) (w v : Walk) (told : SendResult) → v.stand.begun ≡ 2 + w.stand.begun → Refused (TriesSend (Ok body) (Some (Pass.Sender w)) (Some (Pass.Sender v)) told)
+  -- a pass is given up as it was, and it begins a call before
+  pub begins_when_given_up : (w v : Walk) → v.stand.begun ≡ 1 + w.stand.begun → Refused (Some v ≡ abandoned_of (Some (Pass.Sender w)))
+  -- a row is searched, no place gave a call, and this place of the row had no try
+  pub place_without_a_try : (k : Kept) (row : List Kept) (all_there : Bool) → Refused (All (GaveNone (λ (kept : Kept) (tried : Tried SendResult). kept ≢ k) all_there) (k ∷ row))
+  -- a place is free, and its pass is away: the next caller would have it too
+  pub away_from_a_free_place : (z : Topic) (s : State Place Topic) → slice_index s.words 0 ≡ FREE → get_elem? s.homes 0 ≡ some none → Refused (Guarded z s)
   -- a pass that has a call lies in a place
   pub call_lies_in_a_place : (z : Topic) (v : Walk) → Refused (HasIdlePassOf z (Some (Pass.Taking v)))
