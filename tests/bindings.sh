@@ -38,8 +38,9 @@ else
 fi
 
 cd bindings/rust || exit 1
-# A debugger's lines are enough here: valgrind and the sanitizers print them. Nothing is compiled a second time after a change,
-# so what cargo would keep for that isn't made.
+# A debugger's lines are enough here: valgrind and the sanitizers print them. The tests with a feature and those of the package run
+# under neither, and are compiled without them. Nothing is compiled a second time after a change, so what cargo would keep for that
+# isn't made.
 [ -n "$quick" ] && [ -n "${CARGO_TARGET_DIR-}" ] || export CARGO_TARGET_DIR=$room/target
 export CARGO_TERM_COLOR=never CARGO_PROFILE_DEV_DEBUG=line-tables-only CARGO_INCREMENTAL=0
 options=(--quiet --locked --offline)
@@ -56,8 +57,8 @@ if [ -n "$quick" ]; then
     chosen=(--test threads --test hand_over)
 fi
 limit=600 step 'Rust: tests' cargo "${options[@]}" test
-limit=600 step 'Rust: tests with the feature strict' env "VAHEPITO_ROUNDS=${VAHEPITO_ROUNDS:-25}" cargo "${options[@]}" test "${chosen[@]}" --features strict -- "${searches[@]}"
-limit=600 step 'Rust: tests with the feature unproved' env "VAHEPITO_ROUNDS=${VAHEPITO_ROUNDS:-5}" cargo "${options[@]}" test "${chosen[@]}" --features unproved -- "${searches[@]}"
+limit=600 step 'Rust: tests with the feature strict' env CARGO_PROFILE_DEV_DEBUG=none "VAHEPITO_ROUNDS=${VAHEPITO_ROUNDS:-25}" cargo "${options[@]}" test "${chosen[@]}" --features strict -- "${searches[@]}"
+limit=600 step 'Rust: tests with the feature unproved' env CARGO_PROFILE_DEV_DEBUG=none "VAHEPITO_ROUNDS=${VAHEPITO_ROUNDS:-5}" cargo "${options[@]}" test "${chosen[@]}" --features unproved -- "${searches[@]}"
 mkdir "$room/logs"
 step 'Rust: calls over rows of queues are recorded' env "VAHEPITO_LOGS=$room/logs" "VAHEPITO_ROUNDS=${VAHEPITO_ROUNDS:-50}" \
     cargo "${options[@]}" test --lib judged -- --ignored
@@ -140,7 +141,7 @@ step 'Rust: the package is made, and compiles' cargo "${options[@]}" package --a
 package=$(echo "$CARGO_TARGET_DIR"/package/vahepito-[0-9]*.crate)
 tar xzf "$package" -C "$room"
 package=$room/$(basename "$package" .crate)
-export CARGO_TARGET_DIR=$room/of_package
+export CARGO_TARGET_DIR=$room/of_package CARGO_PROFILE_DEV_DEBUG=none
 # So the tests of the one are those of the other.
 step 'Rust: the package has what the copy has' bash -c "for it in build.rs src tests examples lib README.md; do diff -r '$room/copy/'\$it '$package/'\$it || exit; done"
 limit=600 step 'Rust: the tests of the package' bash -c "cd '$package' && VAHEPITO_ROUNDS=1 cargo ${options[*]} test --tests -- ${searches[*]}"
