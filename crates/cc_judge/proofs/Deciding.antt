@@ -1,5 +1,5 @@
 -- What the verdict on a log rests on: no log without ties, of items that differ and are below a number, is left undecided.
-use Rattle.std.proofs.Common.{ℕ, ◌<◌, ◌≤◌, List, Option, Some, None, Result, Ok, Err, IfOk, IfNone, arith}
+use Rattle.std.proofs.Common.{ℕ, ◌<◌, ◌≤◌, List, Option, Some, None, Result, Ok, Err, IfOk, IfSome, IfNone, arith}
 use Rattle.cc_judge.specs.Names.{Call, Kind}
 use Rattle.cc_judge.specs.Faults.{Did}
 use Rattle.cc_judge.specs.Table.{act_of}
@@ -16,3 +16,9 @@ pub ok_none : {X E : Type 0} (P Q : Type 0) (r : Result (Option X) E) → IfOk r
 ok_none P Q (Ok None) p f = f p
 ok_none P Q (Ok (Some x)) p f = p
 ok_none P Q (Err e) p f = p
+
+-- what holds of one that was found may be weakened
+pub ok_some : {X E : Type 0} (P Q : X → Type 0) (r : Result (Option X) E) → IfOk r (λ found. IfSome found P) → ((x : X) → P x → Q x) → IfOk r (λ found. IfSome found Q)
+ok_some P Q (Ok None) p f = p
+ok_some P Q (Ok (Some x)) p f = f x p
+ok_some P Q (Err e) p f = p

@@ -4,6 +4,7 @@ ghost use Rattle.cc_judge.specs.Names.{Call, Act};
 ghost use Rattle.cc_judge.specs.Order.{EndsBefore};
 ghost use Rattle.cc_judge.specs.Faults.{Did, Returned, BeganAfter, ShowsClosed, IsRising};
 
+use crate::table::call_at;
 use crate::{Act, Call};
 
 /// The places at which each item of a log was sent and taken.
@@ -19,7 +20,7 @@ pub struct Index {
 pub fn sent(calls: &[Call], place: usize) -> Option<u32>
     ensures { IfSome result (λ item. Did calls.now place (Act.Send item)) }
 {
-    match calls.get(place).copied()?.act {
+    match call_at(calls, place)?.act {
         Act::Send(item) => Some(item),
         _ => None,
     }
@@ -30,7 +31,7 @@ pub fn taken(calls: &[Call], place: usize) -> Option<u32>
     ensures some { IfSome result (λ item. Returned calls.now place (Act.Took item)) }
     ensures none { IfNone result ((item : ℕ) → Returned calls.now place (Act.Took item) → ⊥) }
 {
-    let call = calls.get(place).copied()?;
+    let call = call_at(calls, place)?;
     match (call.act, call.end) {
         (Act::Took(item), Some(_)) => Some(item),
         _ => None,
@@ -42,7 +43,7 @@ pub fn ends_before(calls: &[Call], first: usize, second: usize) -> bool
     ensures before { IsTrue result → EndsBefore calls.now first second }
     ensures others { IsFalse result → EndsBefore calls.now first second → ⊥ }
 {
-    match (calls.get(first).copied(), calls.get(second).copied()) {
+    match (call_at(calls, first), call_at(calls, second)) {
         (Some(one), Some(other)) => match one.end {
             Some(end) => end < other.begin,
             None => false,
@@ -56,7 +57,7 @@ pub fn began_after(calls: &[Call], place: usize, time: u64) -> bool
     ensures after { IsTrue result → BeganAfter calls.now place time }
     ensures others { IsFalse result → BeganAfter calls.now place time → ⊥ }
 {
-    match calls.get(place).copied() {
+    match call_at(calls, place) {
         Some(call) => time < call.begin,
         None => false,
     }

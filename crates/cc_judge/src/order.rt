@@ -5,7 +5,7 @@ ghost use Rattle.cc_judge.specs.Checks.{GoesOn, HasPlaces, IsKept, Marks};
 ghost use Rattle.cc_judge.specs.Table.{Enters};
 ghost use Rattle.cc_judge.specs.Order.{MayHaveDone, Does, HasStepOf, IsOfLog, IsOnce, IsWhole, RespectsRealTime, RespectsLines, IsRun, Allows, Closes, closed_after, IsOrder, of_any_capacity};
 
-use crate::table::narrow;
+use crate::table::{call_at, narrow, place_in};
 use crate::{Act, Call, Rules, Step, Tie};
 use std::alloc::{AllocError, Global};
 use std::collections::VecDeque;
@@ -25,7 +25,7 @@ fn is_of_log(calls: &[Call], order: &[Step]) -> bool
     ensures { IsTrue result → IsOfLog calls.now order.now }
 {
     for step in order {
-        let Some(call) = calls.get(step.place as usize) else {
+        let Some(call) = call_at(calls, step.place as usize) else {
             return false;
         };
         if !may_have_done(call.act, step.act) {
@@ -49,7 +49,6 @@ fn mark(marks: &mut Vec<bool>, place: usize) -> bool
 }
 
 /// Which of the calls of a log of this length have a step, or None if one has two or isn't of the log.
-#[tactic(auto, using(crate::proofs::Turns::marked_on, crate::proofs::Turns::all_once))]
 fn marked(alloc: Global, calls: usize, order: &[Step]) -> Result<Option<Vec<bool>>, AllocError>
     ensures once { IfOk result (λ o. IfSome o (λ v. IsOnce order.now)) }
     ensures has { IfOk result (λ o. IfSome o (λ v. (place : ℕ) → slice_get v.items place ≡ Some true → HasStepOf order.now place)) }
@@ -79,7 +78,7 @@ fn is_whole(calls: &[Call], marks: &[bool]) -> bool
 fn goes_on(calls: &[Call], place: u32, time: u64) -> Option<u64>
     ensures { IfSome result (GoesOn calls.now place time) }
 {
-    let call = calls.get(place as usize).copied()?;
+    let call = call_at(calls, place as usize)?;
     match call.end {
         Some(end) if end < time => None,
         _ => Some(time.max(call.begin)),
@@ -188,7 +187,6 @@ fn enter(table: &mut Vec<Option<u32>>, call: usize, at: u32) -> bool
 }
 
 /// Of each call the place of its step, or None if one has two or isn't of the log.
-#[tactic(auto, using(crate::proofs::Lines::placed_on, crate::proofs::Lines::placed_end))]
 fn places(
     alloc: Global,
     calls: usize,
@@ -212,11 +210,8 @@ fn places(
 fn keeps_tie(table: &Vec<Option<u32>>, tie: Tie) -> bool
     ensures { IsTrue result → IsKept table.now.items tie }
 {
-    match (
-        table.get(tie.earlier as usize),
-        table.get(tie.later as usize),
-    ) {
-        (Some(Some(earlier)), Some(Some(later))) => *earlier <= *later,
+    match (place_in(table, tie.earlier), place_in(table, tie.later)) {
+        (Some(earlier), Some(later)) => earlier <= later,
         _ => true,
     }
 }

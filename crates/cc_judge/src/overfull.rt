@@ -7,14 +7,14 @@ ghost use Rattle.cc_judge.specs.Table.{IsIndex};
 
 use crate::faults::{Index, began_after, is_absent, is_rising, sent, taken};
 use crate::room::capacity_of;
-use crate::table::place_in;
+use crate::table::{call_at, place_in};
 use crate::{Act, Call, Rules};
 
 /// Whether the call at this place had ended at a time.
 fn had_ended(calls: &[Call], place: usize, time: u64) -> bool
     ensures { IsTrue result → EndedAt calls.now place time }
 {
-    match calls.get(place).copied() {
+    match call_at(calls, place) {
         Some(call) => match call.end {
             Some(end) => end <= time,
             None => false,
@@ -71,7 +71,7 @@ fn all_stay(calls: &[Call], index: &Index, sends: &[usize], time: u64, left: boo
 fn is_past(calls: &[Call], place: usize, time: u64) -> bool
     ensures { IsTrue result → Did calls.now place Act.Taking → BeganAfter calls.now place time }
 {
-    match calls.get(place).copied() {
+    match call_at(calls, place) {
         Some(call) => !matches!(call.act, Act::Taking) || time < call.begin,
         None => true,
     }
@@ -127,7 +127,7 @@ fn are_more_left(calls: &[Call], index: &Index, sends: &[usize], number: usize, 
 fn end_of(calls: &[Call], place: usize) -> Option<u64>
     ensures { IfSome result (λ end. (one : Call) × (slice_get calls.now place ≡ Some one) × (one.end ≡ Some end)) }
 {
-    calls.get(place).copied()?.end
+    call_at(calls, place)?.end
 }
 
 /// Whether more of the items of these sends were in the queue than it holds, when the call at this place had ended.

@@ -6,6 +6,7 @@ ghost use Rattle.cc_judge.specs.Checks.{IsFullCall, IsSurelyOut, FewerIfSent};
 
 use crate::faults::Index;
 use crate::inside::{are_fewer, nothing, sends_of, takes_of};
+use crate::table::call_at;
 use crate::{Act, Call, Rules};
 use std::alloc::{AllocError, Global};
 
@@ -14,7 +15,7 @@ fn took_before(calls: &[Call], take: usize, item: u32, time: u64) -> bool
     ensures took { IsTrue result → Returned calls.now take (Act.Took item) }
     ensures ended { IsTrue result → EndedBy calls.now take time }
 {
-    match calls.get(take).copied() {
+    match call_at(calls, take) {
         Some(call) => match call.end {
             Some(end) => call.act == Act::Took(item) && end < time,
             None => false,
@@ -37,7 +38,7 @@ pub fn is_gone(calls: &[Call], index: &Index, item: u32, time: u64) -> bool
 fn is_surely_out(calls: &[Call], index: &Index, place: usize, time: u64) -> bool
     ensures { IsTrue result → IsSurelyOut calls.now place time }
 {
-    match calls.get(place).copied() {
+    match call_at(calls, place) {
         Some(call) => match call.act {
             Act::Send(item) => time < call.begin || is_gone(calls, index, item, time),
             _ => true,
@@ -76,7 +77,7 @@ pub struct Times {
 pub fn full_times(calls: &[Call], place: usize) -> Option<Times>
     ensures { IfSome result (λ t. IsFullCall calls.now place t.begin t.end) }
 {
-    let call = calls.get(place).copied()?;
+    let call = call_at(calls, place)?;
     match (call.act, call.end) {
         (Act::Full, Some(end)) => Some(Times {
             begin: call.begin,

@@ -4,6 +4,7 @@ ghost use Rattle.cc_judge.specs.Faults.{WasClosed};
 ghost use Rattle.cc_judge.specs.Sweeps.{EndsAt, IsShutAt, IsDone, IsSooner};
 
 use crate::faults::shows_closed;
+use crate::table::call_at;
 use crate::{Call, Rules};
 
 /// The call that shows first that the queue is closed: of those that returned the one that ended first.
@@ -21,7 +22,7 @@ fn shown_at(calls: &[Call], place: usize) -> Option<u64>
     ensures ended { IfSome result (EndsAt calls.now place) }
     ensures others { IfNone result (WasClosed calls.now place → ⊥) }
 {
-    let call = calls.get(place).copied()?;
+    let call = call_at(calls, place)?;
     if shows_closed(call.act) {
         call.end
     } else {

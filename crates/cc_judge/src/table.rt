@@ -97,7 +97,6 @@ pub fn place_in(table: &Vec<Option<u32>>, item: u32) -> Option<usize>
 }
 
 /// Finds the calls of this kind by their items, which are below `items`. It takes memory in proportion to the items.
-#[tactic(auto, using(crate::proofs::Tables::tabled_twice, crate::proofs::Tables::did_here, crate::proofs::Tables::stray_past))]
 pub fn find(alloc: Global, calls: &[Call], items: usize, kind: Kind) -> Result<Found, AllocError>
     ensures found { IfOk result (IsFound calls.now kind) }
     ensures past { IfOk result (IsPast items calls.now kind) }

@@ -1,5 +1,5 @@
 use Rattle.std.proofs.Common.{◌≡◌, ℕ, ◌+◌, List, length, Option, sym, ap, ◌∙◌, subst}
-use Rattle.cc_judge.proofs.Tables.{TabledTo, tabled_skip, tabled_new, tabled_end, as_long}
+use Rattle.cc_judge.proofs.Tables.{TabledTo, tabled_skip, tabled_new, tabled_twice, tabled_end, as_long, did_here, stray_past}
 use Rattle.cc_judge.proofs.table.find.Goals as goal
 use Rattle.cc_judge.proofs.table.find.Goals.{in-Some+in_ok-enter+in-New, in_default}
 
@@ -12,6 +12,19 @@ loop-place-preserved c =
           subst Goes (ap (λ t. t.items) (sym w.table-is)) (tabled_new _ _ _ _ _ _ _ c.loop-place-test.true w.in-Some.ensures.some entered.0 entered.1 c.loop-place.invariant.0, as_long _ _ _ _ entered.1 ∙ c.loop-place.invariant.1)
       | in_default w ↦ subst Goes (ap (λ t. t.items) (sym w.table-is)) (tabled_skip _ _ _ _ _ w.in_default.ensures.none c.loop-place.invariant.0, c.loop-place.invariant.1)
     ]
+
+pub returns-in-Had-clause-found : goal.returns-in-Had-clause-found
+returns-in-Had-clause-found c =
+    let entered = rw c.in-Had.is at c.in_ok-enter.ensures in
+    tabled_twice _ _ _ _ _ _ _ c.loop-place-test.true c.in-Some.ensures.some entered.0 c.loop-place.invariant.0
+
+pub returns-in-Stray-clause-found : goal.returns-in-Stray-clause-found
+returns-in-Stray-clause-found c = (c.in-Some.item, did_here _ _ _ _ c.loop-place-test.true c.in-Some.ensures.some)
+
+pub returns-in-Stray-clause-past : goal.returns-in-Stray-clause-past
+returns-in-Stray-clause-past c =
+    let none = rw c.in-Stray.is at c.in_ok-enter.ensures in
+    stray_past _ _ _ _ _ _ _ c.loop-place-test.true c.in-Some.ensures.some none c.loop-place.invariant.1
 
 pub returns-clause-found : goal.returns-clause-found
 returns-clause-found c = tabled_end _ _ _ _ c.loop-place-test.false c.loop-place.invariant.0
