@@ -3,13 +3,13 @@ use Rattle.std.proofs.Common.{◌≡◌, ◌≢◌, ◌+◌, ◌++◌, ◌<◌, 
 use Rattle.std.specs.Result.{IsErrAnd}
 use Rattle.std.specs.HashMap.{keys}
 use Rattle.std.proofs.lemmas.Bool.{lt-ltb}
-use Rattle.cc_log.specs.Names.{Call, Ending, LineFault, Log, LogFault, Options, State, Window}
+use Rattle.cc_log.specs.Names.{Call, Ending, LineFault, LogFault, Options, State, Window}
 use Rattle.cc_log.specs.Answers.{Gives, GivesOfInput, IsLongLine, Refuses, RefusesInput}
 use Rattle.cc_log.specs.Lines.{GivesLine, HasInput, HasLines, IsAhead, IsSound, IsTooLong, held, is_blank, line_limit, lines_of}
 use Rattle.cc_log.specs.declared.lines.Lines.{Lines}
 use Rattle.cc_judge.specs.Late.{padded}
-use Rattle.cc_log.specs.Log.{Known, Refusal, no_calls, ◌>>=◌, at_first, bad_line, bodies_of, calls_of, has_close, if_some, is_early, is_part, log_of, spelled, ties_of, tree_of, with_line, with_lines, with_tree}
-use Rattle.cc_log.specs.State.{IsStep, Shows, log_view}
+use Rattle.cc_log.specs.Log.{Known, Refusal, Spelled, no_calls, ◌>>=◌, at_first, bad_line, bodies_of, calls_of, has_close, if_some, is_early, is_part, log_of, spelled, ties_of, tree_of, with_line, with_lines, with_tree}
+use Rattle.cc_log.specs.State.{IsStep, Shows}
 use Rattle.cc_log.proofs.Ahead.{some_ahead, some_input}
 use Rattle.cc_log.proofs.Steps.{calls_length, refused_first}
 
@@ -60,11 +60,11 @@ given left value due (Ok x) input has gives = (input, has, gives)
 given left value due (Err fault) input has gives = of_input left due fault (input, has, gives)
 
 -- no further line
-pub at_end : (left_first left : Option (List ℕ)) (l : Lines) (known : Known) (number : ℕ) (options : Options) (result : Result Log LogFault) → HasLines l left [] [] → ((after : List ℕ) → IsAhead l left after → Leads options left_first known number after)
-    → Gives log_view result (if_some options.skew known) → GivesOfInput log_view left_first result (log_of options)
-at_end left_first left l known number options result none leads gives =
+pub at_end : {A : Type 0} (left_first left : Option (List ℕ)) (l : Lines) (known : Known) (number : ℕ) (options : Options) (value : A → Spelled) (result : Result A LogFault) → HasLines l left [] [] → ((after : List ℕ) → IsAhead l left after → Leads options left_first known number after)
+    → Gives value result (if_some options.skew known) → GivesOfInput value left_first result (log_of options)
+at_end left_first left l known number options value result none leads gives =
     let h = leads none.text none.ahead in
-    given left_first log_view (log_of options) result h.input h.has (subst (λ r. Gives log_view result (r >>= if_some options.skew)) (sym (h.same ∙ ap (λ lines. with_lines known number lines) none.lines_are)) gives)
+    given left_first value (log_of options) result h.input h.has (subst (λ r. Gives value result (r >>= if_some options.skew)) (sym (h.same ∙ ap (λ lines. with_lines known number lines) none.lines_are)) gives)
 
 -- a refused line
 pub refused_line : (left_first left : Option (List ℕ)) (l : Lines) (known : Known) (number : ℕ) (options : Options) (line : List ℕ) (rest : List (List ℕ)) (fault : LogFault) → HasLines l left [] (line ∷ rest)

@@ -33,11 +33,11 @@ pub refused_next : {A B : Type 0} (fault : LogFault) (due : Result A Refusal) (x
 refused_next fault due x next is h = subst (λ r. Refuses fault (r >>= next)) (sym is) h
 
 -- the item of a call that may not come next
-pub refused_item : (fault : LogFault) (e : Entry) (last : Option Last) (sender : Body → Option ℕ) → after_last e.line.begin last ≡ Ok tt → Refuses fault (differs e.number e.line.said sender) → Refuses fault (allowed e last sender)
-refused_item fault e last sender free h = refused_next fault (or_refusal e.number (after_last e.line.begin last)) tt (λ free. differs e.number e.line.said sender) (ap (or_refusal e.number) free) h
+pub refused_item : (fault : LogFault) (e : Entry) (last : Option Last) (sender : Body → Option ℕ) → or_refusal e.number (after_last e.line.begin last) ≡ Ok tt → Refuses fault (differs e.number e.line.said sender) → Refuses fault (allowed e last sender)
+refused_item fault e last sender free h = refused_next fault (or_refusal e.number (after_last e.line.begin last)) tt (λ free. differs e.number e.line.said sender) free h
 
-pub allowed_given : (e : Entry) (last : Option Last) (sender : Body → Option ℕ) → after_last e.line.begin last ≡ Ok tt → differs e.number e.line.said sender ≡ Ok tt → allowed e last sender ≡ Ok tt
-allowed_given e last sender free new = ap (λ r. or_refusal e.number r >>= (λ free. differs e.number e.line.said sender)) free ∙ new
+pub allowed_given : (e : Entry) (last : Option Last) (sender : Body → Option ℕ) → or_refusal e.number (after_last e.line.begin last) ≡ Ok tt → differs e.number e.line.said sender ≡ Ok tt → allowed e last sender ≡ Ok tt
+allowed_given e last sender free new = ap (λ r. r >>= (λ free. differs e.number e.line.said sender)) free ∙ new
 
 -- only the sender of its own item counts
 same_sender : (number : ℕ) (said : Said) (f g : Body → Option ℕ) → ((body : Body) → f body ≡ g body) → differs number said f ≡ differs number said g

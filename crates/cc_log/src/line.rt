@@ -7,7 +7,7 @@ ghost use Rattle.std.specs.Result.{result_map_both};
 ghost use Rattle.serde_json.specs.Find.{as_object};
 ghost use Rattle.serde_json.specs.View.{view, items_view};
 ghost use Rattle.cc_plan.specs.Json.{each, has_only, listed, whole_number};
-ghost use Rattle.cc_log.specs.Line.{answer_of, begins_late, body_in, body_of, close_of, end_of, ending_in, ending_of, is_call_key, line_of, no_item, object_of_call, said_in, send_of, take_of, took_item};
+ghost use Rattle.cc_log.specs.Line.{answer_of, begins_late, body_in, body_of, close_of, end_of, ending_in, ending_of, is_call_key, line_of, no_item, object_of_call, said_in, said_of, send_of, take_of, took_item};
 
 use crate::fault::LineFault;
 use serde_json::{Map, Value};
@@ -227,16 +227,34 @@ fn close_of(value: &Value, answer: Option<&Value>) -> Result<Said, LineFault>
 }
 
 /// The act of the call of a line, by the values of its keys.
-fn said_of(tree: &Value, end: Option<u64>) -> Result<Said, LineFault>
-    ensures { result ≡ said_in end (view tree.now) }
+fn said_of(
+    end: Option<u64>,
+    send: Option<&Value>,
+    take: Option<&Value>,
+    close: Option<&Value>,
+    answer: Option<&Value>,
+) -> Result<Said, LineFault>
+    ensures { result ≡ said_of end (option_map (λ v. view v.now) send.entry) (option_map (λ v. view v.now) take.entry) (option_map (λ v. view v.now) close.entry) (option_map (λ v. view v.now) answer.entry) }
 {
-    let answer = tree.get("answer");
-    match (tree.get("send"), tree.get("take"), tree.get("close")) {
+    match (send, take, close) {
         (Some(value), None, None) => send_of(end, value, answer),
         (None, Some(value), None) => take_of(end, value, answer),
         (None, None, Some(value)) => close_of(value, answer),
         _ => Err(LineFault::Call),
     }
+}
+
+/// The act of the call that the line of this tree describes.
+fn said_in(tree: &Value, end: Option<u64>) -> Result<Said, LineFault>
+    ensures { result ≡ said_in end (view tree.now) }
+{
+    said_of(
+        end,
+        tree.get("send"),
+        tree.get("take"),
+        tree.get("close"),
+        tree.get("answer"),
+    )
 }
 
 /// The call that the line of this tree describes.
@@ -248,7 +266,7 @@ pub fn read_line(tree: &Value) -> Result<Line, LineFault>
         return Err(LineFault::Begin);
     };
     let end = end_of(begin, tree.get("end"))?;
-    let said = said_of(tree, end)?;
+    let said = said_in(tree, end)?;
     Ok(Line { begin, end, said })
 }
 

@@ -1,5 +1,5 @@
 //! The log that the lines of an input spell.
-ghost use Rattle.std.specs.Prelude.{◌≡◌, ◌<◌, ◌+◌, ◌-◌, ◌^◌, ◌||◌, [], false, None, IfOk, is_some, slice_get};
+ghost use Rattle.std.specs.Prelude.{◌≡◌, ◌<◌, ◌+◌, ◌-◌, ◌^◌, ◌||◌, [], false, None, IfOk, OnOk, is_some, slice_get};
 ghost use Rattle.cc_judge.specs.Late.{judged_capacity};
 ghost use Rattle.cc_log.specs.Answers.{Gives, GivesOfInput, failed_reads};
 ghost use Rattle.cc_log.specs.Log.{Known, at_first, if_some, is_early, log_of};
@@ -160,25 +160,46 @@ fn is_part(late: bool, from: Option<u64>, ends: Option<Ending>) -> bool
         }
 }
 
-/// The log of all lines.
-fn finish(alloc: Global, state: State) -> Result<Log, LogFault>
-    ensures due { (options : Options) (known : Known) → Shows options state known → Gives log_view result (if_some options.skew known) }
-    ensures capacity { IfOk result (λ log. log.rules.capacity ≡ judged_capacity log.part state.log.rules.capacity) }
+/// Finishes the log of all lines.
+fn finish(alloc: Global, state: &mut State) -> Result<(), LogFault>
+    ensures due { (options : Options) (known : Known) → Shows options state.old known → Gives (λ done. log_view state.new.log) result (if_some options.skew known) }
+    ensures capacity { OnOk result (state.new.log.rules.capacity ≡ judged_capacity state.new.log.part state.old.log.rules.capacity) }
 {
-    let State {
-        mut log,
-        items,
-        late,
-    } = state;
-    if log.calls.is_empty() {
+    if state.log.calls.is_empty() {
         return Err(LogFault::Empty);
     }
-    let part = is_part(late, log.options.window.from, log.ends);
-    log.items = items.len();
-    log.part = part;
-    log.rules.capacity = judged_capacity(part, log.rules.capacity);
-    pad(alloc, part, log.rules.closes, &mut log.calls, items.len())?;
-    Ok(log)
+    let part = is_part(state.late, state.log.options.window.from, state.log.ends);
+    let items = state.items.len();
+    state.log.items = items;
+    state.log.part = part;
+    state.log.rules.capacity = judged_capacity(part, state.log.rules.capacity);
+    pad(
+        alloc,
+        part,
+        state.log.rules.closes,
+        &mut state.log.calls,
+        items,
+    )
+}
+
+/// Adds the lines of an input to the log of no lines, and finishes it.
+fn add_lines<R: Source>(alloc: Global, source: &mut R, state: &mut State) -> Result<(), LogFault>
+    requires failures { R.read_failures source.old < 2 ^ 64 - 1 }
+    requires first { Shows state.old.log.options state.old (at_first state.old.log.options.window) }
+    ensures due { GivesOfInput (λ done. log_view state.new.log) (R.bytes_left source.old) result (log_of state.old.log.options) }
+    ensures capacity { OnOk result (state.new.log.rules.capacity ≡ judged_capacity state.new.log.part state.old.log.options.capacity) }
+    ensures failures { R.read_failures source.new ≡ R.read_failures source.old + failed_reads result }
+{
+    let mut lines = Lines::new(alloc)?;
+    let mut line = Vec::new(alloc);
+    for number in 1..usize::MAX {
+        if !lines.next(source, number, &mut line)? {
+            return finish(alloc, state);
+        }
+        add_line(alloc, state, &line, number)?;
+    }
+    // A log of that many lines is too large for the memory.
+    Err(LogFault::Memory)
 }
 
 /// The log that the lines of an input spell; blank lines are passed over. Or why they spell none: the first line with
@@ -190,14 +211,6 @@ pub fn read_log<R: Source>(alloc: Global, source: &mut R, options: Options) -> R
     ensures failures { R.read_failures source.new ≡ R.read_failures source.old + failed_reads result }
 {
     let mut state = at_first(alloc, options);
-    let mut lines = Lines::new(alloc)?;
-    let mut line = Vec::new(alloc);
-    for number in 1..usize::MAX {
-        if !lines.next(source, number, &mut line)? {
-            return finish(alloc, state);
-        }
-        add_line(alloc, &mut state, &line, number)?;
-    }
-    // A log of that many lines is too large for the memory.
-    Err(LogFault::Memory)
+    add_lines(alloc, source, &mut state)?;
+    Ok(state.log)
 }

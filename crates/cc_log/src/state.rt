@@ -5,7 +5,7 @@ ghost use Rattle.serde_json.specs.View.{view};
 ghost use Rattle.cc_log.specs.Answers.{Gives};
 ghost use Rattle.cc_log.specs.Line.{begins_late};
 ghost use Rattle.cc_log.specs.Lines.{is_blank, line_limit};
-ghost use Rattle.cc_log.specs.Log.{Known, is_close, json_in, not_ended, tree_of, with_call, with_line, with_tree};
+ghost use Rattle.cc_log.specs.Log.{Known, after_last, is_close, json_in, not_ended, or_refusal, tree_of, with_call, with_line, with_tree};
 ghost use Rattle.cc_log.specs.State.{Adds, IsStep, Shows, entry_in};
 ghost use Rattle.cc_log.specs.Names.{LogFault, Options};
 
@@ -115,6 +115,23 @@ fn last_line(log: &Log, last: Option<Last>) -> Option<usize> {
     log.line_of(last?.place as usize)
 }
 
+/// Checks that a call may begin then, after the last one of its thread.
+fn check_last(log: &Log, begin: u64, last: Option<Last>, number: usize) -> Result<(), LogFault>
+    ensures { Gives (λ done. done) result (or_refusal number (after_last begin last)) }
+{
+    let Err(fault) = after_last(begin, last) else {
+        return Ok(());
+    };
+    match last_line(log, last) {
+        Some(last) => Err(LogFault::Clash {
+            line: number,
+            fault,
+            last,
+        }),
+        None => Err(fault_of(number, fault)),
+    }
+}
+
 /// Adds a call, if it may come next.
 fn add(alloc: Global, state: &mut State, parsed: Parsed, number: usize) -> Result<(), LogFault>
     ensures { Adds state.old state.new (entry_in number parsed) result }
@@ -122,16 +139,7 @@ fn add(alloc: Global, state: &mut State, parsed: Parsed, number: usize) -> Resul
     let Parsed { thread, line } = parsed;
     let place = narrow(state.log.calls.len())?;
     let last = state.log.threads.get(thread.as_str()).copied();
-    if let Err(fault) = after_last(line.begin, last) {
-        let Some(last) = last_line(&state.log, last) else {
-            return Err(fault_of(number, fault));
-        };
-        return Err(LogFault::Clash {
-            line: number,
-            fault,
-            last,
-        });
-    }
+    check_last(&state.log, line.begin, last, number)?;
     let act = act_of(alloc, &mut state.items, line.said, number)?;
     let skew = state.log.options.skew;
     note_tie(&mut state.log.rules.ties, skew, place, line.begin, last)?;

@@ -61,6 +61,29 @@ returns-then-self-2-clause-line g c =
       | else-self-via-else-self w ↦ absurd (true≢false (sym c.if-self-2.true ∙ w.if-self.false))
     ]
 
+pub returns-then-found-clause-sound : goal.returns-then-found-clause-sound
+returns-then-found-clause-sound g c =
+    let out = c.in_ok-found.ensures in
+    sound_after c.loop.self c.give_out.new.self (g.R.Source.bytes_left c.loop.source) c.loop.invariant.sound out.same.0 out.same.1 out.same.2 out.begins
+
+pub returns-then-is_empty-clause-sound : goal.returns-then-is_empty-clause-sound
+returns-then-is_empty-clause-sound g c =
+    let out = c.in_ok-found.ensures in
+    sound_after c.loop.self c.give_out.new.self (g.R.Source.bytes_left c.loop.source) c.loop.invariant.sound out.same.0 out.same.1 out.same.2 out.begins
+
+pub returns-then-self-2-clause-sound : goal.returns-then-self-2-clause-sound
+returns-then-self-2-clause-sound g c =
+    let out = c.in_ok-found.ensures in
+    sound_after c.loop.self c.give_out.new.self (g.R.Source.bytes_left c.loop.source) c.loop.invariant.sound out.same.0 out.same.1 out.same.2 out.begins
+
+pub fill-requires-clause-sound : goal.fill-requires-clause-sound
+fill-requires-clause-sound g c =
+    let out = c.in_ok-found.ensures in
+    sound_after c.loop.self c.give_out.new.self (g.R.Source.bytes_left c.loop.source) c.loop.invariant.sound out.same.0 out.same.1 out.same.2 out.begins
+
+pub fill-requires-clause-empty : goal.fill-requires-clause-empty
+fill-requires-clause-empty g c = subst (λ b. OnFalse b (c.give_out.new.self.start ≡ c.give_out.new.self.end)) c.if-found.false c.in_ok-found.ensures.none
+
 pub loop-preserved : goal.loop-preserved
 loop-preserved g c =
     let left = g.R.Source.bytes_left c.loop.source in
