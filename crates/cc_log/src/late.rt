@@ -1,6 +1,6 @@
 //! The calls that a part of a log may lack.
 ghost use Rattle.std.specs.Prelude.{◌≡◌, ◌++◌, slice_get, slice_set, unwrap_or, true, false, IfErr, OnOk, IfOk};
-ghost use Rattle.cc_judge.specs.Late.{early_close, lacking, padded, sent_items, taken_items};
+ghost use Rattle.cc_judge.specs.Late.{early_close, lacking, mark_sent, mark_taken, padded, sent_items, taken_items};
 ghost use Rattle.cc_log.specs.Names.{LogFault};
 
 use crate::fault::LogFault;
@@ -14,9 +14,7 @@ fn sent_items(alloc: Global, calls: &[Call], items: usize) -> Result<Vec<bool>, 
 {
     let mut marks = vec![in alloc; false; items]?;
     for call in calls {
-        if let Act::Send(item) = call.act {
-            mark(&mut marks, item);
-        }
+        mark_sent(&mut marks, call.act);
     }
     Ok(marks)
 }
@@ -27,9 +25,7 @@ fn taken_items(alloc: Global, calls: &[Call], items: usize) -> Result<Vec<bool>,
 {
     let mut marks = vec![in alloc; false; items]?;
     for call in calls {
-        if let Act::Took(item) = call.act {
-            mark(&mut marks, item);
-        }
+        mark_taken(&mut marks, call.act);
     }
     Ok(marks)
 }
@@ -40,6 +36,24 @@ fn mark(marks: &mut Vec<bool>, item: u32)
 {
     if (item as usize) < marks.len() {
         marks[item as usize] = true;
+    }
+}
+
+/// Marks the item that an act sent, if it sent one.
+fn mark_sent(marks: &mut Vec<bool>, act: Act)
+    ensures { marks.new.items ≡ mark_sent marks.old.items act }
+{
+    if let Act::Send(item) = act {
+        mark(marks, item);
+    }
+}
+
+/// Marks the item that an act took, if it took one.
+fn mark_taken(marks: &mut Vec<bool>, act: Act)
+    ensures { marks.new.items ≡ mark_taken marks.old.items act }
+{
+    if let Act::Took(item) = act {
+        mark(marks, item);
     }
 }
 
