@@ -189,10 +189,10 @@ module _ (plan : PlanValue) (who : Pass) (row : ℕ) (named : index_of (setting_
   }
 
   -- the pass had neither a step nor a call to begin
-  pub none_turned : (m m1 : View) (begun : List ℕ) → row < length begun → told_at ((state_in m).stand row).phase ≡ None → Event.Idle ≡ event_of m who → HasStepped m (index_of m.setting who) Event.Idle m1
-      → next_call plan who (get_or begun row 0) ≡ None → HasTurned plan who row m m1 begun begun Event.Idle
-  none_turned m m1 begun inside untold is did next = record {
-    at = λ run at. rw (unmoved run at) (still run at);
+  pub none_turned : (m : View) (begun : List ℕ) → row < length begun → told_at ((state_in m).stand row).phase ≡ None → Event.Idle ≡ event_of m who → next_call plan who (get_or begun row 0) ≡ None
+      → HasTurned plan who row m m begun begun Event.Idle
+  none_turned m begun inside untold is next = record {
+    at = λ run at. rw (unmoved run at) at;
     told = λ run at. rw (none run at) (sym (ap (λ (r : List Move). event_at (phase_in plan r row)) (begins-none row (phase_in plan run row) _ run) ∙ stepless run at));
     ended = λ run at more. ended run (stepless run at) (none run at);
   }
@@ -205,9 +205,6 @@ module _ (plan : PlanValue) (who : Pass) (row : ℕ) (named : index_of (setting_
 
       unmoved : (run : List Move) → IsAt plan m begun run → turn plan who row run ≡ run
       unmoved run at = no_turn run (stepless run at) (none run at) ∙ takes-told row (phase_in plan run row) run ∙ ap (λ (told : Option Answer). taken row told run) (sym (ap (λ (s : State). told_at (s.stand row).phase) at.state) ∙ untold)
-
-      still : (run : List Move) → IsAt plan m begun run → IsAt plan m1 begun run
-      still run at = subst (λ (r : List Move). IsAt plan m1 begun r) (rw (stepless run at) refl) (stepped m m1 begun run Event.Idle at is did)
 
   -- ---- an entry
 

@@ -27,7 +27,6 @@ pub fn tell<E: Sink>(errors: &mut E, outcome: Result<Verdict, PlayFault>) -> u8
 }
 
 /// Reports why there is no verdict, and returns the status.
-#[tactic(auto, unfolding(crate::specs::Outcome::line_of))]
 fn tell_fault<E: Sink>(errors: &mut E, fault: PlayFault) -> u8
     requires { E.write_failures errors.old < 2 ^ 64 - 1 }
     ensures status { result ≡ status_of (Err fault) }

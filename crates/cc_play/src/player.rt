@@ -48,7 +48,6 @@ fn begin(machine: &mut Machine, pass: Pass, call: Call) -> Result<(), AllocError
 
 /// One event of a pass, before which it begins its next call if it is idle, and after which the answer of a finished call
 /// is taken. Returns the event: the first step of a call if one began, and Idle if the pass had none.
-#[tactic(auto, using(crate::proofs::Turns::did_turned, crate::proofs::Between::did_between))]
 pub fn turn(
     machine: &mut Machine,
     begun: &mut [usize],
@@ -71,7 +70,7 @@ pub fn turn(
 }
 
 /// The event of a pass that has no step to do: the first of its next call, if the plan has one.
-#[tactic(auto, using(crate::proofs::Turns::none_turned, crate::proofs::Between::begun_between))]
+#[tactic(auto, using(crate::proofs::Turns::none_turned))]
 fn begin_turn(
     machine: &mut Machine,
     begun: &mut [usize],
