@@ -162,6 +162,18 @@ gathered v0 v1 v2 v3 v4 v5 v6 a0 a1 a2 b0 b1 b2 c0 c1 c2 la lb lc one two three 
       given_up_one = sixth.1;
     }
 
+-- a pass that has met some may meet more
+pub may_more : (z : Topic) (v w : Walk) → MayMeet z v → HasMet v w → MayMeet z w
+may_more z v w may met = record { here = subst (IsOf z) (sym met.same) (may.here.0, may.here.1); still = still_stopped v w may.still met.same }
+
+-- and is still of their queue, also of those that have met others since
+pub of_one_more : (v w : Walk) (xs : List Walk) → HasMet v w → All (IsOfOne v) xs → All (IsOfOne w) xs
+of_one_more v w xs met are = λ k d less. subst (λ (x : Walk). IsOfOne x (get_or xs k d)) (sym met.same) (are k d less)
+
+pub met_of_one : (v w : Walk) (xs ys : List Walk) → length ys ≡ length xs → HasMet v w → EachHasMet xs ys → All (IsOfOne v) xs → All (IsOfOne w) ys
+met_of_one v w xs ys same met each are =
+    of_one_more v w ys met (λ k d less. let l : k < length xs = omega (arith, same, less) in subst (IsOfOne v) (sym (each k d l).same) (are k d l))
+
 -- the first of a list of passes may meet the others of its own list, and those of two other lists; its seat is v, and its
 -- words are z
 pub may_gather : (q z : Topic) (all rest second third : List Walk) (x v : Walk) → z ≡ q → v ≡ x → HasStopped v → All (IsOf q) all → All (IsOf q) second → All (IsOf q) third → all ≡ x ∷ rest
@@ -180,3 +192,12 @@ may_gather q z all rest second third x v words seat still are second_are third_a
 pub with_first : (w : Walk) (others : List Walk) → All (λ o. o.seen ≡ w.seen) others → All (λ o. o.seen ≡ w.seen) (w ∷ others)
 with_first w others have zero d less = refl
 with_first w others have (suc k) d less = have k d (omega (arith, less))
+
+-- the first of a list of passes, whose seat was v, and the others have met
+heads_met : (x w : Walk) (rest rest' : List Walk) → HasMet x w → EachHasMet rest rest' → EachHasMet (x ∷ rest) (w ∷ rest')
+heads_met x w rest rest' met each zero d less = met
+heads_met x w rest rest' met each (suc k) d less = each k d (omega (arith, less))
+
+pub all_met : (all rest rest' : List Walk) (x v w : Walk) → v ≡ x → all ≡ x ∷ rest → HasMet v w → EachHasMet rest rest' → EachHasMet all (w ∷ rest')
+all_met all rest rest' x v w seat is met each =
+    subst (λ (xs : List Walk). EachHasMet xs (w ∷ rest')) (sym is) (heads_met x w rest rest' (subst (λ (y : Walk). HasMet y w) seat met) each)
