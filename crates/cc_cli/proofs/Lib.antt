@@ -7,3 +7,4 @@ pub mod JudgeOptions
 pub mod Judged
 pub mod RefusedClaims
 pub mod Removed
+pub mod Tasks

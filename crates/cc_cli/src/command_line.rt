@@ -1,5 +1,5 @@
 //! The task that a command line asks for.
-ghost use Rattle.std.specs.Prelude.{◌≡◌, ◌⊎◌, IfOk, IfErr, Some, None, false, map, string_bytes};
+ghost use Rattle.std.specs.Prelude.{◌≡◌, ◌⊎◌, IfOk, IfErr, Some, None, codes, false, map, string_bytes};
 ghost use Rattle.clap.specs.Words.{app_of, kind_of, fault_of, IsAmong, shape_of};
 ghost use Rattle.clap.specs.declared.builder.command.Command.TheViews.{out-Command as fields_of};
 ghost use Rattle.clap.specs.Simple.{new_shape};
@@ -57,31 +57,10 @@ pub fn not_text(alloc: Global) -> Result<Error, AllocError>
 fn commands<'a>(alloc: Global) -> Result<Command<'a>, AllocError>
     ensures { IfOk result (λ c. app_of c ≡ commands) }
 {
-    let judge = subcommand(
-        alloc,
-        "judge",
-        "Judges a log of any queue's calls: whether they are linearizable",
-        "ccq judge [OPTIONS] [LOG] (a file, or standard input)",
-        JUDGE_DETAILS,
-    );
-    let why = subcommand(
-        alloc,
-        "why",
-        "Reports the place at which a plan or receipts are refused",
-        "ccq why [INPUT] (a file, or standard input)",
-        WHY_DETAILS,
-    );
-    let show = subcommand(
-        alloc,
-        "show",
-        "Shows the run of a plan: writes it as a page for a browser, or as a trace",
-        "ccq show [--trace] [PLAN] (a file, or standard input)",
-        SHOW_DETAILS,
-    );
     with_play_and_audit(alloc)?
-        .subcommand(judge)?
-        .subcommand(why)?
-        .subcommand(show)?
+        .subcommand(judge_task(alloc))?
+        .subcommand(why_task(alloc))?
+        .subcommand(show_task(alloc))?
         .subcommand(drive(alloc))
 }
 
@@ -90,21 +69,9 @@ fn with_play_and_audit<'a>(alloc: Global) -> Result<Command<'a>, AllocError>
     ensures app { IfOk result (λ c. app_of c ≡ with_play_and_audit) }
     ensures local { IfOk result (λ c. (fields_of c).has_globals ≡ false) }
 {
-    let play = subcommand(
-        alloc,
-        "play",
-        "Plays a plan and writes the report of its whole history",
-        "ccq play [PLAN] (a file, or standard input)",
-        PLAY_DETAILS,
-    );
-    let audit = subcommand(
-        alloc,
-        "audit",
-        "Audits receipts and writes the verdict on them",
-        "ccq audit [RECEIPTS] (a file, or standard input)",
-        AUDIT_DETAILS,
-    );
-    without_tasks(alloc)?.subcommand(play)?.subcommand(audit)
+    without_tasks(alloc)?
+        .subcommand(play_task(alloc))?
+        .subcommand(audit_task(alloc))
 }
 
 /// The program without its tasks.
@@ -143,6 +110,76 @@ fn subcommand<'a>(
         .about(about)
         .override_usage(usage)
         .after_help(details)
+}
+
+/// The task that plays a plan.
+fn play_task<'a>(alloc: Global) -> Command<'a>
+    ensures shape { shape_of result ≡ new_shape (codes "play") }
+    ensures local { (fields_of result).has_globals ≡ false }
+{
+    subcommand(
+        alloc,
+        "play",
+        "Plays a plan and writes the report of its whole history",
+        "ccq play [PLAN] (a file, or standard input)",
+        PLAY_DETAILS,
+    )
+}
+
+/// The task that audits receipts.
+fn audit_task<'a>(alloc: Global) -> Command<'a>
+    ensures shape { shape_of result ≡ new_shape (codes "audit") }
+    ensures local { (fields_of result).has_globals ≡ false }
+{
+    subcommand(
+        alloc,
+        "audit",
+        "Audits receipts and writes the verdict on them",
+        "ccq audit [RECEIPTS] (a file, or standard input)",
+        AUDIT_DETAILS,
+    )
+}
+
+/// The task that judges a log of calls.
+fn judge_task<'a>(alloc: Global) -> Command<'a>
+    ensures shape { shape_of result ≡ new_shape (codes "judge") }
+    ensures local { (fields_of result).has_globals ≡ false }
+{
+    subcommand(
+        alloc,
+        "judge",
+        "Judges a log of any queue's calls: whether they are linearizable",
+        "ccq judge [OPTIONS] [LOG] (a file, or standard input)",
+        JUDGE_DETAILS,
+    )
+}
+
+/// The task that reports the place of an input's fault.
+fn why_task<'a>(alloc: Global) -> Command<'a>
+    ensures shape { shape_of result ≡ new_shape (codes "why") }
+    ensures local { (fields_of result).has_globals ≡ false }
+{
+    subcommand(
+        alloc,
+        "why",
+        "Reports the place at which a plan or receipts are refused",
+        "ccq why [INPUT] (a file, or standard input)",
+        WHY_DETAILS,
+    )
+}
+
+/// The task that shows the run of a plan.
+fn show_task<'a>(alloc: Global) -> Command<'a>
+    ensures shape { shape_of result ≡ new_shape (codes "show") }
+    ensures local { (fields_of result).has_globals ≡ false }
+{
+    subcommand(
+        alloc,
+        "show",
+        "Shows the run of a plan: writes it as a page for a browser, or as a trace",
+        "ccq show [--trace] [PLAN] (a file, or standard input)",
+        SHOW_DETAILS,
+    )
 }
 
 /// The task that is done elsewhere. It is in the list of tasks, and a misspelling of it gets a tip; a line that names it

@@ -1,6 +1,6 @@
 //! The run that a line of a drive asks for.
-ghost use Rattle.std.specs.Prelude.{◌≡◌, ◌∷◌, IfOk, IfErr, false, map, string_bytes};
-ghost use Rattle.clap.specs.Words.{IsAmong, app_of, fault_of, found_of, kind_of, rows_of, rule_of};
+ghost use Rattle.std.specs.Prelude.{◌≡◌, ◌∷◌, IfOk, IfErr, codes, false, map, string_bytes};
+ghost use Rattle.clap.specs.Words.{IsAmong, app_of, fault_of, found_of, kind_of, new_app, rows_of, rule_of};
 ghost use Rattle.clap.specs.declared.builder.command.Command.TheViews.{out-Command as fields_of};
 ghost use Rattle.cc_cli.specs.Line.{HasLarge, HasNumbers, HasSmall, IsAsked, IsGiven, IsNumberIn, asks_to_drive, drive_command, number, with_items, with_threads};
 
@@ -112,12 +112,7 @@ fn with_threads<'a>(alloc: Global) -> Result<Command<'a>, AllocError>
     ensures app { IfOk result (λ c. app_of c ≡ with_threads) }
     ensures local { IfOk result (λ c. (fields_of c).has_globals ≡ false) }
 {
-    Command::new(alloc, "drive")
-        .about(
-            "Drives a queue by threads that send and threads that take, and audits their receipts",
-        )
-        .after_help(DETAILS)
-        .bin_name("ccq drive")?
+    bare_command(alloc)?
         .arg(number(
             alloc,
             "senders",
@@ -132,6 +127,19 @@ fn with_threads<'a>(alloc: Global) -> Result<Command<'a>, AllocError>
             "4",
             "Threads that take, 1 to 64",
         ))
+}
+
+/// The command without its options.
+fn bare_command<'a>(alloc: Global) -> Result<Command<'a>, AllocError>
+    ensures app { IfOk result (λ c. app_of c ≡ new_app (codes "drive")) }
+    ensures local { IfOk result (λ c. (fields_of c).has_globals ≡ false) }
+{
+    Command::new(alloc, "drive")
+        .about(
+            "Drives a queue by threads that send and threads that take, and audits their receipts",
+        )
+        .after_help(DETAILS)
+        .bin_name("ccq drive")
 }
 
 /// An option that takes a number of this range.

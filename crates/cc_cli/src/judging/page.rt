@@ -154,40 +154,74 @@ fn push_stays(
     text.push_str("]")
 }
 
-/// Appends a fault of a queue's capacity, and the line of its call.
+/// The name of a fault's pattern.
+fn pattern(fault: &Fault) -> &'static str {
+    match fault {
+        Fault::NeverSent { .. } => "never sent",
+        Fault::TakenBeforeSent { .. } => "taken before sent",
+        Fault::TakenTwice { .. } => "taken twice",
+        Fault::Overtaken { .. } => "overtaken",
+        Fault::NotEmpty { .. } => "not empty",
+        Fault::Reopened { .. } => "open after closed",
+        Fault::ClosedEarly { .. } => "closed early",
+        Fault::NotFull { .. } => "not full",
+        Fault::TooMany { .. } => "too many",
+    }
+}
+
+/// Appends a queue's capacity, and the line of the call that it didn't fit.
 fn push_bounded(
     alloc: Global,
     text: &mut String,
     log: &Log,
-    kind: &str,
     call: usize,
 ) -> Result<(), AllocError> {
-    let fault = format!(in alloc;
-        ",\"kind\":\"{kind}\",\"capacity\":{}",
-        log.rules.capacity.unwrap_or(0)
-    )?;
-    text.push_str(fault.as_str())?;
+    let capacity = format!(in alloc; ",\"capacity\":{}", log.rules.capacity.unwrap_or(0))?;
+    text.push_str(capacity.as_str())?;
     push_line(alloc, text, log, "call", call)
 }
 
-/// Appends a fault: its pattern, and the lines that it names.
-fn push_fault(
+/// Appends the line of a take that found none, whether it found the end, and the stays of the items that were there.
+fn push_not_empty(
+    alloc: Global,
+    text: &mut String,
+    log: &Log,
+    call: usize,
+    stays: &[Stay],
+) -> Result<(), AllocError> {
+    push_line(alloc, text, log, "take", call)?;
+    if found_end(log, call) {
+        text.push_str(",\"ended\":true")?;
+    }
+    push_stays(alloc, text, log, stays)
+}
+
+/// Appends the line of a call after which a queue held too many items, and the lines of their sends.
+fn push_too_many(
+    alloc: Global,
+    text: &mut String,
+    log: &Log,
+    call: usize,
+    sends: &[usize],
+) -> Result<(), AllocError> {
+    push_bounded(alloc, text, log, call)?;
+    text.push_str(",")?;
+    push_sends(alloc, text, log, sends)
+}
+
+/// Appends the lines that a fault names.
+fn push_named(
     alloc: Global,
     text: &mut String,
     log: &Log,
     fault: &Fault,
 ) -> Result<(), AllocError> {
     match fault {
-        Fault::NeverSent { take } => {
-            text.push_str(",\"kind\":\"never sent\"")?;
-            push_line(alloc, text, log, "take", *take)
-        }
+        Fault::NeverSent { take } => push_line(alloc, text, log, "take", *take),
         Fault::TakenBeforeSent { send, take } => {
-            text.push_str(",\"kind\":\"taken before sent\"")?;
             push_two(alloc, text, log, ("send", *send), ("take", *take))
         }
         Fault::TakenTwice { first, second } => {
-            text.push_str(",\"kind\":\"taken twice\"")?;
             push_two(alloc, text, log, ("first", *first), ("second", *second))
         }
         Fault::Overtaken {
@@ -195,7 +229,6 @@ fn push_fault(
             later_send,
             later_take,
         } => {
-            text.push_str(",\"kind\":\"overtaken\"")?;
             push_two(
                 alloc,
                 text,
@@ -206,28 +239,42 @@ fn push_fault(
             push_stays(alloc, text, log, from_ref(stay))
         }
         Fault::NotEmpty { call, stays } => {
-            text.push_str(",\"kind\":\"not empty\"")?;
-            push_line(alloc, text, log, "take", *call)?;
-            if found_end(log, *call) {
-                text.push_str(",\"ended\":true")?;
-            }
-            push_stays(alloc, text, log, stays.as_slice())
+            push_not_empty(alloc, text, log, *call, stays.as_slice())
         }
         Fault::Reopened { closed, send } => {
-            text.push_str(",\"kind\":\"open after closed\"")?;
             push_two(alloc, text, log, ("closed", *closed), ("send", *send))
         }
-        Fault::ClosedEarly { call } => {
-            text.push_str(",\"kind\":\"closed early\"")?;
-            push_line(alloc, text, log, "call", *call)
-        }
-        Fault::NotFull { call } => { push_bounded(alloc, text, log, "not full", *call) }
-        Fault::TooMany { call, sends } => {
-            push_bounded(alloc, text, log, "too many", *call)?;
-            text.push_str(",")?;
-            push_sends(alloc, text, log, sends.as_slice())
-        }
+        Fault::ClosedEarly { call } => push_line(alloc, text, log, "call", *call),
+        Fault::NotFull { call } => push_bounded(alloc, text, log, *call),
+        Fault::TooMany { call, sends } => push_too_many(alloc, text, log, *call, sends.as_slice()),
     }
+}
+
+/// Appends a fault: its pattern, and the lines that it names.
+fn push_fault(
+    alloc: Global,
+    text: &mut String,
+    log: &Log,
+    fault: &Fault,
+) -> Result<(), AllocError> {
+    let kind = format!(in alloc; ",\"kind\":\"{}\"", pattern(fault))?;
+    text.push_str(kind.as_str())?;
+    push_named(alloc, text, log, fault)
+}
+
+/// Appends the clocks' skew, how many calls the log has, and how many are left out.
+fn push_counts(
+    alloc: Global,
+    text: &mut String,
+    log: &Log,
+    left_out: usize,
+) -> Result<(), AllocError> {
+    let counts = format!(in alloc;
+        ",\"skew\":\"{}\",\"calls\":{},\"left_out\":{left_out}",
+        log.options.skew,
+        log.notes.lines.len()
+    )?;
+    text.push_str(counts.as_str())
 }
 
 /// The line of JSON of a verdict, whose line of text is given.
@@ -243,12 +290,7 @@ fn verdict_json(
     if let Verdict::Fault(fault) = verdict {
         push_fault(alloc, &mut text, log, fault)?;
     }
-    let counts = format!(in alloc;
-        ",\"skew\":\"{}\",\"calls\":{},\"left_out\":{left_out}",
-        log.options.skew,
-        log.notes.lines.len()
-    )?;
-    text.push_str(counts.as_str())?;
+    push_counts(alloc, &mut text, log, left_out)?;
     text.push_str("}\n")?;
     Ok(text)
 }
@@ -341,6 +383,25 @@ fn chosen(alloc: Global, log: &Log, verdict: &Verdict) -> Result<Choice, AllocEr
     }
 }
 
+/// Writes the front of a page, and the line of its verdict, whose line of text is given.
+#[tactic(auto, using(crate::proofs::Judged::unwritten))]
+fn write_front<W: Sink>(
+    alloc: Global,
+    sink: &mut W,
+    log: &Log,
+    verdict: &Verdict,
+    line: &str,
+    left_out: usize,
+) -> Result<(), AnswerFault>
+    requires { W.write_failures sink.old < 2 ^ 64 - 1 }
+    ensures { W.write_failures sink.new ≡ W.write_failures sink.old + failed_writes result }
+{
+    let fault = verdict_json(alloc, log, verdict, line, left_out)?;
+    write_bytes(sink, FRONT)?;
+    write_bytes(sink, fault.as_bytes())?;
+    Ok(())
+}
+
 /// Writes the page of a verdict, whose line of text is given. Of the page no more than a line is in memory at a time.
 #[tactic(auto, using(crate::proofs::Judged::unwritten))]
 pub fn write_page<W: Sink>(
@@ -354,9 +415,7 @@ pub fn write_page<W: Sink>(
     ensures { W.write_failures sink.new ≡ W.write_failures sink.old + failed_writes result }
 {
     let choice = chosen(alloc, log, verdict)?;
-    let fault = verdict_json(alloc, log, verdict, line, choice.left_out)?;
-    write_bytes(sink, FRONT)?;
-    write_bytes(sink, fault.as_bytes())?;
+    write_front(alloc, sink, log, verdict, line, choice.left_out)?;
     write_bytes(sink, MIDDLE)?;
     write_calls(alloc, sink, log, choice.marks.as_slice())?;
     write_bytes(sink, BACK)?;

@@ -98,8 +98,22 @@ fn item(stay: &Stay) -> &'static str {
     }
 }
 
-/// Items one after another, by the lines of their sends and takes, and by the line that shows the queue closed if an item
-/// counts for that.
+/// Appends an item, by the lines of its sends and its take, and by the line that shows the queue closed if the item counts for
+/// that.
+fn push_item(alloc: Global, text: &mut String, log: &Log, stay: &Stay) -> Result<(), AllocError> {
+    let one = format!(in alloc; "; {} of {}, ", item(stay), sends(alloc, log, stay)?)?;
+    text.push_str(one.as_str())?;
+    if let Some(closed) = stay.closed() {
+        let closed = format!(in alloc;
+            "sent before the queue was closed ({}), ",
+            line(alloc, log, closed)?
+        )?;
+        text.push_str(closed.as_str())?;
+    }
+    text.push_str(leaves(alloc, log, stay)?.as_str())
+}
+
+/// Items one after another: of many the first, and how many others there are.
 fn items(alloc: Global, log: &Log, stays: &[Stay]) -> Result<String, AllocError> {
     let mut text = String::new(alloc);
     for (at, stay) in stays.iter().enumerate() {
@@ -111,17 +125,7 @@ fn items(alloc: Global, log: &Log, stays: &[Stay]) -> Result<String, AllocError>
             text.push_str(others.as_str())?;
             break;
         }
-        let (sends, leaves) = (sends(alloc, log, stay)?, leaves(alloc, log, stay)?);
-        let one = format!(in alloc; "; {} of {sends}, ", item(stay))?;
-        text.push_str(one.as_str())?;
-        if let Some(closed) = stay.closed() {
-            let closed = format!(in alloc;
-                "sent before the queue was closed ({}), ",
-                line(alloc, log, closed)?
-            )?;
-            text.push_str(closed.as_str())?;
-        }
-        text.push_str(leaves.as_str())?;
+        push_item(alloc, &mut text, log, stay)?;
     }
     Ok(text)
 }
@@ -135,6 +139,65 @@ pub fn found_end(log: &Log, place: usize) -> bool {
     is_end && log.rules.closes
 }
 
+/// The text of a take that had ended before the send of its item began.
+fn taken_before_sent(
+    alloc: Global,
+    log: &Log,
+    send: usize,
+    take: usize,
+) -> Result<String, AllocError> {
+    let (take, send) = (line(alloc, log, take)?, line(alloc, log, send)?);
+    format!(in alloc; "judge fault: taken before sent: {take} had ended before {send} began\n")
+}
+
+/// The text of an item that was overtaken by the one of these calls.
+fn overtaken(
+    alloc: Global,
+    log: &Log,
+    stay: &Stay,
+    later_send: usize,
+    later_take: usize,
+) -> Result<String, AllocError> {
+    let (sends, leaves) = (sends(alloc, log, stay)?, leaves(alloc, log, stay)?);
+    let (second, later) = (line(alloc, log, later_send)?, line(alloc, log, later_take)?);
+    format!(in alloc;
+        "judge fault: overtaken: {sends} had ended before {second} began; {} of {sends} is {leaves}, after {later} took the other\n",
+        item(stay)
+    )
+}
+
+/// The text of a send that found the queue open after a call that found it closed.
+fn reopened(alloc: Global, log: &Log, closed: usize, send: usize) -> Result<String, AllocError> {
+    let (closed, send) = (line(alloc, log, closed)?, line(alloc, log, send)?);
+    format!(in alloc;
+        "judge fault: open after closed: {closed} closed the queue or found it closed, and had ended before {send} began, which found it open\n"
+    )
+}
+
+/// The text of a call after which the queue held more items than it may.
+fn too_many(alloc: Global, log: &Log, call: usize, sends: &[usize]) -> Result<String, AllocError> {
+    let capacity = log.rules.capacity.unwrap_or(0);
+    let sends = first_lines_at(alloc, log, sends)?;
+    format!(in alloc;
+        "judge fault: too many: when {} had ended, more than {capacity} of the items of {sends} were in the queue\n",
+        line(alloc, log, call)?
+    )
+}
+
+/// The text of a take that found none, though the queue held these items in turn.
+fn not_empty(alloc: Global, log: &Log, call: usize, stays: &[Stay]) -> Result<String, AllocError> {
+    let items = items(alloc, log, stays)?;
+    let found = if found_end(log, call) {
+        "found the queue closed and empty, and at all its times at which the queue can have been closed it held an item"
+    } else {
+        "found none, and at all its times the queue held an item"
+    };
+    format!(in alloc;
+        "judge fault: not empty: {} {found}{items}\n",
+        line(alloc, log, call)?
+    )
+}
+
 /// The text of a fault.
 fn fault_text(alloc: Global, log: &Log, fault: &Fault) -> Result<String, AllocError> {
     match fault {
@@ -144,12 +207,7 @@ fn fault_text(alloc: Global, log: &Log, fault: &Fault) -> Result<String, AllocEr
                 line(alloc, log, *take)?
             )
         }
-        Fault::TakenBeforeSent { send, take } => {
-            let (take, send) = (line(alloc, log, *take)?, line(alloc, log, *send)?);
-            format!(in alloc;
-                "judge fault: taken before sent: {take} had ended before {send} began\n"
-            )
-        }
+        Fault::TakenBeforeSent { send, take } => { taken_before_sent(alloc, log, *send, *take) }
         Fault::TakenTwice { first, second } => {
             let two = two_lines(alloc, log, *first, *second)?;
             format!(in alloc; "judge fault: taken twice: {two} took one item\n")
@@ -158,23 +216,8 @@ fn fault_text(alloc: Global, log: &Log, fault: &Fault) -> Result<String, AllocEr
             stay,
             later_send,
             later_take,
-        } => {
-            let (sends, leaves) = (sends(alloc, log, stay)?, leaves(alloc, log, stay)?);
-            let (second, later) = (
-                line(alloc, log, *later_send)?,
-                line(alloc, log, *later_take)?,
-            );
-            format!(in alloc;
-                "judge fault: overtaken: {sends} had ended before {second} began; {} of {sends} is {leaves}, after {later} took the other\n",
-                item(stay)
-            )
-        }
-        Fault::Reopened { closed, send } => {
-            let (closed, send) = (line(alloc, log, *closed)?, line(alloc, log, *send)?);
-            format!(in alloc;
-                "judge fault: open after closed: {closed} closed the queue or found it closed, and had ended before {send} began, which found it open\n"
-            )
-        }
+        } => { overtaken(alloc, log, stay, *later_send, *later_take) }
+        Fault::Reopened { closed, send } => { reopened(alloc, log, *closed, *send) }
         Fault::ClosedEarly { call } => format!(in alloc;
             "judge fault: closed early: {} found the queue closed, and had ended before a close began\n",
             line(alloc, log, *call)?
@@ -186,26 +229,8 @@ fn fault_text(alloc: Global, log: &Log, fault: &Fault) -> Result<String, AllocEr
                 line(alloc, log, *call)?
             )
         }
-        Fault::TooMany { call, sends } => {
-            let capacity = log.rules.capacity.unwrap_or(0);
-            let sends = first_lines_at(alloc, log, sends.as_slice())?;
-            format!(in alloc;
-                "judge fault: too many: when {} had ended, more than {capacity} of the items of {sends} were in the queue\n",
-                line(alloc, log, *call)?
-            )
-        }
-        Fault::NotEmpty { call, stays } => {
-            let items = items(alloc, log, stays.as_slice())?;
-            let found = if found_end(log, *call) {
-                "found the queue closed and empty, and at all its times at which the queue can have been closed it held an item"
-            } else {
-                "found none, and at all its times the queue held an item"
-            };
-            format!(in alloc;
-                "judge fault: not empty: {} {found}{items}\n",
-                line(alloc, log, *call)?
-            )
-        }
+        Fault::TooMany { call, sends } => { too_many(alloc, log, *call, sends.as_slice()) }
+        Fault::NotEmpty { call, stays } => { not_empty(alloc, log, *call, stays.as_slice()) }
     }
 }
 
