@@ -1,10 +1,16 @@
-use Rattle.std.proofs.Common.{rules, All, sym, subst}
+use Rattle.std.proofs.Common.{rules, All, IfSome, sym, subst}
 use Rattle.std.proofs.lemmas.List.Elements.{All-push, All-pop}
 use Rattle.cc_steps.specs.Walk.{IsOf}
 use Rattle.cc_passes.specs.Loans.{IsPlaceOf}
 use Rattle.cc_passes.specs.Pooled.{IsRowOf}
 use Rattle.cc_passes.proofs.pool.opening.row_of_senders.Goals.{in-Some+in_ok-place+in_ok-push, in_default}
 use Rattle.cc_passes.proofs.pool.opening.row_of_senders.Goals as goal
+
+-- the sender that was taken off is of the queue
+pub place-requires-clause-here : goal.place-requires-clause-here
+place-requires-clause-here c =
+    let z = c.args.queue.now in
+    subst (λ o. IfSome o (IsOf z)) c.in-Some.is (All-pop (IsOf z) c.loop.senders.items c.pop.new.self.items c.pop.result c.pop.ensures.items c.loop.invariant.0).1
 
 pub loop-preserved : goal.loop-preserved
 loop-preserved c =
