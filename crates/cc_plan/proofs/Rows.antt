@@ -42,7 +42,7 @@ pub same_first : (low low' high high' : ℕ) (old new : List Token) (fits told :
     → ReadsFirst is_number (number_in low high) old told same new
 same_first low low' high high' old new fits told given same from to reads fit is =
     subst (λ b. ReadsFirst is_number (number_in low high) old b same new) (sym fit) (subst (λ o. ReadsFirst is_number (number_in low high) old fits o new) (sym is)
-        (subst (λ n. ReadsFirst is_number (number_in n high) old fits given new) from (subst (λ n. ReadsFirst is_number (number_in low' n) old fits given new) to reads)))
+    (subst (λ n. ReadsFirst is_number (number_in n high) old fits given new) from (subst (λ n. ReadsFirst is_number (number_in low' n) old fits given new) to reads)))
 
 -- ---- the others
 

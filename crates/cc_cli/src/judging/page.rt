@@ -383,7 +383,7 @@ fn chosen(alloc: Global, log: &Log, verdict: &Verdict) -> Result<Choice, AllocEr
     }
 }
 
-/// Writes the front of a page, and the line of its verdict, whose line of text is given.
+/// Writes what a page begins with, and the line of its verdict, whose line of text is given.
 #[tactic(auto, using(crate::proofs::Judged::unwritten))]
 fn write_front<W: Sink>(
     alloc: Global,
