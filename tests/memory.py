@@ -3,11 +3,13 @@
 
 Usage: tests/memory.py
 
-The factor and the base are read from the sentence in docs/FORMATS.md. Each input has as many short parts as fit into its limit, or
-just more than a power of two of them, where a list that doubles has the most room to spare. Last, one of them is given in a
-quarter of that memory, where `ccq` must say that it ran out: so the limit holds the program. Exit status 0 if all did so.
+The two factors, for plans and receipts and for any other input, and the base are read from the sentence in docs/FORMATS.md. Each plan
+and all receipts have as many short parts as fit into the limit, or just more than a power of two of them, where a list that doubles has
+the most room to spare; the other inputs have a quarter of the limit. Last, one of each kind is given in a quarter of that memory, where `ccq`
+must say that it ran out: so the limit holds the program. Exit status 0 if all did so.
 """
 
+import json
 import re
 import sys
 from pathlib import Path
@@ -17,7 +19,8 @@ sys.dont_write_bytecode = True
 from rows import Row, does, refused
 
 PROGRAM = "crates/ccq/out/ccq"
-SAYS = r"at most (\d+) bytes of memory for each byte of its input, and (\d+) MB"
+SAYS = r"at most (\d+) bytes of memory for each byte of a plan or of\s+receipts, (\d+) for each byte of any other input, and (\d+) MB"
+QUARTER = 4 << 20
 
 
 def plan(calls, number, senders, version=1, schedule="", receivers="1"):
@@ -74,19 +77,41 @@ def rows():
     yield "one take many times", audit("fault 2 place 0", 1, [], ["[1,0,1,1,0]"] * 1050000)
 
 
+def nested(opens, inside, closes, depth):
+    """An array of values that nest that deep."""
+    value = opens * depth + inside + closes * depth
+    return ("[" + ",".join([value] * (QUARTER // (len(value) + 1))) + "]").encode()
+
+
+def others():
+    """What an input that is neither a plan nor receipts has, and its text."""
+    yield "arrays", nested("[", "", "]", 120)
+    yield "objects of one number", nested('{"":', "0", "}", 1)
+    yield "objects of objects", nested('{"":', "0", "}", 100)
+    yield "short texts", nested("", '""', "", 0)
+
+
 def main():
     says = re.search(SAYS, (TOP / "docs/FORMATS.md").read_text())
     if not says:
         sys.exit("memory: docs/FORMATS.md doesn't say how much memory ccq takes")
-    factor, base = int(says[1]), int(says[2]) << 20
+    factor, other, base = int(says[1]), int(says[2]), int(says[3]) << 20
     within = lambda row, bytes_a_byte: does(TOP / PROGRAM, row, memory=base + bytes_a_byte * len(row.input))
+    no_memory = lambda task, text: Row([task], 3, err=b"ccq: out of memory\n", input=text)
+    cases = [(name, row, factor) for name, row in rows()]
+    for name, text in others():
+        cases.append((name, refused("play", text, "P2"), other))
+        said = f"1:1: an array of {len(json.loads(text))} elements is no object\n"
+        cases.append((f"the place of {name}", Row(["why"], 1, said.encode(), input=text), other))
+    cases.append(("two words, in a quarter of the memory", no_memory("play", TWO_WORDS), factor // 4))
+    deep = dict(others())["objects of objects"]
+    cases.append(("objects of objects, in a quarter of the memory", no_memory("why", deep), other // 4))
     right = []
-    for name, row in rows():
-        right.append(within(row, factor))
+    for name, row, bytes_a_byte in cases:
+        right.append(within(row, bytes_a_byte))
         if not right[-1]:
             print(f"memory: so it was with {name}")
-    right.append(within(Row(["play"], 3, err=b"ccq: out of memory\n", input=TWO_WORDS), factor // 4))
-    print(f"memory: {sum(right)} of {len(right)} inputs in {factor} bytes a byte, and {base >> 20} MB, one of them in a quarter")
+    print(f"memory: {sum(right)} of {len(right)} inputs in {factor} bytes a byte of plans and receipts and {other} of others, and {base >> 20} MB, two of them in a quarter")
     sys.exit(not all(right))
 
 

@@ -17,7 +17,7 @@ use Rattle.cc_plan.specs.Plan.{PlanValue, plan_value}
 use Rattle.cc_plan.specs.PlanShape.{named, has_plan_shape}
 use Rattle.cc_plan.specs.PlanValues.{groups_of, counted, call_of, calls_of, senders_of, fill_groups, receivers_of, entry_of, schedule_of}
 use Rattle.cc_plan.specs.Version.{version_in, version_of}
-use Rattle.cc_plan.specs.PlanOf.{config_of, plan_of_lists, plan_of_values, has_pass, known_passes, with_known_passes, values_of_tree, values_of, plan_of}
+use Rattle.cc_plan.specs.PlanOf.{config_of, plan_of_lists, plan_of_values, has_pass, known_passes, with_known_passes, values_of_tree, plan_of_tree, plan_of}
 use Rattle.cc_plan.specs.PlanLaws.{IsOfSender, Valid}
 
 -- ---- steps that gave something
@@ -297,11 +297,11 @@ shaped false r p e = cc e
 
 -- the plan of an input is legal
 plan_valid : (bytes : List ℕ) (p : PlanValue) → plan_of bytes ≡ Ok p → Valid p
-unfolding plan_of values_of
+unfolding plan_of
 plan_valid bytes p e =
-    let values = ok_step (values_of bytes) with_known_passes p e in
-    let tree = ok_step (tree_of bytes) values_of_tree values.0 values.1 in
-    with_passes values.0 p (given_valid tree.0 values.0 (values_given tree.0 values.0 (shaped (has_plan_shape tree.0) _ values.0 tree.2))) values.2
+    let tree = ok_step (tree_of bytes) plan_of_tree p e in
+    let values = ok_step (values_of_tree tree.0) with_known_passes p tree.2 in
+    with_passes values.0 p (given_valid tree.0 values.0 (values_given tree.0 values.0 (shaped (has_plan_shape tree.0) _ values.0 values.1))) values.2
 
 -- the result of a reading function is legal
 pub valid_if_given : (r : Result Plan PlanFault) (bytes : List ℕ) → Gives plan_value r (plan_of bytes) → IfOk r (λ p. Valid (plan_value p))

@@ -32,10 +32,6 @@ elements d = option_map listed (as_array d)
 abbrev pub is_list_of : (Data → Bool) → Data → Bool
 is_list_of test d = unwrap_or (option_map (list_all test) (elements d)) false
 
-abbrev pub is_nil : List Data → Bool
-is_nil [] = true
-is_nil (d ∷ ds) = false
-
 -- the two elements, if there are just two
 abbrev pub pair_of : List Data → Option (Data × Data)
 pair_of [] = None

@@ -1,9 +1,5 @@
 pub mod Names
 pub mod Json
-pub mod Spelled
-pub mod Members
-pub mod Document
-pub mod Head
 pub mod Closures
 pub mod Refusal
 pub mod Answers
@@ -14,15 +10,12 @@ pub mod Calls
 pub mod Plan
 pub mod PlanShape
 pub mod PlanValues
-pub mod PlanFound
 pub mod PlanOf
 pub mod PlanLaws
 pub mod Version
 pub mod Receipts
 pub mod ReceiptsShape
 pub mod ReceiptsValues
-pub mod ReceiptsFound
 pub mod ReceiptsOf
 pub mod Report
-pub mod Rows
 pub mod Refused

@@ -45,14 +45,14 @@ known_passes (Some place) p = Err (unknown_pass place)
 abbrev pub values_of_tree : Data → Result PlanValue Refusal
 values_of_tree d = if has_plan_shape d then plan_of_values d else Err wrong_shape
 
--- the values of the plan that the bytes describe, whichever passes its schedule names, or why they describe none
-unfoldable pub values_of : List ℕ → Result PlanValue Refusal
-values_of bytes = tree_of bytes >>= values_of_tree
-
 -- the plan, unless its schedule names a pass that isn't there
 abbrev pub with_known_passes : PlanValue → Result PlanValue Refusal
 with_known_passes p = known_passes (position (λ e. not (has_pass p.config e.0)) p.schedule) p
 
--- the plan that the bytes describe, or why they describe none: its values first, then the passes
+-- the plan of the tree: its values first, then the passes
+abbrev pub plan_of_tree : Data → Result PlanValue Refusal
+plan_of_tree d = values_of_tree d >>= with_known_passes
+
+-- the plan that the bytes describe, or why they describe none
 unfoldable pub plan_of : List ℕ → Result PlanValue Refusal
-plan_of bytes = values_of bytes >>= with_known_passes
+plan_of bytes = tree_of bytes >>= plan_of_tree

@@ -1,8 +1,8 @@
 -- The values of a tree that has the shape of receipts, in their ranges.
-use Rattle.std.specs.Prelude.{ℕ, ◌==◌, ◌-◌, ◌^◌, List, codes, if◌then◌else◌, Option, Some, None, option_map, option_and_then, is_some, slice_get, drop, ⊤}
+use Rattle.std.specs.Prelude.{ℕ, ◌==◌, ◌-◌, ◌^◌, List, codes, if◌then◌else◌, Option, Some, None, option_map, option_and_then, is_some, slice_get}
 use Rattle.serde_json.specs.Data.{Data}
 use Rattle.serde_json.specs.Find.{get, as_null}
-use Rattle.cc_plan.specs.Json.{◌>>=◌, elements, is_nil, each, whole_number, number_in, body_as}
+use Rattle.cc_plan.specs.Json.{◌>>=◌, elements, each, whole_number, number_in, body_as}
 use Rattle.cc_plan.specs.Names.{Body, SendReceipt, TakeReceipt}
 
 -- any 64-bit number, or none if it is absent or null
@@ -21,10 +21,6 @@ part place low high ds = option_and_then (number_in low high) (slice_get ds plac
 abbrev pub body_at : (version place : ℕ) → List Data → Option Body
 body_at version place ds = option_and_then (body_as version) (slice_get ds place)
 
--- there are no more elements than this number
-abbrev pub ends : (number : ℕ) → List Data → Option ⊤
-ends number ds = if is_nil (drop number ds) then Some tt else None
-
 -- of version 2 those of eight groups
 abbrev pub most_receivers : (version : ℕ) → ℕ
 most_receivers version = if version == 2 then 512 else 64
@@ -37,7 +33,6 @@ send_receipt_of version d = do
   number ← part 1 1 (2 ^ 32 - 1) ds
   place ← part 2 0 (2 ^ 64 - 1) ds
   body ← body_at version 3 ds
-  end ← ends 4 ds
   Some (record { sender = sender; number = number; place = place; body = body })
 
 -- a receiver, the item's place, its sender, its send's number and its body
@@ -49,7 +44,6 @@ take_receipt_of version d = do
   sender ← part 2 1 64 ds
   number ← part 3 1 (2 ^ 32 - 1) ds
   body ← body_at version 4 ds
-  end ← ends 5 ds
   Some (record { receiver = receiver; item = record { place = place; sender = sender; number = number; body = body } })
 
 abbrev pub accepted_of : (version : ℕ) → Data → Option (List SendReceipt)

@@ -3,8 +3,8 @@ use Rattle.std.specs.Prelude.{ℕ, ◌≡◌, ◌≢◌, ◌||◌, List, codes, 
 use Rattle.serde_json.specs.Data.{Data}
 use Rattle.serde_json.specs.Find.{get}
 use Rattle.cc_plan.specs.Answers.{Refuses}
-use Rattle.cc_plan.specs.PlanOf.{plan_of}
-use Rattle.cc_plan.specs.ReceiptsOf.{receipts_of}
+use Rattle.cc_plan.specs.PlanOf.{plan_of, plan_of_tree}
+use Rattle.cc_plan.specs.ReceiptsOf.{receipts_of, receipts_of_tree}
 use Rattle.cc_plan.specs.Refusal.{Refusal, tree_of}
 use Rattle.cc_plan.specs.Names.{PlanFault, Kind}
 
@@ -38,3 +38,8 @@ IsFault (Some fault) due = Refuses fault due × (fault ≢ PlanFault.NoMemory)
 abbrev pub IsDue : Kind → Option PlanFault → List ℕ → Type 0
 IsDue Kind.Plan fault input = IsFault fault (plan_of input)
 IsDue Kind.Receipts fault input = IsFault fault (receipts_of input)
+
+-- the same of a tree
+abbrev pub IsDueOf : Kind → Option PlanFault → Data → Type 0
+IsDueOf Kind.Plan fault d = IsFault fault (plan_of_tree d)
+IsDueOf Kind.Receipts fault d = IsFault fault (receipts_of_tree d)

@@ -5,10 +5,9 @@ mod clauses;
 mod fault;
 mod place;
 mod plan;
-mod reading;
 mod receipts;
 mod report;
-mod tokens;
+mod tree;
 mod version;
 
 pub use clauses::clauses_refuse;
@@ -20,3 +19,4 @@ pub use place::{
 pub use plan::{Calls, Plan, read_plan};
 pub use receipts::{Receipts, read_receipts};
 pub use report::{Report, write_body, write_report, write_verdict};
+pub use tree::{has_only, is_word, read_json};

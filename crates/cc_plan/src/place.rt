@@ -1,28 +1,33 @@
 //! The refusal of an input, with its place.
-ghost use Rattle.std.specs.Prelude.{◌≡◌, IfOk, IsSome, is_some};
-ghost use Rattle.serde_json.specs.Find.{get};
-ghost use Rattle.cc_plan.specs.Document.{tree};
-ghost use Rattle.cc_plan.specs.Members.{key_number};
-ghost use Rattle.cc_plan.specs.Why.{IsDue, Tells, kind_in, kind_of};
+ghost use Rattle.std.specs.Prelude.{◌≡◌, IfOk};
+ghost use Rattle.serde_json.specs.View.{view};
+ghost use Rattle.cc_plan.specs.Why.{IsDue, IsDueOf, Tells, kind_in, kind_of};
 
 use crate::fault::PlanFault;
-use crate::reading::Reading;
-use crate::tokens::document::{Document, parse};
-use crate::{plan, receipts};
-use json::Scratch;
+use crate::plan::plan_in;
+use crate::receipts::receipts_in;
+use crate::tree::parse;
+use crate::version;
+use serde_json::Value;
 use std::alloc::{AllocError, Global};
 
 mod find;
-mod keys;
 mod position;
 mod stray;
-mod values;
+mod walk;
 mod wanted;
 
-use find::place_of;
+use find::{place_of, stray_of};
 pub use position::line_and_column;
-pub use values::{Found, Trail, ValueKind};
+pub use walk::{Found, Trail, ValueKind};
 pub use wanted::{Check, Kind, Table, Wanted};
+
+/// The table of an input that is no JSON.
+const NO_TABLE: Table = Table {
+    kind: Kind::Plan,
+    version: 1,
+    groups: 1,
+};
 
 /// The place at which an input is refused.
 #[derive(Clone, Copy)]
@@ -83,14 +88,33 @@ pub struct Explained {
 }
 
 /// Reads an input, as a plan or as receipts, and returns why it is refused, if it is, and the place of that.
+#[tactic(auto, unfolding(crate::specs::PlanOf::plan_of, crate::specs::ReceiptsOf::receipts_of))]
 pub fn explain(alloc: Global, bytes: &[u8]) -> Result<Explained, AllocError>
     ensures fault { IfOk result (λ why. IsDue (kind_of bytes.now) why.fault bytes.now) }
     ensures kind { IfOk result (λ why. why.table.kind ≡ kind_of bytes.now) }
 {
-    let mut reading = Reading::new(alloc);
-    let kind = kind_of(bytes, &mut reading.scratch)?;
-    let fault = fault_of(alloc, bytes, kind, &mut reading)?;
-    let (table, place) = place_of(bytes, kind, fault, &mut reading)?;
+    match parse(alloc, bytes) {
+        Ok(tree) => refused(alloc, bytes, &tree),
+        Err(PlanFault::NoMemory) => Err(AllocError),
+        Err(fault) => Ok(Explained {
+            table: NO_TABLE,
+            fault: Some(fault),
+            place: stray_of(alloc, bytes, fault)?,
+        }),
+    }
+}
+
+/// Why a text that is JSON is refused, if it is, by its tree.
+fn refused(alloc: Global, bytes: &[u8], tree: &Value) -> Result<Explained, AllocError>
+    ensures fault { IfOk result (λ why. IsDueOf (kind_in (view tree.now)) why.fault (view tree.now)) }
+    ensures kind { IfOk result (λ why. why.table.kind ≡ kind_in (view tree.now)) }
+{
+    let table = table_in(tree);
+    let fault = fault_of(alloc, tree, table.kind)?;
+    let place = match fault {
+        Some(fault) => place_of(alloc, bytes, tree, table, fault)?,
+        None => None,
+    };
     Ok(Explained {
         table,
         fault,
@@ -98,53 +122,35 @@ pub fn explain(alloc: Global, bytes: &[u8]) -> Result<Explained, AllocError>
     })
 }
 
-/// The kind of an input: receipts if it is an object with a key of their rows.
-fn kind_of(bytes: &[u8], scratch: &mut Scratch) -> Result<Kind, AllocError>
-    ensures { IfOk result (λ kind. kind ≡ kind_of bytes.now) }
+/// The table by which a tree is read.
+fn table_in(tree: &Value) -> Table
+    ensures { result.kind ≡ kind_in (view tree.now) }
 {
-    match parse(bytes, scratch) {
-        Ok(document) => kind_in(&document, scratch),
-        Err(PlanFault::NoMemory) => Err(AllocError),
-        Err(_) => Ok(Kind::Plan),
+    Table {
+        kind: kind_in(tree),
+        version: version::table(tree),
+        groups: tree.get("groups").and_then(Value::as_u64).unwrap_or(1),
     }
 }
 
-/// The kind of a text.
-fn kind_in(document: &Document<'_>, scratch: &mut Scratch) -> Result<Kind, AllocError>
-    ensures { IfOk result (λ kind. kind ≡ kind_in (tree document.now)) }
+/// The kind of a tree: receipts if it is an object with a key of their rows.
+fn kind_in(tree: &Value) -> Kind
+    ensures { result ≡ kind_in (view tree.now) }
 {
-    let accepted = has_key(document, "accepted", scratch)?;
-    let taken = has_key(document, "taken", scratch)?;
-    Ok(if accepted || taken {
+    if tree.get("accepted").is_some() || tree.get("taken").is_some() {
         Kind::Receipts
     } else {
         Kind::Plan
-    })
-}
-
-/// Whether the root has the key.
-fn has_key(document: &Document<'_>, key: &str, scratch: &mut Scratch) -> Result<bool, AllocError>
-    requires { IsSome (key_number key.now) }
-    ensures { IfOk result (λ has. has ≡ is_some (get key.now (tree document.now))) }
-{
-    match document.at(key, scratch)? {
-        Some(_) => Ok(true),
-        None => Ok(false),
     }
 }
 
-/// The fault for which the reader of this kind refuses the input, if it does.
-fn fault_of(
-    alloc: Global,
-    bytes: &[u8],
-    kind: Kind,
-    reading: &mut Reading,
-) -> Result<Option<PlanFault>, AllocError>
-    ensures { IfOk result (λ fault. IsDue kind fault bytes.now) }
+/// The fault for which the reader of this kind refuses the tree, if it does.
+fn fault_of(alloc: Global, tree: &Value, kind: Kind) -> Result<Option<PlanFault>, AllocError>
+    ensures { IfOk result (λ fault. IsDueOf kind fault (view tree.now)) }
 {
     match kind {
-        Kind::Plan => fault_in(plan::read(alloc, bytes, reading)),
-        Kind::Receipts => fault_in(receipts::read(alloc, bytes, reading)),
+        Kind::Plan => fault_in(plan_in(alloc, tree)),
+        Kind::Receipts => fault_in(receipts_in(alloc, tree)),
     }
 }
 

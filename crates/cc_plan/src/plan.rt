@@ -1,17 +1,18 @@
 //! A plan, and how it is read.
-ghost use Rattle.std.specs.Prelude.{◌≡◌, ◌≤◌, not, IfOk, IsErrOf, OnOk, length};
+ghost use Rattle.std.specs.Prelude.{◌≡◌, ◌≤◌, not, IfOk, IsErrOf, length};
 ghost use Rattle.std.specs.List.{position};
+ghost use Rattle.serde_json.specs.View.{view};
 ghost use Rattle.cc_plan.specs.Answers.{Gives};
 ghost use Rattle.cc_plan.specs.Plan.{plan_value};
 ghost use Rattle.cc_plan.specs.PlanLaws.{Valid};
-ghost use Rattle.cc_plan.specs.PlanOf.{plan_of, values_of, with_known_passes, has_pass};
+ghost use Rattle.cc_plan.specs.PlanOf.{plan_of, plan_of_tree, values_of_tree, with_known_passes, has_pass};
 ghost use Rattle.cc_io.specs.Input.{input_limit};
 ghost use Rattle.cc_plan.specs.Names.{PlanFault};
 
 use crate::fault::PlanFault;
-use crate::reading::Reading;
-use crate::tokens::document::parse;
+use crate::tree::parse;
 use cc_model::{Config, Pass, is_within};
+use serde_json::Value;
 use std::alloc::Global;
 
 /// The plan of a run.
@@ -33,12 +34,13 @@ pub struct Plan {
 
 mod calls;
 mod compact_call;
-mod found;
-pub mod keys;
+mod name;
+pub mod shape;
 mod values;
 
 pub use calls::Calls;
-use values::values_in;
+use shape::has_plan_shape;
+use values::values;
 
 /// The plan that the bytes describe, or why they describe none: a fault of the whole shape is reported before one
 /// of a range, a range in the order of the keys, and an unknown pass last.
@@ -48,30 +50,34 @@ pub fn read_plan(alloc: Global, bytes: &[u8]) -> Result<Plan, PlanFault>
     ensures memory { IsErrOf result PlanFault.NoMemory → length bytes.now ≤ input_limit }
     ensures valid { IfOk result (λ plan. Valid (plan_value plan)) }
 {
-    let mut reading = Reading::new(alloc);
-    read(alloc, bytes, &mut reading)
+    read(alloc, bytes)
 }
 
-/// The same by a reading, which keeps the place of a value that is refused.
 #[tactic(auto, unfolding(crate::specs::PlanOf::plan_of))]
-pub fn read(alloc: Global, bytes: &[u8], reading: &mut Reading) -> Result<Plan, PlanFault>
+fn read(alloc: Global, bytes: &[u8]) -> Result<Plan, PlanFault>
     ensures plan { Gives plan_value result (plan_of bytes.now) }
     ensures memory { IsErrOf result PlanFault.NoMemory → length bytes.now ≤ input_limit }
 {
-    let plan = read_values(alloc, bytes, reading)?;
+    let tree = parse(alloc, bytes)?;
+    plan_in(alloc, &tree)
+}
+
+/// The plan that the tree describes.
+pub fn plan_in(alloc: Global, tree: &Value) -> Result<Plan, PlanFault>
+    ensures { Gives plan_value result (plan_of_tree (view tree.now)) }
+{
+    let plan = values_in(alloc, tree)?;
     with_known_passes(plan)
 }
 
-/// The values of the plan that the bytes describe, whichever passes its schedule names; or why they describe none: a fault
-/// of the whole shape is reported before one of a range, and a range in the order of the keys.
-#[tactic(auto, unfolding(crate::specs::PlanOf::values_of))]
-fn read_values(alloc: Global, bytes: &[u8], reading: &mut Reading) -> Result<Plan, PlanFault>
-    ensures values { Gives plan_value result (values_of bytes.now) }
-    ensures short { OnOk result (length bytes.now ≤ input_limit) }
-    ensures memory { IsErrOf result PlanFault.NoMemory → length bytes.now ≤ input_limit }
+/// The values that the tree describes, whichever passes its schedule names.
+fn values_in(alloc: Global, tree: &Value) -> Result<Plan, PlanFault>
+    ensures { Gives plan_value result (values_of_tree (view tree.now)) }
 {
-    let document = parse(bytes, &mut reading.scratch)?;
-    values_in(alloc, &document, reading)
+    if !has_plan_shape(tree) {
+        return Err(PlanFault::Shape);
+    }
+    values(alloc, tree)
 }
 
 /// The plan, unless its schedule names a pass that isn't there.

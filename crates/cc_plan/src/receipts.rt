@@ -1,15 +1,16 @@
 //! Receipts, and how they are read.
 ghost use Rattle.std.specs.Prelude.{◌≡◌, ◌≤◌, IsErrOf, length};
+ghost use Rattle.serde_json.specs.View.{view};
 ghost use Rattle.cc_plan.specs.Answers.{Gives};
 ghost use Rattle.cc_plan.specs.Receipts.{receipts_value};
-ghost use Rattle.cc_plan.specs.ReceiptsOf.{receipts_of};
+ghost use Rattle.cc_plan.specs.ReceiptsOf.{receipts_of, receipts_of_tree};
 ghost use Rattle.cc_io.specs.Input.{input_limit};
 ghost use Rattle.cc_plan.specs.Names.{PlanFault};
 
 use crate::fault::PlanFault;
-use crate::reading::Reading;
-use crate::tokens::document::parse;
+use crate::tree::parse;
 use cc_audit::{SendReceipt, TakeReceipt};
+use serde_json::Value;
 use std::alloc::Global;
 
 /// The receipts of the senders and receivers of one topic, in any order, and the total that its close returned, if one
@@ -24,27 +25,28 @@ pub struct Receipts {
     pub total: Option<u64>,
 }
 
-mod found;
-pub mod keys;
+pub mod shape;
 mod values;
 
-use values::receipts_in;
+use shape::has_receipts_shape;
+use values::values;
 
 /// The receipts that the bytes describe, or why they describe none.
+#[tactic(auto, unfolding(crate::specs::ReceiptsOf::receipts_of))]
 pub fn read_receipts(alloc: Global, bytes: &[u8]) -> Result<Receipts, PlanFault>
     ensures receipts { Gives receipts_value result (receipts_of bytes.now) }
     ensures memory { IsErrOf result PlanFault.NoMemory → length bytes.now ≤ input_limit }
 {
-    let mut reading = Reading::new(alloc);
-    read(alloc, bytes, &mut reading)
+    let tree = parse(alloc, bytes)?;
+    receipts_in(alloc, &tree)
 }
 
-/// The same by a reading, which keeps the place of a value that is refused.
-#[tactic(auto, unfolding(crate::specs::ReceiptsOf::receipts_of))]
-pub fn read(alloc: Global, bytes: &[u8], reading: &mut Reading) -> Result<Receipts, PlanFault>
-    ensures receipts { Gives receipts_value result (receipts_of bytes.now) }
-    ensures memory { IsErrOf result PlanFault.NoMemory → length bytes.now ≤ input_limit }
+/// The receipts that the tree describes.
+pub fn receipts_in(alloc: Global, tree: &Value) -> Result<Receipts, PlanFault>
+    ensures { Gives receipts_value result (receipts_of_tree (view tree.now)) }
 {
-    let document = parse(bytes, &mut reading.scratch)?;
-    receipts_in(alloc, &document, reading)
+    if !has_receipts_shape(tree) {
+        return Err(PlanFault::Shape);
+    }
+    values(alloc, tree)
 }

@@ -1,185 +1,219 @@
-//! The place of a fault.
-ghost use Rattle.std.specs.Prelude.{◌≡◌, IfOk};
+//! The place of a fault: the first value that doesn't pass, by its path in the tree, and then in the text.
 
-use super::keys::unknown_key;
 use super::stray::stray;
-use super::values::{Trail, ValueKind, last_begun_at, root, value_at};
-use super::wanted::{Check, Kind, Table, fits_length, wanted_at, wanted_inside};
+use super::walk::{Found, Trail, ValueKind, key_at, root, value_at};
+use super::wanted::{Check, Kind, Table, Wanted, fits_length, keys, wanted_at, wanted_inside};
 use super::{Misfit, Place, Stranger};
 use crate::fault::PlanFault;
-use crate::reading::{Reading, Stop};
-use crate::tokens::document::{Document, parse};
-use crate::tokens::value::whole_number;
-use crate::version::table;
+use crate::plan::shape::{is_plan_key, named};
+use crate::receipts::shape::is_receipts_key;
+use crate::tree::{elements, is_word};
+use cc_model::is_within;
 use json::Scratch;
-use std::alloc::AllocError;
+use serde_json::{Map, Value};
+use std::alloc::{AllocError, Global};
 
-/// The table by which an input was read, and the place of its fault.
+/// The place of the fault for which a tree is refused.
 pub fn place_of(
+    alloc: Global,
     bytes: &[u8],
-    kind: Kind,
-    fault: Option<PlanFault>,
-    reading: &mut Reading,
-) -> Result<(Table, Option<Place>), AllocError>
-    ensures { IfOk result (λ found. found.0.kind ≡ kind) }
-{
-    let none = Table {
-        kind,
-        version: 1,
-        groups: 1,
-    };
-    match parse(bytes, &mut reading.scratch) {
-        Ok(document) => {
-            let table = table_in(&document, kind, &mut reading.scratch)?;
-            let place = place_in(&document, table, fault, reading)?;
-            Ok((table, place))
-        }
-        Err(PlanFault::NotJson) => Ok((none, Some(stray_in(bytes, &mut reading.scratch)?))),
-        Err(PlanFault::NoMemory) => Err(AllocError),
-        Err(_) => Ok((none, None)),
-    }
-}
-
-/// The place at which an input is no JSON.
-fn stray_in(bytes: &[u8], scratch: &mut Scratch) -> Result<Place, AllocError> {
-    match std::str::from_utf8(bytes) {
-        Ok(text) => Ok(Place::Token(stray(text, scratch)?)),
-        Err(e) => Ok(Place::Byte(e.valid_up_to())),
-    }
-}
-
-/// The table by which a text is read.
-fn table_in(document: &Document<'_>, kind: Kind, scratch: &mut Scratch) -> Result<Table, AllocError>
-    ensures { IfOk result (λ table. table.kind ≡ kind) }
-{
-    let version = table(document, scratch)?;
-    let groups = match document.at("groups", scratch)? {
-        Some(mut reader) => whole_number(&mut reader).value.unwrap_or(1),
-        None => 1,
-    };
-    Ok(Table {
-        kind,
-        version,
-        groups,
-    })
-}
-
-/// The place of a text's fault.
-fn place_in(
-    document: &Document<'_>,
+    tree: &Value,
     table: Table,
-    fault: Option<PlanFault>,
-    reading: &mut Reading,
+    fault: PlanFault,
 ) -> Result<Option<Place>, AllocError> {
+    let Ok(text) = std::str::from_utf8(bytes) else {
+        return Ok(None);
+    };
+    let mut scratch = Scratch::new(alloc);
     match fault {
-        Some(PlanFault::Shape) => shape_place(document, table, reading),
-        Some(PlanFault::Range(key)) => {
-            let stop = stop_at(reading.out_of_range, key);
-            value_place(document, table, stop, Check::Range, &mut reading.scratch)
-        }
-        Some(PlanFault::UnknownPass(entry)) => stranger_place(
-            document,
-            entry,
-            &mut reading.scratch,
-        ),
+        PlanFault::Shape => shape_place(text, tree, table, &mut scratch),
+        PlanFault::Range(key) => misfit_at(text, tree, table, key, Check::Range, &mut scratch),
+        PlanFault::UnknownPass(entry) => stranger_place(text, tree, entry, &mut scratch),
         _ => Ok(None),
     }
 }
 
-/// The place at which the value of this key stopped its reader. A number was read to its end.
-fn stop_at(last: Option<Stop>, key: &'static str) -> Stop {
-    match last {
-        Some(stop) if stop.key == key => stop,
-        _ => Stop { key, offset: 0 },
-    }
-}
-
-/// The place at which a text has another shape.
+/// The place at which a tree has another shape.
 fn shape_place(
-    document: &Document<'_>,
+    text: &str,
+    tree: &Value,
     table: Table,
-    reading: &mut Reading,
-) -> Result<Option<Place>, AllocError> {
-    let scratch = &mut reading.scratch;
-    let Some(root) = root(document, scratch)? else {
-        return Ok(None);
-    };
-    if root.kind != ValueKind::Object {
-        return Ok(Some(Place::Root(root)));
-    }
-    if let Some(key) = unknown_key(document, table, scratch)? {
-        return Ok(Some(Place::Unknown(key)));
-    }
-    match (reading.missing, reading.misshaped) {
-        (Some(key), _) => Ok(Some(Place::Missing(root.start, key))),
-        (None, Some(stop)) => value_place(document, table, stop, Check::Shape, scratch),
-        (None, None) => Ok(None),
-    }
-}
-
-/// The place of a value that doesn't pass, by the place at which its reader stopped: the value that was begun last, or the first array
-/// on the way there that is too short or too long.
-fn value_place(
-    document: &Document<'_>,
-    table: Table,
-    stop: Stop,
-    check: Check,
     scratch: &mut Scratch,
 ) -> Result<Option<Place>, AllocError> {
-    let (mut trail, mut wanted) = (Trail::HERE, wanted_at(stop.key));
-    for _ in 0..4 {
-        let Some(found) = value_at(document, stop.key, trail, scratch)? else {
-            return Ok(None);
-        };
-        let inside = match found.kind {
-            ValueKind::Array(length) if fits_length(table, wanted, check, length) => {
-                last_begun_at(document, stop.key, trail, stop.offset, scratch)?
-            }
-            _ => None,
-        };
-        let Some(place) = inside else {
-            return Ok(Some(Place::Value(Misfit {
-                key: stop.key,
-                trail,
-                found,
-                wanted,
-                check,
-            })));
-        };
-        trail = trail.then(place);
-        wanted = wanted_inside(table.version, wanted, place);
+    let Some(members) = tree.as_object() else {
+        let span = root(text, scratch)?;
+        return Ok(found(span, tree).map(Place::Root));
+    };
+    if let Some(key) = unknown_key(members, table) {
+        let span = key_at(text, key, scratch)?;
+        return Ok(span.map(|span| Place::Unknown(Found {
+            start: span.0,
+            end: span.1,
+            kind: ValueKind::Text,
+        })));
+    }
+    for key in keys(table) {
+        if is_needed(key) && tree.get(*key).is_none() {
+            let span = root(text, scratch)?;
+            return Ok(span.map(|span| Place::Missing(span.0, key)));
+        }
+    }
+    for key in keys(table) {
+        let place = misfit_at(text, tree, table, key, Check::Shape, scratch)?;
+        if place.is_some() {
+            return Ok(place);
+        }
     }
     Ok(None)
 }
 
+/// Whether the key has to be there.
+fn is_needed(key: &str) -> bool {
+    key != "version" && key != "total"
+}
+
+/// The first key of the root that isn't known.
+fn unknown_key<'a>(members: &'a Map<String, Value>, table: Table) -> Option<&'a str> {
+    let key = members.keys().find(|key| !is_known(table, key.as_str()))?;
+    Some(key.as_str())
+}
+
+/// Whether the table has the key.
+fn is_known(table: Table, key: &str) -> bool {
+    match table.kind {
+        Kind::Plan => is_plan_key(key, table.version),
+        Kind::Receipts => is_receipts_key(key),
+    }
+}
+
+/// The value at these places of the text.
+fn found(span: Option<(usize, usize)>, value: &Value) -> Option<Found> {
+    let (start, end) = span?;
+    Some(Found {
+        start,
+        end,
+        kind: ValueKind::of(value),
+    })
+}
+
+/// The place of the first value at a key that doesn't pass, if one doesn't.
+fn misfit_at(
+    text: &str,
+    tree: &Value,
+    table: Table,
+    key: &'static str,
+    check: Check,
+    scratch: &mut Scratch,
+) -> Result<Option<Place>, AllocError> {
+    let Some(value) = tree.get(key) else {
+        return Ok(None);
+    };
+    let Some((trail, wanted, value)) = first_misfit(table, wanted_at(key), value, check) else {
+        return Ok(None);
+    };
+    let span = value_at(text, key, trail, scratch)?;
+    Ok(found(span, value).map(|found| Place::Value(Misfit {
+        key,
+        trail,
+        found,
+        wanted,
+        check,
+    })))
+}
+
+/// The first value that doesn't pass, of this one and those inside of it, with the way there.
+fn first_misfit<'a>(
+    table: Table,
+    wanted: Wanted,
+    value: &'a Value,
+    check: Check,
+) -> Option<(Trail, Wanted, &'a Value)> {
+    if !passes(table, wanted, value, check) {
+        return Some((Trail::HERE, wanted, value));
+    }
+    let Value::Array(list) = value else {
+        return None;
+    };
+    for (place, element) in list.iter().enumerate() {
+        let wanted = wanted_inside(table.version, wanted, place);
+        if let Some((trail, wanted, value)) = first_misfit(table, wanted, element, check) {
+            let trail = Trail {
+                first: Some(place),
+                second: trail.first,
+                third: trail.second,
+            };
+            return Some((trail, wanted, value));
+        }
+    }
+    None
+}
+
+/// Whether the value passes, whatever is inside of it.
+fn passes(table: Table, wanted: Wanted, value: &Value, check: Check) -> bool {
+    let is_of_words = table.version == 2;
+    match (wanted, value) {
+        (Wanted::Number(low, high), _) => is_number_in(value, low, high, check),
+        (Wanted::Total, Value::Null) => true,
+        (Wanted::Total, _) => is_number_in(value, 0, u64::MAX, check),
+        (Wanted::Name, _) => named(value).is_some(),
+        (Wanted::Call, Value::String(_)) => is_word(value, "close"),
+        (Wanted::Call | Wanted::Body, _) if !is_of_words => {
+            is_number_in(value, 0, u64::MAX, check)
+        }
+        (_, Value::Array(list)) => fits_length(table, wanted, check, list.len()),
+        _ => false,
+    }
+}
+
+/// Whether the value is a number, and if its range is asked, a whole one in this range.
+fn is_number_in(value: &Value, low: u64, high: u64, check: Check) -> bool {
+    match check {
+        Check::Shape => value.is_number(),
+        Check::Range => value.as_u64().is_some_and(|n| is_within(n, low, high)),
+    }
+}
+
 /// The place of a schedule entry that names a pass that isn't there.
 fn stranger_place(
-    document: &Document<'_>,
+    text: &str,
+    tree: &Value,
     entry: usize,
     scratch: &mut Scratch,
 ) -> Result<Option<Place>, AllocError> {
-    let name = Trail::HERE.then(entry).then(0);
-    let Some(name) = value_at(document, "schedule", name, scratch)? else {
+    let trail = Trail {
+        first: Some(entry),
+        second: Some(0),
+        third: None,
+    };
+    let Some(span) = value_at(text, "schedule", trail, scratch)? else {
         return Ok(None);
     };
-    let senders = length_at(document, "senders", scratch)?;
-    let receivers = length_at(document, "receivers", scratch)?;
     Ok(Some(Place::Stranger(Stranger {
         entry,
-        name,
-        senders,
-        receivers,
+        name: Found {
+            start: span.0,
+            end: span.1,
+            kind: ValueKind::Text,
+        },
+        senders: length_at(tree, "senders"),
+        receivers: length_at(tree, "receivers"),
     })))
 }
 
 /// The length of the array at a key.
-fn length_at(
-    document: &Document<'_>,
-    key: &str,
-    scratch: &mut Scratch,
-) -> Result<usize, AllocError> {
-    match value_at(document, key, Trail::HERE, scratch)? {
-        Some(found) => Ok(found.kind.length()),
-        None => Ok(0),
+fn length_at(tree: &Value, key: &str) -> usize {
+    tree.get(key).and_then(elements).map_or(0, <[Value]>::len)
+}
+
+/// The place at which an input is no JSON; none of one that is too long.
+pub fn stray_of(
+    alloc: Global,
+    bytes: &[u8],
+    fault: PlanFault,
+) -> Result<Option<Place>, AllocError> {
+    match (fault, std::str::from_utf8(bytes)) {
+        (PlanFault::NotJson, Ok(text)) => Ok(Some(Place::Token(stray(alloc, text)?))),
+        (PlanFault::NotJson, Err(e)) => Ok(Some(Place::Byte(e.valid_up_to()))),
+        _ => Ok(None),
     }
 }

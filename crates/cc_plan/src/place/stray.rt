@@ -1,12 +1,11 @@
 //! The place at which a text is no JSON.
+ghost use Rattle.std.specs.Prelude.{◌≡◌, IfOk, is_some};
+ghost use Rattle.cc_plan.specs.Json.{json_of};
 
-use super::values::{is_space, sign_before, trimmed};
-use crate::tokens::number::is_finite;
-use json::{Reader, Scratch, Token, is_number};
-use std::alloc::AllocError;
-
-/// How deep arrays and objects may nest in a text.
-const MAX_DEPTH: u32 = 127;
+use super::walk::{MAX_DEPTH, is_space, sign_before, trimmed};
+use crate::tree::read_json;
+use json::{Reader, Scratch, Token};
+use std::alloc::{AllocError, Global};
 
 /// The tokens that may come next. The reader sees to the commas and colons between them.
 #[derive(Clone, Copy)]
@@ -21,10 +20,17 @@ enum Due {
     End,
 }
 
+impl Due {
+    /// Whether a value may come next.
+    fn is_value(self) -> bool {
+        matches!(self, Due::Value | Due::Element)
+    }
+}
+
 /// The arrays and objects that are open: how many, and a bit for each, from the innermost on, which is 1 for an object.
 #[derive(Clone, Copy)]
 struct Open {
-    depth: u32,
+    depth: usize,
     objects: u128,
 }
 
@@ -57,13 +63,26 @@ impl Open {
     }
 }
 
+/// Whether the bytes are a value: in place of a number one that isn't too large for a float of 64 bits.
+fn is_value(alloc: Global, bytes: &[u8]) -> Result<bool, AllocError>
+    ensures { IfOk result (λ is. is ≡ is_some (json_of bytes.now)) }
+{
+    Ok(read_json(alloc, bytes)?.is_some())
+}
+
 /// The tokens that may follow this one, and all that is open then; or None if the token can't come next itself.
-fn after(due: Due, open: Open, token: &Token<'_>) -> Option<(Due, Open)> {
-    let is_value = matches!(due, Due::Value | Due::Element);
-    let opens = is_value && open.depth < MAX_DEPTH;
-    match token {
-        Token::String(_) | Token::Bool(_) | Token::Null if is_value => Some((open.due(), open)),
-        Token::Number(digits) if is_value && is_finite(digits.as_bytes()) => {
+fn after(
+    alloc: Global,
+    due: Due,
+    open: Open,
+    token: &Token<'_>,
+) -> Result<Option<(Due, Open)>, AllocError> {
+    let opens = due.is_value() && open.depth < MAX_DEPTH;
+    Ok(match token {
+        Token::String(_) | Token::Bool(_) | Token::Null if due.is_value() => {
+            Some((open.due(), open))
+        }
+        Token::Number(digits) if due.is_value() && is_value(alloc, digits.as_bytes())? => {
             Some((open.due(), open))
         }
         Token::BeginArray if opens => Some((Due::Element, open.and(false))),
@@ -72,16 +91,7 @@ fn after(due: Due, open: Open, token: &Token<'_>) -> Option<(Due, Open)> {
         Token::EndObject if due == Due::Member => Some((open.closed().due(), open.closed())),
         Token::Key(_) if due == Due::Member => Some((Due::Value, open)),
         _ => None,
-    }
-}
-
-/// Whether the bytes are a number that fits a float of 64 bits, or a word of JSON.
-fn is_word(bytes: &[u8]) -> bool {
-    match std::str::from_utf8(bytes) {
-        Ok("true" | "false" | "null") => true,
-        Ok(text) => is_number(text) && is_finite(bytes),
-        Err(_) => false,
-    }
+    })
 }
 
 /// Whether a value may begin at the place, by the byte before it.
@@ -93,18 +103,16 @@ fn may_begin(text: &[u8], place: usize) -> bool {
 }
 
 /// The place of a bad token; or that of a quote at its end, if a value is due and the token up to there is one.
-fn behind_word(text: &[u8], place: usize) -> usize {
+fn behind_word(alloc: Global, text: &[u8], place: usize) -> Result<usize, AllocError> {
     let rest = text.get(place..).unwrap_or(b"");
     let length = rest
         .iter()
-        .position(|byte| is_space(*byte) || is_sign(*byte));
-    match length {
-        Some(n)
-            if rest.get(n) == Some(&b'"')
-                && may_begin(text, place)
-                && is_word(rest.get(..n).unwrap_or(b"")) => place.saturating_add(n),
-        _ => place,
-    }
+        .position(|byte| is_space(*byte) || is_sign(*byte))
+        .unwrap_or(0);
+    let is_behind = rest.get(length) == Some(&b'"')
+        && may_begin(text, place)
+        && is_value(alloc, rest.get(..length).unwrap_or(b""))?;
+    Ok(place.saturating_add(if is_behind { length } else { 0 }))
 }
 
 /// Whether the byte ends a word.
@@ -114,19 +122,18 @@ fn is_sign(byte: u8) -> bool {
 
 /// The place of the token that can't come next: of a text that is no key, or a key that is no value, the sign after it.
 fn place_of(due: Due, token: &Token<'_>, text: &[u8], place: usize, after: usize) -> usize {
-    let is_value = matches!(due, Due::Value | Due::Element);
     match token {
         Token::String(_) if due == Due::Member => sign_before(text, after),
-        Token::Key(_) if is_value => sign_before(text, after),
-        Token::Bad if is_value => behind_word(text, place),
+        Token::Key(_) if due.is_value() => sign_before(text, after),
         _ if due == Due::End => sign_before(text, place),
         _ => place,
     }
 }
 
 /// The first token that can't come next, by its place; if there is none, the length of the text.
-pub fn stray(text: &str, scratch: &mut Scratch) -> Result<usize, AllocError> {
-    let mut reader = Reader::new(text, scratch)?;
+pub fn stray(alloc: Global, text: &str) -> Result<usize, AllocError> {
+    let mut scratch = Scratch::new(alloc);
+    let mut reader = Reader::new(text, &mut scratch)?;
     let bytes = text.as_bytes();
     let (mut due, mut open) = (
         Due::Value,
@@ -137,11 +144,13 @@ pub fn stray(text: &str, scratch: &mut Scratch) -> Result<usize, AllocError> {
     );
     'tokens: loop {
         let place = reader.offset();
-        let token = match reader.next() {
-            Some(token) => token,
-            None => return Ok(bytes.len()),
+        let Some(token) = reader.next() else {
+            return Ok(bytes.len());
         };
-        match after(due, open, &token) {
+        if matches!(token, Token::Bad) && due.is_value() {
+            return behind_word(alloc, bytes, place);
+        }
+        match after(alloc, due, open, &token)? {
             Some(then) => (due, open) = then,
             None => return Ok(place_of(due, &token, bytes, place, reader.offset())),
         }

@@ -64,6 +64,32 @@ pub enum Check {
     Range,
 }
 
+/// The keys of plans, or of receipts, in the order of their table.
+pub fn keys(table: Table) -> &'static [&'static str] {
+    match table.kind {
+        Kind::Receipts => &["version", "total", "accepted", "taken"],
+        Kind::Plan if table.version == 2 => &[
+            "version",
+            "groups",
+            "capacity",
+            "bound",
+            "life",
+            "senders",
+            "receivers",
+            "schedule",
+        ],
+        Kind::Plan => &[
+            "version",
+            "capacity",
+            "bound",
+            "life",
+            "senders",
+            "receivers",
+            "schedule",
+        ],
+    }
+}
+
 /// That of the value at a key of the root.
 pub fn wanted_at(key: &str) -> Wanted {
     match key {

@@ -1,4 +1,0 @@
-use Rattle.cc_plan.proofs.place.values.trimmed.Given as goal
-
-abbrev pub decreases-loop-end : goal.decreases-loop-end
-decreases-loop-end l = l.end
