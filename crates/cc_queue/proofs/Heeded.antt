@@ -14,10 +14,9 @@ use Rattle.cc_runs.specs.Run.{IsRun, history_of}
 use Rattle.cc_runs.proofs.RunPrefixes.{prefixes_begin}
 use Rattle.cc_runs.proofs.KnownPrefixes.{prefixes_know}
 use Rattle.cc_runs.proofs.ListRuns.Laws.{history_is_legal}
-use Rattle.cc_steps.specs.Noted.{Noted, IsNoteOf}
-use Rattle.cc_steps.specs.Topic.{Topic}
+use Rattle.cc_steps.specs.Noted.{Noted}
 use Rattle.cc_steps.specs.Seen.{GoesOn, Onward, known_in}
-use Rattle.cc_steps.specs.Walk.{Walk, IsOf, HasLooked, IsSound}
+use Rattle.cc_steps.specs.Walk.{Walk, HasLooked, IsSound}
 use Rattle.cc_steps.proofs.Runs.{later_on}
 use Rattle.cc_queue.specs.Calls.{Completed, Repeated, last_of}
 use Rattle.cc_queue.specs.Headline.{StandsInOne, entry_of, name, history}
@@ -177,9 +176,6 @@ heeded_so n u v w is stop here looked sound =
     )
 
 -- the same by a copy of the note
-pub seen_so : (n m : Noted) (u v w : Walk) (z : Topic) → m ≡ n → v ≡ u → HasStopped v → IsOf z u → IsNoteOf z n → HasLooked v m.seen w → IsSound w → HasMet u w × HasHeeded n w
-seen_so n m u v w z is view stop here there looked sound = heeded_so n u v w view stop (there.0 ∙ sym here.0, there.1 ∙ sym here.1) (subst (λ (x : Noted). HasLooked v x.seen w) is looked) sound
-
 pub heeded_stays : HeededStays
 heeded_stays n v w calls h s =
     let setting : n.setting ≡ w.setting = h.here.1 ∙ sym s.same.1 in

@@ -44,6 +44,10 @@ abbrev pub Turned : {C P A : Type 0} → (C → Walk) → (P → Walk) → (A �
 Turned call pass told v (Turn.Waiting same) = Waited v (call same)
 Turned call pass told v (Turn.Done back answer served) = Answered v (told answer) served (pass back)
 
+-- A call that was begun, and then turned once. The views come first, as at a turn.
+abbrev pub BegunAndTurned : {C P A : Type 0} → (C → Walk) → (P → Walk) → (A → Answer) → Walk → Call → Turn C P A → Type 0
+BegunAndTurned pending pass told v call turn = (w : Walk) × Begun v call w × Turned pending pass told w turn
+
 -- A call that was waited for: the pass made it, and its answer is that of its pass's last call in one history.
 pub record Completed (v : Walk) (call : Call) (told : Answer) (w : Walk) : Type 0 where
   pub stands : StandsInOne v (entry_of v call ∷ []) w

@@ -1,42 +1,29 @@
 -- A look at the counts of a queue finds the counts of one run, beside the history of that run.
-use Rattle.std.specs.Prelude.{◌≢◌, ℕ, ◌+◌, ◌<◌, ◌≤◌, Bool, ◌==◌, List}
+use Rattle.std.specs.Prelude.{◌≡◌, ◌≢◌, ℕ, ◌+◌, ◌<◌, ◌≤◌, Bool, ◌==◌, List}
 use Rattle.cc_runs.specs.State.{State}
-use Rattle.cc_runs.specs.Run.{IsRun, passes, reached, history_of}
+use Rattle.cc_runs.specs.Run.{passes, reached, history_of}
 use Rattle.cc_runs.specs.ChainLaws.{IsOut}
-use Rattle.cc_runs.specs.Counts.{counted, counted_for, mark_of, AreSeen, CountsOf, CountsNoLess, IsFull, HasAll}
+use Rattle.cc_runs.specs.Counts.{counted, counted_for, mark_of, AreSeen, CountsOf, IsFull, HasAll}
 use Rattle.cc_queue.specs.Names.{Move}
-use Rattle.cc_steps.specs.Topic.{Topic}
-use Rattle.cc_steps.specs.Noted.{Noted, IsNoteOf}
-use Rattle.cc_steps.specs.Seen.{Onward, GoesOn}
+use Rattle.cc_steps.specs.Names.{Object, Word}
+use Rattle.cc_steps.specs.Seen.{GoesOn}
 use Rattle.cc_steps.specs.Walk.{Walk}
 use Rattle.cc_runs.specs.Words.{groups}
+use Rattle.cc_queue.specs.Headline.{history}
 use Rattle.cc_queue.specs.Met.{HasMet}
 use Rattle.cc_queue.specs.Noted.{IsListChecked}
 
--- the state after the run that a pass has seen, and after one that was noted
+-- the state after the run that a pass has seen
 abbrev pub state_seen : Walk → State
 state_seen w = reached w.setting w.seen
 
-abbrev pub state_noted : Noted → State
-state_noted n = reached n.setting n.seen
+-- what a word of the list holds
+abbrev pub in_word : Object → State → ℕ
+in_word object s = s.mem (Word.Object object)
 
 -- the mark of the close is set
 abbrev pub is_marked : State → Bool
 is_marked s = mark_of s == 1
-
--- A note of a run of this queue, with the counts of that run: they are near to what its history has.
-pub record NotesCounts (z : Topic) (n : Noted) : Type 0 where
-  pub here : IsNoteOf z n
-  pub run : IsRun n.setting n.seen
-  pub counts : CountsOf n.setting (state_noted n)
-
--- A look by a note of this queue: the note has then a run that goes on from the one that it had, with the counts of that run. They are no less
--- than before, and have every call that had ended in what was noted: all calls of each pass that was out of its chain then.
-pub record FollowsCounts (z : Topic) (n m : Noted) : Type 0 where
-  pub counts : NotesCounts z m
-  pub onward : Onward n.seen m.seen
-  pub no_less : CountsNoLess m.setting (reached m.setting n.seen) (state_noted m)
-  pub ended : (first : List Move) → GoesOn first n.seen → (p : ℕ) → p < passes m.setting → IsOut ((reached m.setting first).stand p).phase → AreSeen m.setting.config (counted (state_noted m)) (mark_of (state_noted m)) p (history_of m.setting first)
 
 -- A pass has seen more, and did nothing: a run with its counts. They have every call that had ended in what the pass had seen before: all
 -- calls of each pass that was out of its chain then.
@@ -45,17 +32,21 @@ pub record SeesCounts (v w : Walk) : Type 0 where
   pub counts : CountsOf w.setting (state_seen w)
   pub ended : (first : List Move) → GoesOn first v.seen → (p : ℕ) → p < passes w.setting → IsOut ((reached w.setting first).stand p).phase → AreSeen w.setting.config (counted (state_seen w)) (mark_of (state_seen w)) p (history_of w.setting first)
 
--- ---- Full and Empty, by two looks, of which the second is by the note of the first
+-- a pass looked, and this number is read of the state after the run that it has seen now
+pub record Found (read : State → ℕ) (v w : Walk) (found : ℕ) : Type 0 where
+  pub sees : SeesCounts v w
+  pub found_is : found ≡ read (state_seen w)
 
--- If the first finds as many items accepted as the queue holds beyond those that the second finds taken by some group, then the queue was full
--- in the run of the first.
+-- ---- Full and Empty, by two looks of one pass, one after the other
+
+-- If the first finds as many items accepted as the queue holds beyond those that the second finds taken by some group, numbered from 0, then the
+-- queue was full in the history that the pass had seen between the two.
 abbrev pub LooksAnswerFull : Type 0
-LooksAnswerFull = (z : Topic) (n m : Noted) (g : ℕ) → IsListChecked m.setting → FollowsCounts z n m → g < groups m.setting.config
-    → counted_for (state_noted m) g + m.setting.config.capacity ≤ counted (reached m.setting n.seen) → IsFull m.setting.config (history_of m.setting n.seen)
+LooksAnswerFull = (u v w : Walk) (g accepted taken : ℕ) → IsListChecked v.setting → Found counted u v accepted → Found (λ s. counted_for s g) v w taken
+    → g < groups v.setting.config → taken + v.setting.config.capacity ≤ accepted → IsFull v.setting.config (history v)
 
--- If the first finds how many items a group has taken, and the second no more items accepted, and none more taken by another group, then the
--- group had all items in the run of the first.
+-- If the first finds how many items a group has taken, and the second no more items accepted, and the counts of that one run none more taken by
+-- another group, then the group had all items in the history that the pass had seen between the two.
 abbrev pub LooksAnswerEmpty : Type 0
-LooksAnswerEmpty = (z : Topic) (n m : Noted) (g : ℕ) → IsListChecked m.setting → FollowsCounts z n m → g < groups m.setting.config
-    → counted (state_noted m) ≤ counted_for (reached m.setting n.seen) g → ((k : ℕ) → k < groups m.setting.config → k ≢ g → counted_for (state_noted m) k ≤ counted_for (reached m.setting n.seen) g)
-    → HasAll m.setting (reached m.setting n.seen) g
+LooksAnswerEmpty = (u v w : Walk) (g taken accepted : ℕ) → IsListChecked v.setting → Found (λ s. counted_for s g) u v taken → Found counted v w accepted
+    → g < groups v.setting.config → accepted ≤ taken → ((k : ℕ) → k < groups v.setting.config → k ≢ g → counted_for (state_seen w) k ≤ taken) → HasAll v.setting (state_seen v) g

@@ -10,7 +10,6 @@ ghost use Rattle.cc_queue.specs.Work.{IsOn, IsOnList, Enters};
 ghost use Rattle.cc_queue.specs.Headline.{entry_of};
 
 use crate::bodies;
-use crate::queue::Queue;
 use cc_model::Call;
 use cc_runs::{Chain, Request};
 use cc_steps::seats::PassSeat;
@@ -37,13 +36,14 @@ fn exchange(words: &ChainWords<'_>, seat: &mut PassSeat, node: u64, call: Call) 
 /// it to the own one.
 #[inline(always)]
 pub fn begin_request(
-    queue: &Queue,
+    words: &ChainWords<'_>,
     seat: &mut PassSeat,
     node: u64,
     call: Call,
     request: Request,
 ) -> u64
-    requires here { IsOf queue.now seat.old }
+    requires here { IsOf words.now.topic seat.old }
+    requires sends { words.now.chain ≡ Chain.Send }
     requires chain { IsOn seat.old Chain.Send }
     requires idle { seat.old.stand ≡ record { begun = seat.old.stand.begun; node = node; phase = Phase.Idle } }
     requires may { CanStart seat.old.setting seat.old.number (Some call) seat.old.stand }
@@ -51,22 +51,22 @@ pub fn begin_request(
     ensures entered { Enters seat.old call record { begun = begun_after call seat.old.stand.begun; node = result; phase = Phase.ReadState } seat.new }
     ensures pending { IsPendingIn seat.new }
 {
-    let words = queue.words().on(seat, Chain::Send);
-    let got = exchange(&words, seat, node, call);
-    bodies::write_request(&words, seat, got, node, request);
+    let got = exchange(words, seat, node, call);
+    bodies::write_request(words, seat, got, node, request);
     got
 }
 
-/// Begins a take: links the node that the exchange left, which is given, to the own one.
-pub fn begin_take(queue: &Queue, seat: &mut PassSeat, group: u32, node: u64) -> u64
-    requires here { IsOnList queue.now (Chain.Take group) seat.old }
+/// Begins a take: links the node that the exchange left, which is given, to the own one. `_group` is here for the clauses alone.
+#[inline(always)]
+pub fn begin_take(words: &ChainWords<'_>, seat: &mut PassSeat, _group: u32, node: u64) -> u64
+    requires here { IsOnList words.now.topic (Chain.Take _group) seat.old }
+    requires takes { words.now.chain ≡ Chain.Take _group }
     requires idle { seat.old.stand ≡ record { begun = seat.old.stand.begun; node = node; phase = Phase.Idle } }
     requires few { seat.old.stand.begun ≤ seat.old.setting.config.per_sender }
     ensures entered { Enters seat.old Call.Take record { begun = seat.old.stand.begun; node = result; phase = Phase.ReadState } seat.new }
     ensures pending { IsPendingIn seat.new }
 {
-    let words = queue.words().on(seat, Chain::Take(group));
-    let got = exchange(&words, seat, node, Call::Take);
-    steps::link_next(&words, seat, got, node + 1);
+    let got = exchange(words, seat, node, Call::Take);
+    steps::link_next(words, seat, got, node + 1);
     got
 }

@@ -49,7 +49,7 @@ pub fn combine(words: &ChainWords<'_>, seat: &mut PassSeat, chain: Chain, node: 
             next: next - 1,
         };
         serve(words, seat, chain, job);
-        steps::mark_done(words, seat, at);
+        steps::mark_done(words, seat, chain, at);
         at = job.next;
     }
     steps::hand_over(words, seat, at);

@@ -34,7 +34,7 @@ pub use cc_model::{CloseAnswer, Config, ConfigFault, Item, Pass, SendAnswer, Tak
 pub use cc_runs::OpenFault;
 pub use cc_steps::notes::Note;
 pub use clauses::clauses_refuse;
-pub use counts::{looks_answer_empty, looks_answer_full};
+pub use counts::{Looks, looks_answer_empty, looks_answer_full};
 pub use given_up::GivenUp;
 pub use meets::{Live, Meets, meet_all};
 pub use notes::{again, heeded_is_fresh, heeded_stays, send_after, take_after, turns_complete};
@@ -42,5 +42,5 @@ pub use passes::{PendingClose, PendingSend, PendingTake, Receiver, Sender, Turn}
 pub use pending::Pending;
 pub use queue::{Opened, Queue};
 pub use receipts::{AllPasses, Receipts, audit_all};
-pub use receiver::{begin_take, turn_take};
-pub use sender::{begin_close, begin_send, turn_close, turn_send};
+pub use receiver::{begin_take, try_take, turn_take};
+pub use sender::{begin_close, begin_send, try_send, turn_close, turn_send};

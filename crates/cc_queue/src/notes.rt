@@ -1,5 +1,5 @@
 //! Notes of what a pass has seen, heeded by other passes: order between calls that a program hands over.
-ghost use Rattle.std.specs.Prelude.{◌≡◌, ◌<◌, ◌≤◌, [], IfErr, IfOk, OnErr, OnOk};
+ghost use Rattle.std.specs.Prelude.{◌≡◌, ◌<◌, ◌≤◌, IfErr, IfOk, OnErr, OnOk};
 ghost use Rattle.cc_queue.specs.Names.{Answer, Call};
 ghost use Rattle.cc_queue.specs.Noted.{CompletedAfter, HasHeeded, HeededIsFresh, HeededStays, IsOfOneQueue, JustHeeded, SendsAreFresh, TakesAreFresh, TurnsComplete};
 ghost use Rattle.cc_queue.specs.Met.{HasMet};
@@ -87,104 +87,6 @@ impl PendingTake {
         ensures noted { result ≡ noted_by self.old }
     {
         make_note(&self.at.words, &mut self.at.seat)
-    }
-}
-
-impl Sender {
-    /// As `note`, by way of the queue.
-    #[inline(always)]
-    pub fn note_of(&mut self, queue: &Queue) -> Note
-        requires { IsOf queue.now self.old }
-        ensures same { self.new ≡ self.old }
-        ensures noted { result ≡ noted_by self.old }
-    {
-        make_note(&queue.words, &mut self.at.seat)
-    }
-
-    /// As `heed`, by way of the queue, of a note that is left as it is. It costs three loads.
-    #[inline(always)]
-    pub fn see_noted(&mut self, queue: &Queue, note: &mut Note)
-        requires here { IsOf queue.now self.old }
-        requires there { IsNoteOf queue.now note.old }
-        ensures same { note.new ≡ note.old }
-        ensures met { HasMet self.old self.new }
-        ensures heeded { HasHeeded note.old self.new }
-    {
-        let copy = notes::again(&queue.words, note);
-        notes::heed(&queue.words, &mut self.at.seat, copy);
-        self.at.seat.is_sound();
-    }
-}
-
-impl Receiver {
-    /// As `note`, by way of the queue.
-    #[inline(always)]
-    pub fn note_of(&mut self, queue: &Queue) -> Note
-        requires { IsOf queue.now self.old }
-        ensures same { self.new ≡ self.old }
-        ensures noted { result ≡ noted_by self.old }
-    {
-        make_note(&queue.words, &mut self.at.seat)
-    }
-
-    /// As `heed`, by way of the queue, of a note that is left as it is. It costs three loads.
-    #[inline(always)]
-    pub fn see_noted(&mut self, queue: &Queue, note: &mut Note)
-        requires here { IsOf queue.now self.old }
-        requires there { IsNoteOf queue.now note.old }
-        ensures same { note.new ≡ note.old }
-        ensures met { HasMet self.old self.new }
-        ensures heeded { HasHeeded note.old self.new }
-    {
-        let copy = notes::again(&queue.words, note);
-        notes::heed(&queue.words, &mut self.at.seat, copy);
-        self.at.seat.is_sound();
-    }
-}
-
-impl PendingSend {
-    /// As `note`, by way of the queue.
-    #[inline(always)]
-    pub fn note_of(&mut self, queue: &Queue) -> Note
-        requires { IsOf queue.now self.old }
-        ensures same { self.new ≡ self.old }
-        ensures noted { result ≡ noted_by self.old }
-    {
-        make_note(&queue.words, &mut self.at.seat)
-    }
-}
-
-impl PendingClose {
-    /// As `note`, by way of the queue.
-    #[inline(always)]
-    pub fn note_of(&mut self, queue: &Queue) -> Note
-        requires { IsOf queue.now self.old }
-        ensures same { self.new ≡ self.old }
-        ensures noted { result ≡ noted_by self.old }
-    {
-        make_note(&queue.words, &mut self.at.seat)
-    }
-}
-
-impl PendingTake {
-    /// As `note`, by way of the queue.
-    #[inline(always)]
-    pub fn note_of(&mut self, queue: &Queue) -> Note
-        requires { IsOf queue.now self.old }
-        ensures same { self.new ≡ self.old }
-        ensures noted { result ≡ noted_by self.old }
-    {
-        make_note(&queue.words, &mut self.at.seat)
-    }
-}
-
-impl Queue {
-    /// A note by which nothing was seen. It takes no memory and never waits.
-    pub fn blank_note(&self) -> Note
-        ensures here { IsNoteOf self.now result }
-        ensures nothing { result.seen ≡ [] }
-    {
-        notes::blank(&self.words)
     }
 }
 

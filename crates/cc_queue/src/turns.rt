@@ -8,7 +8,6 @@ ghost use Rattle.cc_queue.specs.Work.{CanTurn, IsOnList, Turns, Works, Waits, lo
 
 use crate::bodies;
 use crate::combine::combine;
-use crate::queue::Queue;
 use cc_model::{CloseAnswer, SendAnswer, TakeAnswer};
 use cc_runs::{CODE, Chain, NodeField};
 use cc_steps::seats::PassSeat;
@@ -34,51 +33,55 @@ fn await_answer(words: &ChainWords<'_>, seat: &mut PassSeat, chain: Chain, node:
 /// `await_answer` on the senders' chain: compiled for it alone, and once for all who call. All that a turn calls is inlined
 /// into it, so that the words of the chain stay in registers.
 #[inline(never)]
-fn await_request(queue: &Queue, seat: &mut PassSeat, node: u64) -> Option<u32>
-    requires { CanTurn queue.now Chain.Send node seat.old }
+fn await_request(words: ChainWords<'_>, seat: &mut PassSeat, node: u64) -> Option<u32>
+    requires turn { CanTurn words.topic Chain.Send node seat.old }
+    requires chain { words.chain ≡ Chain.Send }
     ensures waits { IfNone result (Waits seat.old seat.new) }
     ensures done { IfSome result (λ n. Turns seat.old Phase.ReadAnswer n seat.new) }
 {
-    let words = queue.words().on(seat, Chain::Send);
     await_answer(&words, seat, Chain::Send, node)
 }
 
 /// `await_answer` on a group's chain, in the same way.
 #[inline(never)]
-fn await_item(queue: &Queue, seat: &mut PassSeat, group: u32, node: u64) -> Option<u32>
-    requires { CanTurn queue.now (Chain.Take group) node seat.old }
+fn await_item(words: ChainWords<'_>, seat: &mut PassSeat, group: u32, node: u64) -> Option<u32>
+    requires turn { CanTurn words.topic (Chain.Take group) node seat.old }
+    requires chain { words.chain ≡ Chain.Take group }
     ensures waits { IfNone result (Waits seat.old seat.new) }
     ensures done { IfSome result (λ n. Turns seat.old Phase.ReadAnswer n seat.new) }
 {
-    let chain = Chain::Take(group);
-    let words = queue.words().on(seat, chain);
-    await_answer(&words, seat, chain, node)
+    await_answer(&words, seat, Chain::Take(group), node)
 }
 
 /// Reads the answer word of a send or a close.
 #[inline(always)]
-pub fn read_request_answer(queue: &Queue, seat: &mut PassSeat, node: u64) -> u64
-    requires here { IsOnList queue.now Chain.Send seat.old }
+fn read_request_answer(words: &ChainWords<'_>, seat: &mut PassSeat, node: u64) -> u64
+    requires here { IsOnList words.now.topic Chain.Send seat.old }
+    requires chain { words.now.chain ≡ Chain.Send }
     requires at { seat.old.stand ≡ record { begun = seat.old.stand.begun; node = node; phase = Phase.ReadAnswer } }
     ensures worked { Works seat.old Phase.Idle (looked 0) seat.new }
     ensures told { IsToldAt seat.new (Phase.Finished (list_reads result)) }
 {
-    let words = queue.words().on(seat, Chain::Send);
-    steps::read_answer(&words, seat, node, NodeField::Ret)
+    steps::read_answer(words, seat, node, NodeField::Ret)
 }
 
-/// Reads the answer of a take, and of an item its tag and its body too.
+/// Reads the answer of a take, and of an item its tag and its body too. `_group` is here for the clauses alone.
 #[inline(always)]
-pub fn read_take_answer(queue: &Queue, seat: &mut PassSeat, group: u32, node: u64) -> TakeAnswer
-    requires here { IsOnList queue.now (Chain.Take group) seat.old }
+fn read_take_answer(
+    words: &ChainWords<'_>,
+    seat: &mut PassSeat,
+    _group: u32,
+    node: u64,
+) -> TakeAnswer
+    requires here { IsOnList words.now.topic (Chain.Take _group) seat.old }
+    requires chain { words.now.chain ≡ Chain.Take _group }
     requires at { seat.old.stand ≡ record { begun = seat.old.stand.begun; node = node; phase = Phase.ReadAnswer } }
     ensures worked { Works seat.old Phase.Idle (looked 0) seat.new }
     ensures told { IsToldAt seat.new (Phase.Finished (Answer.Take result)) }
 {
-    let words = queue.words().on(seat, Chain::Take(group));
-    let ret = steps::read_answer(&words, seat, node, NodeField::Ret);
+    let ret = steps::read_answer(words, seat, node, NodeField::Ret);
     match ret / CODE {
-        1 => TakeAnswer::Got(bodies::read_answer(&words, seat, node, ret % CODE)),
+        1 => TakeAnswer::Got(bodies::read_answer(words, seat, node, ret % CODE)),
         2 => TakeAnswer::Empty,
         _ => TakeAnswer::Ended { total: ret % CODE },
     }
@@ -86,31 +89,33 @@ pub fn read_take_answer(queue: &Queue, seat: &mut PassSeat, group: u32, node: u6
 
 /// A turn of a send or a close: its answer word, and how many calls were served, if it doesn't wait.
 #[inline(always)]
-pub fn turn_request(queue: &Queue, seat: &mut PassSeat, node: u64) -> Option<(u64, u32)>
-    requires { CanTurn queue.now Chain.Send node seat.old }
+pub fn turn_request(words: &ChainWords<'_>, seat: &mut PassSeat, node: u64) -> Option<(u64, u32)>
+    requires turn { CanTurn words.now.topic Chain.Send node seat.old }
+    requires chain { words.now.chain ≡ Chain.Send }
     ensures waits { IfNone result (Waits seat.old seat.new) }
     ensures done { IfSome result (λ r. Turns seat.old Phase.Idle r.1 seat.new) }
     ensures told { IfSome result (λ r. IsToldAt seat.new (Phase.Finished (list_reads r.0))) }
 {
-    let served = await_request(queue, seat, node)?;
-    Some((read_request_answer(queue, seat, node), served))
+    let served = await_request(words.copied(), seat, node)?;
+    Some((read_request_answer(words, seat, node), served))
 }
 
 /// A turn of a take: its answer, and how many calls were served, if it doesn't wait.
 #[inline(always)]
 pub fn turn_take(
-    queue: &Queue,
+    words: &ChainWords<'_>,
     seat: &mut PassSeat,
     group: u32,
     node: u64,
 ) -> Option<(TakeAnswer, u32)>
-    requires { CanTurn queue.now (Chain.Take group) node seat.old }
+    requires turn { CanTurn words.now.topic (Chain.Take group) node seat.old }
+    requires chain { words.now.chain ≡ Chain.Take group }
     ensures waits { IfNone result (Waits seat.old seat.new) }
     ensures done { IfSome result (λ r. Turns seat.old Phase.Idle r.1 seat.new) }
     ensures told { IfSome result (λ r. IsToldAt seat.new (Phase.Finished (Answer.Take r.0))) }
 {
-    let served = await_item(queue, seat, group, node)?;
-    Some((read_take_answer(queue, seat, group, node), served))
+    let served = await_item(words.copied(), seat, group, node)?;
+    Some((read_take_answer(words, seat, group, node), served))
 }
 
 /// The answer of a send that an answer word is.

@@ -3,6 +3,7 @@ pub mod Words
 pub mod State
 pub mod ServiceLine
 pub mod Lines
+pub mod Early
 pub mod CountLines
 pub mod SendLines
 pub mod TakeLines

@@ -1,19 +1,18 @@
 -- A load by a seat that does no step: it changes no word and adds no move, and the seat has seen the longest run afterwards.
-use Rattle.std.proofs.Common.{◌≡◌, ℕ, List, [], ◌∷◌, ◌++◌, length, set, get_or, IsTrue, None, refl, sym, ap, ◌∙◌, subst, ⊎_elim, append-nil}
+use Rattle.std.proofs.Common.{◌≡◌, ℕ, List, [], length, set, get_or, IsTrue, None, refl, sym, ap, ◌∙◌, subst, append-nil}
 use mathlib.Core.Option.{some}
 use lib.ListN.{get_elem?}
 use Rattle.atomic_table.specs.Seated.{TableId}
-use Rattle.atomic_table.specs.Table.{State, Me, keeps, Allows, Enters}
-use Rattle.atomic_table.proofs.Lists.{at_snoc}
+use Rattle.atomic_table.specs.Table.{State, Me, keeps, Allows}
 use Rattle.cc_steps.specs.Names.{Move, Object, Setting, Word, View, Role}
 use Rattle.cc_runs.specs.Words.{layout_of, exists}
 use Rattle.cc_steps.specs.Slots.{held, slot}
-use Rattle.cc_steps.specs.Seen.{Onward, stand_in, word_in, made_in, did_in}
-use Rattle.cc_steps.specs.Shown.{passing, Knows, Shown, stand_of}
-use Rattle.cc_steps.specs.Counted.{parting, FoundAt, Glimpsed, Followed, Watched, HasWatched}
+use Rattle.cc_steps.specs.Seen.{stand_in, word_in, made_in, did_in}
+use Rattle.cc_steps.specs.Shown.{passing, Shown, stand_of}
+use Rattle.cc_steps.specs.Counted.{FoundAt, Watched, HasWatched}
 use Rattle.cc_steps.specs.Walk.{Walk, walk_of, Sound}
 use Rattle.cc_steps.proofs.Keeps.{word_found}
-use Rattle.cc_steps.proofs.Joined.{shown_views, viewed_as, viewed_set, set_found}
+use Rattle.cc_steps.proofs.Joined.{viewed_as, viewed_set, set_found}
 use Rattle.cc_steps.proofs.Runs.{later_on, made-others, did-others, stand-others, step_safe}
 
 module _ (c : Setting) (s : State (Unit {0}) View) (h : Shown c s) (place : ℕ) where
@@ -24,46 +23,6 @@ module _ (c : Setting) (s : State (Unit {0}) View) (h : Shown c s) (place : ℕ)
     run = h.run;
     found_is = λ w there is. ap (λ (x : ℕ). get_or s.words x 0) (sym is) ∙ sym (word_found (layout_of c.config) s.words w there) ∙ ap (λ (m : Word → ℕ). m w) h.words;
   }
-
--- a part of the longest run enters
-pub glimpses_so : (c : Setting) (slots place : ℕ) → Enters (Shown c) slots place (λ n w. Glimpsed c place n w)
-glimpses_so c slots place s h _ _ = (
-  parting c h.log,
-  shown_views c s h (s.views ++ parting c h.log ∷ [])
-      (λ j u e. ⊎_elim
-      (λ (was : get_elem? s.views j ≡ some u). h.views j u was)
-      (λ (same : parting c h.log ≡ u). subst (λ (y : View). Knows c h.log h.next h.owner h.top j y.role y) same (refl, ([], refl)))
-      (at_snoc s.views (parting c h.log) u j e)),
-  record { view = refl; found_at = found_at c s h place },
-)
-
--- a part sees the longest run
-pub follows_so : (c : Setting) (slots id : ℕ) (me : Me (Unit {0}) View) (place : ℕ) → me.0.role ≡ Role.Part → Allows (Shown c) slots id me place (λ x. x) (λ x m'. Followed me.0 place x m'.0 × (m'.1 ≡ me.1))
-follows_so c slots id me place is s h _ at _ =
-    let v : View = me.0 in
-    let known = viewed_as c s h id v Role.Part is at in
-    let w : View = parting c h.log in
-    let same : parting c h.log ≡ parting v.setting h.log = λ i. parting (sym known.0 i) h.log in
-    let still : set s.words place (get_or s.words place 0) ≡ s.words = set_found s.words place in (
-      w,
-      keeps,
-      tt,
-      record {
-        log = h.log;
-        next = h.next;
-        owner = h.owner;
-        top = h.top;
-        run = h.run;
-        checked = h.checked;
-        wide = ap length still ∙ h.wide;
-        configured = λ i lt. ap (λ (l : List ℕ). get_or l i 0) still ∙ h.configured i lt;
-        words = ap (held (layout_of c.config)) still ∙ h.words;
-        views = viewed_set c s h s.views id w (λ j u _ e. h.views j u e) (refl, ([], refl));
-        unborn = h.unborn;
-        few = h.few;
-      },
-      (record { view = same; later = known.1; found_at = subst (λ (x : Setting). FoundAt x h.log place (get_or s.words place 0)) (sym known.0) (found_at c s h place) }, refl),
-    )
 
 -- a pass sees the longest run
 pub watches_so : (c : Setting) (slots id : ℕ) (me : Me (Unit {0}) View) (place : ℕ) → me.0.role ≡ Role.Pass → Allows (Shown c) slots id me place (λ x. x) (λ x m'. Watched me.0 place x m'.0)
@@ -92,12 +51,6 @@ watches_so c slots id me place is s h _ at _ =
       },
       record { view = same; mine = known.3; found_at = subst (λ (x : Setting). FoundAt x h.log place (get_or s.words place 0)) (sym known.0) (found_at c s h place) },
     )
-
--- ---- what that gives a note
-
-module _ (v : View) (place found : ℕ) (w : View) (f : Followed v place found w) where
-  pub followed_on : Onward v.seen w.seen
-  followed_on = λ first g. later_on first v.seen w.seen (record { more = f.later.0; is = f.later.1 }) g
 
 -- ---- what that gives a pass
 

@@ -13,3 +13,4 @@ pub mod Laid
 pub mod Dealt
 pub mod OnChains
 pub mod RefusedClaims
+pub mod EarlyStores

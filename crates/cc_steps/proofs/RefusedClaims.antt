@@ -1,12 +1,13 @@
 -- The clauses refuse these claims.
-use Rattle.std.proofs.Common.{◌≡◌, ℕ, ap, sym}
+use Rattle.std.proofs.Common.{◌≡◌, ℕ, true, None, ap, sym, subst}
+use Rattle.cc_runs.specs.Early.{may_be_early, is_fresh}
 use Rattle.cc_runs.specs.State.{Operation, Load, Store, Swap, Add, word_of, chain_of}
-use Rattle.cc_runs.specs.Lines.{operation}
+use Rattle.cc_runs.specs.Lines.{event_at, operation}
 use Rattle.cc_runs.specs.CountLines as count_side
 use Rattle.cc_runs.specs.SendLines as send_side
 use Rattle.cc_runs.specs.TakeLines as take_side
-use Rattle.cc_steps.specs.Names.{Chain, Config, Counting, Kind, Phase, Sending, Setting, Taking, Word}
-use Rattle.cc_steps.specs.Walk.{Steps, Walk}
+use Rattle.cc_steps.specs.Names.{Chain, Config, Counting, Event, Kind, NodeField, Phase, Sending, Setting, Taking, Word}
+use Rattle.cc_steps.specs.Walk.{IsEarly, IsFresh, Steps, Walk}
 use Rattle.cc_steps.specs.Refused.{IsNoTail, RefusedClaims}
 
 -- the operation is no swap
@@ -79,5 +80,22 @@ no_lock c x own (Phase.Finished told) w value none is = absurd (cc is)
 swapped : (v : Walk) (kind : Kind) (w : Word) (value : ℕ) → IsNoTail w → Steps v kind (Swap w value) → ⊥
 swapped v kind w value none steps = no_lock v.setting (chain_of v.setting.config v.number) v.stand.node v.stand.phase w value none steps.1
 
+-- a mark of the senders' chain
+sent_early : (c : Setting) (x : Chain) (own : ℕ) (at : Phase) (n : ℕ) → event_at at ≡ Event.Did Kind.MarkDone → operation c x own at ≡ Store (Word.Node Chain.Send n NodeField.State) 2 → may_be_early x at ≡ true → ⊥
+sent_early c (Chain.Take g) own (Phase.MarkDone job) n e o early = absurd (cc o)
+sent_early c Chain.Send own (Phase.MarkDone job) n e o early = absurd (cc early)
+sent_early c x own (Phase.Counting job Counting.ReadTag) n e o early = absurd (cc e)
+sent_early c x own (Phase.Sending job Sending.ReadTag) n e o early = absurd (cc e)
+sent_early c x own (Phase.Taking job Taking.ReadHead) n e o early = absurd (cc e)
+sent_early c x own _ n e o early = absurd (cc e)
+
+sent : (v : Walk) (n : ℕ) → Steps v Kind.MarkDone (Store (Word.Node Chain.Send n NodeField.State) 2) → IsEarly v None → ⊥
+sent v n steps early = sent_early v.setting (chain_of v.setting.config v.number) v.stand.node v.stand.phase n steps.0 steps.1 early
+
+waits : (v : Walk) → v.stand.phase ≡ Phase.ReadState → IsFresh v → ⊥
+waits v at fresh =
+    let no : is_fresh Phase.ReadState ≡ true = subst (λ (x : Phase). is_fresh x ≡ true) at fresh in
+    absurd (cc no)
+
 pub claims_refused : RefusedClaims
-claims_refused = record { lock_word_is_swapped = swapped }
+claims_refused = record { lock_word_is_swapped = swapped; mark_of_send_is_early = sent; waiting_is_fresh = waits }

@@ -1,5 +1,5 @@
 -- A contract sees of a seat its pass, the run that it has seen, and the phase of its pass.
-use Rattle.std.specs.Prelude.{◌≡◌, ◌≢◌, ℕ, ◌+◌, ◌<◌, List, [], ◌∷◌, ◌++◌, IsTrue, Option, Some, Ok}
+use Rattle.std.specs.Prelude.{◌≡◌, ◌≢◌, ℕ, ◌+◌, ◌<◌, List, [], ◌∷◌, ◌++◌, true, IsTrue, Option, Some, Ok}
 use Rattle.atomic_table.specs.Seated.{TableId}
 use Rattle.atomic_table.specs.declared.shared.Seat.{Seat}
 use Rattle.cc_model.specs.Config.{config_fault}
@@ -7,6 +7,7 @@ use Rattle.cc_steps.specs.Names.{Call, Entry, Setting, Stand, Phase, Kind, Event
 use Rattle.cc_runs.specs.Words.{layout_of, exists}
 use Rattle.cc_runs.specs.State.{Operation, chain_of, pass_at, first_node, word_of}
 use Rattle.cc_runs.specs.Lines.{event_at, goes}
+use Rattle.cc_runs.specs.Early.{may_be_early, is_fresh}
 use Rattle.cc_runs.specs.ChainLaws.{IsLastAnswer}
 use Rattle.cc_runs.specs.ChainLaws.{IsLastPending}
 use Rattle.cc_runs.specs.Ready.{IsPhaseSafe}
@@ -91,6 +92,14 @@ stepping v call = entered v.setting v.number v.seen call v.stand
 -- it can begin this call, whose first step does this
 abbrev pub CanBegin : Walk → Call → Operation → Type 0
 CanBegin v call op = CanStart v.setting v.number (Some call) v.stand × (does_at v.setting v.number (stepping v (Some call)) ≡ op)
+
+-- it loads nothing before its next exchange
+abbrev pub IsFresh : Walk → Type 0
+IsFresh v = is_fresh v.stand.phase ≡ true
+
+-- the store of its next step may be early
+abbrev pub IsEarly : Walk → Option Call → Type 0
+IsEarly v call = may_be_early (chain_of v.setting.config v.number) (stepping v call).phase ≡ true
 
 -- the phase of the pass after its step, of what that found
 abbrev pub next_stand : Walk → Option Call → ℕ → Stand

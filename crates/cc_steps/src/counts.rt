@@ -1,38 +1,17 @@
-//! Looks at the words by which the list counts its items: one load each, by no pass, by a note, or by a pass that does no step.
+//! Looks at the words by which the list counts its items: one load each, by a pass that does no step.
 ghost use Rattle.std.specs.Prelude.{◌≡◌, ◌<◌, IsTrue};
 ghost use Rattle.cc_runs.specs.Words.{IsSmall, layout_of, exists};
 ghost use Rattle.cc_steps.specs.Names.{Word};
 ghost use Rattle.cc_steps.specs.Slots as slots;
 ghost use Rattle.cc_steps.specs.Slots.{slot_count};
-ghost use Rattle.cc_steps.specs.Noted.{IsNoteOf};
-ghost use Rattle.cc_steps.specs.Counted.{FoundInNote, HasWatched};
-ghost use Rattle.cc_steps.specs.Seen.{Onward};
+ghost use Rattle.cc_steps.specs.Counted.{HasWatched};
 ghost use Rattle.cc_steps.specs.Walk.{IsOf};
 
-use crate::notes::Note;
 use crate::seats::{PassSeat, View};
 use crate::words::Words;
 use atomic_table::Play;
 use cc_model::Config;
 use cc_runs::Object;
-
-/// A load that makes a part, which has seen the longest run.
-struct Glimpses;
-
-impl Play<(), View> for Glimpses {
-    ghost use Rattle.cc_steps.specs.Counted.{glimpses};
-
-    ghost then = { glimpses };
-}
-
-/// A load by which a part sees the longest run.
-struct Follows;
-
-impl Play<(), View> for Follows {
-    ghost use Rattle.cc_steps.specs.Counted.{follows};
-
-    ghost then = { follows };
-}
 
 /// A load by which a pass sees the longest run.
 struct Watches;
@@ -59,34 +38,6 @@ fn slot_of(_config: &Config, object: Object) -> usize
         Object::Head(group) => 64 + 32 * group as usize,
         Object::Taken(group) => 65 + 32 * group as usize,
     }
-}
-
-/// Looks at a word of the list: what it holds, with a note of the longest run, in which it holds that. It takes no memory and never
-/// waits.
-#[inline(always)]
-pub fn look_at(words: &Words, object: Object) -> (u64, Note)
-    requires there { IsTrue (exists (layout_of words.now.setting.config) (Word.Object object)) }
-    ensures here { IsNoteOf words.now result.1 }
-    ensures found { FoundInNote result.1 object result.0 }
-{
-    let slot = slot_of(words.config(), object);
-    let (found, seat) = words.table.shared.load_new_seat::<Glimpses>(slot);
-    (found, Note::of(seat))
-}
-
-/// Looks at a word of the list by a note: what it holds in the longest run, which goes on from what was noted, and which the note has then.
-/// It takes no memory and never waits.
-#[inline(always)]
-pub fn follow(words: &Words, note: &mut Note, object: Object) -> u64
-    requires here { IsNoteOf words.now note.old }
-    requires there { IsTrue (exists (layout_of words.now.setting.config) (Word.Object object)) }
-    ensures here { IsNoteOf words.now note.new }
-    ensures onward { Onward note.old.seen note.new.seen }
-    ensures found { FoundInNote note.new object result }
-{
-    let part = &mut note.seat;
-    let slot = slot_of(words.config(), object);
-    words.table.shared.load::<Follows>(part, slot)
 }
 
 /// A pass looks at a word of the list, and sees the longest run. Nothing else of the pass changes. It takes no memory and never waits.

@@ -2,8 +2,8 @@
 //! a program hands from thread to thread orders the second thread's calls after the first one's. A note is no event of the
 //! machine, and it has no bytes: a part of the one view goes over to the other seat, and a load of a word that no step writes
 //! lets that seat keep the longer of the two runs.
-ghost use Rattle.std.specs.Prelude.{◌≡◌, []};
-ghost use Rattle.cc_steps.specs.Noted.{AreOfOneRun, IsNoteOf, IsPart, noted, noted_by};
+ghost use Rattle.std.specs.Prelude.{◌≡◌};
+ghost use Rattle.cc_steps.specs.Noted.{AreOfOneRun, IsNoteOf, noted_by};
 ghost use Rattle.cc_steps.specs.Walk.{HasLooked, IsOf};
 
 use crate::seats::{PassSeat, View};
@@ -51,15 +51,6 @@ impl Play<(), View> for Weighs {
     ghost then = { weighs };
 }
 
-/// A seat comes that has seen nothing.
-struct Enters;
-
-impl Play<(), View> for Enters {
-    ghost use Rattle.cc_steps.specs.Shown.{enters};
-
-    ghost then = { enters };
-}
-
 /// All that a pass had seen when the note was made. Contracts see the table and the run (`Noted`). A note goes to another
 /// thread as any value does: in a closure, by a join, under a lock.
 #[derive(Drop)]
@@ -75,28 +66,6 @@ impl Model for Note {
     ghost view = { λ n. noted n.seat };
 
     ghost invariant = { λ n. IsPart n.seat };
-}
-
-impl Note {
-    /// The note of a part.
-    #[inline(always)]
-    pub(crate) fn of(seat: Seat<(), View>) -> Note
-        requires { IsPart seat }
-        ensures { result ≡ noted seat }
-    {
-        Note { seat }
-    }
-}
-
-/// A note by which nothing was seen. It costs one load, takes no memory and never waits.
-#[tactic(auto, using(crate::proofs::Joined::some_words, crate::proofs::Joined::enters_blank))]
-pub fn blank(words: &Words) -> Note
-    ensures here { IsNoteOf words.now result }
-    ensures nothing { result.seen ≡ [] }
-{
-    let shared = &words.table.shared;
-    let (_, part) = shared.load_new_seat::<Enters>(0);
-    Note { seat: part }
 }
 
 /// Notes what the pass has seen. Nothing of the pass changes. It costs one load, takes no memory and never waits.

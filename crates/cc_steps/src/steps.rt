@@ -22,11 +22,11 @@ use crate::operations;
 use crate::seats::PassSeat;
 use crate::words::ChainWords;
 use cc_model::Call;
-use cc_runs::{ItemField, NodeField, Object, Word};
+use cc_runs::{Chain, ItemField, NodeField, Object, Word};
 
 /// ResetNext, by the caller: stores 0 into `next` of its own node. The call begins with this step, knowing what its pass has
 /// seen. `own`: the pass owned the node, and no other pass of its chain did.
-#[tactic(auto, using(crate::proofs::StepLaws::begun_owned))]
+#[tactic(auto, using(crate::proofs::StepLaws::begun_owned, crate::proofs::EarlyStores::begin_is_early))]
 #[inline(always)]
 pub fn reset_next(words: &ChainWords<'_>, seat: &mut PassSeat, node: u64, call: Call)
     requires here { IsOf words.now.topic seat.old }
@@ -40,7 +40,7 @@ pub fn reset_next(words: &ChainWords<'_>, seat: &mut PassSeat, node: u64, call: 
 }
 
 /// ResetState, by the caller: stores 1, waiting, into `state` of its own node. `own`: as at `reset_next`.
-#[tactic(auto, using(crate::proofs::Walks::can_do, crate::proofs::StepLaws::owned))]
+#[tactic(auto, using(crate::proofs::Walks::can_do, crate::proofs::StepLaws::owned, crate::proofs::EarlyStores::is_early))]
 #[inline(always)]
 pub fn reset_state(words: &ChainWords<'_>, seat: &mut PassSeat, node: u64)
     requires here { IsOf words.now.topic seat.old }
@@ -50,7 +50,7 @@ pub fn reset_state(words: &ChainWords<'_>, seat: &mut PassSeat, node: u64)
     ensures later { Onward seat.old.seen seat.new.seen }
     ensures own { HasOwned seat.old None words.now.chain node seat.new }
 {
-    operations::store(words, seat, words.node(node, NodeField::State), 1);
+    operations::store_release(words, seat, words.node(node, NodeField::State), 1);
 }
 
 /// Exchange, by the caller: swaps the tail of its chain with the link of its own node. The call has its place in the order
@@ -69,7 +69,7 @@ pub fn exchange_tail(words: &ChainWords<'_>, seat: &mut PassSeat, link: u64) -> 
 
 /// WriteRequest, by a sender: stores the tag or a word of the body of its request into its current
 /// node.
-#[tactic(auto, using(crate::proofs::Walks::can_do))]
+#[tactic(auto, using(crate::proofs::Walks::can_do, crate::proofs::EarlyStores::is_early))]
 #[inline(always)]
 pub fn write_request(
     words: &ChainWords<'_>,
@@ -84,12 +84,12 @@ pub fn write_request(
     ensures step { seat.new ≡ walked_to seat.old None 0 seat.new.seen }
     ensures later { Onward seat.old.seen seat.new.seen }
 {
-    operations::store(words, seat, words.node(node, field), value);
+    operations::store_release(words, seat, words.node(node, field), value);
 }
 
 /// Link, by the caller: stores the link of the node that it left to the chain into `next` of its current one, so that a
 /// combiner comes upon the request. `pending`: in the history that the pass has seen, its last call has no answer.
-#[tactic(auto, using(crate::proofs::Walks::can_do))]
+#[tactic(auto, using(crate::proofs::Walks::can_do, crate::proofs::EarlyStores::is_early))]
 #[inline(always)]
 pub fn link_next(words: &ChainWords<'_>, seat: &mut PassSeat, node: u64, link: u64)
     requires here { IsOf words.now.topic seat.old }
@@ -99,7 +99,7 @@ pub fn link_next(words: &ChainWords<'_>, seat: &mut PassSeat, node: u64, link: u
     ensures later { Onward seat.old.seen seat.new.seen }
     ensures pending { IsPendingIn seat.new }
 {
-    operations::store(words, seat, words.node(node, NodeField::Next), link);
+    operations::store_release(words, seat, words.node(node, NodeField::Next), link);
 }
 
 /// ReadState, by the caller: loads `state` of its current node: 0, it has to serve; 1, it waits; 2, it was served.
@@ -156,7 +156,7 @@ pub fn read_object(words: &ChainWords<'_>, seat: &mut PassSeat, object: Object) 
 }
 
 /// WriteObject, by a combiner: stores a word of its side of the list.
-#[tactic(auto, using(crate::proofs::Walks::can_do))]
+#[tactic(auto, using(crate::proofs::Walks::can_do, crate::proofs::EarlyStores::is_early))]
 #[inline(always)]
 pub fn write_object(words: &ChainWords<'_>, seat: &mut PassSeat, object: Object, value: u64)
     requires here { IsOf words.now.topic seat.old }
@@ -165,12 +165,12 @@ pub fn write_object(words: &ChainWords<'_>, seat: &mut PassSeat, object: Object,
     ensures step { seat.new ≡ walked_to seat.old None 0 seat.new.seen }
     ensures later { Onward seat.old.seen seat.new.seen }
 {
-    operations::store(words, seat, Word::Object(object), value);
+    operations::store_release(words, seat, Word::Object(object), value);
 }
 
 /// WriteAnswer, by a combiner: stores the answer word, or the tag or a word of the body of the item that was handed out, into
 /// the node that it serves.
-#[tactic(auto, using(crate::proofs::Walks::can_do))]
+#[tactic(auto, using(crate::proofs::Walks::can_do, crate::proofs::EarlyStores::is_early))]
 #[inline(always)]
 pub fn write_answer(
     words: &ChainWords<'_>,
@@ -185,24 +185,30 @@ pub fn write_answer(
     ensures step { seat.new ≡ walked_to seat.old None 0 seat.new.seen }
     ensures later { Onward seat.old.seen seat.new.seen }
 {
-    operations::store(words, seat, words.node(node, field), value);
+    operations::store_release(words, seat, words.node(node, field), value);
 }
 
-/// MarkDone, by a combiner: stores 2 into `state` of the node that it served, after the last word of the answer.
-#[tactic(auto, using(crate::proofs::Walks::can_do))]
+/// MarkDone, by a combiner: stores 2 into `state` of the node that it served, after the last word of the answer. The mark of a send
+/// or a close may not be early, and that of a take may.
+#[tactic(auto, using(crate::proofs::Walks::can_do, crate::proofs::EarlyStores::take_mark_is_early))]
 #[inline(always)]
-pub fn mark_done(words: &ChainWords<'_>, seat: &mut PassSeat, node: u64)
+pub fn mark_done(words: &ChainWords<'_>, seat: &mut PassSeat, chain: Chain, node: u64)
     requires here { IsOf words.now.topic seat.old }
+    requires chain { words.now.chain ≡ chain }
     requires at { Steps seat.old Kind.MarkDone (Store (Word.Node words.now.chain node NodeField.State) 2) }
     ensures walked { Walked seat.old None seat.new }
     ensures step { seat.new ≡ walked_to seat.old None 0 seat.new.seen }
     ensures later { Onward seat.old.seen seat.new.seen }
 {
-    operations::store(words, seat, words.node(node, NodeField::State), 2);
+    let state = words.node(node, NodeField::State);
+    match chain {
+        Chain::Send => operations::store(words, seat, state, 2),
+        Chain::Take(_) => operations::store_release(words, seat, state, 2),
+    }
 }
 
 /// HandOver, by a combiner: stores 0 into `state` of the node at which it stopped, whose caller serves from there on.
-#[tactic(auto, using(crate::proofs::Walks::can_do))]
+#[tactic(auto, using(crate::proofs::Walks::can_do, crate::proofs::EarlyStores::is_early))]
 #[inline(always)]
 pub fn hand_over(words: &ChainWords<'_>, seat: &mut PassSeat, node: u64)
     requires here { IsOf words.now.topic seat.old }
@@ -211,7 +217,7 @@ pub fn hand_over(words: &ChainWords<'_>, seat: &mut PassSeat, node: u64)
     ensures step { seat.new ≡ walked_to seat.old None 0 seat.new.seen }
     ensures later { Onward seat.old.seen seat.new.seen }
 {
-    operations::store(words, seat, words.node(node, NodeField::State), 0);
+    operations::store_release(words, seat, words.node(node, NodeField::State), 0);
 }
 
 /// ReadAnswer, by the caller: loads the answer word of its current node, or the tag or a word of the body of the item that it
@@ -245,7 +251,7 @@ pub fn read_passed(words: &ChainWords<'_>, seat: &mut PassSeat, node: u64) -> u6
 
 /// ResetListNode, by the senders' combiner: stores 0 into that count, or into `next`, of a node that it found free. `reuse`:
 /// if the node was in the list before, the take that went past it was decided; and no take holds it.
-#[tactic(auto, using(crate::proofs::Walks::can_do))]
+#[tactic(auto, using(crate::proofs::Walks::can_do, crate::proofs::EarlyStores::is_early))]
 #[inline(always)]
 pub fn reset_list_node(words: &ChainWords<'_>, seat: &mut PassSeat, node: u64, field: ItemField)
     requires here { IsOf words.now.topic seat.old }
@@ -255,12 +261,12 @@ pub fn reset_list_node(words: &ChainWords<'_>, seat: &mut PassSeat, node: u64, f
     ensures later { Onward seat.old.seen seat.new.seen }
     ensures reuse { seat.old.setting.served ≡ Served.List → HasReused seat.old node seat.new }
 {
-    operations::store(words, seat, Word::Item(node, field), 0);
+    operations::store_release(words, seat, Word::Item(node, field), 0);
 }
 
 /// WriteItem, by the senders' combiner: stores the tag or a word of the body of an item into the node that it
 /// prepares.
-#[tactic(auto, using(crate::proofs::Walks::can_do))]
+#[tactic(auto, using(crate::proofs::Walks::can_do, crate::proofs::EarlyStores::is_early))]
 #[inline(always)]
 pub fn write_item(
     words: &ChainWords<'_>,
@@ -275,12 +281,12 @@ pub fn write_item(
     ensures step { seat.new ≡ walked_to seat.old None 0 seat.new.seen }
     ensures later { Onward seat.old.seen seat.new.seen }
 {
-    operations::store(words, seat, Word::Item(node, field), value);
+    operations::store_release(words, seat, Word::Item(node, field), value);
 }
 
 /// LinkLast, by the senders' combiner: stores the link of the node that it prepared, or of the closing mark, into `next` of
 /// the last node. The send is accepted, or the queue closed, with this step.
-#[tactic(auto, using(crate::proofs::Walks::can_do))]
+#[tactic(auto, using(crate::proofs::Walks::can_do, crate::proofs::EarlyStores::is_early))]
 #[inline(always)]
 pub fn link_last(words: &ChainWords<'_>, seat: &mut PassSeat, last: u64, link: u64)
     requires here { IsOf words.now.topic seat.old }
@@ -289,7 +295,7 @@ pub fn link_last(words: &ChainWords<'_>, seat: &mut PassSeat, last: u64, link: u
     ensures step { seat.new ≡ walked_to seat.old None 0 seat.new.seen }
     ensures later { Onward seat.old.seen seat.new.seen }
 {
-    operations::store(words, seat, Word::Item(last, ItemField::Next), link);
+    operations::store_release(words, seat, Word::Item(last, ItemField::Next), link);
 }
 
 /// ReadDummyNext, by a group's combiner: loads `next` of the dummy.

@@ -2,4 +2,4 @@ use Rattle.cc_steps.proofs.StepLaws.{pending}
 use Rattle.cc_steps.proofs.steps.link_next.Goals as goal
 
 pub returns-clause-pending : goal.returns-clause-pending
-returns-clause-pending c = pending c.args.seat.now c.store.new.seat c.store.ensures.walked c.store.ensures.step _ c.requires.at
+returns-clause-pending c = pending c.args.seat.now c.store_release.new.seat c.store_release.ensures.walked c.store_release.ensures.step _ c.requires.at

@@ -1,5 +1,5 @@
 use Rattle.cc_queue.proofs.Headline.{waited_so, answered_so, send_told}
-use Rattle.cc_queue.proofs.sender.turn_send.Goals as goal
+use Rattle.cc_queue.proofs.sender.turned_send.Goals as goal
 
 pub send_answer-requires : goal.send_answer-requires
 send_answer-requires c = send_told c.pending.inside.at.seat _ _ c.pending.invariant.0.list c.is_sound.ensures c.in-Some.ensures.done.works.worked c.in-Some.ensures.told c.pending.invariant.1
