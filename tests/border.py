@@ -1,7 +1,6 @@
 #!/usr/bin/env python3
 """Compares what crosses the border of the static library, which is written down four times: in crates/cc_capi and
-crates/cc_passes; in the headers bindings/c/vahepito_raw.h and, for the exports that the Rust crate calls, bindings/c/handles.h;
-in the crate bindings/rust; and in bench/peers/src/exports.rs.
+crates/cc_passes; in the headers bindings/c/vahepito.h and handles.h; in the crate bindings/rust; and in bench/peers/src/exports.rs.
 
     tests/border.py
 
@@ -25,27 +24,20 @@ STRUCTS = [
     # The crate has the items as arrays of words, and compares their sizes with the library's when it opens a queue.
     ("vahepito_word_item", "TakenItem", "Taken"),
     ("vahepito_item", "TakenWords", "Taken"),
-    ("vahepito_look", "Watch", "Look"),
-    # The crate doesn't use it.
-    ("vahepito_call", "Call", None),
 ]
 # Those of the bench, which has items of one word as the library has them.
 OF_THE_BENCH = [("vahepito_config", "Settings", "Config"), ("vahepito_word_item", "TakenItem", "Item")]
 # Types as C has them. The crate lends a pass as a Pass or as a Handle, which has nothing beside it, and its words may be unwritten.
-IN_C = {"u32": "uint32_t", "u64": "uint64_t", "usize": "size_t", "Word": "uint64_t", "Handle": "vahepito_pass", "Pass": "vahepito_pass"}
+IN_C = {"u32": "uint32_t", "u64": "uint64_t", "usize": "size_t", "Word": "uint64_t", "Handle": "vahepito_handle", "RawHandle": "vahepito_handle"}
 IN_C.update({name: in_c for in_c, *names in STRUCTS + OF_THE_BENCH for name in names if name})
-# What has the bytes of a queue's pointer: a whole loan of the queue, and a part of it, and the crate's pointer.
-QUEUES = {"Root", "Part", "Queue"}
 # What has no bytes.
-NOTHING = {"Global", "Seen"}
+NOTHING = {"Global"}
 
 
 def in_c(name, kind):
     """A parameter or a field as C writes it, from Rust: a slice is a pointer and a count."""
     if kind in NOTHING:
         return []
-    if kind.replace("&mut ", "") in QUEUES:
-        return [f"vahepito_queue *{'*' * kind.startswith('&mut ')}{name}"]
     found = re.fullmatch(r"(&|\*const |&mut |\*mut )(\[?)(\w+)\]?", kind)
     if found:
         const = "const " if found[1] in ("&", "*const ") else ""
@@ -80,26 +72,25 @@ def constants(path):
 
 def of_the_library():
     """Codes, version, exports and structs of the library."""
-    codes = constants("cc_passes/src/handles/return_codes.rt")
+    codes = constants("cc_passes/src/return_codes.rt")
     version = constants("cc_capi/src/version.rt")["VERSION"]
     exports = {}
-    for item in items_of("cc_capi/src/handle_exports.rt") + items_of("cc_capi/src/pool_exports.rt"):
+    for item in items_of("cc_capi/src/handle_exports.rt"):
         if item.kind == "fn" and 'extern "C"' in item.head:
             parameters, result = re.search(r"\((.*)\)(?: -> (\w+))?$", item.head).groups()
             exports[item.name] = [IN_C.get(result, "void")] + counted(from_rust(listed(parameters)))
-    items = [item for path in (TOP / "crates/cc_passes/src").glob("*/*.rt") for item in items_of(path)]
+    items = [item for path in (TOP / "crates/cc_passes/src").glob("*.rt") for item in items_of(path)]
     parts = {item.name: item.parts for item in items if item.kind == "struct"}
     return codes, version, exports, {name: from_rust(parts[library]) for name, library, _ in STRUCTS}
 
 
 def of_the_headers():
-    """The same of the headers; and the codes of vahepito.h and vahepito_raw.h by their numbers, with the names in vahepito_name, and those that
-    vahepito_text has. The functions of vahepito.h itself, which are in vahepito_queue.c, are no exports of the proved library."""
-    own, raw, handles, code = [
-        re.sub(r"/\*.*?\*/", "", (TOP / "bindings/c" / name).read_text(), flags=re.S).replace("vahepito_raw *", "vahepito_queue *")
-        for name in ("vahepito.h", "vahepito_raw.h", "handles.h", "vahepito_queue.c")
+    """The same of the headers; and the codes of vahepito.h by their numbers, with the names in vahepito_name, and those that vahepito_text
+    has. The functions of vahepito.h itself, which are in vahepito_queue.c, are no exports of the proved library."""
+    own, handles, code = [
+        re.sub(r"/\*.*?\*/", "", (TOP / "bindings/c" / name).read_text(), flags=re.S) for name in ("vahepito.h", "handles.h", "vahepito_queue.c")
     ]
-    text, whole = raw + "\n" + handles, "\n".join((own, raw, handles))
+    text, whole = re.search(r"^uint32_t vahepito_version\(.*$", own, re.M)[0] + "\n" + handles, own + "\n" + handles
     defined = dict(re.findall(r"^#define VAHEPITO_(\w+) (\d+)$", whole, re.M))
     codes = {name: int(number) for name, number in re.findall(r"^ *VAHEPITO_(\w+) = (\d+)", whole, re.M)}
     exports = {
@@ -111,7 +102,7 @@ def of_the_headers():
         fields = re.sub(r"\[VAHEPITO_(\w+)\]", lambda found: f"[{defined[found[1]]}]", fields)
         structs[name] = [" ".join(field.split()) for field in fields.split(";") if field.strip()]
     said = [re.findall(r'case VAHEPITO_(\w+): return "(.*)";', code.split(f"*vahepito_{name}(")[1].split("default:")[0]) for name in ("name", "text")]
-    of_calls = sorted(re.findall(r"^ *VAHEPITO_(\w+) = \d+", own + raw, re.M), key=codes.get)
+    of_calls = sorted(re.findall(r"^ *VAHEPITO_(\w+) = \d+", own, re.M), key=codes.get)
     return codes, int(defined["VERSION"]), exports, {name: structs[name] for name, _, _ in STRUCTS}, of_calls, *said
 
 

@@ -1,31 +1,31 @@
-//! The exports of handles, which the Rust crate calls. `bindings/c/handles.h` is their header.
+//! The exports of handles, which the Rust crate and `bindings/c/vahepito_queue.c` call. `bindings/c/handles.h` is their header.
 //!
 //! A handle holds one pass with its own share of the queue, or none. The handle is lent to each call, which runs with its
 //! content (`Handle::with`). No export requires anything: each possible mistake is tested, and reported by a code. No call but
-//! the opening and `vahepito_observe` takes memory.
+//! the opening takes memory.
 //!
 //! `specs/Calls.antt` says what each call returns, and `specs/OpenHandles.antt` what the opening does.
-ghost use Rattle.std.specs.Prelude.{◌≡◌, ◌≢◌, nat_le, None};
+ghost use Rattle.std.specs.Prelude.{◌≡◌, ◌≢◌, nat_le};
 ghost use Rattle.std.specs.Mem.{type_size};
-ghost use Rattle.cc_passes.specs.contracts.handles.open_handles.Settings as settings_type;
-ghost use Rattle.cc_passes.specs.contracts.handles.handle.Handle as handle_type;
-ghost use Rattle.cc_passes.specs.contracts.handles.items.TakenItem as item_type;
-ghost use Rattle.cc_passes.specs.contracts.handles.items.TakenWords as words_type;
+ghost use Rattle.cc_passes.specs.contracts.open_handles.Settings as settings_type;
+ghost use Rattle.cc_passes.specs.contracts.handle.Handle as handle_type;
+ghost use Rattle.cc_passes.specs.contracts.items.TakenItem as item_type;
+ghost use Rattle.cc_passes.specs.contracts.items.TakenWords as words_type;
 ghost use Rattle.cc_capi.specs.declared.version.TheConstants.{VERSION};
 ghost use Rattle.cc_passes.specs.Items.{one_word, all_words};
 ghost use Rattle.cc_passes.specs.OpenHandles.{config_of, refusal, HaveOpened};
 ghost use Rattle.cc_passes.specs.Handles.{pass_of, longest_of, IsDropped};
 ghost use Rattle.cc_passes.specs.Calls.{single, fitting, IfRoom, BeginsSend, TurnsSend, TriesSend, BeginsClose, TurnsClose, BeginsTake, TurnsTake, TriesTake};
-ghost use Rattle.cc_passes.specs.Looks.{IsUnobserved, Observes};
+ghost use Rattle.cc_passes.specs.declared.looks.Count.{Count};
+ghost use Rattle.cc_passes.specs.Looks.{LooksAt};
 
 use crate::version::VERSION;
 use cc_model::Body;
-use cc_passes::handles::handle::Handle;
-use cc_passes::handles::items::{ItemForm, TakenItem, TakenWords};
-use cc_passes::handles::open_handles::{Settings, check, open};
-use cc_passes::handles::return_codes::{DONE, NO_MEMORY, NO_PASS};
-use cc_passes::pool::looks::observe;
-use cc_passes::pool::root::Root;
+use cc_passes::handle::Handle;
+use cc_passes::items::{ItemForm, TakenItem, TakenWords};
+use cc_passes::looks::Count;
+use cc_passes::open_handles::{Settings, check, open};
+use cc_passes::return_codes::{DONE, NO_MEMORY, NO_PASS};
 use std::alloc::Global;
 use std::mem::size_of;
 
@@ -271,22 +271,38 @@ pub extern "C" fn vahepito_drop(alloc: Global, pass: &mut Handle) -> u32
     DONE
 }
 
-/// Gives an observer of the queue of this pass, which stays as it is: a pointer for looks alone, with a share of the queue of its own. It
-/// takes memory. `vahepito_free` frees it. Nothing is in `observer` if there is none.
+/// Looks, by a pass that has no call, how many items the queue has accepted: one load. The pass has seen then the run of which this is the
+/// count, which goes on from all that it had seen.
 #[unsafe(no_mangle)]
-pub extern "C" fn vahepito_observe(alloc: Global, pass: &mut Handle, observer: &mut Root) -> u32
-    ensures observes { result ≡ DONE → Observes (pass_of pass.old) observer.new }
-    ensures refused { result ≢ DONE → IsUnobserved (pass_of pass.old) result × (observer.new.value ≡ None) }
-    ensures same { pass.new.boxed.value ≡ pass.old.boxed.value }
+pub extern "C" fn vahepito_accepted(alloc: Global, pass: &mut Handle, count: &mut u64) -> u32
+    ensures looks { LooksAt Count.Accepted (pass_of pass.old) (pass_of pass.new) result count.new }
+    ensures same { longest_of pass.new ≡ longest_of pass.old }
 {
-    match observe(alloc, pass) {
-        Ok(boxed) => {
-            *observer = Root::of(boxed);
-            DONE
-        }
-        Err(code) => {
-            *observer = Root::empty(alloc);
-            code
-        }
-    }
+    *count = 0;
+    pass.with(alloc, &mut |held| held.look(Count::Accepted, count))
+}
+
+/// Looks how many items this group, from 1, has taken.
+#[unsafe(no_mangle)]
+pub extern "C" fn vahepito_taken(
+    alloc: Global,
+    pass: &mut Handle,
+    group: u32,
+    count: &mut u64,
+) -> u32
+    ensures looks { LooksAt (Count.Taken group) (pass_of pass.old) (pass_of pass.new) result count.new }
+    ensures same { longest_of pass.new ≡ longest_of pass.old }
+{
+    *count = 0;
+    pass.with(alloc, &mut |held| held.look(Count::Taken(group), count))
+}
+
+/// Looks whether the queue is shut: 1 or 0.
+#[unsafe(no_mangle)]
+pub extern "C" fn vahepito_is_shut(alloc: Global, pass: &mut Handle, shut: &mut u64) -> u32
+    ensures looks { LooksAt Count.Shut (pass_of pass.old) (pass_of pass.new) result shut.new }
+    ensures same { longest_of pass.new ≡ longest_of pass.old }
+{
+    *shut = 0;
+    pass.with(alloc, &mut |held| held.look(Count::Shut, shut))
 }

@@ -10,7 +10,7 @@ use denote.Struct.Struct.{within}
 use denote.Struct.Owning.{shape}
 use Rattle.cc_passes.specs.Abandoned.{abandoned_owns}
 use Rattle.cc_queue.specs.contracts.GivenUp as given_up
-use Rattle.cc_passes.specs.contracts.handles.abandoned.Abandoned as abandoned
+use Rattle.cc_passes.specs.contracts.abandoned.Abandoned as abandoned
 
 abbrev pub R : RattleType
 R = given_up.the_row

@@ -3,7 +3,7 @@ use Rattle.std.proofs.Common.{◌≡◌, ℕ, ◌+◌, ◌<◌, List, [], ◌∷
 use Rattle.cc_steps.specs.Topic.{Topic}
 use Rattle.cc_steps.specs.Walk.{Walk, IsOf, fresh, fresh_from}
 use Rattle.cc_queue.proofs.Seated.{first_seat}
-use Rattle.cc_passes.specs.Names.{Pass}
+use Rattle.cc_passes.specs.Names.{AnyPass}
 use Rattle.cc_passes.specs.Passes.{Holding, holding}
 use Rattle.cc_passes.specs.Handles.{in_box}
 use Rattle.cc_passes.specs.OpenHandles.{HoldFresh}
@@ -12,7 +12,7 @@ use Rattle.cc_passes.specs.OpenHandles.{HoldFresh}
 pub is_of : (z : Topic) (p : ℕ) (ws : List Walk) (w : Walk) → 0 < length ws → fresh_from z p ws → w ≡ slice_index_or ws 0 w → IsOf z w
 is_of z p ws w some f is = let e = first_seat z p ws w some f is in (ap (λ (x : Walk). x.table_id) e, ap (λ (x : Walk). x.setting) e)
 
-module _ {X : Type 0} (held : X → Holding) (side : Walk → Pass) (words : ℕ) (z : Topic) where
+module _ {X : Type 0} (held : X → Holding) (side : Walk → AnyPass) (words : ℕ) (z : Topic) where
   -- one more holder, of the next fresh pass
   hold_push : (p n : ℕ) (xs : List X) (x : X) → held x ≡ holding words (side (fresh z n)) → n ≡ p + length xs → HoldFresh xs held side words z p → HoldFresh (xs ++ x ∷ []) held side words z p
   hold_push p n [] x is at h = (is ∙ ap (λ (k : ℕ). holding words (side (fresh z k))) (omega (arith, at)), tt)
@@ -31,7 +31,7 @@ rest_of [] = []
 rest_of (y ∷ ys) = ys
 
 -- handles that were filled with these hold what these hold
-pub filled : {H B : Type 0} (handle : H → Option Holding) (box : B → Holding) (side : Walk → Pass) (words : ℕ) (z : Topic) (p : ℕ) (hs : List H) (bs : List B)
+pub filled : {H B : Type 0} (handle : H → Option Holding) (box : B → Holding) (side : Walk → AnyPass) (words : ℕ) (z : Topic) (p : ℕ) (hs : List H) (bs : List B)
     → map handle hs ≡ map (λ b. Some (box b)) bs → HoldFresh bs box side words z p → HoldFresh hs (λ h. in_box (handle h)) side words z p
 filled handle box side words z p [] bs e f = tt
 filled handle box side words z p (h ∷ hs) [] e f = absurd (omega (arith, ap length e))

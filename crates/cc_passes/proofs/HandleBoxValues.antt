@@ -23,8 +23,8 @@ use Rattle.std.proofs.alloc.Calls.{Al, handle_tells}
 use Rattle.std.proofs.cell.Inside.{Good}
 use Rattle.std.specs.Box.Ownership.{box_owns}
 use Rattle.cc_passes.specs.HandleBox.{boxed_owns}
-use Rattle.cc_passes.specs.contracts.handles.handle_inner.HandleInner as held
-use Rattle.cc_passes.specs.contracts.handles.raw_box.HandleBox as boxed
+use Rattle.cc_passes.specs.contracts.handle_inner.HandleInner as held
+use Rattle.cc_passes.specs.contracts.raw_box.HandleBox as boxed
 use Rattle.cc_passes.proofs.Values.{both}
 
 abbrev pub R : RattleType

@@ -3,17 +3,5 @@ pub mod HandleBoxValues
 pub mod Values
 pub mod Quiet
 pub mod AbandonedValues
-pub mod SeenValues
-pub mod Staying
 pub mod Trying
-pub mod Places
-pub mod Asked
-pub mod Placed
-pub mod Fresh
-pub mod Crossing
-pub mod Loan
-pub mod Pairs
-pub mod RootValues
-pub mod Searched
 pub mod RefusedClaims
-pub mod Ordered

@@ -3,7 +3,7 @@ use Rattle.std.specs.Prelude.{◌≡◌, ℕ, Option, Some, None}
 use Rattle.std.specs.Fn.{Mut, CalledAtMut}
 use denote.Ref.{MutBor}
 use Rattle.cc_passes.specs.Passes.{Holding}
-use Rattle.cc_passes.specs.declared.handles.return_codes.TheConstants.{NO_PASS}
+use Rattle.cc_passes.specs.declared.return_codes.TheConstants.{NO_PASS}
 
 -- f may be called with the content of a handle, whatever it is
 abbrev pub MayRun : {F : Type 0} → Mut F (MutBor Holding × Unit {0}) (ℕ × (MutBor Holding × Unit {0})) → F → Type 0

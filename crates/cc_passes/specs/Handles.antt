@@ -1,9 +1,9 @@
 -- Handles.
 use Rattle.std.specs.Prelude.{◌≡◌, ℕ, Bool, not, IsTrue, if◌then◌else◌, Option, Some, None}
-use Rattle.cc_passes.specs.Names.{Pass}
+use Rattle.cc_passes.specs.Names.{AnyPass}
 use Rattle.cc_passes.specs.Passes.{Holding, abandoned_of}
-use Rattle.cc_passes.specs.declared.handles.handle.Handle.{Handle}
-use Rattle.cc_passes.specs.declared.handles.return_codes.TheConstants.{DONE, NO_PASS}
+use Rattle.cc_passes.specs.declared.handle.Handle.{Handle}
+use Rattle.cc_passes.specs.declared.return_codes.TheConstants.{DONE, NO_PASS}
 
 -- what a handle holds: an empty one has no pass, and its bodies no words
 abbrev pub in_box : Option Holding → Holding
@@ -13,7 +13,7 @@ in_box (Some k) = k
 abbrev pub held_by : Handle → Holding
 held_by h = in_box h.boxed.value
 
-abbrev pub pass_of : Handle → Option Pass
+abbrev pub pass_of : Handle → Option AnyPass
 pass_of h = (held_by h).pass
 
 -- how many words a body of its queue has at most

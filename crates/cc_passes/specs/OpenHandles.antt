@@ -3,11 +3,11 @@ use Rattle.std.specs.Prelude.{◌≡◌, ℕ, ◌+◌, ◌*◌, Bool, ◌&&◌, 
 use Rattle.std.specs.List.{list_all}
 use Rattle.std.specs.declared.result.Result.{Result}
 use Rattle.cc_model.specs.Config.{config_fault}
-use Rattle.cc_passes.specs.Names.{Config, ConfigFault, Served, Pass, Settings}
+use Rattle.cc_passes.specs.Names.{Config, ConfigFault, Served, AnyPass, Settings}
 use Rattle.cc_steps.specs.Topic.{Topic}
 use Rattle.cc_steps.specs.Walk.{Walk, fresh}
-use Rattle.cc_passes.specs.declared.handles.handle.Handle.{Handle}
-use Rattle.cc_passes.specs.declared.handles.return_codes.TheConstants.{DONE, BAD_SENDERS, BAD_RECEIVERS, BAD_CAPACITY, BAD_BOUND, BAD_LIFE, BAD_PER_SENDER, BAD_HANDLES, BAD_GROUPS, BAD_WORDS}
+use Rattle.cc_passes.specs.declared.handle.Handle.{Handle}
+use Rattle.cc_passes.specs.declared.return_codes.TheConstants.{DONE, BAD_SENDERS, BAD_RECEIVERS, BAD_CAPACITY, BAD_BOUND, BAD_LIFE, BAD_PER_SENDER, BAD_HANDLES, BAD_GROUPS, BAD_WORDS}
 use Rattle.cc_passes.specs.Items.{are_few}
 use Rattle.cc_passes.specs.Handles.{held_by, is_empty}
 use Rattle.cc_passes.specs.Passes.{Holding, holding}
@@ -41,7 +41,7 @@ refusal c words senders receivers = checked_as (config_fault c) (are_few words) 
 
 -- these hold, one after another, the passes of this queue of bodies of this many words from p on, each one its own, which has no
 -- call and has seen nothing
-abbrev pub HoldFresh : {X : Type 0} → List X → (X → Holding) → (Walk → Pass) → ℕ → Topic → ℕ → Type 0
+abbrev pub HoldFresh : {X : Type 0} → List X → (X → Holding) → (Walk → AnyPass) → ℕ → Topic → ℕ → Type 0
 HoldFresh [] held side words z p = Unit {0}
 HoldFresh (x ∷ xs) held side words z p = (held x ≡ holding words (side (fresh z p))) × HoldFresh xs held side words z (p + 1)
 
@@ -50,5 +50,5 @@ HoldFresh (x ∷ xs) held side words z p = (held x ≡ holding words (side (fres
 pub record HaveOpened (c : Config) (words : ℕ) (senders receivers : List Handle) : Type 0 where
   pub queue : Topic
   pub setting : queue.setting ≡ record { served = Served.List; config = c }
-  pub senders_hold : HoldFresh senders held_by Pass.Sender words queue 0
-  pub receivers_hold : HoldFresh receivers held_by Pass.Receiver words queue c.senders
+  pub senders_hold : HoldFresh senders held_by AnyPass.Sender words queue 0
+  pub receivers_hold : HoldFresh receivers held_by AnyPass.Receiver words queue c.senders

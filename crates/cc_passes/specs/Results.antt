@@ -1,8 +1,21 @@
 -- The result of a call: its code, and the numbers of its answer. A number that the code gives no meaning is 0.
 use Rattle.std.specs.Prelude.{ℕ}
 use Rattle.cc_passes.specs.Items.{Form}
-use Rattle.cc_passes.specs.Names.{SendAnswer, CloseAnswer, TakeAnswer, SendResult, TakeResult, TakeNumbers}
-use Rattle.cc_passes.specs.declared.handles.return_codes.TheConstants.{ACCEPTED, FULL, CLOSED, SPENT, SHUT, ALREADY, GOT, EMPTY, ENDED}
+use Rattle.cc_passes.specs.Names.{SendAnswer, CloseAnswer, TakeAnswer}
+use Rattle.cc_passes.specs.declared.return_codes.TheConstants.{ACCEPTED, FULL, CLOSED, SPENT, SHUT, ALREADY, GOT, EMPTY, ENDED}
+
+-- the result of a send or a close: its code; the place of an accepted send, or the total of a close; and how many calls the turn served
+pub record SendResult : Type 0 where
+  pub code : ℕ
+  pub number : ℕ
+  pub served : ℕ
+
+-- the result of a take: its code, the item that was got, the total if the queue has ended, and how many calls the turn served
+pub record TakeResult (I : Type 0) : Type 0 where
+  pub code : ℕ
+  pub item : I
+  pub total : ℕ
+  pub served : ℕ
 
 -- a code alone
 abbrev pub only : ℕ → SendResult
@@ -29,7 +42,3 @@ abbrev pub taken_as : {I : Type 0} → Form I → TakeAnswer → ℕ → TakeRes
 taken_as form (TakeAnswer.Got item) served = record { code = GOT; item = form.of item; total = 0; served = served }
 taken_as form TakeAnswer.Empty served = record { code = EMPTY; item = form.none; total = 0; served = served }
 taken_as form (TakeAnswer.Ended total) served = record { code = ENDED; item = form.none; total = total; served = served }
-
--- an item, and the rest of the result
-abbrev pub with_item : {I : Type 0} → I → TakeNumbers → TakeResult I
-with_item item told = record { code = told.code; item = item; total = told.total; served = told.served }

@@ -1,7 +1,7 @@
 -- The codes of all calls.
 use Rattle.std.specs.Prelude.{ℕ, Bool, true, ◌&&◌, ◌==◌, not, List, [], ◌∷◌}
 use Rattle.std.specs.List.{list_any}
-use Rattle.cc_passes.specs.declared.handles.return_codes.TheConstants.{DONE, BAD_SENDERS, BAD_RECEIVERS, BAD_CAPACITY, BAD_BOUND, BAD_LIFE, BAD_PER_SENDER, NO_MEMORY, BAD_HANDLES, NO_PASS, WRONG_SIDE, BUSY, NOT_BEGUN, WORN, BEGUN, WAITING, ACCEPTED, FULL, CLOSED, SPENT, SHUT, ALREADY, GOT, EMPTY, ENDED, BAD_GROUPS, BAD_WORDS, LONG, WIDE}
+use Rattle.cc_passes.specs.declared.return_codes.TheConstants.{DONE, BAD_SENDERS, BAD_RECEIVERS, BAD_CAPACITY, BAD_BOUND, BAD_LIFE, BAD_PER_SENDER, NO_MEMORY, BAD_HANDLES, NO_PASS, WRONG_SIDE, BUSY, NOT_BEGUN, WORN, BEGUN, WAITING, ACCEPTED, FULL, CLOSED, SPENT, SHUT, ALREADY, GOT, EMPTY, ENDED, BAD_GROUPS, BAD_WORDS, LONG, WIDE}
 
 -- all of them, and 27, which is a code of the header alone
 abbrev pub all_codes : List ℕ

@@ -1,13 +1,23 @@
-//! The passes of a queue as C holds them: `handles`, each with one pass, and `pool`, whose passes any number of threads share.
+//! The passes of a queue as C holds them: handles, each with a pass and a share of its queue, or with nothing; and the calls of the pass of a
+//! handle.
 //!
-//! `cc_capi` exports their calls to C. A call returns a code, and writes the numbers and the item of its answer to the places
-//! that its caller gives.
+//! `cc_capi` exports these calls to C. A call returns a code, and writes the numbers and the item of its answer to the places
+//! that its caller gives. `specs/Calls.antt` says what each call returns, and `specs/OpenHandles.antt` what an opening does.
 #![tactic(auto)]
 
+mod abandoned;
 mod clauses;
-pub mod handles;
-mod order;
-pub mod pool;
+mod closes;
+pub mod handle;
+pub mod handle_inner;
+pub mod items;
+pub mod looks;
+pub mod open_handles;
+pub mod raw_box;
+mod refusals;
+mod results;
+pub mod return_codes;
+pub mod sends;
+pub mod takes;
 
 pub use clauses::clauses_refuse;
-pub use order::{callers_are_in_order, calls_keep_order};

@@ -6,7 +6,7 @@ use crate::waiting::{next_receiver, next_sender};
 use cc_model::{Body, CloseAnswer, Config, Item, SendAnswer, TakeAnswer};
 use cc_queue::{
     Live, OpenFault, Opened, PendingSend, Queue, Receiver, Sender, Turn, begin_close, begin_send,
-    begin_take, turn_close, turn_send, turn_take,
+    try_send, try_take, turn_close, turn_send,
 };
 use std::process::Abort;
 
@@ -32,14 +32,15 @@ fn begins<R: Abort>(rt: &R, queue: &Queue, sender: Sender, body: u64) -> Pending
     }
 }
 
-/// A turn of a send that waits.
-fn waits<R: Abort>(rt: &R, queue: &Queue, pending: PendingSend) -> PendingSend
-    requires { IsOf queue.now pending }
+/// A send that waits, begun and turned at once.
+fn waits<R: Abort>(rt: &R, queue: &Queue, sender: Sender, body: u64) -> PendingSend
+    requires { IsOf queue.now sender }
     ensures { IsOf queue.now result }
 {
-    match turn_send(queue, pending) {
-        Turn::Waiting(pending) => pending,
-        Turn::Done { answer, .. } => panic!(rt; "the send is answered {answer:?}"),
+    match try_send(queue, sender, Body::one(body)) {
+        Ok(Turn::Waiting(pending)) => pending,
+        Ok(Turn::Done { answer, .. }) => panic!(rt; "the send is answered {answer:?}"),
+        Err(_) => panic!(rt; "the sender is worn"),
     }
 }
 
@@ -64,7 +65,7 @@ fn is_sent<R: Abort>(rt: &R, queue: &Queue, pending: PendingSend, place: u64, se
     }
 }
 
-/// A take that gets the first sender's item at its first turn.
+/// A take that gets the first sender's item at once.
 fn gets_the_first<R: Abort>(rt: &R, queue: &Queue, receiver: Receiver) -> Receiver
     requires { IsOf queue.now receiver }
 {
@@ -74,8 +75,7 @@ fn gets_the_first<R: Abort>(rt: &R, queue: &Queue, receiver: Receiver) -> Receiv
         number: 1,
         body: Body::one(7),
     };
-    let pending = begin_take(queue, receiver);
-    match turn_take(queue, pending) {
+    match try_take(queue, receiver) {
         Turn::Waiting(pending) => {
             pending.abandon();
             panic!(rt; "the take waits")
@@ -134,8 +134,7 @@ fn rows<R: Abort>(rt: &R, queue: &Queue, one: Sender, two: Sender, receiver: Rec
     requires receiver { IsOf queue.now receiver }
 {
     let one = begins(rt, queue, one, 7);
-    let two = begins(rt, queue, two, 9);
-    let two = waits(rt, queue, two);
+    let two = waits(rt, queue, two, 9);
     let mut one = is_sent(rt, queue, one, 0, 2);
     is_sent(rt, queue, two, 1, 0);
     let mut receiver = receiver;
