@@ -9,7 +9,8 @@ use Rattle.cc_runs.specs.State.{chain_of}
 use Rattle.cc_runs.specs.Run.{passes}
 use Rattle.cc_x86.specs.Threads.{Ask, passes_as_threads, opened, next_at}
 use Rattle.cc_x86.specs.Early.{early, LinearizableWithEarlyStores}
-use Rattle.cc_x86.specs.Crews.{is_fresh, fresh, moves_by_passes, LinearizableWithDrivenPasses}
+use Rattle.cc_runs.specs.Early.{is_fresh}
+use Rattle.cc_x86.specs.Crews.{fresh, moves_by_passes, LinearizableWithDrivenPasses}
 use Rattle.cc_x86.proofs.Stores.{contradiction}
 use Rattle.cc_x86.proofs.Driven.{driven_runs_are_by_passes}
 
@@ -20,7 +21,7 @@ module _ {W S : Type 0} (c : Program W S) (plain : Plain S) (s : State W S) wher
   drained_adds (e ∷ newer) all seen before = (buffers.Drains e.pass ∷ before.0, ap (λ (l : List buffers.Move). buffers.Drains e.pass ∷ l) before.1)
 
   -- a front of the threads' run leads to a front of the passes' run
-  by_passes_adds : (later seen : List Move) → (now : List buffers.Move) × (by_passes c plain s (later ++ seen) ≡ now ++ by_passes c plain s seen)
+  pub by_passes_adds : (later seen : List Move) → (now : List buffers.Move) × (by_passes c plain s (later ++ seen) ≡ now ++ by_passes c plain s seen)
   by_passes_adds [] seen = ([], refl)
   by_passes_adds (TakesUp t p ∷ later) seen = by_passes_adds later seen
   by_passes_adds (Leaves t ∷ later) seen = by_passes_adds later seen

@@ -7,8 +7,8 @@ mod Driven
 mod Early
 mod Marks
 mod Crews
+mod Beside
+mod AnyCode
 mod Litmus
 mod Threads
 mod InTime
-mod Follows
-mod Labelled

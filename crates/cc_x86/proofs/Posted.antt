@@ -12,7 +12,7 @@ use Rattle.cc_x86.proofs.Stores.{first_false, second_false, by_bool, has_front, 
 use Rattle.cc_x86.proofs.Tied.{HoldsBefore, Tied, Committed, one_turn, words_at, commit, holds_before, apart}
 
 module _ {W S : Type 0} (c : Program W S) (plain : Plain S) (waits : Waits S) (s : State W S) where
-  record After (m : Machine W S) (o : Order W) (es : List (Effect W)) : Type 0 where
+  pub record After (m : Machine W S) (o : Order W) (es : List (Effect W)) : Type 0 where
     pub U : ℕ → List (Waiting W)
     pub tied : Tied c plain waits s m o.turns U o.late es None
 
@@ -300,7 +300,7 @@ module _ {W S : Type 0} (c : Program W S) (plain : Plain S) (waits : Waits S) (s
     drained_before o p l true holds = before record { thread = p; told = 0 } o.turns holds
     drained_before o p l false holds = holds
 
-    follow : (moves : List Move) → IsBufferedRun c plain s moves → Holds (order c plain waits s moves).turns → After (arrived c plain s moves) (order c plain waits s moves) (shown c plain s moves)
+    pub follow : (moves : List Move) → IsBufferedRun c plain s moves → Holds (order c plain waits s moves).turns → After (arrived c plain s moves) (order c plain waits s moves) (shown c plain s moves)
     follow [] run holds = record { U = λ p. []; tied = opens }
     follow (Acts t plainly ∷ earlier) run holds =
         let m : Machine W S = arrived c plain s earlier in

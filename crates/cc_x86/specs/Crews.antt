@@ -1,23 +1,15 @@
 -- Threads that drive several passes of the queue each, by one buffer, with the plain stores of Early.
-use Rattle.std.specs.Prelude.{◌≡◌, ℕ, Bool, true, false, List, ◌++◌, Ok}
+use Rattle.std.specs.Prelude.{◌≡◌, ℕ, List, ◌++◌, Ok}
 use Rattle.cc_x86.specs.Buffered as buffers
 use Rattle.cc_x86.specs.Driven.{Fresh, Move, IsDrivenRun, IsByPasses, by_passes}
 use Rattle.cc_model.specs.Config.{config_fault}
-use Rattle.cc_x86.specs.Names.{Setting, Served, Phase, Stand}
+use Rattle.cc_runs.specs.Early.{is_fresh}
+use Rattle.cc_x86.specs.Names.{Setting, Served, Stand}
 use Rattle.cc_x86.specs.Threads.{Ask, passes_as_threads, opened}
 use Rattle.cc_x86.specs.OnX86.{MayBegin}
 use Rattle.cc_x86.specs.Early.{early, early_order, IsLinearizableEarly}
 
--- A pass loads nothing before its exchange, from where it has read its last answer. A thread takes up a pass there, or with an empty
--- buffer.
-abbrev pub is_fresh : Phase → Bool
-is_fresh Phase.Idle = true
-is_fresh (Phase.Finished told) = true
-is_fresh (Phase.ResetNext call) = true
-is_fresh (Phase.ResetState call) = true
-is_fresh (Phase.Exchange call) = true
-is_fresh _ = false
-
+-- pass p loads nothing before its next exchange
 abbrev pub fresh : Fresh Stand
 fresh p at = is_fresh at.phase
 

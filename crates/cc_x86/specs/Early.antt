@@ -7,20 +7,16 @@ use Rattle.cc_x86.specs.Buffered.{Plain}
 use Rattle.cc_x86.specs.Posted.{Waits, order, outsides}
 use Rattle.cc_model.specs.Config.{config_fault}
 use Rattle.cc_model.specs.Legal.{Legal}
-use Rattle.cc_x86.specs.Names.{Setting, Served, Answer, Chain, Phase, Stand, Move}
+use Rattle.cc_x86.specs.Names.{Setting, Served, Answer, Phase, Stand, Move}
 use Rattle.cc_runs.specs.Linearizable.{IsLinearizable}
+use Rattle.cc_runs.specs.Early.{may_be_early}
 use Rattle.cc_runs.specs.State.{chain_of, pass_at}
 use Rattle.cc_runs.specs.ChainLaws.{IsLastAnswer}
 use Rattle.cc_runs.specs.Run.{IsRun, passes, history_of}
 use Rattle.cc_x86.specs.Threads.{Ask, passes_as_threads, opened, moves_of}
 use Rattle.cc_x86.specs.OnX86.{MayBegin}
 
--- The mark of a send or a close is locked: whoever combines next loads how many groups have passed a list node, and a receiver
--- that calls after the send's return loads the link of its item. Each other store may be plain.
-abbrev pub may_be_early : Chain → Phase → Bool
-may_be_early Chain.Send (Phase.MarkDone job) = false
-may_be_early x at = true
-
+-- the store that pass p does next may be plain
 abbrev pub early : Setting → Plain Stand
 early c p at = may_be_early (chain_of c.config p) at.phase
 

@@ -11,5 +11,4 @@ pub mod OnX86
 pub mod Early
 pub mod Marks
 pub mod Crews
-pub mod Rows
-pub mod Graphs
+pub mod AnyCode

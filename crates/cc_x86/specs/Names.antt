@@ -18,12 +18,3 @@ pub use Rattle.cc_runs.specs.declared.phase.Job.{Job}
 pub use Rattle.cc_runs.specs.declared.phase.Round.{Round}
 pub use Rattle.cc_model.specs.declared.call.SendAnswer.{SendAnswer}
 pub use Rattle.cc_model.specs.declared.call.TakeAnswer.{TakeAnswer}
-pub use Rattle.cc_runs.specs.declared.word.Object.{Object}
-pub use Rattle.cc_x86.specs.declared.row.Row.{Row}
-pub use Rattle.cc_x86.specs.declared.row.Does.{Does}
-pub use Rattle.cc_x86.specs.declared.row.Step.{Step}
-pub use Rattle.cc_x86.specs.declared.graph.Access.{Access}
-pub use Rattle.cc_x86.specs.declared.graph.Node.{Node}
-pub use Rattle.cc_x86.specs.declared.graph.Edge.{Edge}
-pub use Rattle.cc_x86.specs.declared.graph.Label.{Label}
-pub use Rattle.cc_x86.specs.declared.graph.Graph.{Graph}

@@ -1,5 +1,6 @@
 //! The laws of threads with store buffers: fenced plain stores are not seen, so the laws of runs hold on x86-TSO.
 ghost use Rattle.cc_x86.specs.Fenced.{BuffersAreNotSeen, MostAreFenced};
+ghost use Rattle.cc_x86.specs.AnyCode.{CodeFollowsWithBuffers, PremiseOfCode};
 ghost use Rattle.cc_x86.specs.Crews.{LinearizableWithDrivenPasses};
 ghost use Rattle.cc_x86.specs.Driven.{DrivenRunsAreByPasses};
 ghost use Rattle.cc_x86.specs.Early.{LinearizableWithEarlyStores};
@@ -81,3 +82,19 @@ pub fn driven_runs_are_linearizable()
 {
     runs_with_early_stores_are_linearizable();
 }
+
+/// So the law reaches code: if what each pass does next is a function of what it has found, and is what the table says
+/// in every run of atomic steps, then it is so in every run of such threads too, and the run is linearizable.
+pub fn code_follows_with_buffers()
+    ensures { CodeFollowsWithBuffers }
+{
+    laws_of_chains();
+    laws_of_nodes();
+    nodes_are_prepared_alone();
+    driven_runs_are_linearizable();
+}
+
+/// The premise holds of the passes themselves, and not of code with a plain mark of a send, among others.
+pub fn premise_of_code()
+    ensures { PremiseOfCode }
+{}

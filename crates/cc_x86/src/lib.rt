@@ -7,17 +7,13 @@
 //! there before, and wait. The laws here say so of any threads, and of the passes of the queue.
 #![tactic(auto)]
 
-mod graph;
 mod laws;
 mod litmus_laws;
-mod row;
 
-pub use graph::{Access, Edge, Graph, Label, Node, is_labelled, is_line};
 pub use laws::{
-    buffers_are_not_seen, driven_runs_are_by_passes, driven_runs_are_linearizable,
-    fenced_stores_are_orderly, histories_are_legal_on_x86, most_are_fenced,
-    posted_stores_are_not_seen, runs_are_linearizable_on_x86, runs_are_those_of_atomic_steps,
-    runs_with_early_stores_are_linearizable,
+    buffers_are_not_seen, code_follows_with_buffers, driven_runs_are_by_passes,
+    driven_runs_are_linearizable, fenced_stores_are_orderly, histories_are_legal_on_x86,
+    most_are_fenced, posted_stores_are_not_seen, premise_of_code, runs_are_linearizable_on_x86,
+    runs_are_those_of_atomic_steps, runs_with_early_stores_are_linearizable,
 };
 pub use litmus_laws::{marks_of_sends_are_needed, message_passing, store_buffering};
-pub use row::{Does, Row, Step, followers, is_same, step_of};

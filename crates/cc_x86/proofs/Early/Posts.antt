@@ -6,7 +6,8 @@ use Rattle.cc_x86.specs.Buffered.{Waiting}
 use Rattle.cc_x86.specs.Posted.{IsFor, has, Agrees}
 use Rattle.cc_x86.specs.Names.{Setting, NodeField, ItemField, Job, Chain, Word, Stand, Phase}
 use Rattle.cc_x86.specs.Threads.{as_thread, next_at, Ask}
-use Rattle.cc_x86.specs.Early.{may_be_early, early}
+use Rattle.cc_runs.specs.Early.{may_be_early}
+use Rattle.cc_x86.specs.Early.{early}
 use Rattle.cc_x86.proofs.Stores.{by_bool, contradiction, unseen, has_snoc, at_hold', held}
 use Rattle.cc_x86.proofs.Threads.{IsBusy, busy_next, stands_so}
 use Rattle.cc_x86.proofs.Early.Phases.{IsStore, IsLoad, store_no_load, store_no_swap, OfSenders, OfReceivers, IsHand, IsMark, IsPast, IsShut, hand_or_not, mark_or_not, past_combines, asking_combines, answering_shut, stand}
