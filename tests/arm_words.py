@@ -1,164 +1,100 @@
-#!/usr/bin/python3
-"""Tests tools/arm_words.py: it accepts the archive for aarch64 in the tree, and refuses wrong changes of it.
+#!/usr/bin/env python3
+"""Checks that the library for aarch64 has each atomic access of its module, sequentially consistent, and no weaker one.
 
-- Each access of a shared word in the archive, once as a plain access and once as a weaker one (`ldapr`, `stllr`, `ldxr`, `stxr`), is
-  refused. In functions that open queues a plain one may be found by the counts alone, which the build compares with the compiler's module.
-- The counts are those of the line of PROOF.
-- Small functions, of which those whose names begin with `right` are accepted, and all others are refused.
-- Modules of the compiler, in which a word is accessed otherwise than sequentially consistently.
+    tests/arm_words.py
 
-The decoder is Debian's python3-capstone, and the assembler clang's, or the cross tools'. Without the first the exit status is 77. Exit
-status 0 if all is as it should be.
+- In the module's text each atomic access is seq_cst, of 8 bytes, and of no single thread's scope; there is no fence.
+- For these LLVM writes `ldar`, `stlr`, and `ldaxr` with `stlxr` for a read-modify-write. Of all instructions with an order, and of those that
+  are atomic, the machine code has these four of 8 bytes alone.
+- Each function has at least as many of each as what the optimizer leaves of the module (the compiler may write a block twice). Debian's
+  clang of PROOF's version says how many these are; without it a line says that this was skipped.
+
+So no access that the module marks was left out or weakened. Whether another access, a plain one, leads to a shared word isn't seen here:
+that the compiler adds none is trusted (docs/TRUST.md).
+
+Wrong words and wrong texts are refused. Exit status 0 if all is so.
 """
 import collections
-import dataclasses
+import lzma
 import pathlib
-import shutil
+import re
 import struct
 import subprocess
 import sys
-import tempfile
 
-TOP = pathlib.Path(__file__).resolve().parent.parent
-ARCHIVE = TOP / "bindings/rust/lib/aarch64-unknown-linux-gnu/libvahepito_strict.a"
 sys.dont_write_bytecode = True
-sys.path.insert(0, str(TOP / "tools"))
-try:
-    import capstone  # noqa: F401
-except ModuleNotFoundError:
-    print("words: the accesses of shared words on aarch64: SKIPPED: python3-capstone is not on this machine")
-    sys.exit(77)
-import arm_words
-from aarch64.flow import LOAD, PUTS, STORE, TAKES
-from x86.objects import Refused, object_in
+from module import compiled, compiler_of, object_in
 
-# The word of each access, as far as it says which access of 8 bytes it is, and of the plain and the weaker one in its place. The
-# rest names the registers. The halves of a read-modify-write have no plain one.
-CODES = {
-    LOAD: (0xC8DFFC00, {"ldr": 0xF9400000, "ldapr": 0xF8BFC000}),
-    STORE: (0xC89FFC00, {"str": 0xF9000000, "stllr": 0xC89F7C00}),
-    TAKES: (0xC85FFC00, {"ldxr": 0xC85F7C00}),
-    PUTS: (0xC800FC00, {"stxr": 0xC8007C00}),
-}
-# A handle, by which `x8` gets the table's pointer: [[[x0]]+8].
-HEAD = "ldr x8,[x0]\nldr x8,[x8]\nldr x8,[x8,#8]\n"
-SMALL = {
-    "right: a load, a store, a read-modify-write": HEAD + "add x9,x8,#16\nldar x10,[x8]\nstlr x10,[x9]\n1: ldaxr x11,[x9]\nstlxr w12,x10,[x9]\ncbnz w12,1b\nret",
-    "right: an array of words": HEAD + "add x9,x8,x1,lsl #6\nstlr x2,[x9]\nldar x0,[x9]\nret",
-    "right: plain accesses of the handle and of the stack": HEAD + "str x8,[sp,#-16]!\nldar x9,[x8]\nstr x9,[x0,#8]\nldr x8,[sp],#16\nstlr x9,[x8]\nret",
-    "right: the table's pointer is kept over a call": HEAD + "stp x19,x30,[sp,#-16]!\nmov x19,x8\nbl other\nldar x0,[x19]\nldp x19,x30,[sp],#16\nret",
-    "a plain load": HEAD + "ldr x0,[x8]\nret",
-    "a plain store": HEAD + "str x1,[x8,#64]\nret",
-    "a plain load by an index": HEAD + "ldr x0,[x8,x1,lsl #3]\nret",
-    "a plain load of a byte": HEAD + "ldrb w0,[x8]\nret",
-    "a plain pair": HEAD + "ldp x0,x1,[x8]\nret",
-    "a plain load by a slot of the stack": HEAD + "str x8,[sp,#-16]!\nldr x9,[sp],#16\nldr x0,[x9]\nret",
-    "a plain load by one of two pointers": HEAD + "cmp x1,#0\ncsel x9,x0,x8,eq\nldr x0,[x9]\nret",
-    "a plain load on one way": HEAD + "cbz x1,1f\nldar x0,[x8]\nret\n1: ldr x0,[x8]\nret",
-    "a plain load of a vector": HEAD + "ldr q0,[x8]\nret",
-    "a plain load of two words, of which the second is shared": "ldar x8,[x1]\nadd x2,x1,#8\nldar x9,[x2]\nldp x3,x4,[x1,#-8]\nret",
-    "a plain load of a vector that overlaps a word": "add x2,x1,#8\nldar x9,[x2]\nldr q0,[x1]\nret",
-    "right: a plain load beside a word": "add x2,x1,#8\nldar x9,[x2]\nldr x3,[x1]\nldr w4,[x1,#16]\nldrb w5,[x1,#7]\nret",
-    "a plain load by an index that may be the pointer": HEAD + "ldr x9,[x0,#8]\nldr x1,[x9,x8]\nret",
-    "a load without order": HEAD + "ldxr x0,[x8]\nret",
-    "a load with acquire alone": HEAD + ".arch armv8.3-a\nldapr x0,[x8]\nret",
-    "a swap with acquire alone": HEAD + ".arch armv8.1-a\nswpa x1,x0,[x8]\nret",
-    "a load of four bytes": HEAD + "ldar w0,[x8]\nret",
-    "a store of four bytes": HEAD + "stlxr w1,w2,[x8]\nret",
-    "a pointer from nowhere": "mov x9,#64\nldr x0,[x9]\nret",
-    "a pointer that a call left": HEAD + "str x30,[sp,#-16]!\nbl other\nldar x0,[x8]\nldr x30,[sp],#16\nret",
-    "a pointer in a slot that a call may have written": HEAD + "stp x8,x30,[sp,#-32]!\nadd x0,sp,#16\nbl other\nldr x8,[sp]\nldar x0,[x8]\nldp x8,x30,[sp],#32\nret",
-    "right: a pointer in a slot that no call knows, beside a local word": HEAD + "stp x8,x30,[sp,#-32]!\n1: add x9,sp,#24\nldaxr x10,[x9]\nstlxr w11,x10,[x9]\ncbnz w11,1b\nmov x9,#0\nbl other\nldr x8,[sp]\nldar x0,[x8]\nldp x8,x30,[sp],#32\nret",
-    "a pointer in a slot whose address was kept": HEAD + "stp x8,x30,[sp,#-32]!\nadd x9,sp,#16\nstr x9,[x1]\nmov x9,#0\nbl other\nldr x8,[sp]\nldar x0,[x8]\nldp x8,x30,[sp],#32\nret",
-    "a pointer in a slot whose address reaches a call on one way": HEAD + "stp x8,x30,[sp,#-32]!\nadd x0,sp,#16\ncbz x1,1f\nmov x0,#0\n1: bl other\nldr x8,[sp]\nldar x0,[x8]\nldp x8,x30,[sp],#32\nret",
-    "a pointer in a slot whose address may reach a second call": HEAD + "stp x8,x30,[sp,#-32]!\nbl first\ncbz x19,1f\nadd x0,sp,#16\n1: bl other\nldr x8,[sp]\nldar x0,[x8]\nldp x8,x30,[sp],#32\nret",
-    "a pointer in a slot whose address is a part of another value": HEAD + "stp x8,x30,[sp,#-32]!\nadd x9,sp,#16\nbfi x0,x9,#0,#48\nmov x9,#0\nbl other\nldr x8,[sp]\nldar x0,[x8]\nldp x8,x30,[sp],#32\nret",
-    "a pointer in a slot whose address is a new base": HEAD + "stp x8,x30,[sp,#-32]!\nadd x9,sp,#16\nldr x10,[x9],#8\nmov x9,#0\nbl other\nldr x8,[sp]\nldar x0,[x8]\nldp x8,x30,[sp],#32\nret",
-    "a pointer in a slot whose address is compared": HEAD + "stp x8,x30,[sp,#-32]!\nadd x9,sp,#16\ncmp x9,x0\nmov x9,#0\nbl other\nldr x8,[sp]\nldar x0,[x8]\nldp x8,x30,[sp],#32\nret",
-    "a pointer out of a vector": HEAD + "fmov d0,x8\nfmov x9,d0\nldr x0,[x9]\nret",
-    "a plain load that overlaps a word": "ldr x8,[x1]\nldar x9,[x8,#0]\nldr x0,[x8,#4]\nret",
-    "a jump by a register": HEAD + "br x8",
-    "a jump out of the function": HEAD + "cbz x1,.+64\nret",
-}
-# Functions of the compiler's module: whether it is accepted, and an access.
-MODULES = [
-    (True, "%v = load atomic i64, ptr %a seq_cst, align 8"),
-    (True, "%n = cmpxchg ptr %a, i64 1, i64 2 seq_cst seq_cst, align 8"),
-    (False, "%v = load atomic i64, ptr %a acquire, align 8"),
-    (False, "store atomic i64 1, ptr %a release, align 8"),
-    (False, "%n = atomicrmw add ptr %a, i64 1 acq_rel, align 8"),
-    (False, "%n = cmpxchg ptr %a, i64 1, i64 2 seq_cst monotonic, align 8"),
-    (False, '%v = load atomic i64, ptr %a syncscope("singlethread") seq_cst, align 8'),
-    (False, "fence seq_cst"),
-]
+FOLDER = pathlib.Path(__file__).resolve().parent.parent / "bindings/rust/lib/aarch64-unknown-linux-gnu"
+ARCHIVE = FOLDER / "libvahepito_strict.a"
+# The words of the four, but for their registers: the bits that count, and these bits.
+KNOWN = {"load": (0xFFFFFC00, 0xC8DFFC00), "store": (0xFFFFFC00, 0xC89FFC00), "take": (0xFFFFFC00, 0xC85FFC00), "put": (0xFFE0FC00, 0xC800FC00)}
+# The kinds of instructions that are exclusive, ordered or atomic: exclusive ones with compare-and-swap, those of LSE with `ldapr`, and those
+# of RCpc with an offset.
+ORDERED = [(0x3F000000, 0x08000000), (0x3B200C00, 0x38200000), (0x3B000000, 0x19000000)]
+# ldxr, stxr, stllr, ldlar, ldapr, swpa, ldaddal, casal, ldapur, stlur; ldar, stlr and stlxr of four bytes; ldaxp.
+WRONG = [0xC85F7D00, 0xC8017D02, 0xC89F7D00, 0xC8DF7D00, 0xF8BFC100, 0xF8A18100, 0xF8E10100, 0xC8E1FD00, 0xD9400100, 0xD9000100]
+WRONG += [0x88DFFD00, 0x889FFD00, 0x8801FD02, 0xC87F8500]
+KIND_OF_MARK = {"load atomic": "load", "store atomic": "store", "atomicrmw": "put", "cmpxchg": "put"}
+MARK = re.compile(r"^  (?:%\S+ = )?(load atomic|store atomic|atomicrmw|cmpxchg|fence)\b.*$", re.M)
+RIGHT_TEXTS = ["%v = load atomic i64, ptr %a seq_cst, align 8", "%n = cmpxchg ptr %a, i64 1, i64 2 seq_cst seq_cst, align 8"]
+WRONG_TEXTS = ["%v = load atomic i64, ptr %a acquire, align 8", "store atomic i64 1, ptr %a release, align 8", "fence seq_cst"]
+WRONG_TEXTS += ["%n = atomicrmw add ptr %a, i64 1 acq_rel, align 8", "%n = cmpxchg ptr %a, i64 1, i64 2 seq_cst monotonic, align 8"]
+WRONG_TEXTS += ['%v = load atomic i64, ptr %a syncscope("singlethread") seq_cst, align 8', "store atomic i32 1, ptr %a seq_cst, align 4"]
 
 
-def is_refused(code) -> bool:
-    try:
-        arm_words.check(arm_words.Function(code))
-    except Refused:
-        return True
-    return False
+def kind_of(word: int) -> str | None:
+    """Which of the four a word is; None if it is neither ordered nor atomic; and else `weaker`."""
+    known = [kind for kind, (bits, due) in KNOWN.items() if word & bits == due]
+    return known[0] if known else "weaker" if any(word & bits == due for bits, due in ORDERED) else None
 
 
-def wrong_changes(function):
-    """The function's code with each access of a shared word changed, and what was done."""
-    whole = function.code.bytes
-    for i in function.instructions:
-        if i.name not in CODES:
-            continue
-        (word,) = struct.unpack_from("<I", whole, i.address)
-        right, others = CODES[i.name]
-        if word & right != right:
-            raise SystemExit(f"{function.where(i)}: {word:x} isn't the word of {i.text}")
-        registers = word & ~right & (0x1F03FF if i.name == PUTS else 0x3FF)
-        for name, other in others.items():
-            changed = whole[: i.address] + struct.pack("<I", other | registers) + whole[i.address + 4 :]
-            yield f"{function.where(i)} is {name}", dataclasses.replace(function.code, bytes=changed)
+def functions_of(archive: pathlib.Path) -> dict:
+    """The words of each function."""
+    whole, found = object_in(archive), {}
+    told = subprocess.run(["readelf", "-SW", archive], capture_output=True, text=True, check=True).stdout
+    for name, at, size in re.findall(r" \.text\.(?:unlikely\.)?(\S+) +PROGBITS +\w+ (\w+) (\w+)", told):
+        found[name] = struct.unpack_from(f"<{int(size, 16) // 4}I", whole, int(at, 16))
+    return found
 
 
-def assembler() -> list:
-    """The command that assembles from standard input, if this machine has one."""
-    if shutil.which("aarch64-linux-gnu-as"):
-        return ["aarch64-linux-gnu-as", "-"]
-    return ["clang", "--target=aarch64-linux-gnu", "-march=armv8.4-a", "-c", "-x", "assembler", "-"] if shutil.which("clang") else []
+def wrong_marks(text: str) -> list:
+    """The atomic accesses of a text that aren't sequentially consistent, or not of 8 bytes."""
+    return [
+        mark[0]
+        for mark in MARK.finditer(text)
+        if mark[0].count(" seq_cst") != 1 + (mark[1] == "cmpxchg") or " i64" not in mark[0] or "syncscope" in mark[0] or mark[1] == "fence"
+    ]
+
+
+def counts_in(optimized: str) -> dict:
+    """How many accesses of each kind the functions of a text have."""
+    parts = re.findall(r'^define [^\n]*@"?([^"(\n]+)"?\([^\n]*\n(.*?)^}$', optimized, re.M | re.S)
+    return {name: collections.Counter(KIND_OF_MARK[mark[1]] for mark in MARK.finditer(body)) for name, body in parts}
 
 
 def main() -> int:
-    failed, tried, by_count, total = [], 0, 0, collections.Counter()
-    for function in map(arm_words.Function, arm_words.codes_of(ARCHIVE.read_bytes())):
-        tried += 1
-        total += arm_words.counts_of(function)
-        if is_refused(function.code):
-            failed.append(f"refused: {function.name}")
-        for name, code in wrong_changes(function):
-            tried += 1
-            if is_refused(code):
-                continue
-            by_count += 1
-            if arm_words.STEPS.match(function.name) or arm_words.counts_of(arm_words.Function(code)) == arm_words.counts_of(function):
-                failed.append(f"accepted: {name}")
-    if arm_words.line_of(total) not in (ARCHIVE.parent / "PROOF").read_text().splitlines():
-        failed.append(f"PROOF doesn't say `{arm_words.line_of(total)}`")
-    for is_right, line in MODULES:
-        tried += 1
-        try:
-            arm_words.counts_of_module(f"define void @it(ptr %a) {{\n  {line}\n}}\n")
-            failed += [] if is_right else [f"accepted: {line}"]
-        except Refused:
-            failed += [f"refused: {line}"] if is_right else []
-    if command := assembler():
-        with tempfile.TemporaryDirectory() as room:
-            for name, code in SMALL.items():
-                tried += 1
-                text = f'.section .text.vahepito_turn_it,"ax",@progbits\nvahepito_turn_it:\n{code}\n'
-                subprocess.run([*command, "-o", f"{room}/it.o"], input=text, text=True, check=True)
-                refused = any(map(is_refused, arm_words.codes_of(pathlib.Path(room, "it.o").read_bytes())))
-                if refused == name.startswith("right"):
-                    failed.append(f"{name}: {'refused' if refused else 'accepted'}")
+    module, functions = lzma.open(FOLDER / "module.ll.xz", "rt").read(), functions_of(ARCHIVE)
+    counts = {name: collections.Counter(filter(None, map(kind_of, words))) for name, words in functions.items()}
+    failed = [f"the module has {mark}" for mark in wrong_marks(module)]
+    failed += [f"{name}: a weaker access" for name, count in counts.items() if count["weaker"]]
+    failed += [f"{word:x} is accepted" for word in WRONG if kind_of(word) != "weaker"]
+    failed += [f"accepted: {text}" for text in WRONG_TEXTS if not wrong_marks("  " + text)]
+    failed += [f"refused: {text}" for text in RIGHT_TEXTS if wrong_marks("  " + text)]
+    clang, said, words = compiler_of(FOLDER)
+    if clang:
+        optimized = compiled(clang, words, module, "-S", "-emit-llvm").decode()
+        failed += [f"the optimizer leaves {mark}" for mark in wrong_marks(optimized)]
+        for name, due in counts_in(optimized).items():
+            here = counts.get(name, collections.Counter())
+            if any(here[kind] < due[kind] or (here[kind] and not due[kind]) for kind in ("load", "store", "put")):
+                failed.append(f"{name}: {dict(here)}, and {dict(due)} in its text")
     else:
-        print("words: small functions: SKIPPED: neither clang nor aarch64-linux-gnu-as is on this machine")
-    print("\n".join(failed + [f"words: {tried} cases tried, {by_count} wrong accesses found by the counts alone, {len(failed)} failed"]))
+        print(f"words: the accesses of each function on aarch64: SKIPPED: clang {said} is not on this machine")
+    total = sum(counts.values(), collections.Counter())
+    if not all(total[kind] for kind in KNOWN):
+        failed.append("no access of some kind was found")
+    print("\n".join([*failed, f"words: {dict(total)} on aarch64, {len(failed)} failed"]))
     return 1 if failed else 0
 
 

@@ -5,12 +5,19 @@
 
 `bindings/rust/lib/TARGET/module.ll.xz` is what the toolchain's compiler read when the library was built, and the line `compiler:` of
 PROOF says which version of clang it is and by which words it was called. Debian's clang of that version, which was built by
-others, has to make the object of `libvahepito_strict.a` of that text. So the toolchain's own binary isn't trusted alone.
+others, has to make the object of `libvahepito_strict.a` of that text, and that of `libvahepito.a` of the text that tools/release_stores.py makes of
+it. So the toolchain's own binary isn't trusted alone.
 
 It also shows that the comparison can fail: of a module with one weaker access of a shared word comes another object.
 
-Without that clang it does nothing, says so in a line, and the exit status is 77. Exit status 0 if all objects are the same.
+What the optimizer leaves of the second text is compared with the machine code: each function has as many exchanges as the text has swaps and
+seq_cst stores there, and as many fences; the other stores are plain. And in each function all marks (stores of 2) are of one kind: so the
+choice between both kinds of mark is made when the library is compiled, and not at each mark.
+
+Without that clang it does nothing, says so in a line, and the exit status is 77. Exit status 0 if all is so.
 """
+import collections
+import lzma
 import pathlib
 import re
 import shutil
@@ -21,47 +28,92 @@ import tempfile
 TOP = pathlib.Path(__file__).resolve().parent.parent
 sys.dont_write_bytecode = True
 sys.path.insert(0, str(TOP / "tools"))
-from x86.objects import object_in
+from release_stores import Refused, released
 
 # The toolchain's names for memory, and the library's: tools/build_library.sh renames them in what was built.
 RENAMED = [(b"rattle_alloc", b"vahepito_mem"), (b"rattle_realloc", b"vahepito_renew"), (b"rattle_dealloc", b"vahepito_freed")]
+# What is an exchange in the machine code, and a fence: in its text, and there.
+KINDS = {
+    "exchanges": (r"^  (?:%\S+ = )?(?:atomicrmw xchg|store atomic [^\n]* seq_cst,)", r"\txchg .*\(%"),
+    "fences": (r"^  fence seq_cst", r"\tlock orl +\$0x0,.*\(%rsp\)|\tmfence"),
+}
 
 
-def compiled(clang: str, words: list, module: bytes) -> bytes:
-    """The object that this compiler makes of a module, with the library's names."""
+def compiled(clang: str, words: list, module: str, *kind: str) -> bytes:
+    """What this compiler makes of a module: the object, with the library's names, or another kind of output."""
     with tempfile.TemporaryDirectory() as room:
-        subprocess.run([clang, *words, "-c", "-x", "ir", "-", "-o", f"{room}/module.o"], input=module, check=True)
-        made = pathlib.Path(room, "module.o").read_bytes()
+        command = [clang, *words, *(kind or ("-c",)), "-x", "ir", "-", "-o", f"{room}/made"]
+        subprocess.run(command, input=module.encode(), check=True)
+        made = pathlib.Path(room, "made").read_bytes()
     for theirs, ours in RENAMED:
         made = made.replace(theirs, ours)
     return made
 
 
+def object_in(archive: pathlib.Path) -> bytes:
+    """The one object of an archive."""
+    return subprocess.run(["ar", "p", archive], capture_output=True, check=True).stdout
+
+
+def codes_of(archive: pathlib.Path) -> dict:
+    """The machine code of each function, as text."""
+    text = subprocess.run(["objdump", "-d", "--no-show-raw-insn", archive], capture_output=True, text=True, check=True).stdout
+    parts = re.split(r"^[0-9a-f]+ <(.*)>:$", text, flags=re.M)
+    return dict(zip(parts[1::2], parts[2::2]))
+
+
+def wrong_stores(archive: pathlib.Path, optimized: str) -> list:
+    """The functions whose machine code has other exchanges or fences than their text, or which have marks of two kinds."""
+    found, orders, codes = [], collections.Counter(), codes_of(archive)
+    for name, body in re.findall(r'^define [^\n]*@"?([^"(\n]+)"?\([^\n]*\n(.*?)^}$', optimized, re.M | re.S):
+        for kind, (in_text, in_code) in KINDS.items():
+            here, due = len(re.findall(in_code, codes.get(name, ""))), len(re.findall(in_text, body, re.M))
+            if here != due:
+                found.append(f"{name}: {here} {kind}, and {due} in its text")
+        orders.update(re.findall(r"store atomic [^\n]* (release|seq_cst),", body))
+        if len(kinds := set(re.findall(r"store atomic i64 2,[^\n]* (release|seq_cst),", body))) > 1:
+            found.append(f"{name}: has marks of both kinds")
+    return found if len(orders) == 2 else [*found, f"stores of these kinds alone: {dict(orders)}"]
+
+
+def faults_of(folder: pathlib.Path, clang: str, words: list) -> list:
+    """What is wrong with the archives of a target."""
+    strict = lzma.open(folder / "module.ll.xz", "rt").read()
+    texts, found = {"libvahepito_strict.a": strict}, []
+    if (default := folder / "libvahepito.a").exists():
+        texts[default.name] = released(strict)
+        optimized = compiled(clang, words, texts[default.name], "-S", "-emit-llvm").decode()
+        found += wrong_stores(default, optimized)
+        if not wrong_stores(folder / "libvahepito_strict.a", optimized):
+            found.append("the strict archive has the same exchanges")
+    found += [f"{name} is another object" for name, text in texts.items() if compiled(clang, words, text) != object_in(folder / name)]
+    weaker = strict.replace(" seq_cst, align 8", " monotonic, align 8", 1)
+    if compiled(clang, words, weaker) == object_in(folder / "libvahepito_strict.a"):
+        found.append("a weaker access makes no other object")
+    return found
+
+
+def compiler_of(folder: pathlib.Path) -> tuple:
+    """Debian's compiler of the version that PROOF names, what it says of itself, and the words; if this machine has none, the version."""
+    version, words = re.search(r"^compiler: clang version (\S+?),? (.*)$", (folder / "PROOF").read_text(), re.M).groups()
+    clang = f"clang-{version.split('.')[0]}"
+    said = subprocess.run([clang, "--version"], capture_output=True, text=True).stdout if shutil.which(clang) else ""
+    return (clang, said.splitlines()[0], words.split()) if f"clang version {version} " in said else (None, version, [])
+
+
 def main() -> int:
     failed = 0
-    folders = sorted((TOP / "bindings/rust/lib").glob("*/"))
-    for folder in folders:
-        found = re.search(r"^compiler: clang version (\S+?),? (.*)$", (folder / "PROOF").read_text(), re.M)
-        if not found:
-            print(f"module: {folder.name}: PROOF doesn't say by which words the compiler was called")
-            failed += 1
-            continue
-        version, words = found.groups()
-        clang = f"clang-{version.split('.')[0]}"
-        said = subprocess.run([clang, "--version"], capture_output=True, text=True).stdout if shutil.which(clang) else ""
-        if f"clang version {version} " not in said or not shutil.which("xz"):
-            print(f"module: another compiler of the same version: SKIPPED: clang {version} or xz is not on this machine")
+    for folder in sorted((TOP / "bindings/rust/lib").glob("*/")):
+        clang, said, words = compiler_of(folder)
+        if not clang or not shutil.which("objdump"):
+            print(f"module: another compiler of the same version: SKIPPED: clang {said} or objdump is not on this machine")
             return 77
-        module = subprocess.run(["xz", "-dc", folder / "module.ll.xz"], capture_output=True, check=True).stdout
-        whole = (folder / "libvahepito_strict.a").read_bytes()
-        begin, end = object_in(whole)
-        is_same = compiled(clang, words.split(), module) == whole[begin:end]
-        weaker = module.replace(b" seq_cst, align 8", b" monotonic, align 8", 1)
-        differs = weaker != module and compiled(clang, words.split(), weaker) != whole[begin:end]
-        print(f"module: {folder.name}: {said.splitlines()[0]} makes {'the same object' if is_same else 'ANOTHER OBJECT'}, byte for byte")
-        if not differs:
-            print(f"module: {folder.name}: a weaker access makes no other object")
-        failed += not (is_same and differs)
+        try:
+            found = faults_of(folder, clang, words)
+        except Refused as why:
+            found = [f"the module is refused: {why}"]
+        print("\n".join(f"module: {folder.name}: {line}" for line in found or [f"{said} makes the same objects, byte for byte"]))
+        failed += bool(found)
     return 1 if failed else 0
 
 

@@ -11,15 +11,13 @@
 # `rt lib` proves and builds what is below crates/cc_capi, and `rattle build`, which `rt lib` calls, that itself, for each target.
 # In its archive, and in the functions for memory, the three symbols that don't begin with vahepito_ are renamed; all else stays as
 # it was built. That is libvahepito_strict.a. Beside it module.ll.xz is what the toolchain's compiler read, as text: PROOF says
-# with which words the compiler was called, and tests/module.py calls another one. In that text tools/mark_module.py has asked for what
-# debuggers and CET need; tools/unwind.py compares what the compiler wrote of that with the code.
+# with which words the compiler was called. In that text tools/mark_module.py has asked for what debuggers and CET need.
 #
-# For x86-64 libvahepito.a is made of the strict archive by tools/stores.py, which turns locked stores into plain ones; the same
-# stores have to be found in the compiler's own module. The functions for memory are the toolchain's (liblibc_c.a).
-# For aarch64 there is no such archive, since the law of plain stores is one of x86. tools/arm_words.py shows there that each
-# access of a shared word is sequentially consistent. The functions for memory are those of bindings/c/heap.c.
+# For x86-64 tools/release_stores.py makes a second text of that one, in which some stores are release stores, and the same compiler
+# makes libvahepito.a of it by the same words. For aarch64 there is no such archive: both kinds of store are one instruction there.
+# tests/module.py compiles both texts by another compiler.
 #
-# Without python3-capstone the accesses and the tables of unwinding on aarch64 aren't looked at: then --update fails, and else a line says so.
+# The functions for memory are the toolchain's for x86-64 (liblibc_c.a), and those of bindings/c/heap.c for aarch64.
 #
 # --over-gate takes the libraries below cc_capi as `rt ci` left them in this folder a moment ago: `rt lib` would prove them
 # once more. Both ways give the same bytes.
@@ -54,13 +52,11 @@ sums() {
     done
     echo "sha256 of module.ll: $(python3 -c 'import lzma, sys; sys.stdout.buffer.write(lzma.open(sys.argv[1]).read())' "$2/module.ll.xz" | sum_of -)"
     echo "sha256 of the sources: $(sum_of_sources "${crates[@]}")"
-    [[ $1 != x86_64-* ]] || echo "sha256 of the law of plain stores and its checkers: $(sum_of_law)"
+    [[ $1 != x86_64-* ]] || echo "sha256 of the law of release stores and their script: $(sum_of_law)"
 }
 
-# The sum of what libvahepito.a rests on beside: the law with what decides of graphs, and the tools that read machine code.
-sum_of_law() {
-    { sum_of_sources cc_x86 cc_graphs && (LC_ALL=C && cat "$top"/tools/stores.py "$top"/tools/x86/*.py) | sum_of -; } | sum_of -
-}
+# The sum of what libvahepito.a rests on beside.
+sum_of_law() { { sum_of_sources cc_x86 && sum_of "$top/tools/release_stores.py"; } | sum_of -; }
 
 compare_sums() {
     local target kept status=0
@@ -152,6 +148,9 @@ build() {
 # The toolchain's three names for memory, as the library's own: of the same lengths, so that no other byte changes.
 renamed='s/rattle_alloc/vahepito_mem/g; s/rattle_realloc/vahepito_renew/g; s/rattle_dealloc/vahepito_freed/g'
 
+# The object of a module's text, with the library's names.
+compile() { "$clang" $words -c -x ir "$1" -o "$2" && LC_ALL=C sed -i "$renamed" "$2"; }
+
 # The module as the compiler read it, as text, and `words`: those that say how it compiles it, without the names of files. For aarch64
 # rattle calls it twice, and looks at the module in between; one call has to give the same. Without the toolchain's folder clang would
 # find a libgcc of the machine there, and call its atomics in place of writing them.
@@ -160,29 +159,17 @@ keep_module() {
     words=$(sed -E 's/--sysroot=\S+ //; s/ -x ir module\.bc//; s/ -o \S+//; s/ -c( |$)/ /; s/ -S -emit-llvm.*//; s/  */ /g; s/^ | $//g' <<<"$words")
     [[ $1 == x86_64-* ]] || words+=' -mno-outline-atomics'
     (cd "$watched/kept" && "$clang" --target="$1" -Werror -S -emit-llvm -Xclang -disable-llvm-passes -x ir module.bc -o "$top/$made/module.ll") &&
-        "$clang" $words -S -emit-llvm -x ir "$made/module.ll" -o "$made/optimized.ll" &&
-        "$clang" $words -c -x ir "$made/module.ll" -o "$made/again.o" &&
-        LC_ALL=C sed -i "$renamed" "$made/again.o" && "$kit/toolchain/bin/llvm-ar" p "$made/libvahepito_strict.a" | cmp - "$made/again.o" &&
-        xz -9e -T1 -c "$made/module.ll" >"$made/module.ll.xz" && rm "$made/module.ll" "$made/again.o"
+        compile "$made/module.ll" "$made/again.o" &&
+        "$kit/toolchain/bin/llvm-ar" p "$made/libvahepito_strict.a" | cmp - "$made/again.o" &&
+        xz -9e -T1 -c "$made/module.ll" >"$made/module.ll.xz" && rm "$made/again.o"
 }
 
-# Makes libvahepito.a of the strict archive, checks it twice, and both archives' tables. The last line of the first is for PROOF.
-relax() {
-    tools/stores.py relax "$made/libvahepito_strict.a" "$made/libvahepito.a" >"$made/looked" &&
-        tools/stores.py check "$made/libvahepito_strict.a" "$made/libvahepito.a" &&
-        tools/stores.py compare "$made/libvahepito_strict.a" "$made/optimized.ll" &&
-        tools/unwind.py "$made/libvahepito_strict.a" "$made/libvahepito.a"
-}
-
-# Shows that the words are accessed in one order. Its line is for PROOF.
-look_at_words() {
-    local status
-    tools/arm_words.py "$made/libvahepito_strict.a" "$made/optimized.ll" >"$made/looked" && tools/unwind.py "$made/libvahepito_strict.a"
-    status=$?
-    [ "$status" != 0 ] && cat "$made/looked"
-    [ "$status" != 69 ] || [ -n "$update" ] && return "$status"
-    echo "library: the accesses of shared words on aarch64, and its tables of unwinding: SKIPPED: python3-capstone is not on this machine"
-    grep '^words: ' "$kept/PROOF" >"$made/looked"
+# Makes libvahepito.a: the strict archive's module with release stores, compiled, under the strict object's name.
+release() {
+    local member
+    member=$("$kit/toolchain/bin/llvm-ar" t "$made/libvahepito_strict.a") &&
+        tools/release_stores.py <"$made/module.ll" >"$made/released.ll" && compile "$made/released.ll" "$made/$member" &&
+        "$kit/toolchain/bin/llvm-ar" rcsD "$made/libvahepito.a" "$made/$member" && rm "$made/$member" "$made/released.ll"
 }
 
 # The functions for memory. `realloc` shares bytes with a name in the toolchain's, so that one is renamed by its table. Large blocks
@@ -206,13 +193,11 @@ make_heap() {
 # What PROOF says below its sums.
 closing_of() {
     case $1 in
-    x86_64-*) echo 'libvahepito_strict.a is what was proved and built. libvahepito.a is the same, but some of its stores are plain moves in place of
-locked exchanges: tools/stores.py says which may be, and the laws of crates/cc_x86 that they can'\''t be told apart on x86-TSO.
-The proofs end at the exports of these two. The crate, the headers and libvahepito_heap.a are not proved. tools/unwind.py checks
-what the archives tell debuggers (.eh_frame), and that they keep the rules of CET.' ;;
+    x86_64-*) echo 'libvahepito_strict.a is what was proved and built. libvahepito.a is compiled of the same module, in which tools/release_stores.py
+has made release stores of those that are proved to be allowed to be early: crates/cc_x86 has the law of x86-TSO.
+The proofs end at the exports of these two. The crate, the headers and libvahepito_heap.a are not proved.' ;;
     *) echo 'libvahepito_strict.a is what was proved and built: the same source and contracts as for x86-64. docs/TRUST.md says what is trusted
-on this machine. The proofs end at the exports. The crate, the headers and libvahepito_heap.a are not proved. tools/unwind.py checks
-what the archive tells debuggers (.eh_frame).' ;;
+on this machine. The proofs end at the exports. The crate, the headers and libvahepito_heap.a are not proved.' ;;
     esac
 }
 
@@ -227,10 +212,8 @@ make_for() {
         fail "no line logic=proved was seen for $target, or the sources have changed meanwhile"
     LC_ALL=C sed "$renamed" crates/cc_capi/out/libcc_capi.a >"$made/libvahepito_strict.a"
     keep_module "$target" || fail 'the module that was kept as text is not what was compiled'
-    case $target in
-    x86_64-*) relax || fail 'the stores that are plain are not shown to be right' ;;
-    *) look_at_words || fail 'the accesses of shared words are not shown to be right' ;;
-    esac
+    [[ $target != x86_64-* ]] || release || fail 'the module with release stores was not made'
+    rm "$made/module.ll"
     make_heap "$target" || exit 1
     if nm -g --format=just-symbols "$made"/*.a | grep -vxE 'vahepito_.*|.*\.o:|mem(cpy|move|set)|malloc|posix_memalign|realloc|free|'; then
         fail 'these symbols are neither of the library nor what it needs of the C library'
@@ -245,12 +228,11 @@ crates: ${crates[*]}
 toolchain: $(rt version)
 proof: $proof
 compiler: $("$clang" --version | head -n 1), $words
-$(tail -n 1 "$made/looked")
 
 $(closing_of "$target")
 END
     # `rt ci` refuses a tree that has links.
-    rm -r "$made"/{looked,optimized.ll} "$watched"
+    rm -r "$watched"
     if [ -n "$update" ]; then
         mkdir -p "$kept" && cp "$made"/* "$kept/" && echo "library: $kept is what was built, in $((SECONDS - start)) s"
         return
