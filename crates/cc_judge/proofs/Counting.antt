@@ -23,31 +23,31 @@ in_below zero k less = absurd (omega (arith, less))
 in_below (suc n) k less = elim (cases_lt k n) [ inl lower ↦ inr (in_below n k lower) | inr not_lower ↦ inl (omega (arith, less, not_lower)) ]
 
 -- the places of the first elements
-heads : List (ℕ × ℕ) → ℕ → List ℕ
+pub heads : List (ℕ × ℕ) → ℕ → List ℕ
 heads [] n = []
 heads (x ∷ xs) zero = []
 heads (x ∷ xs) (suc n) = x.1 ∷ heads xs n
 
-heads_most : (xs : List (ℕ × ℕ)) (n : ℕ) → length (heads xs n) ≤ n
+pub heads_most : (xs : List (ℕ × ℕ)) (n : ℕ) → length (heads xs n) ≤ n
 unfolding heads
 heads_most [] n = omega arith
 heads_most (x ∷ xs) zero = omega arith
 heads_most (x ∷ xs) (suc n) = let h = heads_most xs n in omega (arith, h)
 
-heads_length : (xs : List (ℕ × ℕ)) (n : ℕ) → n ≤ length xs → length (heads xs n) ≡ n
+pub heads_length : (xs : List (ℕ × ℕ)) (n : ℕ) → n ≤ length xs → length (heads xs n) ≡ n
 unfolding heads
 heads_length [] n within = omega (arith, within)
 heads_length (x ∷ xs) zero within = refl
 heads_length (x ∷ xs) (suc n) within = let h = heads_length xs n (omega (arith, within)) in omega (arith, h)
 
-heads_at : (xs : List (ℕ × ℕ)) (n q : ℕ) → In q (heads xs n) → (k t : ℕ) × (k < n) × (slice_get xs k ≡ Some (t, q))
+pub heads_at : (xs : List (ℕ × ℕ)) (n q : ℕ) → In q (heads xs n) → (k t : ℕ) × (k < n) × (slice_get xs k ≡ Some (t, q))
 unfolding heads
 heads_at [] n q within = absurd within
 heads_at (x ∷ xs) zero q within = absurd within
 heads_at (x ∷ xs) (suc n) q (inl here) = (0, x.0, omega arith, ap (λ (p : ℕ). Some (x.0, p)) here)
 heads_at (x ∷ xs) (suc n) q (inr later) = let r = heads_at xs n q later in let less = r.2 in (suc r.0, r.1, omega (arith, less), r.3)
 
-at_heads : (xs : List (ℕ × ℕ)) (n k t q : ℕ) → k < n → slice_get xs k ≡ Some (t, q) → In q (heads xs n)
+pub at_heads : (xs : List (ℕ × ℕ)) (n k t q : ℕ) → k < n → slice_get xs k ≡ Some (t, q) → In q (heads xs n)
 unfolding heads
 at_heads [] n k t q less is = cc
 at_heads (x ∷ xs) zero k t q less is = absurd (omega (arith, less))
@@ -57,7 +57,7 @@ at_heads (x ∷ xs) (suc n) (suc k) t q less is = inr (at_heads xs n k t q (omeg
 abbrev Apart : List (ℕ × ℕ) → Type 0
 Apart xs = (j k t u q : ℕ) → slice_get xs j ≡ Some (t, q) → slice_get xs k ≡ Some (u, q) → j ≡ k
 
-heads_once : (xs : List (ℕ × ℕ)) (n : ℕ) → Apart xs → Once (heads xs n)
+pub heads_once : (xs : List (ℕ × ℕ)) (n : ℕ) → Apart xs → Once (heads xs n)
 unfolding heads
 heads_once [] n apart = tt
 heads_once (x ∷ xs) zero apart = tt

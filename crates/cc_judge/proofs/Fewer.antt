@@ -11,7 +11,7 @@ without p [] h = []
 without p (x ∷ xs) (inl here) = xs
 without p (x ∷ xs) (inr later) = x ∷ without p xs later
 
-without_length : (p : ℕ) (xs : List ℕ) (h : In p xs) → length (without p xs h) < length xs
+pub without_length : (p : ℕ) (xs : List ℕ) (h : In p xs) → length (without p xs h) < length xs
 without_length p [] h = absurd h
 without_length p (x ∷ xs) (inl here) = omega arith
 without_length p (x ∷ xs) (inr later) = omega (arith, without_length p xs later)

@@ -10,8 +10,6 @@ pub mod Lines
 pub mod Shut
 pub mod Full
 pub mod Many
-pub mod Fullness
-pub mod Sweep
 pub mod Sweeping
 pub mod Judging
 pub mod Deciding
@@ -25,6 +23,7 @@ pub mod Shares
 pub mod Clips
 pub mod Counted
 pub mod Counting
+pub mod Rooms
 pub mod Listing
 pub mod RefusedCounts
 pub mod Faultless

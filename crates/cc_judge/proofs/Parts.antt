@@ -4,7 +4,8 @@ use Rattle.std.specs.List.{slice_get, slice_set}
 use Rattle.std.proofs.lemmas.Bool.{cases_lt}
 use Rattle.std.proofs.lemmas.Option.{slice_get_within}
 use Rattle.cc_judge.specs.Names.{Act, Call, Fault, Index, Kind, Rules, Tie, Verdict}
-use Rattle.cc_judge.specs.Order.{of_any_capacity}
+use Rattle.cc_judge.specs.Order.{IsLinearizable, of_any_capacity}
+use Rattle.cc_judge.specs.Room.{FullsArePossible}
 use Rattle.cc_judge.specs.Faults.{Did}
 use Rattle.cc_judge.specs.Table.{IsTable, IsIndex, act_of}
 use Rattle.cc_judge.specs.Faultless.{IsWritten, NoFault}
@@ -297,6 +298,10 @@ module _ (ties : List Tie) (calls cut : List Call) (may : MayBeCut calls ties) (
 pub fault_so : (rules : Rules) (calls : List Call) (index : Index) (fault : Fault) → IsIndex calls index → Stands rules calls fault → IsVerdict rules calls (Verdict.Fault fault)
 fault_so rules calls index fault indexed stands = (inl stands, no_order rules calls fault (differ calls index.sends.items indexed.sends) stands)
 
+-- a log with an order that was found
+pub clean_so : (rules : Rules) (calls : List Call) → IsLinearizable (of_any_capacity rules) calls → NoFault rules calls × FullsArePossible rules calls → IsVerdict rules calls Verdict.Clean
+clean_so rules calls order fine = (order, inl fine.1)
+
 module _ (rules plain : Rules) (calls cut : List Call) (index : Index) (indexed : IsIndex calls index) (written : IsWritten calls) (may : MayBeCut calls rules.ties.items) (k : IsCut rules.ties.items calls cut) (same : AreWithoutTies rules plain) where
   pub cut_fault : (fault : Fault) → Stands plain cut fault → IsVerdict rules calls (Verdict.Fault fault)
   cut_fault fault stands = (
@@ -304,5 +309,8 @@ module _ (rules plain : Rules) (calls cut : List Call) (index : Index) (indexed 
     λ order. no_order plain cut fault (differ cut index.sends.items (index_cut rules.ties.items calls cut may k index indexed).sends) stands (cut_logs_are_exact.exact rules plain calls cut same (lone calls rules.ties.items may) k order),
   )
 
-  pub cut_clean : NoFault plain cut → IsVerdict rules calls Verdict.Clean
-  cut_clean fine = cut_logs_are_exact.sound (of_any_capacity rules) (of_any_capacity plain) calls cut (record { capacity = refl; closes = same.closes; none = same.none }) (lone calls rules.ties.items may) k (faultless_logs_have_orders plain cut same.none (differ cut index.sends.items (index_cut rules.ties.items calls cut may k index indexed).sends) (written_cut rules.ties.items calls cut may k written) fine)
+  cut_order : NoFault plain cut → IsLinearizable (of_any_capacity rules) calls
+  cut_order fine = cut_logs_are_exact.sound (of_any_capacity rules) (of_any_capacity plain) calls cut (record { capacity = refl; closes = same.closes; none = same.none }) (lone calls rules.ties.items may) k (faultless_logs_have_orders plain cut same.none (differ cut index.sends.items (index_cut rules.ties.items calls cut may k index indexed).sends) (written_cut rules.ties.items calls cut may k written) fine)
+
+  pub cut_clean : NoFault plain cut × FullsArePossible plain cut → IsVerdict rules calls Verdict.Clean
+  cut_clean fine = (cut_order fine.0, inr (record { plain = plain; same = same; cut = cut; may = may; cut_is = k; possible = fine.1 }))

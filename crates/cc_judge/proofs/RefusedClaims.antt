@@ -1,11 +1,12 @@
 -- The clauses refuse these claims.
 use Rattle.std.proofs.Common.{◌≡◌, ℕ, zero, suc, ◌<◌, List, [], ◌∷◌, length, Some, inl, inr, refl, sym, ap, ◌∙◌, arith}
 use Rattle.std.specs.List.{slice_get}
-use Rattle.cc_judge.specs.Names.{Act, Call}
+use Rattle.cc_judge.specs.Names.{Act, Call, Rules}
 use Rattle.cc_judge.specs.Order.{EndsBefore}
-use Rattle.cc_judge.specs.Faults.{Passed, IsIn, MoreAt, Returned, WasClosed}
-use Rattle.cc_judge.specs.Checks.{GoesOn, IsSurelyOut}
-use Rattle.cc_judge.specs.Refused.{RefusedClaims, call, waiting, handed, beside, closed}
+use Rattle.cc_judge.specs.Faults.{BeganBy, Did, FewerAt, IsIn, MoreAt, Passed, Returned, WasClosed}
+use Rattle.cc_judge.specs.Checks.{GoesOn}
+use Rattle.cc_judge.specs.Room.{FullsArePossible}
+use Rattle.cc_judge.specs.Refused.{RefusedClaims, call, waiting, handed, beside, closed, full_early}
 
 -- a call that ended at a time didn't end before one that began by then
 late : (calls : List Call) (first second : ℕ) (one other : Call) (end : ℕ) → slice_get calls first ≡ Some one → slice_get calls second ≡ Some other → one.end ≡ Some end → other.begin < end → EndsBefore calls first second → ⊥
@@ -27,8 +28,29 @@ took_nothing : (take : ℕ) → Returned (waiting 4 (Act.Send 0) ∷ []) take (A
 took_nothing zero r = absurd (cc (r.call_is, r.act_is))
 took_nothing (suc take) r = absurd (cc (r.call_is))
 
-not_out : IsSurelyOut (waiting 4 (Act.Send 0) ∷ []) 0 4 → ⊥
-not_out out = let gone = out 0 record { call = waiting 4 (Act.Send 0); call_is = refl; act_is = refl } record { call = waiting 4 (Act.Send 0); call_is = refl; by = omega arith } in took_nothing gone.0 gone.1
+-- no send of that log began by 3
+none_sent : (time send item : ℕ) → time < 4 → Did full_early send (Act.Send item) → BeganBy full_early send time → ⊥
+none_sent time zero item early d by = absurd (cc (d.call_is, d.act_is))
+none_sent time (suc zero) item early d b =
+    let is : call 4 5 (Act.Send 0) ≡ b.call = cc b.call_is in
+    let le = b.by in
+    let begin : 4 ≡ b.call.begin = ap (λ (c : Call). c.begin) is in
+    absurd (omega (arith, early, le, begin))
+none_sent time (suc (suc k)) item early d by = absurd (cc (d.call_is))
+
+none_at : (time : ℕ) → time < 4 → FewerAt full_early 1 time
+none_at time early = record { may = []; fewer = omega arith; others = λ send item d by. absurd (none_sent time send item early d by) }
+
+not_full : (rules : Rules) → rules.capacity ≡ Some 1 → FullsArePossible rules full_early → ⊥
+not_full rules one possible = possible 0 (record {
+  capacity = 1;
+  capacity_is = one;
+  begin = 0;
+  end = 3;
+  full = (call 0 3 Act.Full, refl, refl, refl, refl);
+  at_begin = none_at 0 (omega arith);
+  at_sends = λ send item c is act from upto. none_at c.begin (omega (arith, upto));
+})
 
 over : (next : ℕ) → GoesOn (call 0 1 Act.Close ∷ []) 0 2 next → ⊥
 over next g = let same : Some g.call ≡ Some (call 0 1 Act.Close) = sym g.call_is in
@@ -71,7 +93,7 @@ claims_refused = record {
   close_before_a_late_log_forgotten = λ is. absurd (cc (is));
   closed_early_beside_a_close = λ rules c. late closed 1 0 (call 2 3 Act.Closed) (call 0 1 Act.Close) 3 refl refl refl (omega arith) (c.later 0 record { call = call 0 1 Act.Close; call_is = refl; act_is = refl });
   ended_while_open = λ e. absurd (cc (e));
-  full_before_a_send_began = not_out;
+  full_before_a_send_began = not_full;
   late_log_judged_by_a_capacity = λ is. absurd (cc (is));
   lines_turned_round = λ kept. absurd (omega (arith, kept 0 1 refl refl));
   never_sent_of_a_sent_item = λ is. absurd (cc (is));

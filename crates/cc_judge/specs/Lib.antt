@@ -7,6 +7,7 @@ pub mod Complete
 pub mod Counts
 pub mod Faultless
 pub mod Sweeps
+pub mod Room
 pub mod Cuts
 pub mod Verdict
 pub mod Refused

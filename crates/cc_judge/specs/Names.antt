@@ -9,7 +9,7 @@ pub use Rattle.cc_judge.specs.declared.table.Kind.{Kind}
 pub use Rattle.cc_judge.specs.declared.table.Found.{Found}
 pub use Rattle.cc_judge.specs.declared.table.Entry.{Entry}
 pub use Rattle.cc_judge.specs.declared.faults.Index.{Index}
-pub use Rattle.cc_judge.specs.declared.inside.Inside.{Inside}
+pub use Rattle.cc_judge.specs.declared.room.Rooms.{Rooms}
 pub use Rattle.cc_judge.specs.declared.shutting.Shut.{Shut}
 pub use Rattle.cc_judge.specs.declared.lists.Spell.{Spell}
 pub use Rattle.cc_judge.specs.declared.lists.Lists.{Lists}

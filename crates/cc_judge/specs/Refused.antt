@@ -5,7 +5,8 @@ use Rattle.cc_judge.specs.Order.{Does, Allows, IsOrder}
 use Rattle.cc_judge.specs.Faults.{Passed, TakenBeforeSent, TakenTwice, WasClosed, ClosedEarly, MoreAt}
 use Rattle.cc_judge.specs.Counts.{TookOver}
 use Rattle.cc_judge.specs.Late.{judged_capacity, padded}
-use Rattle.cc_judge.specs.Checks.{GoesOn, IsKept, IsSurelyOut}
+use Rattle.cc_judge.specs.Checks.{GoesOn, IsKept}
+use Rattle.cc_judge.specs.Room.{FullsArePossible}
 
 -- a claim that doesn't hold
 abbrev pub Refused : Type 0 → Type 0
@@ -30,6 +31,10 @@ beside = call 0 5 (Act.Send 0) ∷ call 1 6 (Act.Send 1) ∷ []
 abbrev pub closed : List Call
 closed = call 0 1 Act.Close ∷ call 2 3 Act.Closed ∷ []
 
+-- a send that found the queue full, and then another send
+abbrev pub full_early : List Call
+full_early = call 0 3 Act.Full ∷ call 4 5 (Act.Send 0) ∷ []
+
 -- a table in which the item has a place, and one in which each of two calls has its step, the later first
 abbrev pub placed : List (Option ℕ)
 placed = Some 0 ∷ []
@@ -44,7 +49,7 @@ pub record RefusedClaims : Type 0 where
   pub close_before_a_late_log_forgotten : Refused (padded true true [] 0 ≡ [])
   pub closed_early_beside_a_close : (rules : Rules) → Refused (ClosedEarly rules closed 1)
   pub ended_while_open : Refused (Allows false Act.Ended)
-  pub full_before_a_send_began : Refused (IsSurelyOut (waiting 4 (Act.Send 0) ∷ []) 0 4)
+  pub full_before_a_send_began : (rules : Rules) → rules.capacity ≡ Some 1 → Refused (FullsArePossible rules full_early)
   pub late_log_judged_by_a_capacity : Refused (judged_capacity true (Some 1) ≡ Some 1)
   pub lines_turned_round : Refused (IsKept turned record { earlier = 0; later = 1 })
   pub never_sent_of_a_sent_item : Refused (slice_get placed 0 ≡ Some None)

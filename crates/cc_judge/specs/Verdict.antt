@@ -6,6 +6,7 @@ use Rattle.cc_judge.specs.Faults.{Did, Differ, Passed, NeverSent, TakenBeforeSen
 use Rattle.cc_judge.specs.Counts.{TookOver, LeftBehind, NeverEmpty, EndedWithItems}
 use Rattle.cc_judge.specs.Faultless.{IsWritten}
 use Rattle.cc_judge.specs.Cuts.{AreWithoutTies, MayBeCut, IsCut}
+use Rattle.cc_judge.specs.Room.{FullsArePossible}
 use Rattle.cc_judge.specs.Table.{IsIndex}
 
 -- no call took the item that the call at this place sent
@@ -56,10 +57,22 @@ pub record StandsInCut (rules : Rules) (calls : List Call) (fault : Fault) : Typ
   pub cut_is : IsCut rules.ties.items calls cut
   pub stands : Stands plain cut fault
 
--- The verdict is right: a clean log has a legal order, of a queue of whatever capacity; one with a fault has the fault, and no legal
--- order.
+pub record FullsFitInCut (rules : Rules) (calls : List Call) : Type 0 where
+  pub plain : Rules
+  pub same : AreWithoutTies rules plain
+  pub cut : List Call
+  pub may : MayBeCut calls rules.ties.items
+  pub cut_is : IsCut rules.ties.items calls cut
+  pub possible : FullsArePossible plain cut
+
+-- each call that found the queue full may have, by itself, in the log or in the log that is cut
+abbrev pub FullsFit : Rules → List Call → Type 0
+FullsFit rules calls = FullsArePossible rules calls ⊎ FullsFitInCut rules calls
+
+-- The verdict is right: a clean log has a legal order, of a queue of whatever capacity, and each of its full answers is possible by
+-- itself; one with a fault has the fault, and no legal order.
 abbrev pub IsVerdict : Rules → List Call → Verdict → Type 0
-IsVerdict rules calls Verdict.Clean = IsLinearizable (of_any_capacity rules) calls
+IsVerdict rules calls Verdict.Clean = IsLinearizable (of_any_capacity rules) calls × FullsFit rules calls
 IsVerdict rules calls (Verdict.Fault fault) = (Stands rules calls fault ⊎ StandsInCut rules calls fault) × (IsLinearizable rules calls → ⊥)
 IsVerdict rules calls Verdict.Undecided = Unit {0}
 

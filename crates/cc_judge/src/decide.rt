@@ -3,6 +3,7 @@ ghost use Rattle.std.specs.Prelude.{◌≡◌, ℕ, [], IfOk, IfSome, IfNone};
 ghost use Rattle.cc_judge.specs.Names.{Kind, Rules, Verdict, Fault};
 ghost use Rattle.cc_judge.specs.Table.{IsIndex, Twice};
 ghost use Rattle.cc_judge.specs.Faults.{Differ};
+ghost use Rattle.cc_judge.specs.Room.{FullsArePossible};
 ghost use Rattle.cc_judge.specs.Complete.{LogsWithoutFaultsHaveOrders};
 ghost use Rattle.cc_judge.specs.Cuts.{MayBeCut, IsCut};
 ghost use Rattle.cc_judge.specs.Faultless.{IsWritten, NoFault};
@@ -15,7 +16,7 @@ ghost use Rattle.cc_judge.specs.Sweeps.{AreLists, IsShutAt, MayBeEmpty};
 ghost use Rattle.cc_judge.specs.Verdict.{IsVerdict, AreOrdered, IsDecided, IsDecidedBy, Stands, Indexes, FaultsHaveNoOrder};
 
 use crate::closing::close_fault;
-use crate::crowd::{Crowded, not_full, too_many};
+use crate::crowd::{Crowded, too_many};
 use crate::cutting::{cut_of, without_ties};
 use crate::faults::Index;
 use crate::lists::{Lists, lists_of};
@@ -23,7 +24,7 @@ use crate::nones::{first_none, stays_of};
 use crate::order::is_order;
 use crate::overfull::is_too_many;
 use crate::overtaking::{take_fault, turn_fault};
-use crate::room::{capacity_of, is_not_full};
+use crate::room::{capacity_of, not_full};
 use crate::search::{Sought, seek};
 use crate::share::share;
 use crate::shutting::{Shut, shut_of};
@@ -85,7 +86,8 @@ pub enum Fault {
 /// The verdict on a log.
 #[derive(Drop)]
 pub enum Verdict {
-    /// The log is linearizable: it has a legal order.
+    /// The log is linearizable: it has a legal order of a queue of whatever capacity, and each answer that the queue is full is possible
+    /// by itself.
     Clean,
     /// The log isn't linearizable: it has no legal order.
     Fault(Fault),
@@ -212,19 +214,15 @@ fn fault_of(
 }
 
 /// That a send found the queue full, though it can't have been.
-fn full_fault(alloc: Global, rules: &Rules, view: &View<'_>) -> Result<Option<Fault>, AllocError>
-    ensures { IfOk result (λ found. IfSome found (Stands rules.now view.now.calls.now)) }
+fn full_fault(alloc: Global, rules: &Rules, calls: &[Call]) -> Result<Option<Fault>, AllocError>
+    requires differ { Differ calls.now }
+    requires none { NoFault rules.now calls.now }
+    ensures some { IfOk result (λ found. IfSome found (Stands rules.now calls.now)) }
+    ensures none { IfOk result (λ found. IfNone found (FullsArePossible rules.now calls.now)) }
 {
-    let Some(capacity) = capacity_of(rules) else {
-        return Ok(None);
-    };
-    let Some(call) = not_full(alloc, view, capacity)? else {
-        return Ok(None);
-    };
-    if is_not_full(alloc, rules, view.calls, view.index, call)? {
-        Ok(Some(Fault::NotFull { call }))
-    } else {
-        Ok(None)
+    match not_full(alloc, rules, calls)? {
+        Some(call) => Ok(Some(Fault::NotFull { call })),
+        None => Ok(None),
     }
 }
 
@@ -247,18 +245,32 @@ fn many_fault(alloc: Global, rules: &Rules, view: &View<'_>) -> Result<Option<Fa
 }
 
 /// That the log is not one of a queue of its capacity.
-fn room_fault(alloc: Global, rules: &Rules, view: &View<'_>) -> Result<Option<Fault>, AllocError>
-    requires { IsIndex view.now.calls.now view.now.index.now }
-    ensures { IfOk result (λ found. IfSome found (Stands rules.now view.now.calls.now)) }
+#[tactic(auto, using(crate::proofs::Deciding::no_other))]
+fn room_fault(
+    alloc: Global,
+    rules: &Rules,
+    calls: &[Call],
+    index: &Index,
+) -> Result<Option<Fault>, AllocError>
+    requires index { IsIndex calls.now index.now }
+    requires none { NoFault rules.now calls.now }
+    ensures some { IfOk result (λ found. IfSome found (Stands rules.now calls.now)) }
+    ensures none { IfOk result (λ found. IfNone found (FullsArePossible rules.now calls.now)) }
 {
-    match full_fault(alloc, rules, view)? {
-        Some(fault) => Ok(Some(fault)),
-        None => many_fault(alloc, rules, view),
+    if let Some(fault) = full_fault(alloc, rules, calls)? {
+        return Ok(Some(fault));
     }
+    let ranks = ranks_of(alloc, calls)?;
+    many_fault(
+        alloc,
+        rules,
+        &view_of(rules, calls, index, ranks.as_slice()),
+    )
 }
 
 /// The fault of a log, if it has one that doesn't rest on ties. Of a queue of a capacity two more are sought: a send found the queue
 /// full that can't have been, or the queue held too many items.
+#[tactic(auto, using(crate::proofs::Deciding::both_none))]
 fn found_of(
     alloc: Global,
     rules: &Rules,
@@ -268,17 +280,12 @@ fn found_of(
     requires index { IsIndex calls.now index.now }
     requires written { IsWritten calls.now }
     ensures some { IfOk result (λ found. IfSome found (Stands rules.now calls.now)) }
-    ensures none { IfOk result (λ found. IfNone found (NoFault rules.now calls.now)) }
+    ensures none { IfOk result (λ found. IfNone found (NoFault rules.now calls.now × FullsArePossible rules.now calls.now)) }
 {
     if let Some(fault) = fault_of(alloc, rules, calls, index)? {
         return Ok(Some(fault));
     }
-    let ranks = ranks_of(alloc, calls)?;
-    room_fault(
-        alloc,
-        rules,
-        &view_of(rules, calls, index, ranks.as_slice()),
-    )
+    room_fault(alloc, rules, calls, index)
 }
 
 /// The verdict on a log that its times order.
@@ -318,6 +325,7 @@ fn cut_up(
 
 /// The verdict on a log in which only their lines order more than two calls that meet at a time: a fault that doesn't rest on ties, or
 /// an order that is sought, and checked.
+#[tactic(auto, using(crate::proofs::Parts::clean_so))]
 fn sought(
     alloc: Global,
     rules: &Rules,

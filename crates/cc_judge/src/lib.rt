@@ -13,7 +13,6 @@ mod crowd;
 mod cutting;
 mod decide;
 mod faults;
-mod inside;
 mod lists;
 mod log;
 mod nones;

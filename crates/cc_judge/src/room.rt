@@ -1,81 +1,159 @@
-//! Whether a send found the queue full though fewer items than it holds may have been in it: confirmed over all calls.
-ghost use Rattle.std.specs.Prelude.{◌≡◌, ◌≤◌, ℕ, IsTrue, IfOk, IfSome, slice_get, Some};
-ghost use Rattle.cc_judge.specs.Names.{Call, Act};
-ghost use Rattle.cc_judge.specs.Faults.{Did, Returned, BeganBy, EndedBy, FewerAt, NotFull};
-ghost use Rattle.cc_judge.specs.Checks.{IsFullCall, IsSurelyOut, FewerIfSent};
+//! Whether a send found the queue full though at each of its times fewer items than it holds may have been in it.
+//!
+//! At a time at most those items are in the queue whose sends began by then, without those whose takes had ended before. That
+//! number grows only when a send begins. So it is taken at each begin of a send, and of each call that found the queue full the last
+//! such time in its times is looked up, in O(n log n).
+ghost use Rattle.std.specs.Prelude.{◌≡◌, ℕ, suc, List, Some, None, true, false, IfOk, IfSome, IfNone, length};
+ghost use Rattle.cc_judge.specs.Names.{Call, Rules};
+ghost use Rattle.cc_judge.specs.Checks.{IsFullCall};
+ghost use Rattle.cc_judge.specs.Counts.{AreFirst};
+ghost use Rattle.cc_judge.specs.Faults.{Differ, FewerAt, NotFull};
+ghost use Rattle.cc_judge.specs.Faultless.{NoFault};
+ghost use Rattle.cc_judge.specs.Room.{AreLastRooms, AreRooms, AreTimes, BegunSince, FewerIn, FullsArePossible, GoneSince, HasBegins, HasEnds, IsLastRoom, IsRoomIn};
+ghost use Rattle.cc_judge.specs.Sweeps.{AreSorted};
 
-use crate::faults::Index;
-use crate::inside::{are_fewer, nothing, sends_of, takes_of};
+use crate::lists::{ByTime, before, upto};
 use crate::table::call_at;
 use crate::{Act, Call, Rules};
 use std::alloc::{AllocError, Global};
 
-/// Whether the call at this place took this item, and ended before this time.
-fn took_before(calls: &[Call], take: usize, item: u32, time: u64) -> bool
-    ensures took { IsTrue result → Returned calls.now take (Act.Took item) }
-    ensures ended { IsTrue result → EndedBy calls.now take time }
+/// When the call at this place began, if it sent an item.
+fn begun_since(calls: &[Call], place: usize) -> Option<u64>
+    ensures { BegunSince calls.now place result }
 {
-    match call_at(calls, take) {
-        Some(call) => match call.end {
-            Some(end) => call.act == Act::Took(item) && end < time,
-            None => false,
-        },
-        None => false,
+    let call = call_at(calls, place)?;
+    match call.act {
+        Act::Send(_) => Some(call.begin),
+        _ => None,
     }
 }
 
-/// Whether the item was taken by a call that ended before this time.
-pub fn is_gone(calls: &[Call], index: &Index, item: u32, time: u64) -> bool
-    ensures { IsTrue result → (take : ℕ) × Returned calls.now take (Act.Took item) × EndedBy calls.now take time }
+/// When the call at this place ended, if it took an item and returned.
+fn gone_since(calls: &[Call], place: usize) -> Option<u64>
+    ensures { GoneSince calls.now place result }
 {
-    match index.takes.get(item as usize) {
-        Some(Some(take)) => took_before(calls, *take as usize, item, time),
-        _ => false,
+    let call = call_at(calls, place)?;
+    match call.act {
+        Act::Took(_) => call.end,
+        _ => None,
     }
 }
 
-/// Whether the call at this place sent nothing by this time, or its item was taken by a call that ended before the time.
-fn is_surely_out(calls: &[Call], index: &Index, place: usize, time: u64) -> bool
-    ensures { IsTrue result → IsSurelyOut calls.now place time }
+/// The sends, by their begins.
+fn begins_of(alloc: Global, calls: &[Call]) -> Result<ByTime, AllocError>
+    ensures of { IfOk result (λ v. HasBegins calls.now v.items) }
+    ensures sorted { IfOk result (λ v. AreSorted v.items) }
 {
-    match call_at(calls, place) {
-        Some(call) => match call.act {
-            Act::Send(item) => time < call.begin || is_gone(calls, index, item, time),
-            _ => true,
-        },
-        None => true,
-    }
-}
-
-/// Whether fewer items than this number may be in the queue at a time.
-#[tactic(auto, using(crate::proofs::Fullness::fewer_one, crate::proofs::Fullness::fewer_skip))]
-fn are_fewer_at(calls: &[Call], index: &Index, number: usize, time: u64) -> bool
-    ensures { IsTrue result → FewerAt calls.now number time }
-{
-    let mut spare = number;
+    let mut list = Vec::new(alloc);
     for place in 0..calls.len() {
-        if !is_surely_out(calls, index, place, time) {
-            if spare == 0 {
-                return false;
-            }
-            spare -= 1;
+        if let Some(time) = begun_since(calls, place) {
+            list.push((time, place))?;
         }
     }
-    spare > 0
+    list.sort_by_key(|entry| entry.0)?;
+    Ok(list)
+}
+
+/// The takes that returned with an item, by their ends.
+fn ends_of(alloc: Global, calls: &[Call]) -> Result<ByTime, AllocError>
+    ensures of { IfOk result (λ v. HasEnds calls.now v.items) }
+    ensures sorted { IfOk result (λ v. AreSorted v.items) }
+{
+    let mut list = Vec::new(alloc);
+    for place in 0..calls.len() {
+        if let Some(time) = gone_since(calls, place) {
+            list.push((time, place))?;
+        }
+    }
+    list.sort_by_key(|entry| entry.0)?;
+    Ok(list)
+}
+
+/// Whether as many items as this number may be in the queue at a time.
+fn may_hold(begins: &ByTime, ends: &ByTime, number: usize, time: u64) -> bool
+    ensures enough { (calls : List Call) → AreTimes calls begins.now.items ends.now.items → result ≡ true → FewerAt calls number time → ⊥ }
+    ensures fewer { (calls : List Call) → AreTimes calls begins.now.items ends.now.items → result ≡ false → FewerAt calls number time }
+{
+    let begun = upto(begins, time);
+    let gone = before(ends, time);
+    if begun < gone {
+        return false;
+    }
+    number <= begun - gone
+}
+
+/// The begin of a send if as many items may be in the queue then, or else the last time before it.
+fn later_room(last: Option<u64>, begin: u64, holds: bool) -> Option<u64>
+    ensures now { holds ≡ true → result ≡ Some begin }
+    ensures before { holds ≡ false → result ≡ last }
+{
+    if holds { Some(begin) } else { last }
+}
+
+/// With each send the last time, of those at which it or one before it began, at which as many items as this number may be in the queue.
+fn last_rooms(
+    alloc: Global,
+    begins: &ByTime,
+    ends: &ByTime,
+    number: usize,
+) -> Result<Vec<Option<u64>>, AllocError>
+    ensures last { IfOk result (λ v. (calls : List Call) → AreTimes calls begins.now.items ends.now.items → AreLastRooms calls begins.now.items number v.items) }
+    ensures long { IfOk result (λ v. length v.items ≡ length begins.now.items) }
+{
+    let mut rooms = Vec::new(alloc);
+    let mut last: Option<u64> = None;
+    for at in 0..begins.len() {
+        let (begin, _) = begins[at];
+        let holds = may_hold(begins, ends, number, begin);
+        last = later_room(last, begin, holds);
+        rooms.push(last)?;
+    }
+    Ok(rooms)
+}
+
+/// The times of a log by which it is known how many items may be in the queue.
+#[derive(Drop)]
+struct Rooms {
+    /// The sends, by their begins.
+    begins: ByTime,
+    /// The takes that returned with an item, by their ends.
+    ends: ByTime,
+    /// How many items the queue holds.
+    number: usize,
+    /// With each send the last time, of those at which it or one before it began, at which as many items may be in the queue.
+    last: Vec<Option<u64>>,
+}
+
+/// The element of the last of that many places.
+fn room_in(rooms: &Vec<Option<u64>>, number: usize) -> Option<Option<u64>>
+    ensures { IsRoomIn rooms.now.items number result }
+{
+    rooms.get(number.checked_sub(1)?).copied()
+}
+
+/// The last time at which as many items as the queue holds may be in it, of those at which the sends began that began by this time.
+fn last_room(rooms: &Rooms, time: u64) -> Option<u64>
+    ensures { (calls : List Call) → AreRooms calls rooms.now → (number : ℕ) × AreFirst rooms.now.begins.items number (suc time) × IsLastRoom calls rooms.now.begins.items rooms.now.number number result }
+{
+    match room_in(&rooms.last, upto(&rooms.begins, time)) {
+        Some(last) => last,
+        None => None,
+    }
 }
 
 /// The times of a call that found the queue full, and returned.
 #[derive(Clone, Copy)]
-pub struct Times {
+struct Times {
     /// When it began.
-    pub begin: u64,
+    begin: u64,
     /// When it ended.
-    pub end: u64,
+    end: u64,
 }
 
 /// The times of the call at this place, if it found the queue full and returned.
-pub fn full_times(calls: &[Call], place: usize) -> Option<Times>
-    ensures { IfSome result (λ t. IsFullCall calls.now place t.begin t.end) }
+fn full_times(calls: &[Call], place: usize) -> Option<Times>
+    ensures some { IfSome result (λ t. IsFullCall calls.now place t.begin t.end) }
+    ensures none { IfNone result ((begin end : ℕ) → IsFullCall calls.now place begin end → ⊥) }
 {
     let call = call_at(calls, place)?;
     match (call.act, call.end) {
@@ -87,34 +165,51 @@ pub fn full_times(calls: &[Call], place: usize) -> Option<Times>
     }
 }
 
-/// Whether fewer items than this number may be in the queue when any send begins that began in these times. It takes memory in
-/// proportion to the log, and O(n log n).
-fn are_fewer_in(
-    alloc: Global,
-    calls: &[Call],
-    index: &Index,
-    number: usize,
-    times: Times,
-) -> Result<bool, AllocError>
-    ensures { IfOk result (λ fewer. IsTrue fewer → (place : ℕ) → FewerIfSent calls.now number times.begin times.end place) }
+/// Whether at each of these times fewer items than the queue holds may be in it.
+fn are_fewer(rooms: &Rooms, times: Times) -> bool
+    ensures fewer { (calls : List Call) → AreRooms calls rooms.now → result ≡ true → FewerIn calls rooms.now.number times.begin times.end }
+    ensures more { (calls : List Call) → AreRooms calls rooms.now → result ≡ false → FewerIn calls rooms.now.number times.begin times.end → ⊥ }
 {
-    let sends = sends_of(alloc, calls)?;
-    let takes = takes_of(alloc, calls)?;
-    let nothing = nothing(alloc, index.takes.len())?;
-    Ok(are_fewer(
-        calls,
-        index,
-        number,
-        times,
-        sends.as_slice(),
-        takes.as_slice(),
-        nothing,
-    ))
+    if may_hold(&rooms.begins, &rooms.ends, rooms.number, times.begin) {
+        return false;
+    }
+    match last_room(rooms, times.end) {
+        Some(time) => time < times.begin,
+        None => true,
+    }
+}
+
+/// Whether the call at this place found the queue full, though at each of its times fewer items than the queue holds may have
+/// been in it.
+fn is_not_full(calls: &[Call], rooms: &Rooms, place: usize) -> bool
+    requires { AreRooms calls.now rooms.now }
+    ensures so { (rules : Rules) → rules.capacity ≡ Some rooms.now.number → result ≡ true → NotFull rules calls.now place }
+    ensures not { (rules : Rules) → rules.capacity ≡ Some rooms.now.number → result ≡ false → NotFull rules calls.now place → ⊥ }
+{
+    match full_times(calls, place) {
+        Some(times) => are_fewer(rooms, times),
+        None => false,
+    }
+}
+
+/// The first such call.
+fn first_not_full(calls: &[Call], rooms: &Rooms) -> Option<usize>
+    requires { AreRooms calls.now rooms.now }
+    ensures some { IfSome result (λ place. (rules : Rules) → rules.capacity ≡ Some rooms.now.number → NotFull rules calls.now place) }
+    ensures none { IfNone result ((rules : Rules) → rules.capacity ≡ Some rooms.now.number → FullsArePossible rules calls.now) }
+{
+    for place in 0..calls.len() {
+        if is_not_full(calls, rooms, place) {
+            return Some(place);
+        }
+    }
+    None
 }
 
 /// How many items the queue holds, if that is known.
 pub fn capacity_of(rules: &Rules) -> Option<usize>
-    ensures { IfSome result (λ n. rules.now.capacity ≡ Some n) }
+    ensures some { IfSome result (λ n. rules.now.capacity ≡ Some n) }
+    ensures none { IfNone result (rules.now.capacity ≡ None) }
 {
     let capacity = rules.capacity;
     match capacity {
@@ -123,26 +218,25 @@ pub fn capacity_of(rules: &Rules) -> Option<usize>
     }
 }
 
-/// Whether the call at this place found the queue full, though at each of its times fewer items than the queue holds may have
-/// been in it.
-pub fn is_not_full(
-    alloc: Global,
-    rules: &Rules,
-    calls: &[Call],
-    index: &Index,
-    call: usize,
-) -> Result<bool, AllocError>
-    ensures { IfOk result (λ b. IsTrue b → NotFull rules.now calls.now call) }
+/// A call that found the queue full, though at each of its times fewer items than the queue holds may have been in it, if there is one.
+/// It takes memory in proportion to the log.
+pub fn not_full(alloc: Global, rules: &Rules, calls: &[Call]) -> Result<Option<usize>, AllocError>
+    requires differ { Differ calls.now }
+    requires none { NoFault rules.now calls.now }
+    ensures some { IfOk result (λ found. IfSome found (NotFull rules.now calls.now)) }
+    ensures none { IfOk result (λ found. IfNone found (FullsArePossible rules.now calls.now)) }
 {
     let Some(number) = capacity_of(rules) else {
-        return Ok(false);
+        return Ok(None);
     };
-    let Some(times) = full_times(calls, call) else {
-        return Ok(false);
+    let begins = begins_of(alloc, calls)?;
+    let ends = ends_of(alloc, calls)?;
+    let last = last_rooms(alloc, &begins, &ends, number)?;
+    let rooms = Rooms {
+        begins,
+        ends,
+        number,
+        last,
     };
-    if !are_fewer_at(calls, index, number, times.begin) {
-        return Ok(false);
-    }
-    let fewer = are_fewer_in(alloc, calls, index, number, times)?;
-    Ok(fewer)
+    Ok(first_not_full(calls, &rooms))
 }

@@ -1,17 +1,11 @@
 -- The keys of an object, and the words of an array.
-use Rattle.std.proofs.Common.{◌≡◌, ◌≤◌, ◌&&◌, ℕ, suc, Bool, String, string_bytes, List, [], ◌∷◌, length, Option, Some, None, option_and_then, option_map, refl, ap, arith}
-use Rattle.std.specs.List.{list_all}
+use Rattle.std.proofs.Common.{◌≡◌, ◌≤◌, ℕ, suc, String, List, [], ◌∷◌, length, Option, Some, None, option_and_then, option_map, refl, ap, arith}
 use Rattle.std.specs.Map.{keys_of}
 use Rattle.std.specs.declared.alloc.Global.{Global}
 use Rattle.serde_json.specs.View.{members_view, items_view, view}
 use Rattle.serde_json.specs.declared.value.Value.{Value}
 use Rattle.cc_plan.specs.Json.{each, keys, listed, whole_number}
 use Rattle.cc_log.specs.Line.{body_of}
-
--- a test of the keys of an object is one of the keys of its map
-pub all_keys : (test : List ℕ → Bool) (ms : List (String Global × Value)) → list_all test (keys (members_view ms)) ≡ list_all (λ key. test (string_bytes key)) (keys_of ms)
-all_keys test [] = refl
-all_keys test (m ∷ ms) = ap (λ rest. test (string_bytes m.0) && rest) (all_keys test ms)
 
 -- it has as many keys as its map
 pub key_count : (ms : List (String Global × Value)) → length (keys (members_view ms)) ≡ length (keys_of ms)

@@ -1,6 +1,9 @@
 pub mod Keys
 pub mod Table
+pub mod Fair
 pub mod Steps
+pub mod Tied
+pub mod Written
 pub mod Ahead
 pub mod Failed
 pub mod Reading

@@ -3,14 +3,17 @@ use Rattle.std.proofs.Common.{◌≡◌, ◌≢◌, ◌+◌, ◌++◌, ◌<◌, 
 use Rattle.std.specs.Result.{IsErrAnd}
 use Rattle.std.specs.HashMap.{keys}
 use Rattle.std.proofs.lemmas.Bool.{lt-ltb}
-use Rattle.cc_log.specs.Names.{Call, Ending, LineFault, LogFault, Options, State, Window}
+use Rattle.cc_log.specs.Names.{Call, Ending, LineFault, LogFault, Options, State, Tie, Window}
 use Rattle.cc_log.specs.Answers.{Gives, GivesOfInput, IsLongLine, Refuses, RefusesInput}
 use Rattle.cc_log.specs.Lines.{GivesLine, HasInput, HasLines, IsAhead, IsSound, IsTooLong, held, is_blank, line_limit, lines_of}
 use Rattle.cc_log.specs.declared.lines.Lines.{Lines}
 use Rattle.cc_judge.specs.Late.{padded}
-use Rattle.cc_log.specs.Log.{Known, Refusal, Spelled, no_calls, ◌>>=◌, at_first, bad_line, bodies_of, calls_of, has_close, if_some, is_early, is_part, log_of, spelled, ties_of, tree_of, with_line, with_lines, with_tree}
+use Rattle.cc_log.specs.Log.{Known, Refusal, Spelled, no_calls, ◌>>=◌, at_first, bad_line, bodies_of, calls_of, has_close, if_some, is_early, is_part, log_of, numbers_of, spelled, ties_of, tree_of, with_line, with_lines, with_tree}
 use Rattle.cc_log.specs.State.{IsStep, Shows}
 use Rattle.cc_log.proofs.Ahead.{some_ahead, some_input}
+use Rattle.std.specs.Result.{OnOk}
+use Rattle.cc_log.specs.Written.{IsWellFormed}
+use Rattle.cc_log.proofs.Written.{log_well_formed}
 use Rattle.cc_log.proofs.Steps.{calls_length, refused_first}
 
 -- the source had an input from which the lines up to here were read
@@ -126,7 +129,7 @@ part_given options s known shows =
 
 pub finished : (options : Options) (s : State) (known : Known) (part : Bool) (calls : List Call) (items : ℕ) → Shows options s known → nat_eq (length s.log.calls.items) 0 ≡ false → items ≡ length (keys s.items)
     → part ≡ ((s.late || is_some options.window.from) || is_early s.log.ends) → calls ≡ padded part s.log.rules.closes s.log.calls.items items
-    → if_some options.skew known ≡ Ok (record { part = part; ends = s.log.ends; calls = calls; closes = s.log.rules.closes; ties = s.log.rules.ties.items })
+    → if_some options.skew known ≡ Ok (record { part = part; ends = s.log.ends; calls = calls; items = items; lines = s.log.notes.lines.items; closes = s.log.rules.closes; ties = s.log.rules.ties.items })
 finished options s known part calls items shows some count part_is is =
     let same : part ≡ is_part known = part_is ∙ part_given options s known shows in
     let due = λ (b : Bool). λ (closes : Bool). padded b closes (calls_of options.skew known.before) (length (bodies_of known.before)) in
@@ -134,8 +137,21 @@ finished options s known part calls items shows some count part_is is =
     is ∙ ap (λ n. padded part s.log.rules.closes s.log.calls.items n) (count ∙ ap length shows.bodies) ∙ ap (λ cs. padded part s.log.rules.closes cs (length (bodies_of known.before))) shows.calls
     ∙ ap (λ b. due b s.log.rules.closes) same ∙ ap (λ b. due (is_part known) b) shows.closes in
     ap (λ b. if b then Err no_calls else Ok (spelled options.skew known)) (ap (λ n. nat_eq n 0) (sym (has_calls options s known shows)) ∙ some)
-    ∙ ap (λ cs. Ok (record { part = is_part known; ends = known.ends; calls = cs; closes = has_close known.before; ties = ties_of options.skew known.before })) (sym whole)
-    ∙ ap (λ b. Ok (record { part = is_part known; ends = known.ends; calls = calls; closes = b; ties = ties_of options.skew known.before })) (sym shows.closes)
-    ∙ ap (λ ts. Ok (record { part = is_part known; ends = known.ends; calls = calls; closes = s.log.rules.closes; ties = ts })) (sym shows.ties)
-    ∙ ap (λ b. Ok (record { part = b; ends = known.ends; calls = calls; closes = s.log.rules.closes; ties = s.log.rules.ties.items })) (sym same)
-    ∙ ap (λ e. Ok (record { part = part; ends = e; calls = calls; closes = s.log.rules.closes; ties = s.log.rules.ties.items })) (sym shows.ends)
+    ∙ ap (λ cs. Ok (record { part = is_part known; ends = known.ends; calls = cs; items = length (bodies_of known.before); lines = numbers_of known.before; closes = has_close known.before; ties = ties_of options.skew known.before })) (sym whole)
+    ∙ ap (λ b. Ok (record { part = is_part known; ends = known.ends; calls = calls; items = length (bodies_of known.before); lines = numbers_of known.before; closes = b; ties = ties_of options.skew known.before })) (sym shows.closes)
+    ∙ ap (λ ts. Ok (record { part = is_part known; ends = known.ends; calls = calls; items = length (bodies_of known.before); lines = numbers_of known.before; closes = s.log.rules.closes; ties = ts })) (sym shows.ties)
+    ∙ ap (λ b. Ok (record { part = b; ends = known.ends; calls = calls; items = length (bodies_of known.before); lines = numbers_of known.before; closes = s.log.rules.closes; ties = s.log.rules.ties.items })) (sym same)
+    ∙ ap (λ e. Ok (record { part = part; ends = e; calls = calls; items = length (bodies_of known.before); lines = numbers_of known.before; closes = s.log.rules.closes; ties = s.log.rules.ties.items })) (sym shows.ends)
+    ∙ ap (λ n. Ok (record { part = part; ends = s.log.ends; calls = calls; items = n; lines = numbers_of known.before; closes = s.log.rules.closes; ties = s.log.rules.ties.items })) (sym (count ∙ ap length shows.bodies))
+    ∙ ap (λ ls. Ok (record { part = part; ends = s.log.ends; calls = calls; items = items; lines = ls; closes = s.log.rules.closes; ties = s.log.rules.ties.items })) (sym shows.lines)
+
+-- the log of all lines is well-formed
+pub finished_well : (options : Options) (s : State) (known : Known) (part : Bool) (calls : List Call) (items : ℕ) (result : Result (Unit {0}) LogFault) → Shows options s known → items ≡ length (keys s.items)
+    → OnOk result (calls ≡ padded part s.log.rules.closes s.log.calls.items items) → OnOk result (IsWellFormed options.skew calls items s.log.rules.ties.items)
+finished_well options s known part calls items (Ok done) shows count is =
+    let here : items ≡ length (bodies_of known.before) = count ∙ ap length shows.bodies in
+    subst (λ (ts : List Tie). IsWellFormed options.skew calls items ts) (sym shows.ties)
+    (subst (λ (cs : List Call). IsWellFormed options.skew cs items (ties_of options.skew known.before)) (sym (is ∙ ap (λ (cs : List Call). padded part s.log.rules.closes cs items) shows.calls))
+    (subst (λ (n : ℕ). IsWellFormed options.skew (padded part s.log.rules.closes (calls_of options.skew known.before) n) n (ties_of options.skew known.before)) (sym here)
+    (log_well_formed part s.log.rules.closes options.skew known.before shows.fair)))
+finished_well options s known part calls items (Err fault) shows count is = tt

@@ -1,5 +1,5 @@
 -- The definitions refuse these claims.
-use Rattle.std.proofs.Common.{◌≡◌}
+use Rattle.std.proofs.Common.{◌≡◌, arith}
 use Rattle.cc_log.specs.Refused.{RefusedClaims}
 
 pub claims_refused : RefusedClaims
@@ -12,4 +12,5 @@ claims_refused = record {
   skewed_tie_lost = λ claim. absurd (cc claim);
   early_is_whole = λ claim. absurd (cc claim);
   goes_on_after_end = λ claim. absurd (cc claim);
+  items_lost = λ calls ties place item sent well. let less = well.below.sent place item sent in absurd (omega (arith, less));
 }

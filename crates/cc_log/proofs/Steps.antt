@@ -1,23 +1,16 @@
 -- One line of a log: its tree, and what is known after it.
 use Rattle.std.proofs.Common.{◌≡◌, ◌++◌, ◌&&◌, ℕ, true, false, not, nat_eq, Bool, if◌then◌else◌, List, [], ◌∷◌, length, Option, Some, None, Result, Ok, Err, refl, sym, ap, subst, ◌∙◌, arith, length-append}
-use Rattle.std.specs.Str.{IsUtf8, bytes_eq}
+use Rattle.std.specs.Str.{bytes_eq}
 use Rattle.std.specs.HashMap.{keys}
 use Rattle.std.specs.Result.{IsErrAnd}
 use Rattle.serde_json.specs.Data.{Data}
-use Rattle.serde_json.specs.Read.{read}
-use Rattle.cc_plan.proofs.Trees.{json_of_text, no_tree}
 use Rattle.cc_log.specs.Names.{Ending, Last, Line, LineFault, LogFault, Options, Said, State, Window}
 use Rattle.cc_log.specs.Answers.{Refuses}
-use Rattle.cc_log.specs.Line.{Body, begins_late, ending_in, or_fault}
-use Rattle.cc_log.specs.Log.{Entry, Known, Refusal, ◌>>=◌, after_last, allowed, bad_line, call_of, calls_of, bodies_of, differs, entry_of, has_close, is_close, is_first, item_in, last_of, or_refusal, sender_of, sends, tie_with, ties_of, json_in, not_ended, with_call, with_cut, with_end, with_entry, with_item, with_tree}
+use Rattle.cc_log.specs.Line.{Body, begins_late, ending_in, line_of, thread_of}
+use Rattle.cc_log.specs.Log.{Entry, Known, Refusal, ◌>>=◌, after_last, allowed, call_of, calls_of, bodies_of, differs, entry_of, has_close, is_close, is_first, item_in, last_of, or_refusal, sender_of, sends, tie_with, ties_of, not_ended, with_call, with_cut, with_end, with_entry, with_item, with_tree}
 use Rattle.cc_log.specs.Window.{cut}
+use Rattle.cc_log.proofs.Fair.{IsRead, cut_read, fair, line_read}
 use Rattle.cc_log.specs.State.{Added, Adds, IsStep, Shows, last_in, sender_in}
-
-pub json_given : (number : ℕ) (bytes : List ℕ) (d : Data) → IsUtf8 bytes × (read bytes ≡ Some d) → json_in number bytes ≡ Ok d
-json_given number bytes d h = ap (λ o. or_refusal number (or_fault LineFault.NoObject o)) (json_of_text bytes d h)
-
-pub no_json_given : (number : ℕ) (bytes : List ℕ) → (IsUtf8 bytes → read bytes ≡ None) → json_in number bytes ≡ Err (bad_line number LineFault.NoObject)
-no_json_given number bytes h = ap (λ o. or_refusal number (or_fault LineFault.NoObject o)) (no_tree bytes h)
 
 -- a refusal stays one, whatever was to come after it
 pub refused_first : {A B : Type 0} (fault : LogFault) (due : Result A Refusal) (next : A → Result B Refusal) → Refuses fault due → Refuses fault (due >>= next)
@@ -64,8 +57,8 @@ place_of : (options : Options) (s : State) (known : Known) → Shows options s k
 place_of options s known shows = ap length shows.calls ∙ calls_length options.skew known.before
 
 -- the state after a call
-pub shown_after : (options : Options) (s new : State) (known : Known) (e : Entry) → Shows options s known → Added s new e → Shows options new (record known { before = e ∷ known.before })
-shown_after options s new known e shows added =
+pub shown_after : (options : Options) (s new : State) (known : Known) (e : Entry) → IsRead e.line → Shows options s known → Added s new e → Shows options new (record known { before = e ∷ known.before })
+shown_after options s new known e read shows added =
     let place : added.place ≡ length known.before = added.place_is ∙ place_of options s known shows in
     let skew : s.log.options.skew ≡ options.skew = ap (λ (o : Options). o.skew) shows.options_is in
     record {
@@ -81,21 +74,23 @@ shown_after options s new known e shows added =
       calls = added.calls ∙ ap (λ calls. calls ++ call_of s.log.options.skew (keys s.items) e.line ∷ []) shows.calls
           ∙ ap (λ bodies. calls_of options.skew known.before ++ call_of s.log.options.skew bodies e.line ∷ []) shows.bodies
           ∙ ap (λ n. calls_of options.skew known.before ++ call_of n (bodies_of known.before) e.line ∷ []) skew;
+      lines = added.lines ∙ ap (λ lines. lines ++ e.number ∷ []) shows.lines;
       ties = added.ties ∙ ap (λ ties. ties ++ tie_with s.log.options.skew added.place e.line.begin (last_in s e.thread)) shows.ties
           ∙ ap (λ n. ties_of options.skew known.before ++ tie_with n added.place e.line.begin (last_in s e.thread)) skew
           ∙ ap (λ p. ties_of options.skew known.before ++ tie_with options.skew p e.line.begin (last_in s e.thread)) place
           ∙ ap (λ last. ties_of options.skew known.before ++ tie_with options.skew (length known.before) e.line.begin last) (shows.lasts e.thread);
       closes = added.closes ∙ ap (λ (b : Bool). if is_close e.line.said then true else b) shows.closes;
+      fair = (fair e.line read added.low, sym (decided options s known e shows) ∙ added.is_allowed, shows.fair);
     }
 
 -- a call that was added, or refused
-pub step_of_entry : (options : Options) (s new : State) (known : Known) (e : Entry) (result : Result (Unit {0}) LogFault) → Shows options s known → Adds s new e result → IsStep options (with_entry known e) result new
-step_of_entry options s new known e (Ok done) shows added = (
+pub step_of_entry : (options : Options) (s new : State) (known : Known) (e : Entry) (result : Result (Unit {0}) LogFault) → IsRead e.line → Shows options s known → Adds s new e result → IsStep options (with_entry known e) result new
+step_of_entry options s new known e (Ok done) read shows added = (
   record known { before = e ∷ known.before },
   ap (λ r. r >>= (λ fine. Ok (record known { before = e ∷ known.before }))) (sym (decided options s known e shows) ∙ added.is_allowed),
-  shown_after options s new known e shows added,
+  shown_after options s new known e read shows added,
 )
-step_of_entry options s new known e (Err fault) shows refused =
+step_of_entry options s new known e (Err fault) read shows refused =
     refused_first fault (allowed e (last_of e.thread known.before) (λ body. sender_of body known.before)) (λ fine. Ok (record known { before = e ∷ known.before }))
     (subst (Refuses fault) (decided options s known e shows) refused)
 
@@ -122,11 +117,30 @@ pub step_of_none : (options : Options) (s : State) (known : Known) (number : ℕ
     → entry_of number d ≡ Ok e → cut s.log.options.window e.line ≡ None → IsStep options (with_call known number d) (Ok tt) s
 step_of_none options s known number d e shows is cuts = (known, tree_of_cut options s known number d e None shows is cuts, shows)
 
+-- its line is one that was read
+value_or : {A : Type 0} → A → Result A Refusal → A
+value_or other (Ok x) = x
+value_or other (Err refusal) = other
+
+read_if : (number : ℕ) (r : Result Line LineFault) (line : Line) → or_refusal number r ≡ Ok line → r ≡ Ok line
+unfolding value_or
+read_if number (Ok x) line is = ap (λ (y : Line). Ok y) (ap (value_or x) is)
+read_if number (Err fault) line is = absurd (cc is)
+
+entry_by : (number : ℕ) (d : Data) (e : Entry) (r : Result Line Refusal) (t : Result (List ℕ) Refusal) → (r >>= (λ line. t >>= (λ thread. Ok (record { number = number; thread = thread; line = line })))) ≡ Ok e → r ≡ Ok e.line
+unfolding value_or
+entry_by number d e (Ok line) (Ok thread) is = ap (λ (x : Entry). Ok x.line) (ap (value_or (record { number = number; thread = thread; line = line })) is)
+entry_by number d e (Ok line) (Err fault) is = absurd (cc is)
+entry_by number d e (Err fault) t is = absurd (cc is)
+
+entry_read : (number : ℕ) (d : Data) (e : Entry) → entry_of number d ≡ Ok e → IsRead e.line
+entry_read number d e is = line_read d e.line (read_if number (line_of d) e.line (entry_by number d e (or_refusal number (line_of d)) (or_refusal number (thread_of d)) is))
+
 -- one within
 pub step_of_call : (options : Options) (s new : State) (known : Known) (number : ℕ) (d : Data) (e : Entry) (line : Line) (result : Result (Unit {0}) LogFault) → Shows options s known
     → entry_of number d ≡ Ok e → cut s.log.options.window e.line ≡ Some line → Adds s new (record { number = e.number; thread = e.thread; line = line }) result → IsStep options (with_call known number d) result new
 step_of_call options s new known number d e line result shows is cuts adds =
-    subst (λ due. IsStep options due result new) (sym (tree_of_cut options s known number d e (Some line) shows is cuts)) (step_of_entry options s new known (record { number = e.number; thread = e.thread; line = line }) result shows adds)
+    subst (λ due. IsStep options due result new) (sym (tree_of_cut options s known number d e (Some line) shows is cuts)) (step_of_entry options s new known (record { number = e.number; thread = e.thread; line = line }) result (cut_read s.log.options.window e.line line (entry_read number d e is) cuts) shows adds)
 
 pub refused_call : (known : Known) (number : ℕ) (d : Data) (fault : LogFault) → Refuses fault (entry_of number d) → Refuses fault (with_call known number d)
 refused_call known number d fault h = refused_first fault (entry_of number d) (cut_entry known) h
@@ -155,7 +169,7 @@ pub step_of_beginning : (options : Options) (s : State) (known : Known) (number 
 step_of_beginning options s known number d shows goes_on first = (
   record known { late = true },
   tree_before_end options s known number d true shows goes_on first,
-  record { options_is = shows.options_is; window = shows.window; capacity = shows.capacity; late = refl; ends = shows.ends; bodies = shows.bodies; senders = shows.senders; lasts = shows.lasts; calls = shows.calls; ties = shows.ties; closes = shows.closes },
+  record { options_is = shows.options_is; window = shows.window; capacity = shows.capacity; late = refl; ends = shows.ends; bodies = shows.bodies; senders = shows.senders; lasts = shows.lasts; calls = shows.calls; lines = shows.lines; ties = shows.ties; closes = shows.closes; fair = shows.fair },
 )
 
 -- the one that says how it ends
@@ -164,7 +178,7 @@ pub step_of_end : (options : Options) (s : State) (known : Known) (number : ℕ)
 step_of_end options s known number d ends shows goes_on other is = (
   record known { ends = Some ends },
   tree_before_end options s known number d false shows goes_on other ∙ ap (with_end known number d) is,
-  record { options_is = shows.options_is; window = shows.window; capacity = shows.capacity; late = shows.late; ends = refl; bodies = shows.bodies; senders = shows.senders; lasts = shows.lasts; calls = shows.calls; ties = shows.ties; closes = shows.closes },
+  record { options_is = shows.options_is; window = shows.window; capacity = shows.capacity; late = shows.late; ends = refl; bodies = shows.bodies; senders = shows.senders; lasts = shows.lasts; calls = shows.calls; lines = shows.lines; ties = shows.ties; closes = shows.closes; fair = shows.fair },
 )
 
 -- any other line

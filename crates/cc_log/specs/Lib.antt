@@ -4,6 +4,7 @@ pub mod Form
 pub mod Lines
 pub mod Log
 pub mod Answers
+pub mod Written
 pub mod State
 pub mod Options
 pub mod Refused

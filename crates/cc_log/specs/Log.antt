@@ -127,6 +127,11 @@ abbrev pub calls_of : (skew : ℕ) → List Entry → List Call
 calls_of skew [] = []
 calls_of skew (e ∷ before) = calls_of skew before ++ call_of skew (bodies_of before) e.line ∷ []
 
+-- the numbers of the lines of these calls
+abbrev pub numbers_of : List Entry → List ℕ
+numbers_of [] = []
+numbers_of (e ∷ before) = numbers_of before ++ e.number ∷ []
+
 abbrev pub is_close : Said → Bool
 is_close Said.Close = true
 is_close _ = false
@@ -137,11 +142,14 @@ has_close (e ∷ before) = if is_close e.line.said then true else has_close befo
 
 -- ---- the log
 
--- the calls of a log, whether it is a part that may lack calls, how it says that it ends, and the rest that is known of it
+-- the calls of a log and the number of their items, the numbers of their lines, whether it is a part that may lack calls, how it says
+-- that it ends, and the rest that is known of it
 pub record Spelled : Type 0 where
   pub part : Bool
   pub ends : Option Ending
   pub calls : List Call
+  pub items : ℕ
+  pub lines : List ℕ
   pub closes : Bool
   pub ties : List Tie
 
@@ -249,6 +257,8 @@ spelled skew known = record {
   part = is_part known;
   ends = known.ends;
   calls = padded (is_part known) (has_close known.before) (calls_of skew known.before) (length (bodies_of known.before));
+  items = length (bodies_of known.before);
+  lines = numbers_of known.before;
   closes = has_close known.before;
   ties = ties_of skew known.before;
 }

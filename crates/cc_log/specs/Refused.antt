@@ -1,8 +1,10 @@
 -- Refused claims: for each kind of mistake a small case, and a claim about it that doesn't hold.
 use Rattle.std.specs.Prelude.{◌≡◌, ℕ, List, [], ◌∷◌, codes, false, Some, Ok}
-use Rattle.cc_log.specs.Names.{Ending, Last}
+use Rattle.cc_judge.specs.Faults.{Did}
+use Rattle.cc_log.specs.Names.{Act, Call, Ending, Last, Tie}
 use Rattle.cc_log.specs.Form.{members_in}
 use Rattle.cc_log.specs.Line.{Body, end_from}
+use Rattle.cc_log.specs.Written.{IsWellFormed}
 use Rattle.cc_log.specs.Log.{is_early, item_of, not_ended, tie_with}
 
 -- a claim that doesn't hold
@@ -34,3 +36,5 @@ pub record RefusedClaims : Type 0 where
   pub early_is_whole : Refused (is_early (Some Ending.Early) ≡ false)
   -- a line may come after the one that says how the log ends
   pub goes_on_after_end : Refused (not_ended 3 (Some Ending.Whole) ≡ Ok tt)
+  -- a log with a send has no items
+  pub items_lost : (calls : List Call) (ties : List Tie) (place item : ℕ) → Did calls place (Act.Send item) → Refused (IsWellFormed 0 calls 0 ties)

@@ -1,8 +1,6 @@
 //! One line of a log.
-ghost use Rattle.std.specs.Prelude.{◌≡◌, codes, option_map, option_and_then, string_bytes};
-ghost use Rattle.std.specs.List.{list_all};
+ghost use Rattle.std.specs.Prelude.{◌≡◌, codes, option_map, option_and_then};
 ghost use Rattle.std.specs.Str.{bytes_eq};
-ghost use Rattle.std.specs.BTreeMap.{keys};
 ghost use Rattle.std.specs.Result.{result_map_both};
 ghost use Rattle.serde_json.specs.Find.{as_object};
 ghost use Rattle.serde_json.specs.View.{view, items_view};
@@ -10,7 +8,8 @@ ghost use Rattle.cc_plan.specs.Json.{each, has_only, listed, whole_number};
 ghost use Rattle.cc_log.specs.Line.{answer_of, begins_late, body_in, body_of, close_of, end_of, ending_in, ending_of, is_call_key, line_of, no_item, object_of_call, said_in, said_of, send_of, take_of, took_item};
 
 use crate::fault::LineFault;
-use serde_json::{Map, Value};
+use cc_plan::{has_only, is_word};
+use serde_json::Value;
 use std::alloc::{AllocError, Global};
 
 /// The words of a body, and how many they are.
@@ -78,22 +77,21 @@ fn is_call_key(key: &str) -> bool
     )
 }
 
-/// Whether an object has keys of a call alone.
-fn has_call_keys(object: &Map<String, Value>) -> bool
-    ensures { result ≡ list_all (λ key. is_call_key (string_bytes key)) (keys object.now) }
+/// Whether the tree is an object with keys of a call alone.
+fn has_call_keys(tree: &Value) -> bool
+    ensures { result ≡ has_only is_call_key (view tree.now) }
 {
-    object.keys().all(|key| is_call_key(key.as_str()))
+    has_only(tree, is_call_key)
 }
 
 /// Checks that the tree is an object with keys of a call alone.
-#[tactic(auto, using(crate::proofs::Keys::all_keys))]
 fn check_keys(tree: &Value) -> Result<(), LineFault>
     ensures { result ≡ object_of_call (as_object (view tree.now)) }
 {
-    let Some(object) = tree.as_object() else {
+    let Some(_) = tree.as_object() else {
         return Err(LineFault::NoObject);
     };
-    if has_call_keys(object) {
+    if has_call_keys(tree) {
         Ok(())
     } else {
         Err(LineFault::Key)
@@ -270,22 +268,11 @@ pub fn read_line(tree: &Value) -> Result<Line, LineFault>
     Ok(Line { begin, end, said })
 }
 
-/// Whether an object has this key alone.
-fn has_alone(object: &Map<String, Value>, name: &str) -> bool
-    ensures { result ≡ list_all (λ key. bytes_eq (string_bytes key) name.now) (keys object.now) }
-{
-    object.keys().all(|key| key.as_str() == name)
-}
-
 /// Whether the tree is an object with this key alone.
-#[tactic(auto, using(crate::proofs::Keys::all_keys))]
 fn is_alone(tree: &Value, name: &str) -> bool
     ensures { result ≡ has_only (λ key. bytes_eq key name.now) (view tree.now) }
 {
-    match tree.as_object() {
-        Some(object) => has_alone(object, name),
-        None => false,
-    }
+    has_only(tree, |key| key == name)
 }
 
 /// Whether the line of this tree says that the log begins late.
@@ -293,10 +280,9 @@ pub fn begins_late(tree: &Value) -> bool
     ensures { result ≡ begins_late (view tree.now) }
 {
     is_alone(tree, "begins")
-        && match tree.get("begins") {
-            Some(value) => value.as_str() == Some("late"),
-            None => false,
-        }
+        && tree
+            .get("begins")
+            .is_some_and(|value| is_word(value, "late"))
 }
 
 /// How a log ends, by a word.

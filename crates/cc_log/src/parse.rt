@@ -5,6 +5,7 @@ ghost use Rattle.cc_log.specs.Answers.{Gives, GivesOfInput, failed_reads};
 ghost use Rattle.cc_log.specs.Log.{Known, at_first, if_some, is_early, log_of};
 ghost use Rattle.cc_log.specs.Options.{no_options};
 ghost use Rattle.cc_log.specs.State.{Shows, log_view};
+ghost use Rattle.cc_log.specs.Written.{IsWellFormed};
 
 use crate::fault::LogFault;
 use crate::late::pad;
@@ -60,7 +61,7 @@ pub struct Shown {
 /// Counts and lines for the text of the verdict and its page.
 #[derive(Drop)]
 pub struct Notes {
-    /// The numbers of the lines of those calls that have one, from 1.
+    /// The numbers of the lines of those calls that have one, from 1, in the order of the calls.
     pub lines: Vec<u32>,
     /// The number of sends with the answer Full.
     pub full: usize,
@@ -95,7 +96,7 @@ impl Log {
     /// A log without calls.
     fn empty(alloc: Global, options: Options) -> Log
         ensures options { (result.options ≡ options) × (result.rules.capacity ≡ options.capacity) }
-        ensures calls { (result.calls.items ≡ []) × (result.rules.ties.items ≡ []) × (result.rules.closes ≡ false) }
+        ensures calls { (result.calls.items ≡ []) × (result.rules.ties.items ≡ []) × (result.rules.closes ≡ false) × (result.notes.lines.items ≡ []) }
         ensures threads { result.threads.entries ≡ [] }
         ensures ends { result.ends ≡ None }
     {
@@ -163,6 +164,7 @@ fn is_part(late: bool, from: Option<u64>, ends: Option<Ending>) -> bool
 /// Finishes the log of all lines.
 fn finish(alloc: Global, state: &mut State) -> Result<(), LogFault>
     ensures due { (options : Options) (known : Known) → Shows options state.old known → Gives (λ done. log_view state.new.log) result (if_some options.skew known) }
+    ensures well { (options : Options) (known : Known) → Shows options state.old known → OnOk result (IsWellFormed options.skew state.new.log.calls.items state.new.log.items state.new.log.rules.ties.items) }
     ensures capacity { OnOk result (state.new.log.rules.capacity ≡ judged_capacity state.new.log.part state.old.log.rules.capacity) }
 {
     if state.log.calls.is_empty() {
@@ -187,6 +189,7 @@ fn add_lines<R: Source>(alloc: Global, source: &mut R, state: &mut State) -> Res
     requires failures { R.read_failures source.old < 2 ^ 64 - 1 }
     requires first { Shows state.old.log.options state.old (at_first state.old.log.options.window) }
     ensures due { GivesOfInput (λ done. log_view state.new.log) (R.bytes_left source.old) result (log_of state.old.log.options) }
+    ensures well { OnOk result (IsWellFormed state.old.log.options.skew state.new.log.calls.items state.new.log.items state.new.log.rules.ties.items) }
     ensures capacity { OnOk result (state.new.log.rules.capacity ≡ judged_capacity state.new.log.part state.old.log.options.capacity) }
     ensures failures { R.read_failures source.new ≡ R.read_failures source.old + failed_reads result }
 {
@@ -207,6 +210,7 @@ fn add_lines<R: Source>(alloc: Global, source: &mut R, state: &mut State) -> Res
 pub fn read_log<R: Source>(alloc: Global, source: &mut R, options: Options) -> Result<Log, LogFault>
     requires { R.read_failures source.old < 2 ^ 64 - 1 }
     ensures due { GivesOfInput log_view (R.bytes_left source.old) result (log_of options) }
+    ensures well { IfOk result (λ log. IsWellFormed options.skew log.calls.items log.items log.rules.ties.items) }
     ensures capacity { IfOk result (λ log. log.rules.capacity ≡ judged_capacity log.part options.capacity) }
     ensures failures { R.read_failures source.new ≡ R.read_failures source.old + failed_reads result }
 {

@@ -1,5 +1,5 @@
 //! The log of the lines so far.
-ghost use Rattle.std.specs.Prelude.{◌≡◌, ◌≤◌, ◌-◌, length, option_map, IfErr, true, not, nat_eq, ◌&&◌, if◌then◌else◌};
+ghost use Rattle.std.specs.Prelude.{◌≡◌, ◌≤◌, ◌-◌, ◌++◌, [], ◌∷◌, length, option_map, IfErr, OnOk, true, not, nat_eq, ◌&&◌, if◌then◌else◌};
 ghost use Rattle.std.specs.Prelude.{min, ◌+◌, ◌^◌};
 ghost use Rattle.serde_json.specs.View.{view};
 ghost use Rattle.cc_log.specs.Answers.{Gives};
@@ -18,7 +18,8 @@ use crate::parse::{Log, Notes, Shown};
 use crate::threads::{Last, Parsed, after_last, fault_of, note_tie, read_call};
 use crate::window::cut;
 use cc_judge::{Act, Call};
-use serde_json::{Category, Value};
+use cc_plan::read_json;
+use serde_json::Value;
 use std::alloc::Global;
 
 /// The log of the lines so far.
@@ -40,16 +41,12 @@ fn is_blank(text: &[u8]) -> bool
 }
 
 /// The JSON tree of a line.
-#[tactic(auto, using(crate::proofs::Steps::json_given, crate::proofs::Steps::no_json_given))]
 fn json_in(alloc: Global, text: &[u8], number: usize) -> Result<Value, LogFault>
     ensures { Gives view result (json_in number text.now) }
 {
-    match Value::from_slice(alloc, text) {
-        Ok(value) => Ok(value),
-        Err(e) => match e.classify() {
-            Category::Memory => Err(LogFault::Memory),
-            _ => Err(fault_of(number, LineFault::NoObject)),
-        },
+    match read_json(alloc, text)? {
+        Some(tree) => Ok(tree),
+        None => Err(fault_of(number, LineFault::NoObject)),
     }
 }
 
@@ -95,7 +92,8 @@ fn note(
     line: Line,
     thread: usize,
 ) -> Result<(), LogFault>
-    ensures { IfErr result (λ fault. fault ≡ LogFault.Memory) }
+    ensures lines { OnOk result (notes.new.lines.items ≡ notes.old.lines.items ++ number ∷ []) }
+    ensures memory { IfErr result (λ fault. fault ≡ LogFault.Memory) }
 {
     notes.lines.push(narrow(number)?)?;
     match line.said {

@@ -1,13 +1,15 @@
-use Rattle.std.proofs.Common.{refl}
+use Rattle.cc_judge.proofs.Rooms.{fewer_so, not_full_so}
 use Rattle.cc_judge.proofs.room.is_not_full.Goals as goal
 
-pub returns : goal.returns
-returns c = λ holds. record {
-  capacity = c.in-Some.number;
-  capacity_is = c.in-Some.ensures;
-  begin = c.in-Some-full_times.times.begin;
-  end = c.in-Some-full_times.times.end;
-  full = c.in-Some-full_times.ensures;
-  at_begin = c.if-not-are_fewer_at.ensures refl;
-  at_sends = λ send item one. c.in_ok-fewer.ensures holds send item one;
-}
+pub returns-in-Some-clause-so : goal.returns-in-Some-clause-so
+returns-in-Some-clause-so c = λ rules capacity is.
+    let t = c.in-Some.times in
+    not_full_so rules c.args.calls.now c.args.place c.args.rooms.now.number t.begin t.end capacity c.in-Some.ensures.some (c.are_fewer.ensures.fewer c.args.calls.now c.requires is)
+
+pub returns-in-Some-clause-not : goal.returns-in-Some-clause-not
+returns-in-Some-clause-not c = λ rules capacity is full.
+    let t = c.in-Some.times in
+    c.are_fewer.ensures.more c.args.calls.now c.requires is (fewer_so rules c.args.calls.now c.args.place c.args.rooms.now.number t.begin t.end capacity c.in-Some.ensures.some full)
+
+pub returns-in-None-clause-not : goal.returns-in-None-clause-not
+returns-in-None-clause-not c = λ rules capacity is full. c.in-None.ensures.none full.begin full.end full.full

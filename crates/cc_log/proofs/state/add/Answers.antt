@@ -1,4 +1,4 @@
-use Rattle.std.proofs.Common.{◌≡◌, ◌∙◌, ◌++◌, [], ◌∷◌, Ok, rules, refl, sym, subst, ap, string_bytes, option_map, min, ◌+◌, ◌-◌, ◌^◌}
+use Rattle.std.proofs.Common.{◌≡◌, ◌∙◌, ◌++◌, [], ◌∷◌, Ok, arith, rules, refl, sym, subst, ap, string_bytes, option_map, min, ◌+◌, ◌-◌, ◌^◌}
 use Rattle.std.specs.HashMap.{get_by_text}
 use Rattle.std.proofs.lemmas.Map.Text.{hash_map_updates_text}
 use Rattle.cc_log.specs.Log.{after_last, differs, or_refusal, tie_with}
@@ -31,6 +31,7 @@ returns c =
     let same : c.copied-last.result ≡ last_in c.args.state.now (string_bytes c.args.parsed.thread) = c.copied-last.ensures ∙ c.get.ensures.value ∙ ap (λ bytes. get_by_text c.args.state.now.log.threads bytes) c.as_str.ensures.value in
     let free : or_refusal c.args.number (after_last c.args.parsed.line.begin (last_in c.args.state.now (string_bytes c.args.parsed.thread))) ≡ Ok tt = ap (λ last. or_refusal c.args.number (after_last c.args.parsed.line.begin last)) (sym same) ∙ c.in_ok-check_last.ensures in
     record {
+      low = omega arith;
       is_allowed = allowed_given e (last_in c.args.state.now (string_bytes c.args.parsed.thread)) (sender_in c.args.state.now.items) free c.in_ok-act.ensures.differs;
       options = refl;
       capacity = refl;
@@ -43,6 +44,7 @@ returns c =
       lasts = hash_map_updates_text (string_bytes c.args.parsed.thread) c.args.state.now.log.threads c.insert_full.new.self _ c.in_ok-thread.ensures.updates;
       calls = c.in_ok-push.ensures.items ∙ ap (λ x. c.args.state.now.log.calls.items ++ x ∷ [])
           (c.call_of.ensures ∙ ap (λ a. record { begin = c.args.parsed.line.begin - c.args.state.now.log.options.skew; end = option_map (λ end. min (end + c.args.state.now.log.options.skew) (2 ^ 64 - 1)) c.args.parsed.line.end; act = a }) c.in_ok-act.ensures.act);
+      lines = c.in_ok-note.ensures.lines;
       ties = c.in_ok-note_tie.ensures.ties ∙ ap (λ last. c.args.state.now.log.rules.ties.items ++ tie_with c.args.state.now.log.options.skew c.in_ok-place.place c.args.parsed.line.begin last) same;
       closes = c.has_close-state.ensures;
     }
