@@ -218,7 +218,7 @@ def unread(program):
         ours = shutil.copy(program, room)
         for task in ("play", "judge"):
             reason = f"ccq: {locked}: Permission denied (os error 13)\n".encode()
-            yield is_told(ours, [task, locked], 66, reason, stdout=subprocess.DEVNULL, stderr=subprocess.PIPE, **nobody)
+            yield is_told(ours, [task, locked], 64, reason, stdout=subprocess.DEVNULL, stderr=subprocess.PIPE, **nobody)
 
 
 # A terminal without colours.
@@ -275,6 +275,11 @@ def at_terminals(program):
         yield same(line, (there.read_up_to(b"."), there.end()), (b"", (64, None, due)))
     there = Terminal(program, "show --trace examples/one_item.json".split(), ["stdout"], stderr=subprocess.PIPE)
     yield same("show --trace", there.read_up_to(rb"\n")[:10], b'{"event":1') and same("show --trace", there.end()[0], 0)
+    # The progress of a drive ends before its answer begins.
+    there = Terminal(program, "drive --items 20000 --senders 8 --capacity 1".split(), ["stdout", "stderr"])
+    shown = there.read_up_to(rb"(?!)", 300)
+    well = re.fullmatch(rb"((\rccq: \d+ s, \d+ calls answered, \d+ a second  )+\r\n)?sent 160000\r\ntaken 160000\r\naudit clean\r\n", shown) is not None
+    yield same("drive", (well, shown if not well else b"", there.end()[0]), (True, b"", 0))
     # It needs minutes; and writes nothing else while it runs, also if standard error is no terminal
     line = "drive --items 1000000 --senders 63 --capacity 1".split()
     there, piped = Terminal(program, line, ["stderr"], stdout=subprocess.PIPE), Terminal(program, line, [], stdout=subprocess.PIPE, stderr=subprocess.PIPE)
@@ -286,24 +291,21 @@ def at_terminals(program):
 
 
 def hints(program):
-    """At a terminal a second line after a refusal names `ccq why`, for the tasks whose inputs it explains."""
-    hint = "ccq: `ccq why INPUT` reports the place of the fault\r\n"
-    due = {"play": "ccq: plan refused: P1\r\n" + hint, "show": "ccq: plan refused: P1\r\n" + hint, "audit": "ccq: plan refused: P1\r\n" + hint,
-           "why": "", "judge": "ccq: log refused: line 1: no JSON object\r\n"}
-    for task, text in due.items():
-        ours, theirs = pty.openpty()
-        subprocess.run([program, task], input=b"x\n", stdout=subprocess.DEVNULL, stderr=theirs, env=DUMB)
-        os.close(theirs)
-        said = b""
-        try:
-            while part := os.read(ours, 4096):
-                said += part
-        except OSError: # the end, as Linux has it
-            pass
-        os.close(ours)
-        if said.decode() != text:
-            print(f"{program} {task}: {said!r} at a terminal")
-        yield said.decode() == text
+    """At a terminal a second line after a refusal says where the input is refused, for the tasks whose inputs `ccq why` explains."""
+    place = "standard input: 1:1: x is no JSON here\r\n"
+    due = {"play": "ccq: plan refused: P1\r\nccq: " + place, "show": "ccq: plan refused: P1\r\nccq: " + place,
+           "audit": "ccq: plan refused: P1\r\nccq: " + place, "why": "", "judge": "ccq: log refused: line 1: no JSON object\r\n",
+           "play examples/receipts.json": "ccq: plan refused: P2\r\nccq: examples/receipts.json: no fault: these receipts aren't refused\r\n"}
+    for line, text in due.items():
+        with tempfile.TemporaryFile() as given:
+            given.write(b"x\n")
+            given.seek(0)
+            there = Terminal(program, line.split(), ["stderr"], stdin=given, stdout=subprocess.DEVNULL)
+            said = there.read_up_to(rb"(?!)").decode()
+            there.end()
+        if said != text:
+            print(f"{program} {line}: {said!r} at a terminal")
+        yield said == text
 
 
 def colours(program):

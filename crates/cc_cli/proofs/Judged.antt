@@ -3,24 +3,40 @@ use Rattle.std.proofs.Common.{◌≡◌, ◌⊎◌, ◌+◌, ◌==◌, ℕ, fals
 use Rattle.std.specs.Result.{IsErrAnd}
 use Rattle.cc_judge.specs.declared.decide.Verdict.{Verdict}
 use Rattle.cc_judge.specs.Late.{judged_capacity}
-use Rattle.cc_judge.specs.Verdict.{IsVerdict}
+use Rattle.cc_judge.specs.Verdict.{IsDecided, IsVerdict}
 use Rattle.cc_cli.specs.Failures.{FailsBy}
-use Rattle.cc_cli.specs.Judged.{IsDue, IsDueOrNone, IsJudged, IsRefused, failed_by, failed_writes, told_status, verdict_status}
+use Rattle.cc_cli.specs.Judged.{IsDue, IsDueOrNone, IsHard, IsJudged, IsRefused, failed_by, failed_writes, told_status, verdict_status}
 use Rattle.cc_cli.specs.Names.{AnswerFault, Call, Log, LogFault, Options, Rules}
 use Rattle.cc_log.specs.Answers.{GivesOfInput, RefusesInput}
 use Rattle.cc_log.specs.Answers.{failed_by as failed_read}
 use Rattle.cc_log.specs.Lines.{HasInput}
 use Rattle.cc_log.specs.Log.{log_of}
 use Rattle.cc_log.specs.State.{log_view}
+use Rattle.cc_log.specs.Written.{IsWellFormed}
+use Rattle.cc_cli.proofs.Hard.{is_hard}
 
-pub told : (rules : Rules) (calls : List Call) (verdict : Verdict) → IsVerdict rules calls verdict → (outcome : Result (Unit {0}) AnswerFault) → IsJudged rules calls (told_status (verdict_status verdict) outcome)
-told rules calls verdict right (Ok done) = inr (verdict, right, inl refl)
-told rules calls verdict right (Err AnswerFault.Memory) = inl refl
-told rules calls verdict right (Err AnswerFault.Write) = inr (verdict, right, inr refl)
+pub told : (rules : Rules) (calls : List Call) (items : ℕ) (verdict : Verdict) → IsVerdict rules calls verdict → IsDecided rules calls items verdict → (outcome : Result (Unit {0}) AnswerFault)
+    → IsJudged rules calls items (told_status (verdict_status verdict) outcome)
+told rules calls items verdict right decided (Ok done) = inr (verdict, right, decided, inl refl)
+told rules calls items verdict right decided (Err AnswerFault.Memory) = inl refl
+told rules calls items verdict right decided (Err AnswerFault.Write) = inr (verdict, right, decided, inr refl)
 
 -- the status that is told of a right verdict
-pub judged : (rules : Rules) (calls : List Call) (verdict : Verdict) (outcome : Result (Unit {0}) AnswerFault) (status now : ℕ) → IsVerdict rules calls verdict → status ≡ verdict_status verdict → now ≡ told_status status outcome → IsJudged rules calls now
-judged rules calls verdict outcome status now right is of = subst (IsJudged rules calls) (sym (of ∙ ap (λ (s : ℕ). told_status s outcome) is)) (told rules calls verdict right outcome)
+pub judged : (rules : Rules) (calls : List Call) (items : ℕ) (verdict : Verdict) (outcome : Result (Unit {0}) AnswerFault) (status now : ℕ) → IsVerdict rules calls verdict → IsDecided rules calls items verdict
+    → status ≡ verdict_status verdict → now ≡ told_status status outcome → IsJudged rules calls items now
+judged rules calls items verdict outcome status now right decided is of =
+    subst (IsJudged rules calls items) (sym (of ∙ ap (λ (s : ℕ). told_status s outcome) is)) (told rules calls items verdict right decided outcome)
+
+-- only the verdict undecided has its status
+undecided : (verdict : Verdict) → verdict_status verdict ≡ 5 → verdict ≡ Verdict.Undecided
+undecided Verdict.Clean is = absurd (omega (arith, is))
+undecided (Verdict.Fault fault) is = absurd (omega (arith, is))
+undecided Verdict.Undecided is = refl
+
+-- so a well-formed log is hard if its status is that
+hard : (skew : ℕ) (rules : Rules) (calls : List Call) (items : ℕ) (verdict : Verdict) (status : ℕ) → IsDecided rules calls items verdict → IsWellFormed skew calls items rules.ties.items → status ≡ verdict_status verdict → status ≡ 5 → IsHard skew rules calls
+hard skew rules calls items verdict status decided well is five =
+    is_hard skew rules calls well.tied (λ ordered. decided (undecided verdict (sym is ∙ five)) ordered well.differ well.below well.written)
 
 -- an answer's fault that was passed on
 pub unwritten : (result : Result (Unit {0}) AnswerFault) (fault : AnswerFault) (old new : ℕ) → IsErrAnd result (λ f. f ≡ fault) → new ≡ old + failed_by fault → new ≡ old + failed_writes result
@@ -39,12 +55,17 @@ counted verdict (Err AnswerFault.Memory) status told old new of is grown = grown
 counted verdict (Err AnswerFault.Write) status told old new of is grown = grown ∙ sym (ap (λ s. old + cond (s == 4) 1 0) is)
 
 -- a log that was read and judged
-pub judged_due : (options : Options) (left : Option (List ℕ)) (log : Log) (status : ℕ) → log.rules.capacity ≡ judged_capacity log.part options.capacity
-    → GivesOfInput log_view left (Ok log) (log_of options) → IsJudged log.rules log.calls.items status → IsDueOrNone options left status
-judged_due options left log status capacity read (inl memory) = inl memory
-judged_due options left log status capacity read (inr (verdict, right, inr failed)) = inr (inl failed)
-judged_due options left log status capacity read (inr (verdict, right, inl is)) =
-    inr (inr (read.0, read.1, subst (λ due. IsDue options due status) (sym read.2) (log.rules, verdict, record { capacity = capacity; closes = refl; ties = refl }, right, is)))
+pub judged_due : (options : Options) (left : Option (List ℕ)) (log : Log) (status : ℕ) → log.rules.capacity ≡ judged_capacity log.part options.capacity → IsWellFormed options.skew log.calls.items log.items log.rules.ties.items
+    → GivesOfInput log_view left (Ok log) (log_of options) → IsJudged log.rules log.calls.items log.items status → IsDueOrNone options left status
+judged_due options left log status capacity well read (inl memory) = inl memory
+judged_due options left log status capacity well read (inr (verdict, right, decided, inr failed)) = inr (inl failed)
+judged_due options left log status capacity well read (inr (verdict, right, decided, inl is)) =
+    inr (inr (
+      read.0,
+      read.1,
+      subst (λ due. IsDue options due status) (sym read.2)
+          (log.rules, verdict, record { capacity = capacity; closes = refl; ties = refl }, right, is, hard options.skew log.rules log.calls.items log.items verdict status decided well is),
+    ))
 
 refused_with : (options : Options) (left : Option (List ℕ)) (fault : LogFault) (status : ℕ) (input : List ℕ) → HasInput left input → IsDue options (log_of options input) 2 → (status ≡ 2) ⊎ (status ≡ 3) → IsDueOrNone options left status
 refused_with options left fault status input has due (inl two) = inr (inr (input, has, subst (λ s. IsDue options (log_of options input) s) (sym two) due))

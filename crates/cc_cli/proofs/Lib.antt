@@ -4,6 +4,7 @@ pub mod DriveLine
 pub mod DriveClaims
 pub mod Explained
 pub mod JudgeOptions
+pub mod Hard
 pub mod Judged
 pub mod RefusedClaims
 pub mod Removed

@@ -1,5 +1,5 @@
--- The lines for a person at a terminal, beside the answer: the task that reports the place of a fault, the input that a task waits
--- for, and that a page is for a browser.
+-- The lines for a person at a terminal, beside the answer: the input that a task waits for, and that a page is for a browser; and
+-- the tasks whose refusals are explained there.
 use Rattle.std.specs.Prelude.{ℕ, ◌||◌, Bool, false, List, [], ◌∷◌, codes, if◌then◌else◌}
 use Rattle.std.specs.Str.{bytes_eq}
 
@@ -11,10 +11,6 @@ reads_plan_or_receipts word = bytes_eq word (codes "play") || bytes_eq word (cod
 abbrev pub is_explained : List (List ℕ) → Bool
 is_explained [] = false
 is_explained (task ∷ rest) = reads_plan_or_receipts task
-
--- the line of the hint
-abbrev pub hint_line : List ℕ
-hint_line = codes "ccq: `ccq why INPUT` reports the place of the fault\n"
 
 -- the line of a task that waits for its input
 abbrev pub waits_line : List ℕ → List ℕ

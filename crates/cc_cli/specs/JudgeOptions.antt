@@ -1,6 +1,6 @@
 -- The options of a line of `judge`, which the parser of command lines doesn't see. They are anywhere before the mark `--`, in any
 -- order, each once.
-use Rattle.std.specs.Prelude.{ℕ, ◌==◌, ◌+◌, ◌*◌, ◌-◌, ◌^◌, ◌&&◌, true, false, List, [], ◌∷◌, ◌++◌, codes, if◌then◌else◌, Option, Some, None, Result, Ok, Err, nat_le, nat_lt, is_none, length}
+use Rattle.std.specs.Prelude.{ℕ, ◌==◌, ◌+◌, ◌*◌, ◌-◌, ◌^◌, ◌&&◌, Bool, true, false, List, [], ◌∷◌, ◌++◌, codes, if◌then◌else◌, Option, Some, None, Result, Ok, Err, nat_le, nat_lt, is_none, length}
 use Rattle.std.specs.Str.{bytes_eq}
 use Rattle.std.specs.List.{before_first, after_first, position_or_len}
 use Rattle.cc_log.specs.Options.{no_options}
@@ -28,10 +28,28 @@ with_skew o n = if o.skew == 0
     then (if is_none o.window.until then Ok (record o { skew = n }) else Err OptionFault.UntilBesideSkew)
     else Err (OptionFault.Twice Numbered.Skew)
 
--- the options with a time more until which the log is judged, if none is given yet, and no skew
+-- the log is judged until a time before this one
+abbrev pub ends_before : Option ℕ → (time : ℕ) → Bool
+ends_before None time = false
+ends_before (Some until) time = nat_lt until time
+
+-- the log is judged from a time after this one on
+abbrev pub begins_after : Option ℕ → (time : ℕ) → Bool
+begins_after None time = false
+begins_after (Some from) time = nat_lt time from
+
+-- the options with a time more from which on the log is judged, if none is given yet, and none before it until which it is
+abbrev pub with_from : Options → ℕ → Result Options OptionFault
+with_from o n = if is_none o.window.from
+    then (if ends_before o.window.until n then Err OptionFault.UntilBeforeFrom else Ok (record o { window = record { from = Some n; until = o.window.until } }))
+    else Err (OptionFault.Twice Numbered.From)
+
+-- the options with a time more until which the log is judged, if none is given yet, no skew, and none after it from which on it is
 abbrev pub with_until : Options → ℕ → Result Options OptionFault
 with_until o n = if is_none o.window.until
-    then (if o.skew == 0 then Ok (record o { window = record { from = o.window.from; until = Some n } }) else Err OptionFault.UntilBesideSkew)
+    then (if o.skew == 0
+    then (if begins_after o.window.from n then Err OptionFault.UntilBeforeFrom else Ok (record o { window = record { from = o.window.from; until = Some n } }))
+    else Err OptionFault.UntilBesideSkew)
     else Err (OptionFault.Twice Numbered.Until)
 
 -- the options with a number more: one in its range, of an option that isn't given yet
@@ -39,7 +57,7 @@ abbrev pub with_number : Options → Numbered → Option ℕ → Result Options 
 with_number o option None = Err (OptionFault.Number option)
 with_number o Numbered.Capacity (Some n) = with_capacity o n
 with_number o Numbered.Skew (Some n) = with_skew o n
-with_number o Numbered.From (Some n) = if is_none o.window.from then Ok (record o { window = record { from = Some n; until = o.window.until } }) else Err (OptionFault.Twice Numbered.From)
+with_number o Numbered.From (Some n) = with_from o n
 with_number o Numbered.Until (Some n) = with_until o n
 
 -- the options with that of a page more, if it isn't given yet
@@ -117,4 +135,5 @@ option_line (OptionFault.Number Numbered.Until) = codes "error: --until takes a 
 option_line (OptionFault.Twice Numbered.From) = codes "error: --from is given twice\n\nFor more information, try '--help'.\n"
 option_line (OptionFault.Twice Numbered.Until) = codes "error: --until is given twice\n\nFor more information, try '--help'.\n"
 option_line OptionFault.UntilBesideSkew = codes "error: --until and --skew can't be given together\n\nFor more information, try '--help'.\n"
+option_line OptionFault.UntilBeforeFrom = codes "error: --until comes before --from\n\nFor more information, try '--help'.\n"
 option_line OptionFault.PageTwice = codes "error: --page is given twice\n\nFor more information, try '--help'.\n"

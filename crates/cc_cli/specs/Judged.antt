@@ -1,12 +1,13 @@
 -- The exit status of a judged log.
-use Rattle.std.specs.Prelude.{ℕ, ◌≡◌, ◌⊎◌, List, Option, Result, Ok, Err}
+use Rattle.std.specs.Prelude.{ℕ, ◌≡◌, ◌≢◌, ◌<◌, ◌≤◌, ◌⊎◌, List, [], Option, Some, Result, Ok, Err, slice_get}
+use Rattle.cc_judge.specs.Cuts.{MeetAt}
 use Rattle.cc_judge.specs.Late.{judged_capacity}
-use Rattle.cc_judge.specs.Verdict.{IsVerdict}
+use Rattle.cc_judge.specs.Verdict.{IsDecided, IsVerdict}
 use Rattle.cc_judge.specs.declared.decide.Verdict.{Verdict}
 use Rattle.cc_log.specs.Lines.{HasInput}
 use Rattle.cc_log.specs.Log.{Refusal, Spelled, log_of}
 use Rattle.cc_cli.specs.Failures.{FailsBy}
-use Rattle.cc_cli.specs.Names.{AnswerFault, Call, LogFault, Options, Rules}
+use Rattle.cc_cli.specs.Names.{AnswerFault, Call, LogFault, Options, Rules, Tie}
 
 -- the status of a verdict: clean, a fault, or undecided
 abbrev pub verdict_status : Verdict → ℕ
@@ -29,10 +30,10 @@ abbrev pub failed_writes : Result (Unit {0}) AnswerFault → ℕ
 failed_writes (Ok done) = 0
 failed_writes (Err fault) = failed_by fault
 
--- The status is that of a right verdict on the log, in whatever form this was written, or says that memory was refused or a
--- write failed.
-abbrev pub IsJudged : Rules → List Call → ℕ → Type 0
-IsJudged rules calls status = (status ≡ 3) ⊎ ((verdict : Verdict) × IsVerdict rules calls verdict × ((status ≡ verdict_status verdict) ⊎ (status ≡ 4)))
+-- The status is that of a right verdict on the log, which decides it if it is well-formed, in whatever form this was written; or says
+-- that memory was refused or a write failed.
+abbrev pub IsJudged : Rules → List Call → (items status : ℕ) → Type 0
+IsJudged rules calls items status = (status ≡ 3) ⊎ ((verdict : Verdict) × IsVerdict rules calls verdict × IsDecided rules calls items verdict × ((status ≡ verdict_status verdict) ⊎ (status ≡ 4)))
 
 -- the status if an input is refused
 abbrev pub IsRefused : LogFault → ℕ → Type 0
@@ -46,9 +47,47 @@ pub record HasRules (options : Options) (log : Spelled) (rules : Rules) : Type 0
   pub closes : rules.closes ≡ log.closes
   pub ties : rules.ties.items ≡ log.ties
 
--- the status is that of a right verdict on the log that an input spells, or 2 if the input spells none
+-- a call of the log has a time of 2^62 or more
+pub record HasLongTime (calls : List Call) : Type 0 where
+  pub place : ℕ
+  pub call : Call
+  pub call_is : slice_get calls place ≡ Some call
+  pub long : (4611686018427387904 ≤ call.begin) ⊎ ((end : ℕ) × (call.end ≡ Some end) × (4611686018427387904 ≤ end))
+
+-- of two calls that only their lines order, the later one began before the earlier one ended
+pub record HasOverlap (calls : List Call) (ties : List Tie) : Type 0 where
+  pub i : ℕ
+  pub tie : Tie
+  pub tie_is : slice_get ties i ≡ Some tie
+  pub one : Call
+  pub other : Call
+  pub one_is : slice_get calls tie.earlier ≡ Some one
+  pub other_is : slice_get calls tie.later ≡ Some other
+  pub end : ℕ
+  pub ended : one.end ≡ Some end
+  pub before : other.begin < end
+
+-- two pairs of such calls meet at one time
+pub record MeetAtOnce (calls : List Call) (ties : List Tie) : Type 0 where
+  pub i : ℕ
+  pub j : ℕ
+  pub apart : i ≢ j
+  pub tie : Tie
+  pub other : Tie
+  pub tie_is : slice_get ties i ≡ Some tie
+  pub other_is : slice_get ties j ≡ Some other
+  pub time : ℕ
+  pub met : MeetAt calls tie time
+  pub other_met : MeetAt calls other time
+
+-- Lines alone order calls of the log, of which more than two meet at a time, or two overlap by the skew; or a time is 2^62 or more.
+abbrev pub IsHard : (skew : ℕ) → Rules → List Call → Type 0
+IsHard skew rules calls = (rules.ties.items ≢ []) × (MeetAtOnce calls rules.ties.items ⊎ (((skew ≢ 0) × HasOverlap calls rules.ties.items) ⊎ HasLongTime calls))
+
+-- The status is that of a right verdict on the log that an input spells, or 2 if the input spells none. It is 5, undecided, only if
+-- the log is hard.
 abbrev pub IsDue : Options → Result Spelled Refusal → ℕ → Type 0
-IsDue options (Ok log) status = (rules : Rules) × (verdict : Verdict) × HasRules options log rules × IsVerdict rules log.calls verdict × (status ≡ verdict_status verdict)
+IsDue options (Ok log) status = (rules : Rules) × (verdict : Verdict) × HasRules options log rules × IsVerdict rules log.calls verdict × (status ≡ verdict_status verdict) × (status ≡ 5 → IsHard options.skew rules log.calls)
 IsDue options (Err refusal) status = status ≡ 2
 
 -- the status is due of an input of the source, or it is 3 or 4

@@ -3,6 +3,7 @@ pub use Rattle.cc_audit.specs.declared.receipt.Verdict.{Verdict}
 pub use Rattle.cc_io.specs.declared.input.InputFault.{InputFault}
 pub use Rattle.cc_judge.specs.declared.log.Call.{Call}
 pub use Rattle.cc_judge.specs.declared.log.Rules.{Rules}
+pub use Rattle.cc_judge.specs.declared.log.Tie.{Tie}
 pub use Rattle.cc_plan.specs.declared.fault.PlanFault.{PlanFault}
 pub use Rattle.cc_play.specs.declared.fault.PlayFault.{PlayFault}
 pub use Rattle.cc_show.specs.declared.fault.ShowFault.{ShowFault}

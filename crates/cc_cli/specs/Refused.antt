@@ -3,10 +3,11 @@ use Rattle.std.specs.Prelude.{ℕ, ◌≡◌, ◌+◌, true, false, List, [], �
 use Rattle.clap.specs.Words.{IsAmong, fault_of}
 use Rattle.clap.specs.declared.error.kind.ErrorKind.{ErrorKind}
 use Rattle.cc_drive.specs.declared.config.DriveConfig.{DriveConfig}
+use Rattle.cc_judge.specs.Cuts.{AreShort}
 use Rattle.cc_log.specs.Log.{Spelled}
 use Rattle.cc_cli.specs.Judged.{IsDue, Judges}
 use Rattle.cc_cli.specs.Line.{IsAsked, drive_command}
-use Rattle.cc_cli.specs.Names.{Head, Options}
+use Rattle.cc_cli.specs.Names.{Head, Options, Tie}
 use Rattle.cc_cli.specs.Paint.{due_head, wants_colours}
 use Rattle.cc_cli.specs.Why.{Explains}
 
@@ -17,6 +18,10 @@ Refused claim = claim → ⊥
 pub record RefusedClaims : Type 0 where
   -- a log that its input spells is refused
   pub log_refused : (options : Options) (log : Spelled) → Refused (IsDue options (Ok log) 2)
+  -- a log whose times order its calls is undecided
+  pub always_undecided : (options : Options) (log : Spelled) → log.ties ≡ [] → Refused (IsDue options (Ok log) 5)
+  -- so is a log without a skew and with short times, of which lines alone order two calls
+  pub undecided_by_two : (options : Options) (log : Spelled) (tie : Tie) → options.skew ≡ 0 → AreShort log.calls → log.ties ≡ tie ∷ [] → Refused (IsDue options (Ok log) 5)
   -- a text without colours has a head to mark
   pub marked_without_colours : (text : List ℕ) (head : Head) → Refused (due_head false text ≡ Some head)
   -- a terminal has colours that is dumb, or though NO_COLOR is set

@@ -35,7 +35,7 @@ module _ (errors_old errors_new : Option (List ℕ)) (before after : ℕ) where
 -- a file can't be opened, or there was no memory to report that
 module _ (errors_old errors_new : Option (List ℕ)) (before after status : ℕ) where
   abbrev pub RefusesFile : (name : List ℕ) → Type 0
-  RefusesFile name = ((status ≡ 66) × ((reason : List ℕ) × Told errors_old errors_new before after (unread_line name reason))) ⊎ ((status ≡ 3) × Told errors_old errors_new before after no_memory_line)
+  RefusesFile name = ((status ≡ 64) × ((reason : List ℕ) × Told errors_old errors_new before after (unread_line name reason))) ⊎ ((status ≡ 3) × Told errors_old errors_new before after no_memory_line)
 
 -- The bytes that a line without a task leaves on both outputs, each with its number of failed writes, and the status.
 module _ (old new : Option (List ℕ)) (fails fails_after : ℕ) (errors_old errors_new : Option (List ℕ)) (before after status : ℕ) where

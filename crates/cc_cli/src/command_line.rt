@@ -81,7 +81,7 @@ fn without_tasks<'a>(alloc: Global) -> Result<Command<'a>, AllocError>
 {
     Command::new(alloc, "ccq")
         .about(
-            "Plays plans of CC-Queue, the combining FIFO queue, audits receipts, and judges logs of calls",
+            "Judges the calls on any queue, and runs Vahepito's own, whose algorithm is CC-Queue",
         )
         .version(VERSION)
         .after_help(EXAMPLES_AND_STATUS)
@@ -218,8 +218,7 @@ Exit status:
   3   memory or a thread was refused, or a thread reached its limit
   4   reading or writing failed
   5   the judge is undecided, or a run has too many events to be shown
-  64  the command line is refused
-  66  the file of the input can't be opened";
+  64  the command line is refused, or the file of the input can't be opened";
 
 const PLAY_DETAILS: &str = "\
 A plan is a JSON object with the keys:
@@ -318,7 +317,7 @@ Exit status:
   1   it is, with P1 to P4
   3   memory was refused
   4   reading or writing failed
-  66  the file can't be opened";
+  64  the file can't be opened";
 
 const SHOW_DETAILS: &str = "\
 The page draws the run of a plan event by event, forwards and backwards, and needs no network.

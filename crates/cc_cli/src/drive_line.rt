@@ -82,14 +82,16 @@ fn drive_command<'a>(alloc: Global) -> Result<Command<'a>, AllocError>
             "capacity",
             value_parser!(u32).range(1..=4096),
             "64",
-            "Items that may wait in the queue, 1 to 4096",
+            "1..4096",
+            "Items that may wait in the queue",
         ))?
         .arg(number(
             alloc,
             "bound",
             value_parser!(u32).range(1..=1024),
             "8",
-            "Calls that one combiner serves in a row, 1 to 1024",
+            "1..1024",
+            "Calls that one combiner serves in a row",
         ))
 }
 
@@ -103,7 +105,8 @@ fn with_items<'a>(alloc: Global) -> Result<Command<'a>, AllocError>
         "items",
         value_parser!(u64).range(0..=1_000_000),
         "1000",
-        "Items that each sender sends, 0 to 1000000",
+        "0..1000000",
+        "Items that each sender sends",
     ))
 }
 
@@ -118,14 +121,16 @@ fn with_threads<'a>(alloc: Global) -> Result<Command<'a>, AllocError>
             "senders",
             value_parser!(u32).range(1..=63),
             "4",
-            "Threads that send, 1 to 63",
+            "1..63",
+            "Threads that send",
         ))?
         .arg(number(
             alloc,
             "receivers",
             value_parser!(u32).range(1..=64),
             "4",
-            "Threads that take, 1 to 64",
+            "1..64",
+            "Threads that take",
         ))
 }
 
@@ -142,12 +147,13 @@ fn bare_command<'a>(alloc: Global) -> Result<Command<'a>, AllocError>
         .bin_name("ccq drive")
 }
 
-/// An option that takes a number of this range.
+/// An option that takes a number of this range, which its help and its refusals name.
 fn number<'a>(
     alloc: Global,
     name: &'a str,
     range: ValueParser<'a>,
     default: &'a str,
+    values: &'a str,
     help: &'a str,
 ) -> Arg<'a>
     ensures rule { rule_of result ≡ number name.entry.now range.entry default.entry.now }
@@ -156,7 +162,7 @@ fn number<'a>(
     Arg::new(alloc, name)
         .long(name)
         .action(ArgAction::Set)
-        .value_name("N")
+        .value_name(values)
         .help(help)
         .value_parser(range)
         .default_value(default)

@@ -1,7 +1,7 @@
-//! The lines for a person at a terminal, beside the answer: the task that reports the place of a fault, the input that a task waits
-//! for, and that a page is for a browser.
+//! The lines for a person at a terminal, beside the answer: the input that a task waits for, and that a page is for a browser; and
+//! the tasks whose refusals are explained there.
 ghost use Rattle.std.specs.Prelude.{◌≡◌, ◌<◌, ◌-◌, ◌^◌, map, string_bytes};
-ghost use Rattle.cc_cli.specs.Hint.{hint_line, is_explained, page_line, reads_plan_or_receipts, waits_line};
+ghost use Rattle.cc_cli.specs.Hint.{is_explained, page_line, reads_plan_or_receipts, waits_line};
 ghost use Rattle.cc_io.specs.FaultLine.{Told};
 
 use cc_io::{Sink, told};
@@ -22,20 +22,6 @@ pub fn is_explained(words: &[String]) -> bool
         [task, ..] => reads_plan_or_receipts(task.as_str()),
         [] => false,
     }
-}
-
-/// Names `ccq why` on `errors`, and returns the status 2 of a refused input.
-pub fn hint<E: Sink>(errors: &mut E) -> u8
-    requires { E.write_failures errors.old < 2 ^ 64 - 1 }
-    ensures status { result ≡ 2 }
-    ensures told { Told (E.bytes_written errors.old) (E.bytes_written errors.new)
-        (E.write_failures errors.old) (E.write_failures errors.new) hint_line }
-{
-    told(
-        errors,
-        b"ccq: `ccq why INPUT` reports the place of the fault\n",
-        2,
-    )
 }
 
 /// The line of a task that waits for its input.

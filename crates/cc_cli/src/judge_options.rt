@@ -3,7 +3,7 @@
 ghost use Rattle.std.specs.Prelude.{◌≡◌, ◌<◌, ◌-◌, ◌^◌, map, option_map, slice_get, string_bytes};
 ghost use Rattle.std.specs.Result.{result_map_both};
 ghost use Rattle.cc_io.specs.FaultLine.{Told};
-ghost use Rattle.cc_cli.specs.JudgeOptions.{line_without_options, number_in, option_line, option_named, read_next, read_word, given_or_wrong, with_capacity, with_number, with_page, with_skew, with_until};
+ghost use Rattle.cc_cli.specs.JudgeOptions.{begins_after, ends_before, line_without_options, number_in, option_line, option_named, read_next, read_word, given_or_wrong, with_capacity, with_from, with_number, with_page, with_skew, with_until};
 
 use cc_io::{Sink, told};
 use cc_log::{Options, Window};
@@ -30,6 +30,8 @@ pub enum OptionFault {
     Twice(Numbered),
     /// `--until` and a `--skew` above 0 were given.
     UntilBesideSkew,
+    /// The time of `--until` comes before that of `--from`.
+    UntilBeforeFrom,
     /// `--page` was given before.
     PageTwice,
 }
@@ -96,14 +98,7 @@ fn with_number(
     match option {
         Numbered::Capacity => with_capacity(options, number),
         Numbered::Skew => with_skew(options, number),
-        Numbered::From if options.window.from.is_none() => Ok(Options {
-            window: Window {
-                from: Some(number),
-                ..options.window
-            },
-            ..options
-        }),
-        Numbered::From => Err(OptionFault::Twice(Numbered::From)),
+        Numbered::From => with_from(options, number),
         Numbered::Until => with_until(options, number),
     }
 }
@@ -124,7 +119,46 @@ fn with_skew(options: Options, number: u64) -> Result<Options, OptionFault>
     }
 }
 
-/// The options with a time more until which the log is judged, if none is given yet, and no skew.
+/// Whether the log is judged until a time before this one.
+fn ends_before(until: Option<u64>, time: u64) -> bool
+    ensures { result ≡ ends_before until time }
+{
+    match until {
+        Some(until) => until < time,
+        None => false,
+    }
+}
+
+/// Whether the log is judged from a time after this one on.
+fn begins_after(from: Option<u64>, time: u64) -> bool
+    ensures { result ≡ begins_after from time }
+{
+    match from {
+        Some(from) => time < from,
+        None => false,
+    }
+}
+
+/// The options with a time more from which on the log is judged, if none is given yet, and none before it until which it is.
+fn with_from(options: Options, number: u64) -> Result<Options, OptionFault>
+    ensures { result ≡ with_from options number }
+{
+    if options.window.from.is_some() {
+        return Err(OptionFault::Twice(Numbered::From));
+    }
+    if ends_before(options.window.until, number) {
+        return Err(OptionFault::UntilBeforeFrom);
+    }
+    Ok(Options {
+        window: Window {
+            from: Some(number),
+            ..options.window
+        },
+        ..options
+    })
+}
+
+/// The options with a time more until which the log is judged, if none is given yet, no skew, and none after it from which on it is.
 fn with_until(options: Options, number: u64) -> Result<Options, OptionFault>
     ensures { result ≡ with_until options number }
 {
@@ -133,6 +167,9 @@ fn with_until(options: Options, number: u64) -> Result<Options, OptionFault>
     }
     if options.skew != 0 {
         return Err(OptionFault::UntilBesideSkew);
+    }
+    if begins_after(options.window.from, number) {
+        return Err(OptionFault::UntilBeforeFrom);
     }
     Ok(Options {
         window: Window {
@@ -301,6 +338,9 @@ fn option_line(fault: OptionFault) -> &'static [u8]
         }
         OptionFault::UntilBesideSkew => {
             b"error: --until and --skew can't be given together\n\nFor more information, try '--help'.\n"
+        }
+        OptionFault::UntilBeforeFrom => {
+            b"error: --until comes before --from\n\nFor more information, try '--help'.\n"
         }
         OptionFault::PageTwice => {
             b"error: --page is given twice\n\nFor more information, try '--help'.\n"

@@ -17,7 +17,7 @@ mod judging;
 pub mod paint;
 pub mod reading;
 pub mod run;
-mod why;
+pub mod why;
 mod why_line;
 pub mod words;
 

@@ -106,7 +106,7 @@ fn tell_shown_outcome<S: Reasoned, E: Sink>(
 }
 
 /// Reports that reading the input of this name failed, with the system's reason, and returns the status.
-pub(crate) fn tell_unread<S: Reasoned, E: Sink>(
+pub fn tell_unread<S: Reasoned, E: Sink>(
     alloc: Global,
     errors: &mut E,
     name: &str,
@@ -166,12 +166,12 @@ pub fn decline_file<E: Sink>(alloc: Global, errors: &mut E, name: &[u8], error: 
 {
     match (error.kind(), format!(in alloc; "{error}")) {
         (io::ErrorKind::OutOfMemory, _) | (_, Err(_)) => out_of_memory(errors),
-        (_, Ok(reason)) => tell_reason(errors, name, reason.as_bytes(), 66),
+        (_, Ok(reason)) => tell_reason(errors, name, reason.as_bytes(), 64),
     }
 }
 
-/// Reports why the input of this name can't be opened or read, and returns this status.
-fn tell_reason<E: Sink>(errors: &mut E, name: &[u8], reason: &[u8], status: u8) -> u8
+/// Reports why the input of this name can't be opened or read, or is refused, and returns this status.
+pub(crate) fn tell_reason<E: Sink>(errors: &mut E, name: &[u8], reason: &[u8], status: u8) -> u8
     requires { E.write_failures errors.old < 2 ^ 64 - 1 }
     ensures status { result ≡ status }
     ensures told { Told (E.bytes_written errors.old) (E.bytes_written errors.new)

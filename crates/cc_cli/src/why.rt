@@ -4,7 +4,7 @@ ghost use Rattle.cc_cli.specs.Names.{InputFault};
 ghost use Rattle.cc_cli.specs.Why.{Explains, Found};
 
 use crate::input::Reasoned;
-use crate::reading::tell_unread;
+use crate::reading::{tell_reason, tell_unread};
 use crate::why_line::line_of;
 use cc_io::{InputFault, Sink, Source, out_of_memory, read_input, told, write_bytes};
 use cc_plan::{PlanFault, explain};
@@ -75,5 +75,25 @@ pub fn why_input<R: Source + Reasoned, W: Sink, E: Sink>(
         Ok(answer) => write_answer(&answer, sink, errors),
         Err(InputFault::Read) => tell_unread(alloc, errors, name, source),
         Err(InputFault::NoMemory) => out_of_memory(errors),
+    }
+}
+
+/// Reports at which place the input of this name is refused, as `ccq why` does, and returns the status 2 of a refused input. Nothing is
+/// reported if memory is refused.
+pub fn explain_refusal<E: Sink>(alloc: Global, errors: &mut E, name: &str, input: &[u8]) -> u8
+    requires { E.write_failures errors.old < 2 ^ 64 - 1 }
+    ensures { result ≡ 2 }
+{
+    let Ok(why) = explain(alloc, input) else {
+        return 2;
+    };
+    match line_of(alloc, input, &why) {
+        Ok(line) => tell_reason(
+            errors,
+            name.as_bytes(),
+            line.as_str().trim_end().as_bytes(),
+            2,
+        ),
+        Err(_) => 2,
     }
 }

@@ -5,17 +5,18 @@ mod progress;
 
 ghost use Rattle.std.specs.Prelude.{◌<◌, ◌-◌, ◌^◌};
 
-use cc_cli::hint::{decline_page, hint, is_explained, tell_waiting};
-use cc_cli::input::Input;
+use cc_cli::hint::{decline_page, is_explained, tell_waiting};
+use cc_cli::input::{Input, Reasoned};
 use cc_cli::judge_options::{decline_options, without_options};
 use cc_cli::not_text;
 use cc_cli::paint::{Painter, is_painted, wants_colours};
-use cc_cli::reading::{decline, decline_file};
+use cc_cli::reading::{decline, decline_file, tell_unread};
 use cc_cli::run::run;
+use cc_cli::why::explain_refusal;
 use cc_cli::words::{CommandLine, spelled, waiting_task, without_file, without_form, writes_page};
-use cc_io::{Device, Sink};
+use cc_io::{Device, InputFault, Sink, Source, out_of_memory, read_input};
 use clap::Error;
-use progress::{Counter, Meter};
+use progress::{Behind, Counter, Meter};
 use std::alloc::AllocError;
 use std::env;
 use std::env::VarError;
@@ -27,24 +28,22 @@ use std::thread::Threads;
 
 fn main(rt: HostRuntime) -> ExitCode {
     let is_told = rt.stderr().is_terminal();
-    let mut errors = Painter::new(
-        Device::new(rt.stderr()),
-        Device::new(rt.stderr()),
-        is_told && has_colours(&rt),
+    let meter = if is_told { Meter::new(&rt) } else { None };
+    let mut errors = Behind::new(
+        Painter::new(
+            Device::new(rt.stderr()),
+            Device::new(rt.stderr()),
+            is_told && has_colours(&rt),
+        ),
+        meter.as_ref(),
     );
     let status = match words(&rt) {
         Ok(words) => {
-            let hints = is_told && is_explained(&words);
             let colours = rt.stdout().is_terminal() && is_painted(&words) && has_colours(&rt);
-            let mut sink = Painter::new(
-                Device::new(rt.stdout()),
-                Device::new(rt.stdout()),
-                colours,
-            );
-            match answer(&rt, &rt, words, &mut sink, &mut errors) {
-                2 if hints => hint(&mut Device::new(rt.stderr())),
-                status => status,
-            }
+            let painter = Painter::new(Device::new(rt.stdout()), Device::new(rt.stdout()), colours);
+            let mut sink = Behind::new(painter, meter.as_ref());
+            let gate = Counter::new(meter.as_ref());
+            answer(&rt, &rt, gate, words, &mut sink, &mut errors)
         }
         Err(error) => decline(
             rt.alloc(),
@@ -86,10 +85,11 @@ fn input_name(file: &Option<String>) -> &str {
 }
 
 /// Does a line over the file that it names, or over standard input if it names none, and answers the exit status. The host has the
-/// streams and the clock.
+/// streams and the clock. At a terminal a task says first that it waits for standard input.
 fn answer<R: Threads + Wait + Sync + Files, W: Sink, E: Sink>(
     rt: &R,
     host: &HostRuntime,
+    gate: Counter<'_>,
     words: Vec<String>,
     sink: &mut W,
     errors: &mut E,
@@ -112,65 +112,59 @@ fn answer<R: Threads + Wait + Sync + Files, W: Sink, E: Sink>(
     if host.stdout().is_terminal() && writes_page(line) {
         return decline_page(errors);
     }
-    match &parted.file {
-        None => answer_standard(rt, host, line, sink, errors),
-        Some(name) => answer_file(rt, host, line, name.as_str(), sink, errors),
+    let Some(name) = &parted.file else {
+        tell_what_is_awaited(host, line);
+        let mut source = Input::new(host.stdin());
+        return answer_over(rt, host, gate, line, &mut source, sink, errors);
+    };
+    match File::open(rt, name.as_str()) {
+        Ok(file) => answer_over(rt, host, gate, line, &mut Input::new(file), sink, errors),
+        Err(error) => decline_file(host.alloc(), errors, name.as_bytes(), &error),
     }
 }
 
-/// Does a line over standard input, and answers the exit status. At a terminal it says first what it waits for; a drive that
-/// takes long says how far it is.
-fn answer_standard<R: Threads + Wait + Sync, W: Sink, E: Sink>(
-    rt: &R,
-    host: &HostRuntime,
-    line: CommandLine<'_>,
-    sink: &mut W,
-    errors: &mut E,
-) -> u8
-    requires writes { W.write_failures sink.old < 2 ^ 64 - 1 }
-    requires errors { E.write_failures errors.old < 2 ^ 64 - 1 }
-{
-    let is_told = host.stderr().is_terminal();
-    if is_told && host.stdin().is_terminal() {
+/// Says at a terminal what a line waits for, if a person has to write it.
+fn tell_what_is_awaited(host: &HostRuntime, line: CommandLine<'_>) {
+    if host.stderr().is_terminal() && host.stdin().is_terminal() {
         if let Some(task) = waiting_task(line.words) {
             tell_waiting(&mut Device::new(host.stderr()), task);
         }
     }
-    let meter = if is_told { Meter::new(host) } else { None };
-    let gate = Counter::new(meter.as_ref());
-    let mut source = Input::new(host.stdin());
-    let status = run(rt, host.alloc(), line, gate, &mut source, sink, errors);
-    if let Some(meter) = &meter {
-        meter.finish();
-    }
-    status
 }
 
-/// Does a line over the file of this name, and answers the exit status.
-fn answer_file<R: Threads + Wait + Sync + Files, W: Sink, E: Sink>(
+/// Does a line over an input, and answers the exit status. If standard error is a terminal, the place of the fault follows a
+/// refusal of a plan or of receipts.
+fn answer_over<R: Threads + Wait + Sync, S: Source + Reasoned, W: Sink, E: Sink>(
     rt: &R,
     host: &HostRuntime,
+    gate: Counter<'_>,
     line: CommandLine<'_>,
-    name: &str,
+    source: &mut S,
     sink: &mut W,
     errors: &mut E,
 ) -> u8
+    requires reads { S.read_failures source.old < 2 ^ 64 - 1 }
     requires writes { W.write_failures sink.old < 2 ^ 64 - 1 }
     requires errors { E.write_failures errors.old < 2 ^ 64 - 1 }
 {
-    match File::open(rt, name) {
-        Ok(file) => {
-            let gate = Counter::new(None);
-            run(
-                rt,
-                host.alloc(),
-                line,
-                gate,
-                &mut Input::new(file),
-                sink,
-                errors,
-            )
+    let is_read = waiting_task(line.words).is_some() && is_explained(line.words);
+    if !is_read || !host.stderr().is_terminal() {
+        return run(rt, host.alloc(), line, gate, source, sink, errors);
+    }
+    match read_input(host.alloc(), source) {
+        Ok(input) => {
+            let mut kept = Input::new(input.as_slice());
+            match run(rt, host.alloc(), line, gate, &mut kept, sink, errors) {
+                2 => explain_refusal(
+                    host.alloc(),
+                    &mut Device::new(host.stderr()),
+                    line.input,
+                    &input,
+                ),
+                status => status,
+            }
         }
-        Err(error) => decline_file(host.alloc(), errors, name.as_bytes(), &error),
+        Err(InputFault::Read) => tell_unread(host.alloc(), errors, line.input, source),
+        Err(InputFault::NoMemory) => out_of_memory(errors),
     }
 }

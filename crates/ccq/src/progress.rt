@@ -1,10 +1,12 @@
 //! The progress of a drive, written on standard error for a person at a terminal.
 //!
 //! Each worker's gate counts the answers of its calls, and adds them up in blocks. From the second second on, the worker whose
-//! block is the first in a second writes the line again. No worker waits for another one to do so.
+//! block is the first in a second writes the line again. No worker waits for another one to do so. The line ends before the answer
+//! begins, which is written once all workers are done.
+ghost use Rattle.std.specs.Prelude.{◌≡◌};
 
 use cc_drive::{Gate, Go, Point};
-use cc_io::{Device, Pen};
+use cc_io::{Device, DeviceFault, Pen, Sink};
 use std::sync::atomic::{AtomicU64, Ordering};
 use std::time::Instant;
 
@@ -70,12 +72,46 @@ impl<'a> Meter<'a> {
         let _outcome = pen.finish(&mut errors);
     }
 
-    /// Writes the last line, if there was one before.
-    pub fn finish(&self) {
-        if self.told.load(Ordering::SeqCst) > 0 {
+    /// Writes the last line, if there was one before. No line follows it.
+    fn finish(&self) {
+        let told = self.told.swap(u64::MAX, Ordering::SeqCst);
+        if told > 0 && told < u64::MAX {
             let answers = self.answers.load(Ordering::SeqCst);
             self.tell(answers, self.seconds(), b"  \n");
         }
+    }
+}
+
+/// A sink whose first bytes end the progress.
+#[derive(Drop)]
+pub struct Behind<'a, W> {
+    sink: W,
+    meter: Option<&'a Meter<'a>>,
+}
+
+impl<'a, W: Sink> Behind<'a, W> {
+    /// A sink that writes to this one, and ends the progress of the meter, if there is one.
+    pub fn new(sink: W, meter: Option<&'a Meter<'a>>) -> Behind<'a, W>
+        ensures { result.sink ≡ sink }
+    {
+        Behind { sink, meter }
+    }
+}
+
+impl<W: Sink> Sink for Behind<'_, W> {
+    ghost bytes_written = { λ b. W.bytes_written b.sink };
+
+    ghost write_failures = { λ b. W.write_failures b.sink };
+
+    fn write_some(&mut self, bytes: &[u8]) -> Result<usize, DeviceFault> {
+        if let Some(meter) = self.meter {
+            meter.finish();
+        }
+        self.sink.write_some(bytes)
+    }
+
+    fn failures(&self) -> u64 {
+        self.sink.failures()
     }
 }
 

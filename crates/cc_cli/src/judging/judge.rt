@@ -1,6 +1,6 @@
 //! Judging the log on an input.
 ghost use Rattle.std.specs.Prelude.{◌≡◌, ◌⊎◌, ◌<◌, ◌+◌, ◌-◌, ◌^◌, ◌==◌, IfOk, if◌then◌else◌};
-ghost use Rattle.cc_judge.specs.Verdict.{IsVerdict};
+ghost use Rattle.cc_judge.specs.Verdict.{IsDecided, IsVerdict};
 ghost use Rattle.cc_cli.specs.Judged.{IsJudged, IsRefused, Judges, failed_writes, told_status, verdict_status};
 
 use crate::input::Reasoned;
@@ -34,7 +34,8 @@ fn status_of(verdict: &Verdict) -> u8
 
 /// The verdict on a log, and its line.
 fn verdict_on(alloc: Global, log: &Log) -> Result<Found, AllocError>
-    ensures { IfOk result (λ found. IsVerdict log.now.rules log.now.calls.items found.verdict) }
+    ensures right { IfOk result (λ found. IsVerdict log.now.rules log.now.calls.items found.verdict) }
+    ensures decided { IfOk result (λ found. IsDecided log.now.rules log.now.calls.items log.now.items found.verdict) }
 {
     let verdict = judge(alloc, &log.rules, log.calls.as_slice(), log.items)?;
     let line = text_of(alloc, log, &verdict)?;
@@ -105,7 +106,7 @@ fn tell_written<E: Sink>(errors: &mut E, status: u8, outcome: Result<(), AnswerF
 fn judge_log<W: Sink, E: Sink>(alloc: Global, log: &Log, sink: &mut W, errors: &mut E) -> u8
     requires writes { W.write_failures sink.old < 2 ^ 64 - 1 }
     requires errors { E.write_failures errors.old < 2 ^ 64 - 1 }
-    ensures judged { IsJudged log.now.rules log.now.calls.items result }
+    ensures judged { IsJudged log.now.rules log.now.calls.items log.now.items result }
     ensures failures { W.write_failures sink.new ≡ W.write_failures sink.old + (if result == 4 then 1 else 0) }
 {
     let Ok(found) = verdict_on(alloc, log) else {
@@ -119,7 +120,8 @@ fn judge_log<W: Sink, E: Sink>(alloc: Global, log: &Log, sink: &mut W, errors: &
 /// Reads the log of a line from the source, judges it by the line's options, and writes the verdict to the sink, as a line or as a page. It returns the exit status: 0
 /// if the log is linearizable, 1 if it isn't, 2 if the log is refused, 3 if memory is, 4 if a device fails, and 5 if the
 /// verdict is undecided. A refusal or a failure is reported on `errors`. The status is that of a right verdict on the log that the
-/// input spells, or says that the input spells none. It is 4 exactly if a device failed, as the counts of failures show.
+/// input spells, or says that the input spells none. It is 5 only if lines alone order calls of the log, of which more than two
+/// meet at a time, or some overlap by the skew or have times of 2^62 and more. It is 4 exactly if a device failed, as the counts of failures show.
 pub fn judge_input<R: Source + Reasoned, W: Sink, E: Sink>(
     alloc: Global,
     line: CommandLine<'_>,

@@ -7,7 +7,7 @@ returns-in-Ok g c =
     let reads = g.R.Source.read_failures in
     let fails = g.W.Sink.write_failures in
     record {
-      due = judged_due c.args.line.options (g.R.Source.bytes_left c.args.source.now) c.in-Ok.log c.judge_log.result c.in-Ok.ensures.capacity c.in-Ok.ensures.due c.judge_log.ensures.judged;
+      due = judged_due c.args.line.options (g.R.Source.bytes_left c.args.source.now) c.in-Ok.log c.judge_log.result c.in-Ok.ensures.capacity c.in-Ok.ensures.well c.in-Ok.ensures.due c.judge_log.ensures.judged;
       failures = judged_failures (reads c.args.source.now) (reads c.read_log.new.source) (fails c.args.sink.now) (fails c.judge_log.new.sink) c.judge_log.result c.in-Ok.ensures.failures c.judge_log.ensures.failures;
     }
 
