@@ -48,7 +48,7 @@ shuts_none cfg g (Pass.Receiver r) Call.Take items shut taken all _ is h = absur
 shuts_none cfg g _ _ items shut taken all a is h = absurd is
 
 module _ (h : Record) (e : Entry) (a : Answer) where
-  send_accepted : length h.sends.calls ≡ length h.sends.answers → accepted (noted Chain.Send h (Some e) (Some a)) ≡ accepted h ++ accepted_item e a
+  pub send_accepted : length h.sends.calls ≡ length h.sends.answers → accepted (noted Chain.Send h (Some e) (Some a)) ≡ accepted h ++ accepted_item e a
   send_accepted even =
       let next : slice_get (h.sends.calls ++ e ∷ []) (length h.sends.answers) ≡ Some e = ap (λ (n : ℕ). slice_get (h.sends.calls ++ e ∷ []) n) (sym even) ∙ get_last h.sends.calls e in
       accepted_more (h.sends.calls ++ e ∷ []) h.sends.answers e a next ∙ ap (λ (l : List Item). l ++ accepted_item e a) (accepted_by_calls h.sends.answers h.sends.calls (e ∷ []) even)

@@ -158,7 +158,7 @@ agrees cfg last (e ∷ o) row =
 
 -- ---- no more items than calls
 
-new_few : (s n : ℕ) (call : Call) (a : Answer) → length (new_item s n call a) ≤ 1
+pub new_few : (s n : ℕ) (call : Call) (a : Answer) → length (new_item s n call a) ≤ 1
 new_few s n (Call.Send body) (Answer.Send (SendAnswer.Accepted place)) = omega arith
 new_few s n _ _ = omega arith
 
@@ -173,7 +173,7 @@ add_few : (e : At) (t : Option Answer) (rest : List At) → length (add e t rest
 add_few e None rest = omega arith
 add_few e (Some a) rest = omega arith
 
-outside_few : (last : ℕ) (o : List At) → length (outside last o) ≤ length o
+pub outside_few : (last : ℕ) (o : List At) → length (outside last o) ≤ length o
 outside_few last [] = omega arith
 outside_few last (e ∷ o) = omega (arith, add_few e (reported last e o) (outside last o), outside_few last o)
 

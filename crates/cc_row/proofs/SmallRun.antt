@@ -131,15 +131,15 @@ abbrev walk : State → State → List RowMove → Bool
 walk s t [] = true
 walk s t (m ∷ later) = may_at m s t && (in_order (first_after m s) (second_after m t) && walk (first_after m s) (second_after m t) later)
 
-abbrev onto : List RowMove → List RowMove → List RowMove
+abbrev pub onto : List RowMove → List RowMove → List RowMove
 onto [] seen = seen
 onto (m ∷ later) seen = onto later (m ∷ seen)
 
-record Good (seen : List RowMove) : Type 0 where
-  first : IsRun small_list (moves_at 0 seen)
-  second : IsRun small_list (moves_at 1 seen)
-  others : (q : ℕ) → moves_at (suc (suc q)) seen ≡ []
-  used : IsUsed queues own_name 1 seen
+pub record Good (seen : List RowMove) : Type 0 where
+  pub first : IsRun small_list (moves_at 0 seen)
+  pub second : IsRun small_list (moves_at 1 seen)
+  pub others : (q : ℕ) → moves_at (suc (suc q)) seen ≡ []
+  pub used : IsUsed queues own_name 1 seen
 
 -- by the moves of both queues
 used_by : (m : RowMove) (seen : List RowMove) (a b : List Move) → moves_at 0 (m ∷ seen) ≡ a → moves_at 1 (m ∷ seen) ≡ b → ((q : ℕ) → moves_at (suc (suc q)) (m ∷ seen) ≡ []) → in_order (reached small_list a) (reached small_list b) ≡ true
@@ -207,7 +207,7 @@ module _ (m : RowMove) (seen : List RowMove) (good : Good seen) where
       )
   goes_on (suc (suc q)) at few able orderly = absurd (omega (arith, at, few))
 
-walked : (later seen : List RowMove) → Good seen → walk (reached small_list (moves_at 0 seen)) (reached small_list (moves_at 1 seen)) later ≡ true → Good (onto later seen)
+pub walked : (later seen : List RowMove) → Good seen → walk (reached small_list (moves_at 0 seen)) (reached small_list (moves_at 1 seen)) later ≡ true → Good (onto later seen)
 walked [] seen good is = good
 walked (m ∷ later) seen good is =
     let one = both (may_at m (reached small_list (moves_at 0 seen)) (reached small_list (moves_at 1 seen))) _ is in
@@ -226,10 +226,13 @@ it_walks = refl
 good_run : Good small_run
 good_run = walked oldest_first [] record { first = tt; second = tt; others = λ q. refl; used = tt } it_walks
 
+pub runs_of : (seen : List RowMove) → Good seen → (q : ℕ) → IsRun small_list (moves_at q seen)
+runs_of seen good zero = good.first
+runs_of seen good (suc zero) = good.second
+runs_of seen good (suc (suc q)) = subst (λ (l : List Move). IsRun small_list l) (sym (good.others q)) tt
+
 pub all_runs : (q : ℕ) → IsRun small_list (moves_at q small_run)
-all_runs zero = good_run.first
-all_runs (suc zero) = good_run.second
-all_runs (suc (suc q)) = subst (λ (l : List Move). IsRun small_list l) (sym (good_run.others q)) tt
+all_runs = runs_of small_run good_run
 
 pub small_run_is : SmallRun
 small_run_is = record {

@@ -83,24 +83,24 @@ still_found q p [] earlier found = found
 still_found q p (m ∷ l) earlier found = let has : HasFound small_row q p (with_moves l earlier) = still_found q p l earlier found in record { role = has.role; serves = has.serves; looks = has.looks }
 
 -- what is known after some events
-record Fine (events : List RowEvent) : Type 0 where
-  rules : KeepRules small_row events
-  rest : AllRest events
+pub record Fine (events : List RowEvent) : Type 0 where
+  pub rules : KeepRules small_row events
+  pub rest : AllRest events
 
 -- one call more, of a thread that has found its queue
-one_more : (q p : ℕ) (call : Call) (n : ℕ) (l : List RowMove) (earlier : List RowEvent) → HasFound small_row q p earlier → Fine (with_moves l earlier) → Fine (with_moves (makes q p call n l) earlier)
+pub one_more : (q p : ℕ) (call : Call) (n : ℕ) (l : List RowMove) (earlier : List RowEvent) → HasFound small_row q p earlier → Fine (with_moves l earlier) → Fine (with_moves (makes q p call n l) earlier)
 one_more q p call n l earlier found fine = record { rules = makes_keep q p call n l earlier (still_found q p l earlier found) fine.rules; rest = makes_rest q p call n l earlier fine.rest }
 
-looks : (seat : ℕ) (role : Role) (earlier : List RowEvent) → Fine earlier → Fine (RowEvent.Looks seat role ∷ earlier)
+pub looks : (seat : ℕ) (role : Role) (earlier : List RowEvent) → Fine earlier → Fine (RowEvent.Looks seat role ∷ earlier)
 looks seat role earlier fine = record { rules = (fine.rules, λ q p is. fine.rest q p); rest = fine.rest }
 
-leaves : (seat : ℕ) (earlier : List RowEvent) → Fine earlier → Fine (RowEvent.Leaves seat ∷ earlier)
+pub leaves : (seat : ℕ) (earlier : List RowEvent) → Fine earlier → Fine (RowEvent.Leaves seat ∷ earlier)
 leaves seat earlier fine = record { rules = (fine.rules, λ q p is. fine.rest q p); rest = fine.rest }
 
-abbrev seven : Call
+abbrev pub seven : Call
 seven = Call.Send (body_of (7 ∷ []))
 
-filled : Fine fills_first
+pub filled : Fine fills_first
 filled =
     let found : HasFound small_row 0 0 (RowEvent.Looks 0 Role.Sends ∷ []) = record { role = Role.Sends; serves = tt; looks = refl } in
     one_more 0 0 Call.Close 20 (sends 0 19 (sends 0 27 [])) (RowEvent.Looks 0 Role.Sends ∷ []) found (one_more 0 0 seven 19 (sends 0 27 []) (RowEvent.Looks 0 Role.Sends ∷ []) found (one_more 0 0 seven 27 [] (RowEvent.Looks 0 Role.Sends ∷ []) found

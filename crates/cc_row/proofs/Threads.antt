@@ -26,9 +26,9 @@ use Rattle.cc_row.proofs.Use.{any_prefix, rows_are_linearizable}
 
 -- ---- a chain whose passes have begun no call
 
-record Quiet (c : Setting) (x : Chain) (moves : List Move) : Type 0 where
-  none : calls_on x (history_of c moves) ≡ []
-  idle : (p : ℕ) → chain_of c.config p ≡ x → IsIdle ((reached c moves).stand p).phase
+pub record Quiet (c : Setting) (x : Chain) (moves : List Move) : Type 0 where
+  pub none : calls_on x (history_of c moves) ≡ []
+  pub idle : (p : ℕ) → chain_of c.config p ≡ x → IsIdle ((reached c moves).stand p).phase
 
 pub idle_first : (c : Setting) (p : ℕ) → IsIdle ((reached c []).stand p).phase
 idle_first c p = at_first (nat_lt p (passes c)) _
@@ -40,16 +40,16 @@ idle_first c p = at_first (nat_lt p (passes c)) _
 quiet_first : (c : Setting) (x : Chain) → Quiet c x []
 quiet_first c x = record { none = ap (λ (s : Side). s.calls) (no_calls c.config.groups x); idle = λ p on. idle_first c p }
 
-idle_event : (at : Phase) → IsIdle at → event_at at ≡ Event.Idle
+pub idle_event : (at : Phase) → IsIdle at → event_at at ≡ Event.Idle
 idle_event Phase.Idle is = refl
 idle_event _ is = absurd is
 
-idle_unfinished : (at : Phase) → IsIdle at → IsFinished at → ⊥
+pub idle_unfinished : (at : Phase) → IsIdle at → IsFinished at → ⊥
 idle_unfinished Phase.Idle is ended = ended
 idle_unfinished _ is ended = is
 
 -- one of two chains is the other, or is apart from it
-chains : (x y : Chain) → (y ≡ x) ⊎ IsOther x y
+pub chains : (x y : Chain) → (y ≡ x) ⊎ IsOther x y
 chains Chain.Send Chain.Send = inl refl
 chains Chain.Send (Chain.Take g) = inr tt
 chains (Chain.Take g) Chain.Send = inr tt
@@ -115,23 +115,23 @@ grown c m moves Chain.Send p run is = any_prefix p _ _ (prefixes_begin c (m ∷ 
 grown c m moves (Chain.Take g) p run is = any_prefix p _ _ ((prefixes_begin c (m ∷ []) moves run).1.takes g).answers is
 
 module _ (r : RowSetting) where
-  abbrev c : ℕ → Setting
+  abbrev pub c : ℕ → Setting
   c = r.of
 
-  abbrev names : ℕ → ℕ → ℕ
+  abbrev pub names : ℕ → ℕ → ℕ
   names = r.names
 
-  abbrev Runs : List RowMove → Type 0
+  abbrev pub Runs : List RowMove → Type 0
   Runs moves = (q : ℕ) → IsRun (c q) (moves_at q moves)
 
-  runs_before : (m : RowMove) (earlier : List RowMove) → Runs (m ∷ earlier) → Runs earlier
+  pub runs_before : (m : RowMove) (earlier : List RowMove) → Runs (m ∷ earlier) → Runs earlier
   runs_before m earlier runs q = elim (cases_eq m.at q) [
     | inl is ↦ (subst (λ (l : List Move). IsRun (c q) l) (moves_here m earlier q is) (runs q)).0
     | inr differ ↦ subst (λ (l : List Move). IsRun (c q) l) (moves_else m earlier q differ) (runs q)
   ]
 
   -- the run of the queue that makes a move
-  run_here : (m : RowMove) (earlier : List RowMove) → Runs (m ∷ earlier) → (q : ℕ) → m.at ≡ q → IsRun (c q) (m.move ∷ moves_at q earlier)
+  pub run_here : (m : RowMove) (earlier : List RowMove) → Runs (m ∷ earlier) → (q : ℕ) → m.at ≡ q → IsRun (c q) (m.move ∷ moves_at q earlier)
   run_here m earlier runs q here = subst (λ (l : List Move). IsRun (c q) l) (moves_here m earlier q here) (runs q)
 
   -- what held of a queue's answers holds after one more move
@@ -160,7 +160,7 @@ module _ (r : RowSetting) where
   goes_else : (name other : ℕ) (earlier : List RowEvent) → (other ≡ name → ⊥) → queue_of name (RowEvent.GoesOn other ∷ earlier) ≡ queue_of name earlier
   goes_else name other earlier differ = ap (λ (b : Bool). cond b (suc (queue_of name earlier)) (queue_of name earlier)) (ne_eqb other name differ)
 
-  queue_grows : (name : ℕ) (e : RowEvent) (earlier : List RowEvent) → queue_of name earlier ≤ queue_of name (e ∷ earlier)
+  pub queue_grows : (name : ℕ) (e : RowEvent) (earlier : List RowEvent) → queue_of name earlier ≤ queue_of name (e ∷ earlier)
   queue_grows name (RowEvent.GoesOn other) earlier = elim (cases_eq other name) [
     | inl is ↦ omega (arith, goes_here name other earlier is)
     | inr differ ↦ omega (arith, goes_else name other earlier differ)
@@ -171,7 +171,7 @@ module _ (r : RowSetting) where
   queue_grows name RowEvent.Appends earlier = omega arith
   queue_grows name RowEvent.Closes earlier = omega arith
 
-  last_grows : (e : RowEvent) (earlier : List RowEvent) → last_of earlier ≤ last_of (e ∷ earlier)
+  pub last_grows : (e : RowEvent) (earlier : List RowEvent) → last_of earlier ≤ last_of (e ∷ earlier)
   last_grows RowEvent.Appends earlier = omega arith
   last_grows (RowEvent.Moves m) earlier = omega arith
   last_grows (RowEvent.Looks seat role) earlier = omega arith
@@ -197,14 +197,14 @@ module _ (r : RowSetting) where
 
   -- ---- what threads that keep the rules keep
 
-  record Kept (events : List RowEvent) : Type 0 where
-    shut : (q : ℕ) → q < last_of events → list_any shuts (answers_on Chain.Send (history_of (c q) (moves_there q events))) ≡ true
-    ended : (name q : ℕ) → q < queue_of name events → FoundEnded (c q) (names q) (moves_there q events) name
-    behind : (name : ℕ) → queue_of name events ≤ last_of events
-    looked : (seat : ℕ) (look : Look) → look_of seat events ≡ Some look → look.queue ≤ found_by look.role events
-    busy : (q p : ℕ) → (IsIdle ((reached (c q) (moves_there q events)).stand p).phase → ⊥) → HasFound r q p events
-    no_send : (q : ℕ) → last_of events < q → Quiet (c q) Chain.Send (moves_there q events)
-    no_take : (q g : ℕ) → queue_of (names q g) events < q → Quiet (c q) (Chain.Take g) (moves_there q events)
+  pub record Kept (events : List RowEvent) : Type 0 where
+    pub shut : (q : ℕ) → q < last_of events → list_any shuts (answers_on Chain.Send (history_of (c q) (moves_there q events))) ≡ true
+    pub ended : (name q : ℕ) → q < queue_of name events → FoundEnded (c q) (names q) (moves_there q events) name
+    pub behind : (name : ℕ) → queue_of name events ≤ last_of events
+    pub looked : (seat : ℕ) (look : Look) → look_of seat events ≡ Some look → look.queue ≤ found_by look.role events
+    pub busy : (q p : ℕ) → (IsIdle ((reached (c q) (moves_there q events)).stand p).phase → ⊥) → HasFound r q p events
+    pub no_send : (q : ℕ) → last_of events < q → Quiet (c q) Chain.Send (moves_there q events)
+    pub no_take : (q g : ℕ) → queue_of (names q g) events < q → Quiet (c q) (Chain.Take g) (moves_there q events)
 
   kept_first : Kept []
   kept_first = record {
@@ -402,7 +402,7 @@ module _ (r : RowSetting) where
       by (Move.Step p) run found = (k.busy m.at p (λ idle. run.1.1 (idle_event _ idle)), run.1.0)
       by (Move.Take p) run found = (k.busy m.at p (λ idle. idle_unfinished _ idle run.1.1), run.1.0)
 
-  within : (m : RowMove) (earlier : List RowEvent) → Runs (m ∷ moves_of earlier) → BeginsWhereFound r m.at m.move earlier → Kept earlier → m.at ≤ last_of earlier
+  pub within : (m : RowMove) (earlier : List RowEvent) → Runs (m ∷ moves_of earlier) → BeginsWhereFound r m.at m.move earlier → Kept earlier → m.at ≤ last_of earlier
   within m earlier runs found k = by (chain_of (c m.at).config (pass_of m.move)) (is_reached m.at (pass_of m.move) earlier k (has_found m earlier runs found k).0)
     where
       by : (x : Chain) → IsReached m.at x earlier → m.at ≤ last_of earlier
@@ -410,11 +410,11 @@ module _ (r : RowSetting) where
       by (Chain.Take g) near = omega (arith, near, k.behind (names m.at g))
 
   -- what is kept, and that all moves so far were in order
-  record Good (events : List RowEvent) : Type 0 where
-    kept : Kept events
-    used : (last : ℕ) → last_of events ≤ last → IsUsed c names last (moves_of events)
+  pub record Good (events : List RowEvent) : Type 0 where
+    pub kept : Kept events
+    pub used : (last : ℕ) → last_of events ≤ last → IsUsed c names last (moves_of events)
 
-  good : (events : List RowEvent) → Runs (moves_of events) → KeepRules r events → Good events
+  pub good : (events : List RowEvent) → Runs (moves_of events) → KeepRules r events → Good events
   good [] runs rules = record { kept = kept_first; used = λ last up. tt }
   good (RowEvent.Moves m ∷ earlier) runs rules =
       let before : Good earlier = good earlier (runs_before m (moves_of earlier) runs) rules.0 in
@@ -488,7 +488,7 @@ module _ (r : RowSetting) where
   none_came q p [] earlier lists inside left not = not
   none_came q p (e ∷ after) earlier lists inside left not = none_comes q p e (after ++ earlier) lists inside (left_stays q after earlier left) (none_came q p after earlier lists inside left not)
 
-final_last : (events : List RowEvent) → last_of events ≤ final_of events
+pub final_last : (events : List RowEvent) → last_of events ≤ final_of events
 final_last events = by (is_closed events)
   where
     by : (b : Bool) → last_of events ≤ cond b (last_of events) (suc (last_of events))

@@ -37,7 +37,7 @@ or_none true c = refl
 or_none false true = refl
 or_none false false = refl
 
-abbrev found : Record → ℕ → Bool
+abbrev pub found : Record → ℕ → Bool
 found h g = list_any ends (of_group h g).answers
 
 ends_more : (cfg : Config) (names : ℕ → ℕ → ℕ) (q : ℕ) (h : Record) (o : List At) (x : Chain) (e : Entry) (a : Answer) (s n : ℕ) (g : ℕ) → ((k l : ℕ) → k < cfg.groups → l < cfg.groups → names q k ≡ names q l → k ≡ l) → IsThere cfg x → IsOfChain cfg x e
@@ -62,7 +62,7 @@ ends_more cfg names q h o (Chain.Take y) e a s n g apart there mine exactly size
 none_found : (n g : ℕ) → found (empty n) g ≡ false
 none_found n g = ap (λ (s : Side). list_any ends s.answers) (no_calls n (Chain.Take g))
 
-ended_same : (cfg : ℕ → Config) (names : ℕ → ℕ → ℕ) (apart : AreApart cfg names) (order : List AtQueue) → exact.Exact cfg order → (q g : ℕ) → g < (cfg q).groups → found (exact.after cfg q order) g ≡ ended_at q (names q g) (map (seen names) order)
+pub ended_same : (cfg : ℕ → Config) (names : ℕ → ℕ → ℕ) (apart : AreApart cfg names) (order : List AtQueue) → exact.Exact cfg order → (q g : ℕ) → g < (cfg q).groups → found (exact.after cfg q order) g ≡ ended_at q (names q g) (map (seen names) order)
 ended_same cfg names apart [] ok q g inside = none_found (cfg q).groups g
 ended_same cfg names apart (e ∷ order) ok q g inside = by (ended_same cfg names apart order (exact.exact_before cfg e order ok) q g inside) (cases_eq e.at q)
   where
@@ -98,7 +98,7 @@ has_calls n (d ∷ front) e more inside = calls_grow d.chain e.chain n (replay n
 
 -- ---- parts of exact orders
 
-exact_tail : (cfg : Config) (front l : List Effect) → IsExact cfg (front ++ l) → IsExact cfg l
+pub exact_tail : (cfg : Config) (front l : List Effect) → IsExact cfg (front ++ l) → IsExact cfg l
 exact_tail cfg [] l ok = ok
 exact_tail cfg (e ∷ front) l ok = exact_tail cfg front l ok.0
 
@@ -129,19 +129,19 @@ skip_ended names p k g [] rest differ = refl
 skip_ended names p k g (e ∷ l) rest differ = ended_else (seen names (record { at = p; effect = e })) (map (seen names) (put p l ++ rest)) k g differ ∙ skip_ended names p k g l rest differ
 
 module _ (c : ℕ → Setting) where
-  abbrev cfg : ℕ → Config
+  abbrev pub cfg : ℕ → Config
   cfg q = (c q).config
 
-  abbrev Exacts : (ℕ → List (List Effect)) → Type 0
+  abbrev pub Exacts : (ℕ → List (List Effect)) → Type 0
   Exacts f = (q : ℕ) → IsExact (cfg q) (in_order (f q))
 
-  exacts_cut : (p : ℕ) (f : ℕ → List (List Effect)) → Exacts f → Exacts (cut p f)
+  pub exacts_cut : (p : ℕ) (f : ℕ → List (List Effect)) → Exacts f → Exacts (cut p f)
   exacts_cut p f ok q = elim (cases_eq p q) [
     | inl is ↦ subst (λ (l : List (List Effect)). IsExact (cfg q) (in_order l)) (sym (cut_here f p q is)) (exact_tail (cfg q) (head (f q)) (in_order (tail (f q))) (subst (λ (l : List Effect). IsExact (cfg q) l) (sym (head_tail (f q))) (ok q)))
     | inr differ ↦ subst (λ (l : List (List Effect)). IsExact (cfg q) (in_order l)) (sym (cut_else f p q differ)) (ok q)
   ]
 
-  merged_exact : (moves : List RowMove) (f : ℕ → List (List Effect)) → Each c moves f → Exacts f → exact.Exact cfg (flat (merge moves f))
+  pub merged_exact : (moves : List RowMove) (f : ℕ → List (List Effect)) → Each c moves f → Exacts f → exact.Exact cfg (flat (merge moves f))
   merged_exact moves f each ok q = subst (λ (l : List Effect). IsExact (cfg q) l) (sym (only_merged c moves f each q)) (ok q)
 
   module _ (names : ℕ → ℕ → ℕ) (apart : AreApart cfg names) (m : RowMove) (earlier : List RowMove) (f : ℕ → List (List Effect)) (each : Each c (m ∷ earlier) f) (ok : Exacts f) (used : UsedInOrder c names (m ∷ earlier)) where
@@ -196,7 +196,7 @@ module _ (c : ℕ → Setting) where
         omega (arith, has, prefix_length (calls_on e.chain (replay (cfg m.at).groups (in_order (f m.at)))) (calls_on e.chain (history_of (c m.at) (moves_at m.at (m ∷ earlier)))) (on.calls e.chain)) in
         (now_in_order last within before l (front ++ e ∷ []) (append_assoc front (e ∷ []) l ∙ is), within, starts l e.chain e.entry parts.1 parts.2 some)
 
-  merged_in_order : (names : ℕ → ℕ → ℕ) → AreApart cfg names → (last : ℕ) (moves : List RowMove) (f : ℕ → List (List Effect)) → Each c moves f → Exacts f → IsUsed c names last moves → InOrder names last (flat (merge moves f))
+  pub merged_in_order : (names : ℕ → ℕ → ℕ) → AreApart cfg names → (last : ℕ) (moves : List RowMove) (f : ℕ → List (List Effect)) → Each c moves f → Exacts f → IsUsed c names last moves → InOrder names last (flat (merge moves f))
   merged_in_order names apart last [] f each ok used = tt
   merged_in_order names apart last (m ∷ earlier) f each ok used =
       now_in_order names apart m earlier f each ok used.2 last used.1 (merged_in_order names apart last earlier (cut m.at f) (each_before c m earlier f each) (exacts_cut m.at f ok) used.0) (head (f m.at)) [] refl

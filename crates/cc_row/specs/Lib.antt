@@ -5,6 +5,15 @@ pub mod WrongRows
 pub mod Queues
 pub mod OneQueue
 pub mod Runs
+pub mod Bound
+pub mod BoundQueues
+pub mod WrongBounds
+pub mod SmallBound
 pub mod SmallRun
 pub mod Threads
+pub mod BoundThreads
+pub mod BoundRuns
 pub mod SmallThreads
+pub mod CountedOrders
+pub mod BoundedRuns
+pub mod SmallBoundRun

@@ -7,6 +7,15 @@ ghost use Rattle.cc_row.specs.SmallRows.{SmallRows};
 ghost use Rattle.cc_row.specs.SmallRun.{SmallRun};
 ghost use Rattle.cc_row.specs.WrongRows.{WrongRows};
 ghost use Rattle.cc_row.specs.SmallThreads.{SmallThreads};
+ghost use Rattle.cc_row.specs.Bound.{BoundedRowsAreQueues};
+ghost use Rattle.cc_row.specs.WrongBounds.{WrongBounds};
+ghost use Rattle.cc_row.specs.SmallBound.{SmallBound};
+ghost use Rattle.cc_row.specs.BoundQueues.{BoundedQueuesAreOne};
+ghost use Rattle.cc_row.specs.BoundThreads.{LooksFindFullRows, ThreadsKeepBounds};
+ghost use Rattle.cc_row.specs.BoundRuns.{CountedTakesAreOpen, WaitingSendsHaveRoom};
+ghost use Rattle.cc_row.specs.CountedOrders.{OrdersFollowCounts};
+ghost use Rattle.cc_row.specs.BoundedRuns.{BoundedThreadsAreOne};
+ghost use Rattle.cc_row.specs.SmallBoundRun.{SmallBoundRun};
 ghost use Rattle.cc_row.specs.Threads.{ThreadsMakeRows, LeftQueuesRest};
 
 /// Queues in a row, of which each is used after the one before it was closed, are one queue without a bound.
@@ -49,6 +58,30 @@ pub fn rows_are_linearizable()
     ensures { RowsAreLinearizable }
 {}
 
+/// A row whose sends are let in while all groups are at the last queue, or while fewer items than the bound are in the row, is one queue with
+/// this capacity: no more items are in it, and a send returns Full exactly if as many are.
+pub fn bounded_rows_are_queues()
+    ensures { BoundedRowsAreQueues }
+{}
+
+/// A small row with a bound, with a look that finds it full, and an item that is let in while it is narrow.
+#[tactic(auto, using(crate::proofs::SmallBound::small_bound_is))]
+pub fn small_bound()
+    ensures { SmallBound }
+{}
+
+/// Two wrong rules of the bound: items that are let in though the row is narrow, or by the count of the last queue alone.
+#[tactic(auto, using(crate::proofs::WrongBounds::wrong_bounds))]
+pub fn wrong_bounds_are_refused()
+    ensures { WrongBounds }
+{}
+
+/// A row whose queues each answer exactly as a sequential queue, as the orders of runs do, is one queue with the bound, if items are let in
+/// by the rules.
+pub fn bounded_queues_are_one()
+    ensures { BoundedQueuesAreOne }
+{}
+
 /// A small run of a row, with calls at two queues at once.
 #[tactic(auto, using(crate::proofs::SmallRun::small_run_is))]
 pub fn small_run()
@@ -69,8 +102,48 @@ pub fn left_queues_rest()
     ensures { LeftQueuesRest }
 {}
 
+/// If a look finds as many items accepted as the bound beyond those that some group has taken, of which it finds the number later, then
+/// the row was full when the look began.
+pub fn looks_find_full_rows()
+    ensures { LooksFindFullRows }
+{}
+
+/// Threads whose sends begin where no group is at an earlier queue, or after a look that found room while nobody else sends: at each moment
+/// no more items are in the row than the bound, for each group, by the takes that are counted.
+pub fn threads_keep_bounds()
+    ensures { ThreadsKeepBounds }
+{}
+
+/// While such threads have a group at an earlier queue, the sends that have exchanged and have no answer have room too.
+#[tactic(auto, using(crate::proofs::BoundThreads::waiting_sends_have_room))]
+pub fn waiting_sends_have_room()
+    ensures { WaitingSendsHaveRoom }
+{}
+
+/// At most one take of a group is counted before its answer is decided. This take is an open call at the queue that the group is at.
+pub fn counted_takes_are_open()
+    ensures { CountedTakesAreOpen }
+{}
+
+/// Each run of a queue has an order that keeps real time, in which a take of a queue that is shut takes effect as soon as it is counted.
+pub fn orders_follow_counts()
+    ensures { OrdersFollowCounts }
+{}
+
+/// Threads that keep the rules of a row and of its bound make one queue with this capacity, in every interleaving: the run has an order that
+/// keeps real time, of which each answer is that of a sequential queue, also Full of a queue. Looks that return Full aren't in this order.
+pub fn bounded_threads_are_one()
+    ensures { BoundedThreadsAreOne }
+{}
+
 /// The threads of the small run keep the rules.
 #[tactic(auto, using(crate::proofs::SmallThreads::small_threads_are))]
 pub fn small_threads()
     ensures { SmallThreads }
+{}
+
+/// Threads of a small row keep the rules of the bound. One of their sends is let in by a look while the row is narrow.
+#[tactic(auto, using(crate::proofs::SmallBoundRun::small_bound_run_is))]
+pub fn small_bound_run()
+    ensures { SmallBoundRun }
 {}

@@ -1,0 +1,52 @@
+-- Each wrong rule of the bound lets two items into a row of one place.
+use Rattle.std.proofs.Common.{◌≡◌, ℕ, zero, suc, ◌<◌, Bool, true, inr, refl, arith}
+use Rattle.cc_row.specs.SmallRows.{narrow}
+use Rattle.cc_row.specs.Bound.{IsSlowest, IsQueue, told}
+use Rattle.cc_row.specs.WrongBounds.{crowded, WrongBounds}
+use Rattle.cc_row.proofs.Bound.{bounded_rows}
+
+none : {X : Type 0} (k : ℕ) → k < 0 → X
+none {X} k less = absurd (omega (arith, less))
+
+first : (f : ℕ → Bool) → f 0 ≡ true → (k : ℕ) → k < 1 → f k ≡ true
+first f at zero less = at
+first f at (suc k) less = absurd (omega (arith, less))
+
+nothing : (f : ℕ → ℕ) → f 0 ≡ 0 → IsSlowest 1 f 0
+nothing f is = record { least = λ g inside. omega arith; group = 0; inside = omega arith; is = is }
+
+too_many : IsQueue narrow 1 (told 1 crowded) → ⊥
+too_many q = omega (arith, q.2.2.2, q.2.1.least 0 (omega arith))
+
+pub wrong_bounds : WrongBounds
+wrong_bounds = record {
+  right = λ cfg one groups last order even row life. (bounded_rows cfg one groups last order even row life).0;
+  all_is_none = λ law.
+      too_many (law (λ q. narrow) narrow 1 1 crowded (λ q. refl) (
+        (
+          (tt, omega arith, (λ k less. none k less), tt, (0, nothing _ refl, (refl, (λ is. omega (arith, is)), omega arith, refl))),
+          omega arith,
+          (λ k less. none k less),
+          tt,
+          (0, nothing _ refl, (refl, refl)),
+        ),
+        omega arith,
+        first _ refl,
+        tt,
+        (0, nothing _ refl, (refl, (λ is. omega (arith, is)), omega arith, refl)),
+      ) (omega arith));
+  last_is_none = λ law.
+      too_many (law (λ q. narrow) narrow 1 1 crowded (λ q. refl) (
+        (
+          (tt, omega arith, (λ k less. none k less), inr (λ g inside. omega arith), (0, nothing _ refl, (refl, (λ is. omega (arith, is)), omega arith, refl))),
+          omega arith,
+          (λ k less. none k less),
+          tt,
+          (0, nothing _ refl, (refl, refl)),
+        ),
+        omega arith,
+        first _ refl,
+        inr (λ g inside. omega arith),
+        (0, nothing _ refl, (refl, (λ is. omega (arith, is)), omega arith, refl)),
+      ) (omega arith));
+}
