@@ -1,0 +1,4 @@
+pub mod Line
+pub mod WrongLines
+pub mod Bell
+pub mod WrongBells
