@@ -1,7 +1,7 @@
 #!/bin/bash
 # Tests what stands over the proved static library, with the archives in bindings/rust/lib: the programs in bindings/c by make,
 # the crate in bindings/rust by cargo, also with the feature `unproved`, and a copy of its folder and its package in folders of
-# their own; the first two again under valgrind and the sanitizers. All but the package and the copy is done over the relaxed
+# their own; the first two again under valgrind and the sanitizers. All but the package and the copy is done over the default
 # archive, which is linked if nothing is said, and what threads do again over the strict one. The package in
 # bindings/rust/record, which has no library, is tested too. It needs no rt, writes into a folder of its own, and fetches
 # nothing.
@@ -28,13 +28,13 @@ if ! has make || ! has cc; then
     skip 'the programs in C' 'make or cc is not on this machine'
 else
     done=1
-    make -k -s -C bindings/c "$([ -n "$quick" ] && echo check || echo check-all)" OUT="$room/c" </dev/null || failed=$((failed + 1))
+    make -s -C bindings/c "$([ -n "$quick" ] && echo check || echo check-all)" OUT="$room/c" </dev/null || failed=$((failed + 1))
     # The sanitizers see the programs alone, which are the same; and the searches over interleavings have a model of the library.
     mapfile -t strict < <(make -s -C bindings/c names | tr ' ' '\n' | grep -vxE 'check-(row_)?interleavings')
     strict+=(check-valgrind)
     [ -z "$quick" ] || strict=(check-version check-groups_threads check-hand_over check-waits)
     echo "$tests: C: the same over the strict archive"
-    make -k -s -C bindings/c "${strict[@]}" STRICT=yes OUT="$room/strict" </dev/null || failed=$((failed + 1))
+    make -s -C bindings/c "${strict[@]}" STRICT=yes OUT="$room/strict" </dev/null || failed=$((failed + 1))
 fi
 
 cd bindings/rust || exit 1
@@ -71,9 +71,8 @@ step 'Rust: the pipeline' bash -c "prints '77031 takes 350 steps' cargo ${option
 step 'Rust: the tasks' bash -c "prints 'the sum of the squares up to 10000 is 333383335000' cargo ${options[*]} run --example tasks"
 step 'Rust: the log' bash -c "prints '40000 events in the archive, 4000 alarms' cargo ${options[*]} run --example log"
 for archive in "$room"/c/*/libvahepito.a; do
-    # Beside an archive of another version is a program that says which. In the wider archive only the size of a vahepito_call
-    # differs, which the crate doesn't use.
-    [ -x "$(dirname "$archive")/version" ] && [[ $archive != */wider/* ]] || continue
+    # Beside an archive of another version is a program that says which.
+    [ -x "$(dirname "$archive")/version" ] || continue
     linked=$("$(dirname "$archive")/version" | sed 's/.*library \([0-9]*\),.*/\1/')
     step "Rust: an archive of another version is refused ($linked)" env "VAHEPITO_LINKED=$linked" "VAHEPITO_LIB=$archive" \
         "CARGO_TARGET_DIR=$room/others" cargo "${options[@]}" test --test other_library -- --ignored
@@ -105,7 +104,7 @@ if compgen -G "$registry/futures-core-*" >/dev/null && compgen -G "$registry/fut
 else
     skip 'Rust: streams and sinks' "librust-futures-core-dev or librust-futures-sink-dev is not on this machine"
 fi
-# What the strict archive does the relaxed one may do too. So the memory of the crate's own code is checked over the relaxed one
+# What the strict archive does the default one may do too. So the memory of the crate's own code is checked over the default one
 # alone; the strict archive itself runs under valgrind with the programs in C, above. The examples of the documentation ran with the
 # tests above.
 host=$(rustc -vV | sed -n 's/^host: //p')

@@ -135,7 +135,7 @@ static void begin_model(int pass, enum call call) {
 
 /* ---- the queue beside it */
 
-static vahepito_pass passes[MOST_PASSES];
+static vahepito_handle passes[MOST_PASSES];
 
 /* How often each result occurred: the codes, and turns that served none, and several. */
 static uint32_t codes[VAHEPITO_WIDE + 1], by_others, of_others;

@@ -21,7 +21,7 @@ static const uint64_t LIFE = (uint64_t)1 << 48;
 
 /* The passes of a queue. One sender more than work is there, and does nothing. */
 struct queue {
-    vahepito_pass senders[WORKERS + 1], receivers[WORKERS];
+    vahepito_handle senders[WORKERS + 1], receivers[WORKERS];
 };
 
 static void open_queue(struct queue *queue, uint32_t senders, uint32_t receivers, uint32_t capacity) {
@@ -51,7 +51,7 @@ static int has_its_words(const vahepito_item *item) {
     return item->count == count && memcmp(item->words, words, count * sizeof *words) == 0;
 }
 
-static uint32_t begin_send(vahepito_pass *pass, uint32_t sender, uint32_t number) {
+static uint32_t begin_send(vahepito_handle *pass, uint32_t sender, uint32_t number) {
     uint64_t words[VAHEPITO_MOST_WORDS];
     const size_t count = words_of(sender, number, words);
     return vahepito_begin_send_words(pass, words, count);
@@ -59,20 +59,20 @@ static uint32_t begin_send(vahepito_pass *pass, uint32_t sender, uint32_t number
 
 /* ---- on one thread */
 
-static void gives_up(vahepito_pass *pass) { check(vahepito_drop(pass) == VAHEPITO_DONE && !pass->live, "a call is given up"); }
+static void gives_up(vahepito_handle *pass) { check(vahepito_drop(pass) == VAHEPITO_DONE && !pass->live, "a call is given up"); }
 
-static void begins(vahepito_pass *pass, uint32_t sender, uint32_t number) {
+static void begins(vahepito_handle *pass, uint32_t sender, uint32_t number) {
     check(begin_send(pass, sender, number) == VAHEPITO_BEGUN, "a send is begun");
 }
 
-static void is_accepted(vahepito_pass *pass, uint64_t place, uint32_t serves) {
+static void is_accepted(vahepito_handle *pass, uint64_t place, uint32_t serves) {
     uint64_t number = 99;
     uint32_t served = 99;
     check(vahepito_turn_send(pass, &number, &served) == VAHEPITO_ACCEPTED, "it is accepted");
     check(number == place && served == serves, "at its place, and its turn serves so many");
 }
 
-static void is_got(vahepito_pass *pass, uint64_t place, uint32_t sender, uint32_t number, uint32_t serves) {
+static void is_got(vahepito_handle *pass, uint64_t place, uint32_t sender, uint32_t number, uint32_t serves) {
     vahepito_item item;
     uint64_t total = 99;
     uint32_t served = 99;
@@ -81,7 +81,7 @@ static void is_got(vahepito_pass *pass, uint64_t place, uint32_t sender, uint32_
     check(has_its_words(&item), "with the words that were sent");
 }
 
-static void takes(vahepito_pass *pass, uint64_t place, uint32_t sender, uint32_t number) {
+static void takes(vahepito_handle *pass, uint64_t place, uint32_t sender, uint32_t number) {
     check(vahepito_begin_take(pass) == VAHEPITO_BEGUN, "a take is begun");
     is_got(pass, place, sender, number, 1);
 }
@@ -231,7 +231,7 @@ static void the_judgement_finds_faults(void) {
 
 /* One worker's pass, its answers, and the numbers that it rolls. */
 struct worker {
-    vahepito_pass *pass;
+    vahepito_handle *pass;
     uint32_t sender, count, served_by_others;
     bool waits;
     uint64_t dice;

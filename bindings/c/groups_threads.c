@@ -15,7 +15,7 @@ static const vahepito_config config = {1, IN_EACH, CAPACITY, 8, (uint64_t)1 << 4
 
 /* What is refused, and which of it first. No handle is changed by that. */
 static void refusals(void) {
-    vahepito_pass sender = VAHEPITO_PASS_EMPTY, receivers[RECEIVERS] = {VAHEPITO_PASS_EMPTY};
+    vahepito_handle sender = VAHEPITO_HANDLE_EMPTY, receivers[RECEIVERS] = {VAHEPITO_HANDLE_EMPTY};
     vahepito_config no_sends = config;
     no_sends.per_sender = 0;
     check(vahepito_open_words(&no_sends, 0, 1, &sender, 1, receivers, 0) == VAHEPITO_BAD_PER_SENDER, "groups are looked at last");
@@ -31,7 +31,7 @@ static void refusals(void) {
  * doesn't read the padding of the configuration, which is not 0 here. */
 static void stand_by_groups(uint32_t groups) {
     const size_t count = groups * IN_EACH;
-    vahepito_pass sender = VAHEPITO_PASS_EMPTY, receivers[RECEIVERS] = {VAHEPITO_PASS_EMPTY};
+    vahepito_handle sender = VAHEPITO_HANDLE_EMPTY, receivers[RECEIVERS] = {VAHEPITO_HANDLE_EMPTY};
     vahepito_config same;
     memset(&same, 0xff, sizeof same);
     same.senders = config.senders;
@@ -61,7 +61,7 @@ static void *send_all(void *sender) {
 }
 
 struct reader {
-    vahepito_pass *receiver;
+    vahepito_handle *receiver;
     uint64_t got, total;
     vahepito_word_item items[ITEMS];
 };
@@ -101,7 +101,7 @@ static void audit(const struct reader *group) {
 int main(void) {
     refusals();
     for (uint32_t groups = 1; groups <= GROUPS; groups++) stand_by_groups(groups);
-    vahepito_pass sender = VAHEPITO_PASS_EMPTY, receivers[RECEIVERS] = {VAHEPITO_PASS_EMPTY};
+    vahepito_handle sender = VAHEPITO_HANDLE_EMPTY, receivers[RECEIVERS] = {VAHEPITO_HANDLE_EMPTY};
     check(vahepito_open_words(&config, GROUPS, 1, &sender, 1, receivers, RECEIVERS) == VAHEPITO_DONE, "the queue is opened");
 
     static struct reader readers[RECEIVERS];

@@ -9,9 +9,17 @@
  *
  * In some models a call is begun in one step, and is answered in its next one.
  *
+ * In other models the calls of a side combine, and a call that waits for its answer parks. A call gets its place in the
+ * chain of its side by a locked instruction. The first call of the chain serves itself and those behind it, up to a
+ * bound, and hands over to the next place. Its answers and its hand-over wait in the store buffer of its process. They
+ * leave the buffer at any later time, in their order. A locked instruction, a lock and a futex call wait until the
+ * buffer is empty. A running program looks again after a millisecond; here a call whose wake-up is lost is parked for
+ * good. A call was parked before these models begin: the first one of all may be missed (bindings/WAITS.md).
+ *
  * It ends with status 0 if this holds in each state in which no process makes a step: no process sleeps whose try would find
- * something, and the counts of each line are those of the processes that sleep there; and if no call returns before its answer. With --faults it ends with status 0 if
- * this fails in some state: so the Makefile compiles it with each fault of wait_faults.txt in the code. */
+ * something, the counts of each line are those of the processes that sleep there, and the line for answers isn't marked
+ * PARKED; and if no call returns before its answer. With --faults it ends with status 0 if this fails in some state: so
+ * the Makefile compiles it with each fault of wait_faults.txt in the code. */
 #ifndef _POSIX_C_SOURCE
 #define _POSIX_C_SOURCE 200809L
 #endif
@@ -29,24 +37,29 @@
 #include <unistd.h>
 
 #define __atomic_load_n(place, order) model_load(place)
-#define __atomic_fetch_add(place, by, order) model_add(place, by)
+#define __atomic_exchange_n(place, value, order) model_swap((uint32_t *)(place), (uint32_t)(value))
+#define __atomic_fetch_add(place, by, order) model_add(place, (uint64_t)(by))
+#define __atomic_fetch_sub(place, by, order) model_add(place, -(uint64_t)(by))
+#define __atomic_fetch_or(place, by, order) ((void)(place), (uint32_t)(by)) /* a hint that there was no room */
 #define __atomic_compare_exchange_n(place, old, new, weak, order, other) model_exchange(place, old, new)
 #define __atomic_store_n(place, value, order) model_store(place, (uint64_t)(value))
 #define pthread_mutex_lock(lock) ((void)(lock), model_lock())
 #define pthread_mutex_unlock(lock) ((void)(lock), model_unlock())
 #define syscall model_futex
-/* Calls that wait for their answer or for a place don't park here. They look again after a millisecond, so that none waits in vain. */
-#define __atomic_fetch_sub(place, by, order) model_add(place, 0)
-#define VAHEPITO_SERVED_ROUNDS 1000000
-#define VAHEPITO_ROUNDS 0
-static uint64_t model_load(const void *place);
+/* A call that waits for its answer parks at once in the models whose calls combine, and never in the others. */
+#define VAHEPITO_SERVED_TIME model_served_time()
+#define VAHEPITO_SPIN_TIME 0
+#define VAHEPITO_AHEAD 0
+static uint64_t model_load(const void *place), model_served_time(void);
+static uint32_t model_swap(uint32_t *place, uint32_t value);
 static uint64_t model_add(const void *place, uint64_t by);
 static bool model_exchange(const uint64_t *place, uint64_t *old, uint64_t new);
 static void model_store(const void *place, uint64_t value);
 static int model_lock(void), model_unlock(void);
 #include SOURCE
 
-enum { PROCESSES = 4, GROUPS = 2, LINES = 1 + GROUPS, CALLS = 3, LONGEST = 400 };
+/* The calls that wait for their answer are in one line more, on whose second word they sleep. */
+enum { PROCESSES = 4, GROUPS = 2, LINES = 1 + GROUPS, SERVED, CALLS = 3, LONGEST = 400, STORES = 4 };
 
 /* ---- models */
 
@@ -58,6 +71,7 @@ struct model {
     int capacity, groups, life, wakes_for_nothing;
     bool has_turns; /* whether a call is answered in its second step */
     bool looks; /* whether a send looks at the counts first */
+    uint8_t bound; /* how many calls one serves at most, if they combine; or 0 */
 };
 
 static const struct model *model;
@@ -66,7 +80,7 @@ static const struct model *model;
 
 enum kind {
     DONE, LOAD, ADD, EXCHANGE, SLEEP, WAKE, TRY_SEND, TRY_TAKE, TURN_SEND, TURN_TAKE, CLOSE, LOOK_SENT, LOOK_TAKEN, LOOK_CLOSED, MARK_CLOSED,
-    LOCK, UNLOCK
+    LOCK, UNLOCK, SEAT, COMBINE, TURN_COMBINED, LOAD_WAITING, LOAD_ENDED, SWAP_WAITING, ADD_ENDED
 };
 
 struct step {
@@ -109,18 +123,24 @@ static uint64_t result_of(struct step step) {
 static int line_of(const void *place) {
     const vahepito_internal_line *const line = place;
     if (line == &queue.senders) return 0;
+    if (place == &queue.served.ended) return SERVED;
     return line >= queue.receivers && line < queue.receivers + GROUPS ? 1 + (int)(line - queue.receivers) : LINES;
 }
 
-/* The lines of calls that wait to be served are empty, each seat is free, and the row is not narrow. */
+static uint64_t model_served_time(void) { return model->bound ? 0 : UINT64_MAX; }
+
+/* Each seat is free, and the row is not narrow. */
 static uint64_t model_load(const void *place) {
     const int line = line_of(place);
+    if (model->bound && place == &queue.served.waiting) return result_of((struct step){LOAD_WAITING, 0, 0, 0, false});
+    if (model->bound && place == &queue.served.ended) return result_of((struct step){LOAD_ENDED, 0, 0, 0, false});
     if (place == &queue.is_closed) return result_of((struct step){LOOK_CLOSED, 0, 0, 0, false});
     if (place == &queue.special) return model->looks ? WAS_FULL : 0;
     return line >= LINES ? 0 : result_of((struct step){LOAD, line, 0, 0, false});
 }
 
 static uint64_t model_add(const void *place, uint64_t by) {
+    if (place == &queue.served.ended) return result_of((struct step){ADD_ENDED, 0, by, 0, false});
     return result_of((struct step){ADD, line_of(place), by, 0, false});
 }
 
@@ -129,6 +149,15 @@ static bool model_exchange(const uint64_t *place, uint64_t *old, uint64_t new) {
     const bool is_same = found == *old;
     *old = found;
     return is_same;
+}
+
+/* Of a seat, or of the line of calls that wait for their answer. */
+static uint32_t model_swap(uint32_t *place, uint32_t value) {
+    const uint32_t before = *place;
+    if (place == &queue.served.waiting) return (uint32_t)result_of((struct step){SWAP_WAITING, 0, value, 0, false});
+    if (model->bound) (void)result_of((struct step){SEAT, 0, 0, 0, false});
+    *place = value;
+    return before;
 }
 
 /* Any other store is of a seat, or of the hint that there was no room. */
@@ -156,70 +185,71 @@ long model_futex(long number, ...) {
 /* The library. */
 static bool is_exhausted;
 
-uint32_t vahepito_try_send_words(vahepito_pass *sender, const uint64_t *words, size_t count, uint64_t *place, uint32_t *served) {
+uint32_t vahepito_try_send_words(vahepito_handle *sender, const uint64_t *words, size_t count, uint64_t *place, uint32_t *served) {
     (void)sender, (void)words, (void)count, (void)served;
     *place = 0;
     if (is_exhausted && tries++ > 1) return VAHEPITO_WORN;
+    if (model->bound) (void)result_of((struct step){COMBINE, 0, 0, 0, false});
+    if (model->bound) return (uint32_t)result_of((struct step){TURN_COMBINED, 0, 0, 0, false});
     return (uint32_t)result_of((struct step){TRY_SEND, 0, 0, 0, false});
 }
 
-uint32_t vahepito_try_send(vahepito_pass *sender, uint64_t word, uint64_t *place, uint32_t *served) {
+uint32_t vahepito_try_send(vahepito_handle *sender, uint64_t word, uint64_t *place, uint32_t *served) {
     return vahepito_try_send_words(sender, &word, 1, place, served);
 }
 
-uint64_t vahepito_accepted(vahepito_look *look) {
-    (void)look;
-    return result_of((struct step){LOOK_SENT, 0, 0, 0, false});
+uint32_t vahepito_accepted(vahepito_handle *pass, uint64_t *count) {
+    (void)pass;
+    *count = result_of((struct step){LOOK_SENT, 0, 0, 0, false});
+    return VAHEPITO_DONE;
 }
 
-uint64_t vahepito_taken(vahepito_look *look, uint32_t group) {
-    (void)look;
-    return result_of((struct step){LOOK_TAKEN, (int)group, 0, 0, false});
+uint32_t vahepito_taken(vahepito_handle *pass, uint32_t group, uint64_t *count) {
+    (void)pass;
+    *count = result_of((struct step){LOOK_TAKEN, (int)group, 0, 0, false});
+    return VAHEPITO_DONE;
 }
 
 /* Memory for a further queue is refused. */
-uint32_t vahepito_open_words(const vahepito_config *config, uint32_t groups, uint32_t words, vahepito_pass *senders, size_t sender_count,
-                             vahepito_pass *receivers, size_t receiver_count) {
+uint32_t vahepito_open_words(const vahepito_config *config, uint32_t groups, uint32_t words, vahepito_handle *senders, size_t sender_count,
+                             vahepito_handle *receivers, size_t receiver_count) {
     (void)config, (void)groups, (void)words, (void)senders, (void)sender_count, (void)receivers, (void)receiver_count;
     return VAHEPITO_NO_MEMORY;
 }
 
-uint32_t vahepito_observe(vahepito_pass *pass, vahepito_raw **observer) { return (void)pass, (void)observer, VAHEPITO_NO_MEMORY; }
-uint32_t vahepito_drop(vahepito_pass *pass) { return (void)pass, VAHEPITO_DONE; }
+uint32_t vahepito_drop(vahepito_handle *pass) { return (void)pass, VAHEPITO_DONE; }
 
-#undef vahepito_free
-void vahepito_free(vahepito_raw *raw) { (void)raw; }
-uint32_t vahepito_is_shut(vahepito_look *look) { return (void)look, 0; }
 uint32_t vahepito_version(void) { return VAHEPITO_VERSION; }
 void vahepito_sizes(size_t *config, size_t *pass, size_t *item, size_t *words_item) { (void)config, (void)pass, (void)item, (void)words_item; }
-size_t vahepito_call_size(void) { return 0; }
 
-uint32_t vahepito_try_take_words(vahepito_pass *receiver, vahepito_item *item, uint64_t *total, uint32_t *served) {
+uint32_t vahepito_try_take_words(vahepito_handle *receiver, vahepito_item *item, uint64_t *total, uint32_t *served) {
     (void)receiver, (void)item, (void)served;
     *total = 0;
+    if (model->bound) (void)result_of((struct step){COMBINE, group_of_take, 0, 0, false});
+    if (model->bound) return (uint32_t)result_of((struct step){TURN_COMBINED, group_of_take, 0, 0, false});
     return (uint32_t)result_of((struct step){TRY_TAKE, group_of_take, 0, 0, false});
 }
 
-uint32_t vahepito_try_take(vahepito_pass *receiver, vahepito_word_item *item, uint64_t *total, uint32_t *served) {
+uint32_t vahepito_try_take(vahepito_handle *receiver, vahepito_word_item *item, uint64_t *total, uint32_t *served) {
     memset(item, 0, sizeof *item);
     return vahepito_try_take_words(receiver, NULL, total, served);
 }
 
-uint32_t vahepito_begin_close(vahepito_pass *sender) { return (void)sender, VAHEPITO_BEGUN; }
+uint32_t vahepito_begin_close(vahepito_handle *sender) { return (void)sender, VAHEPITO_BEGUN; }
 
-uint32_t vahepito_turn_close(vahepito_pass *sender, uint64_t *total, uint32_t *served) {
+uint32_t vahepito_turn_close(vahepito_handle *sender, uint64_t *total, uint32_t *served) {
     (void)sender, (void)total, (void)served;
     return (uint32_t)result_of((struct step){CLOSE, 0, 0, 0, false});
 }
 
-uint32_t vahepito_turn_send(vahepito_pass *sender, uint64_t *place, uint32_t *served) {
+uint32_t vahepito_turn_send(vahepito_handle *sender, uint64_t *place, uint32_t *served) {
     (void)sender, (void)place, (void)served;
-    return (uint32_t)result_of((struct step){TURN_SEND, 0, 0, 0, false});
+    return (uint32_t)result_of((struct step){model->bound ? TURN_COMBINED : TURN_SEND, 0, 0, 0, false});
 }
 
-uint32_t vahepito_turn_take_words(vahepito_pass *receiver, vahepito_item *item, uint64_t *total, uint32_t *served) {
+uint32_t vahepito_turn_take_words(vahepito_handle *receiver, vahepito_item *item, uint64_t *total, uint32_t *served) {
     (void)receiver, (void)item, (void)total, (void)served;
-    return (uint32_t)result_of((struct step){TURN_TAKE, group_of_take, 0, 0, false});
+    return (uint32_t)result_of((struct step){model->bound ? TURN_COMBINED : TURN_TAKE, group_of_take, 0, 0, false});
 }
 
 /* The queue as each call finds it: what is a model's state isn't in it. */
@@ -236,7 +266,7 @@ static void reset(void) {
 
 /* The code of the call. */
 static uint32_t make_call(char call) {
-    static const struct timespec some_time = {1, 0};
+    static const struct timespec some_time = {(time_t)1 << 40, 0}; /* it has not come */
     static const uint64_t words[2] = {1, 2};
     vahepito_item items[2];
     reset();
@@ -248,7 +278,7 @@ static uint32_t make_call(char call) {
     case 'S': return vahepito_send_until(&queue, 1, &some_time, NULL);
     case 'm': return vahepito_send_now(&queue, 1, NULL);
     case 'b': return vahepito_send_many(&queue, words, 2, NULL, NULL);
-    case 'e': return vahepito_internal_notify_items(&queue, 1), vahepito_internal_attempt_send(&(vahepito_internal_send_request){&queue, words, 1, 0, 0});
+    case 'e': return vahepito_internal_notify_items(&queue), vahepito_internal_attempt_send(&(vahepito_internal_send_request){&queue, words, 1, 0, 0});
     case 't': case 'u': return vahepito_take(&queue, (uint32_t)group_of_take, NULL, NULL);
     case 'T': case 'U': return vahepito_take_until(&queue, (uint32_t)group_of_take, NULL, &some_time, NULL);
     case 'n': return vahepito_take_now(&queue, 1, NULL, NULL);
@@ -299,6 +329,14 @@ static uint32_t node_after(uint32_t node, uint64_t result, uint64_t *code) {
 
 enum sleep { AWAKE, ASLEEP, WOKEN };
 
+/* A call in a chain: it waits, it has to serve, or it has this code and more. */
+enum { NO_CALL, WAITS, SERVES, ANSWERED };
+
+/* A store that is in no other process's sight: what a call has. */
+struct store {
+    uint8_t process, has;
+};
+
 struct state {
     uint64_t counts[LINES];
     uint32_t nodes[PROCESSES];
@@ -306,7 +344,14 @@ struct state {
     uint8_t sent, taken[GROUPS], closed, is_marked;
     bool is_unanswered; /* a call returned before its answer */
     uint8_t has_lock; /* which process, from 1 */
+    /* What the call of each process has; and of each side, in order, the processes, from 1, whose calls aren't served. */
+    uint8_t has[PROCESSES], chains[1 + GROUPS][PROCESSES];
+    uint8_t waiting, ended; /* of the line of calls that wait for their answer */
+    struct store buffers[PROCESSES][STORES];
+    uint8_t padding[6];
 };
+
+_Static_assert(sizeof(struct state) % 8 == 0, "its hash is of words");
 
 static struct state *states, *left;
 static size_t state_count, state_room, left_count, left_room;
@@ -367,6 +412,54 @@ static uint32_t try_take(struct state *state, int group) {
     return VAHEPITO_GOT;
 }
 
+static bool is_buffered(const struct state *state, int process) { return state->buffers[process][0].has != NO_CALL; }
+
+/* The oldest store of this process leaves its buffer. */
+static void write_first(struct state *state, int process) {
+    struct store *const buffer = state->buffers[process];
+    state->has[buffer->process] = buffer->has;
+    memmove(buffer, buffer + 1, (STORES - 1) * sizeof *buffer);
+    buffer[STORES - 1] = (struct store){0, NO_CALL};
+}
+
+static void store(struct state *state, int process, uint8_t other, uint8_t has) {
+    struct store *place = state->buffers[process];
+    while (place->has != NO_CALL) place++;
+    *place = (struct store){other, has};
+}
+
+/* The call of this process gets its place in the chain of this side. The first one has to serve. */
+static void combine(struct state *state, int process, int side) {
+    uint8_t *place = state->chains[side];
+    state->has[process] = *place == 0 ? SERVES : WAITS;
+    while (*place != 0) place++;
+    *place = (uint8_t)(process + 1);
+}
+
+/* The call of this process serves itself and those behind it, and hands over. Its own code is returned. */
+static uint32_t serve(struct state *state, int process, int side) {
+    uint8_t *const chain = state->chains[side];
+    uint32_t own = 0;
+    for (int served = 0; chain[0] != 0 && served < model->bound; served++) {
+        const int other = chain[0] - 1;
+        const uint32_t code = side == 0 ? try_send(state) : try_take(state, side);
+        memmove(chain, chain + 1, PROCESSES - 1);
+        chain[PROCESSES - 1] = 0;
+        if (other == process) own = code, state->has[process] = NO_CALL;
+        else store(state, process, (uint8_t)other, (uint8_t)(ANSWERED + code));
+    }
+    if (chain[0] != 0) store(state, process, (uint8_t)(chain[0] - 1), SERVES);
+    return own;
+}
+
+static uint32_t turn(struct state *state, int process, int side) {
+    const uint8_t has = state->has[process];
+    if (has == WAITS) return VAHEPITO_WAITING;
+    if (has == SERVES) return serve(state, process, side);
+    state->has[process] = NO_CALL;
+    return has - ANSWERED;
+}
+
 static void advance(struct state state, int process, uint64_t result) {
     uint64_t code = VAHEPITO_DONE;
     state.sleeps[process] = AWAKE;
@@ -391,9 +484,28 @@ static void search_after(const struct state *state, int process) {
     const struct step step = nodes[state->nodes[process]].step;
     struct state next = *state;
     uint64_t *const counts = &next.counts[step.line % LINES];
-    const uint64_t before = *counts;
+    const uint64_t before = step.line == SERVED ? state->ended : *counts;
+    const bool loads = step.kind == LOAD || step.kind == LOAD_WAITING || step.kind == LOAD_ENDED;
+    const bool is_plain = loads || step.kind == DONE || step.kind == TURN_COMBINED;
+    if (is_buffered(state, process)) {
+        write_first(&next, process);
+        reach(&next);
+        if (!is_plain) return;
+        next = *state;
+    }
     switch (step.kind) {
     case DONE: break;
+    case SEAT: advance(next, process, 0); break;
+    case COMBINE: combine(&next, process, step.line), advance(next, process, 0); break;
+    case TURN_COMBINED: {
+        const uint32_t code = turn(&next, process, step.line);
+        advance(next, process, code);
+        break;
+    }
+    case LOAD_WAITING: advance(next, process, state->waiting); break;
+    case LOAD_ENDED: advance(next, process, state->ended); break;
+    case SWAP_WAITING: next.waiting = (uint8_t)step.value, advance(next, process, 0); break;
+    case ADD_ENDED: next.ended += (uint8_t)step.value, advance(next, process, 0); break;
     case LOAD: advance(next, process, before); break;
     case ADD: *counts += step.value, advance(next, process, 0); break;
     case EXCHANGE:
@@ -404,7 +516,7 @@ static void search_after(const struct state *state, int process) {
         break;
     case SLEEP:
         if (state->sleeps[process] == ASLEEP) {
-            if (step.has_time) advance(next, process, ETIMEDOUT);
+            if (step.has_time && step.line != SERVED) advance(next, process, ETIMEDOUT);
             if (state->woken_for_nothing[process] < model->wakes_for_nothing) next.woken_for_nothing[process]++, advance(next, process, 0);
         } else if (state->sleeps[process] == WOKEN || (uint32_t)before != (uint32_t)step.value) {
             advance(next, process, 0);
@@ -449,20 +561,23 @@ static void search_after(const struct state *state, int process) {
     }
 }
 
-/* Whether a call returned before its answer; or no process makes a step, though the try of a process that sleeps would find something, or the counts of a line aren't the number of
- * those that sleep there. */
+/* Whether a call returned before its answer; or no process makes a step, though the try of a process that sleeps would
+ * find something, or the counts of a line aren't the number of those that sleep there, or PARKED is left. */
 static bool is_wrong(const struct state *state) {
     uint64_t sleeping[LINES] = {0};
     bool is_missed = false;
     if (state->is_unanswered) return true;
     for (int process = 0; process < PROCESSES; process++) {
         const struct step *step = &nodes[state->nodes[process]].step;
+        if (is_buffered(state, process)) return false;
         if (step->kind == DONE) continue;
         if (state->sleeps[process] != ASLEEP) return false;
+        is_missed |= step->line == SERVED && state->has[process] != WAITS;
+        if (step->line == SERVED) continue;
         sleeping[step->line] += VAHEPITO_INTERNAL_ONE_WAITING;
         is_missed |= state->closed || (step->line == 0 ? room(state) > 0 : state->taken[step->line - 1] < state->sent);
     }
-    return is_missed || memcmp(sleeping, state->counts, sizeof sleeping) != 0;
+    return is_missed || state->waiting == PARKED || memcmp(sleeping, state->counts, sizeof sleeping) != 0;
 }
 
 /* Searches all states of a model. Returns whether one is wrong. */
@@ -479,6 +594,7 @@ static bool search(const struct model *it) {
         for (int call = 0; it->calls[process][call]; call++) first_nodes[process][call] = add_node(process, call, 0, 0);
         start.nodes[process] = first_nodes[process][0];
     }
+    start.waiting = it->bound ? WAS_USED : 0;
     reach(&start);
     while (left_count > 0) {
         const struct state state = left[--left_count];
@@ -490,24 +606,32 @@ static bool search(const struct model *it) {
 
 /* By the number of their states: so most faults are found soon. */
 static const struct model models[] = {
-    {{"t", "s", "", ""}, 1, 1, 9, 1, false, false}, {{"T", "s", "s", ""}, 2, 1, 9, 1, false, false}, {{"t", "c", "s", ""}, 1, 1, 9, 0, true, false},
-    {{"t", "u", "s", ""}, 1, 2, 9, 0, false, false}, {{"k", "s", "s", ""}, 2, 1, 9, 0, false, true}, {{"tt", "ss", "", ""}, 1, 1, 9, 1, false, false},
-    {{"t", "t", "b", ""}, 2, 1, 9, 0, false, false}, {{"ms", "s", "s", "t"}, 1, 1, 1, 0, false, false}, {{"tt", "s", "s", ""}, 1, 1, 9, 0, false, false},
-    {{"ms", "s", "c", ""}, 1, 1, 9, 0, false, false}, {{"tt", "s", "s", ""}, 1, 1, 9, 0, true, false}, {{"bs", "s", "k", ""}, 2, 1, 9, 0, false, false},
-    {{"t", "t", "ss", ""}, 2, 1, 9, 0, false, false}, {{"tt", "s", "s", ""}, 1, 1, 9, 0, false, true}, {{"t", "T", "s", "n"}, 2, 1, 9, 0, false, false},
-    {{"ms", "s", "c", ""}, 1, 1, 9, 0, false, true}, {{"t", "t", "sc", ""}, 2, 1, 9, 0, false, false}, {{"c", "ss", "s", ""}, 1, 1, 9, 0, false, true},
-    {{"k", "s", "b", ""}, 1, 1, 9, 0, false, false}, {{"t", "T", "ss", ""}, 2, 1, 9, 0, false, false}, {{"t", "t", "ss", ""}, 1, 1, 9, 0, true, false},
-    {{"t", "t", "b", "s"}, 3, 1, 9, 0, false, false}, {{"tt", "w", "ss", ""}, 1, 1, 9, 0, false, false}, {{"t", "t", "s", "s"}, 2, 1, 9, 0, false, false},
-    {{"t", "t", "c", "s"}, 1, 1, 9, 0, false, false}, {{"tc", "ss", "S", ""}, 1, 1, 9, 0, false, false}, {{"k", "t", "b", ""}, 1, 1, 9, 0, false, false},
-    {{"tt", "S", "ss", ""}, 1, 1, 9, 0, false, false}, {{"tt", "uu", "ss", ""}, 1, 2, 9, 0, false, false}, {{"t", "T", "b", ""}, 1, 1, 9, 0, false, true},
-    {{"t", "U", "u", "s"}, 1, 2, 9, 0, false, false}, {{"tt", "u", "ss", ""}, 1, 2, 9, 1, false, false}, {{"tt", "uu", "ss", ""}, 1, 2, 9, 0, false, true},
-    {{"c", "ss", "s", "t"}, 1, 1, 9, 0, false, false}, {{"tt", "S", "ss", ""}, 1, 1, 9, 0, false, true}, {{"t", "T", "T", "s"}, 2, 1, 9, 0, false, false},
-    {{"tt", "w", "s", "s"}, 1, 1, 9, 0, false, false},
+    {{"s", "s", "", ""}, 2, 1, 9, 1, false, false, 1}, {{"s", "s", "", ""}, 2, 1, 9, 1, false, false, 2},
+    {{"mm", "m", "", ""}, 3, 1, 9, 0, false, false, 2}, {{"t", "s", "", ""}, 1, 1, 9, 1, false, false, 0},
+    {{"T", "s", "s", ""}, 2, 1, 9, 1, false, false, 0}, {{"t", "c", "s", ""}, 1, 1, 9, 0, true, false, 0},
+    {{"t", "u", "s", ""}, 1, 2, 9, 0, false, false, 0}, {{"k", "s", "s", ""}, 2, 1, 9, 0, false, true, 0},
+    {{"tt", "ss", "", ""}, 1, 1, 9, 1, false, false, 0}, {{"t", "t", "b", ""}, 2, 1, 9, 0, false, false, 0},
+    {{"ms", "s", "s", "t"}, 1, 1, 1, 0, false, false, 0}, {{"tt", "s", "s", ""}, 1, 1, 9, 0, false, false, 0},
+    {{"ms", "s", "c", ""}, 1, 1, 9, 0, false, false, 0}, {{"tt", "s", "s", ""}, 1, 1, 9, 0, true, false, 0},
+    {{"t", "t", "ss", ""}, 2, 1, 9, 0, false, false, 0}, {{"tt", "s", "s", ""}, 1, 1, 9, 0, false, true, 0},
+    {{"t", "T", "s", "n"}, 2, 1, 9, 0, false, false, 0}, {{"ms", "s", "c", ""}, 1, 1, 9, 0, false, true, 0},
+    {{"t", "t", "sc", ""}, 2, 1, 9, 0, false, false, 0}, {{"c", "ss", "s", ""}, 1, 1, 9, 0, false, true, 0},
+    {{"t", "T", "ss", ""}, 2, 1, 9, 0, false, false, 0}, {{"t", "t", "ss", ""}, 1, 1, 9, 0, true, false, 0},
+    {{"m", "m", "m", ""}, 3, 1, 9, 0, false, false, 3}, {{"m", "m", "m", ""}, 3, 1, 9, 0, false, false, 1},
+    {{"bs", "s", "k", ""}, 2, 1, 9, 0, false, false, 0}, {{"k", "s", "b", ""}, 1, 1, 9, 0, false, false, 0},
+    {{"t", "t", "b", "s"}, 3, 1, 9, 0, false, false, 0}, {{"tt", "w", "ss", ""}, 1, 1, 9, 0, false, false, 0},
+    {{"t", "t", "s", "s"}, 2, 1, 9, 0, false, false, 0}, {{"t", "t", "c", "s"}, 1, 1, 9, 0, false, false, 0},
+    {{"tc", "ss", "S", ""}, 1, 1, 9, 0, false, false, 0}, {{"k", "t", "b", ""}, 1, 1, 9, 0, false, false, 0},
+    {{"tt", "S", "ss", ""}, 1, 1, 9, 0, false, false, 0}, {{"tt", "uu", "ss", ""}, 1, 2, 9, 0, false, false, 0},
+    {{"t", "T", "b", ""}, 1, 1, 9, 0, false, true, 0}, {{"t", "U", "u", "s"}, 1, 2, 9, 0, false, false, 0},
+    {{"tt", "u", "ss", ""}, 1, 2, 9, 1, false, false, 0}, {{"tt", "uu", "ss", ""}, 1, 2, 9, 0, false, true, 0},
+    {{"c", "ss", "s", "t"}, 1, 1, 9, 0, false, false, 0}, {{"tt", "S", "ss", ""}, 1, 1, 9, 0, false, true, 0},
+    {{"t", "T", "T", "s"}, 2, 1, 9, 0, false, false, 0}, {{"tt", "w", "s", "s"}, 1, 1, 9, 0, false, false, 0},
 };
 
 int main(int count, char **words) {
     const bool faults = count > 1 && strcmp(words[1], "--faults") == 0;
-    const struct model early = {{"t", "e", "", ""}, 1, 1, 9, 0, false, false};
+    const struct model early = {{"t", "e", "", ""}, 1, 1, 9, 0, false, false, 0};
     size_t all = 0;
     bool found = false;
     for (size_t at = 0; at < sizeof models / sizeof *models && !found; at++) {

@@ -2,8 +2,8 @@
  * allocations is counted and can be refused.
  *
  * An opening that is refused memory says so, whichever of its allocations that is, leaves the handles empty and keeps
- * nothing. No later call takes memory, but one for an observer, and a send of vahepito.h that needs a further queue. The last handle or
- * observer frees all, and none before it frees the queue. Of a queue behind one pointer vahepito_free does, and nothing else frees or takes any. */
+ * nothing. No later call takes memory, but a send of vahepito.h that needs a further queue. The last handle frees all, and none before it
+ * frees the queue. */
 #include "handles.h"
 
 #include <errno.h>
@@ -63,7 +63,7 @@ static void check(int holds, const char *what) {
 enum { SENDERS = 2, RECEIVERS = 3, MOST_GROUPS = 2, MOST_PASSES = SENDERS + MOST_GROUPS * RECEIVERS };
 
 /* One receiver of each group takes: the take returns this code and total, and an item has this body. */
-static void take_in_each(uint32_t groups, vahepito_pass *receivers, int k, uint32_t code, uint64_t body, uint64_t total) {
+static void take_in_each(uint32_t groups, vahepito_handle *receivers, int k, uint32_t code, uint64_t body, uint64_t total) {
     for (uint32_t g = 0; g < groups; g++) {
         uint64_t number = 0;
         uint32_t served = 0;
@@ -75,7 +75,7 @@ static void take_in_each(uint32_t groups, vahepito_pass *receivers, int k, uint3
 }
 
 /* Every call of an open queue, with each answer. */
-static void call_all(uint32_t groups, vahepito_pass *senders, vahepito_pass *receivers) {
+static void call_all(uint32_t groups, vahepito_handle *senders, vahepito_handle *receivers) {
     const uint64_t words[] = {8, 9};
     uint64_t number = 0;
     uint32_t served = 0;
@@ -104,7 +104,7 @@ static void call_all(uint32_t groups, vahepito_pass *senders, vahepito_pass *rec
 }
 
 /* Opens a queue of this number of groups. */
-static uint32_t open_queue(uint32_t groups, vahepito_pass *senders, vahepito_pass *receivers) {
+static uint32_t open_queue(uint32_t groups, vahepito_handle *senders, vahepito_handle *receivers) {
     /* of the life and of each sender's sends as many as call_all wants, so that both end in it */
     const vahepito_config config = {SENDERS, RECEIVERS, 2, 8, 3, 3};
     return vahepito_open_words(&config, groups, 1, senders, SENDERS, receivers, groups * RECEIVERS);
@@ -113,8 +113,8 @@ static uint32_t open_queue(uint32_t groups, vahepito_pass *senders, vahepito_pas
 /* A queue of this number of groups, from its opening to the drop of its last handle. */
 static void use_queue(uint32_t groups) {
     const uint32_t count = SENDERS + groups * RECEIVERS;
-    vahepito_pass passes[MOST_PASSES] = {VAHEPITO_PASS_EMPTY};
-    vahepito_pass *senders = passes, *receivers = passes + SENDERS;
+    vahepito_handle passes[MOST_PASSES] = {VAHEPITO_HANDLE_EMPTY};
+    vahepito_handle *senders = passes, *receivers = passes + SENDERS;
     uint32_t code;
     for (refused = 1;; refused++) {
         asked = 0;
@@ -133,12 +133,13 @@ static void use_queue(uint32_t groups) {
     check(vahepito_begin_take(&receivers[2]) == VAHEPITO_BEGUN, "begun");
     check(asked == opening && blocks == kept, "no call takes memory or frees any");
 
-    vahepito_look look = {(vahepito_raw *)passes};
-    refused = asked + 1;
-    check(vahepito_observe(&senders[0], &look.queue) == VAHEPITO_NO_MEMORY && !look.queue && blocks == kept, "want of memory is told");
+    uint64_t accepted = 0, taken = 0, shut = 0;
+    check(vahepito_accepted(&senders[0], &accepted) == VAHEPITO_DONE && accepted == 3, "three are accepted");
+    check(vahepito_taken(&receivers[0], 1, &taken) == VAHEPITO_DONE && taken == 3, "and taken");
+    check(vahepito_is_shut(&senders[1], &shut) == VAHEPITO_DONE && shut == 1, "it is shut");
+    check(vahepito_accepted(&receivers[2], &accepted) == VAHEPITO_BUSY && accepted == 0, "a pass with a call doesn't look");
+    check(asked == opening && blocks == kept, "no look takes memory or frees any");
     refused = 0;
-    const int is_observed = groups == MOST_GROUPS;
-    if (is_observed) check(vahepito_observe(&receivers[2], &look.queue) == VAHEPITO_DONE && blocks > kept, "an observer takes memory");
 
     /* One of them has a call that was begun. */
     const long last = asked;
@@ -146,57 +147,8 @@ static void use_queue(uint32_t groups) {
         check(blocks > 0, "the queue is there as long as a handle is");
         check(vahepito_drop(&passes[k]) == VAHEPITO_DONE && !passes[k].live, "a pass is let go");
     }
-    if (is_observed) {
-        check(vahepito_accepted(&look) == 3 && vahepito_taken(&look, 2) == 3 && vahepito_is_shut(&look) == 1, "the queue is there as long as an observer is");
-        vahepito_free(look.queue);
-    }
-    check(asked == last, "no drop and no look takes memory");
-    check(blocks == 0, "the last handle or observer frees the queue");
-}
-
-/* A queue behind one pointer: its calls with each answer, by two callers. */
-static void call_by_pointer(vahepito_raw *queue, uint32_t groups) {
-    vahepito_call one = VAHEPITO_CALL(queue), other = VAHEPITO_CALL(queue);
-    const uint64_t words[2] = {7, 8};
-    vahepito_item item = {0};
-    uint64_t number = 0;
-    check(vahepito_call_take(&one, 1, &item, &number) == VAHEPITO_EMPTY, "empty");
-    check(vahepito_call_send(&one, words, 2, &number) == VAHEPITO_ACCEPTED && number == 0, "accepted");
-    check(vahepito_call_send(&other, words, 1, &number) == VAHEPITO_ACCEPTED && number == 1, "accepted");
-    check(vahepito_call_send(&other, words, 1, &number) == VAHEPITO_FULL, "full");
-    check(vahepito_call_send(&other, words, 3, &number) == VAHEPITO_LONG, "long");
-    for (uint32_t group = 1; group <= groups; group++) {
-        check(vahepito_call_take(&one, group, &item, &number) == VAHEPITO_GOT && item.count == 2, "got");
-        check(vahepito_call_take(&other, group, &item, &number) == VAHEPITO_GOT && item.count == 1, "got");
-    }
-    check(vahepito_call_take(&other, groups + 1, &item, &number) == VAHEPITO_BAD_GROUPS, "no such group");
-    check(vahepito_call_send(&one, words, 1, &number) == VAHEPITO_ACCEPTED && number == 2, "accepted");
-    check(vahepito_call_send(&one, words, 1, &number) == VAHEPITO_SPENT, "spent");
-    check(vahepito_call_turn_send(&one, &number) == VAHEPITO_NO_PASS, "no ticket");
-    check(vahepito_call_close(&one, &number) == VAHEPITO_SHUT && number == 3, "shut");
-    check(vahepito_call_close(&other, &number) == VAHEPITO_ALREADY && number == 3, "already");
-    check(vahepito_call_send(&one, words, 1, &number) == VAHEPITO_CLOSED || number == 0, "closed, or worn");
-    check(vahepito_call_take(&one, 1, &item, &number) == VAHEPITO_GOT, "got");
-    check(vahepito_call_take(&one, 1, &item, &number) == VAHEPITO_ENDED && number == 3, "ended");
-}
-
-static void use_pointer(uint32_t groups) {
-    const vahepito_config config = {SENDERS, RECEIVERS, 2, 8, 3, 3};
-    vahepito_raw *queue = NULL;
-    uint32_t code;
-    for (refused = 1;; refused++) {
-        asked = 0;
-        code = vahepito_new(&config, groups, 2, &queue);
-        if (asked < refused) break;
-        check(code == VAHEPITO_NO_MEMORY && queue == NULL, "want of memory is told");
-        check(blocks == 0, "nothing is kept");
-    }
-    const long opening = asked, kept = blocks;
-    check(code == VAHEPITO_DONE && queue && kept > 0, "the queue is opened where nothing is refused");
-    call_by_pointer(queue, groups);
-    check(asked == opening && blocks == kept, "no call takes memory or frees any");
-    vahepito_free(queue);
-    check(asked == opening && blocks == 0, "the free frees the queue");
+    check(asked == last, "no drop takes memory");
+    check(blocks == 0, "the last handle frees the queue");
 }
 
 /* The queue of vahepito.h: its opening, and the further queue that a send needs, each refused each of its allocations. */
@@ -257,7 +209,6 @@ static size_t further_queue(int are_refused) {
 int main(void) {
     use_row();
     check(further_queue(1) == further_queue(0), "a queue that was refused asks for no more than before");
-    for (uint32_t groups = 1; groups <= 8; groups++) use_pointer(groups);
     for (uint32_t groups = 1; groups <= MOST_GROUPS; groups++) use_queue(groups);
     printf("%s\n", "all memory is free");
     return 0;

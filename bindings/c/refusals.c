@@ -22,36 +22,32 @@ struct told {
 
 static const uint64_t two[2] = {7, 8};
 
-static uint32_t begin_send_words(vahepito_pass *pass, struct told *told) { return (void)told, vahepito_begin_send_words(pass, two, 1); }
-static uint32_t turn_send(vahepito_pass *pass, struct told *told) { return vahepito_turn_send(pass, &told->number, &told->served); }
-static uint32_t try_send(vahepito_pass *pass, struct told *told) { return vahepito_try_send(pass, 7, &told->number, &told->served); }
-static uint32_t try_send_words(vahepito_pass *pass, struct told *told) {
+static uint32_t begin_send_words(vahepito_handle *pass, struct told *told) { return (void)told, vahepito_begin_send_words(pass, two, 1); }
+static uint32_t turn_send(vahepito_handle *pass, struct told *told) { return vahepito_turn_send(pass, &told->number, &told->served); }
+static uint32_t try_send(vahepito_handle *pass, struct told *told) { return vahepito_try_send(pass, 7, &told->number, &told->served); }
+static uint32_t try_send_words(vahepito_handle *pass, struct told *told) {
     return vahepito_try_send_words(pass, two, 1, &told->number, &told->served);
 }
-static uint32_t begin_close(vahepito_pass *pass, struct told *told) { return (void)told, vahepito_begin_close(pass); }
-static uint32_t turn_close(vahepito_pass *pass, struct told *told) { return vahepito_turn_close(pass, &told->number, &told->served); }
-static uint32_t begin_take(vahepito_pass *pass, struct told *told) { return (void)told, vahepito_begin_take(pass); }
-static uint32_t turn_take(vahepito_pass *pass, struct told *told) {
+static uint32_t begin_close(vahepito_handle *pass, struct told *told) { return (void)told, vahepito_begin_close(pass); }
+static uint32_t turn_close(vahepito_handle *pass, struct told *told) { return vahepito_turn_close(pass, &told->number, &told->served); }
+static uint32_t begin_take(vahepito_handle *pass, struct told *told) { return (void)told, vahepito_begin_take(pass); }
+static uint32_t turn_take(vahepito_handle *pass, struct told *told) {
     return vahepito_turn_take(pass, &told->item, &told->number, &told->served);
 }
-static uint32_t try_take(vahepito_pass *pass, struct told *told) {
+static uint32_t try_take(vahepito_handle *pass, struct told *told) {
     return vahepito_try_take(pass, &told->item, &told->number, &told->served);
 }
-static uint32_t turn_take_words(vahepito_pass *pass, struct told *told) {
+static uint32_t turn_take_words(vahepito_handle *pass, struct told *told) {
     return vahepito_turn_take_words(pass, &told->words, &told->number, &told->served);
 }
-static uint32_t try_take_words(vahepito_pass *pass, struct told *told) {
+static uint32_t try_take_words(vahepito_handle *pass, struct told *told) {
     return vahepito_try_take_words(pass, &told->words, &told->number, &told->served);
 }
-static uint32_t observe(vahepito_pass *pass, struct told *told) {
-    vahepito_look look = {(vahepito_raw *)told};
-    const uint32_t code = vahepito_observe(pass, &look.queue);
-    check((look.queue != NULL) == (code == VAHEPITO_DONE), "there is an observer, or none");
-    if (look.queue) check(vahepito_accepted(&look) == 0 && vahepito_taken(&look, 1) == 0 && vahepito_is_shut(&look) == 0, "nothing has returned");
-    vahepito_free(look.queue);
-    return code;
-}
-static uint32_t drop(vahepito_pass *pass, struct told *told) { return (void)told, vahepito_drop(pass); }
+static uint32_t accepted(vahepito_handle *pass, struct told *told) { return vahepito_accepted(pass, &told->number); }
+static uint32_t taken(vahepito_handle *pass, struct told *told) { return vahepito_taken(pass, 1, &told->number); }
+static uint32_t taken_of_none(vahepito_handle *pass, struct told *told) { return vahepito_taken(pass, 2, &told->number); }
+static uint32_t is_shut(vahepito_handle *pass, struct told *told) { return vahepito_is_shut(pass, &told->number); }
+static uint32_t drop(vahepito_handle *pass, struct told *told) { return (void)told, vahepito_drop(pass); }
 
 #define NO VAHEPITO_NO_PASS
 #define SIDE VAHEPITO_WRONG_SIDE
@@ -60,12 +56,12 @@ static uint32_t drop(vahepito_pass *pass, struct told *told) { return (void)told
 #define BEGUN VAHEPITO_BEGUN
 #define DONE VAHEPITO_DONE
 
-/* The calls, what each writes (a number with how many calls were served, an item, or one of words), and the
+/* The calls, what each writes (a number with how many calls were served, an item, one of words, or a count), and the
  * code for a handle that is empty, an idle sender, one with a send, with a close, an idle receiver, and one with a take. */
-enum { NUMBER = 1, ITEM = 2, WORDS = 4 };
+enum { NUMBER = 1, ITEM = 2, WORDS = 4, COUNT = 8 };
 static const struct row {
     const char *name;
-    uint32_t (*call)(vahepito_pass *, struct told *);
+    uint32_t (*call)(vahepito_handle *, struct told *);
     int writes;
     uint32_t codes[STATES];
 } rows[] = {
@@ -80,7 +76,10 @@ static const struct row {
     {"try_take", try_take, NUMBER | ITEM, {NO, SIDE, SIDE, SIDE, VAHEPITO_EMPTY, BUSY}},
     {"turn_take_words", turn_take_words, NUMBER | WORDS, {NO, SIDE, SIDE, SIDE, NOT, VAHEPITO_EMPTY}},
     {"try_take_words", try_take_words, NUMBER | WORDS, {NO, SIDE, SIDE, SIDE, VAHEPITO_EMPTY, BUSY}},
-    {"observe", observe, 0, {NO, DONE, DONE, DONE, DONE, DONE}},
+    {"accepted", accepted, COUNT, {NO, DONE, BUSY, BUSY, DONE, BUSY}},
+    {"taken", taken, COUNT, {NO, DONE, BUSY, BUSY, DONE, BUSY}},
+    {"taken, of no group", taken_of_none, COUNT, {NO, VAHEPITO_BAD_GROUPS, BUSY, BUSY, VAHEPITO_BAD_GROUPS, BUSY}},
+    {"is_shut", is_shut, COUNT, {NO, DONE, BUSY, BUSY, DONE, BUSY}},
     {"drop", drop, 0, {NO, DONE, DONE, DONE, DONE, DONE}},
 };
 enum { CALLS = sizeof rows / sizeof rows[0] };
@@ -94,7 +93,7 @@ static void holds(int so, enum state state, const char *what) {
 }
 
 /* The handles of a queue with room for one item: of them one is in this state, the other idle. Gives the one. */
-static vahepito_pass *open_in(enum state state, vahepito_pass *sender, vahepito_pass *receiver) {
+static vahepito_handle *open_in(enum state state, vahepito_handle *sender, vahepito_handle *receiver) {
     const vahepito_config config = {1, 1, 1, 8, (uint64_t)1 << 48, UINT32_MAX};
     check(vahepito_open_words(&config, 1, 1, sender, 1, receiver, 1) == DONE, "a queue is opened");
     if (state == SENDING) check(vahepito_begin_send_words(sender, two, 1) == BEGUN, "a send is begun");
@@ -105,7 +104,7 @@ static vahepito_pass *open_in(enum state state, vahepito_pass *sender, vahepito_
 
 /* The next call of a pass that is as it was before: it continues, in one turn, from the state of the pass. */
 static const struct {
-    uint32_t (*call)(vahepito_pass *, struct told *);
+    uint32_t (*call)(vahepito_handle *, struct told *);
     uint32_t code;
     const char *what;
 } next[STATES] = {
@@ -117,7 +116,7 @@ static const struct {
 };
 
 /* After a call that was refused the pass is as it was before. */
-static void is_as_before(enum state state, vahepito_pass *pass) {
+static void is_as_before(enum state state, vahepito_handle *pass) {
     struct told told = {0};
     if (state == EMPTY) {
         holds(!pass->live && pass->at == NULL, state, "an empty handle stays empty");
@@ -133,6 +132,7 @@ static void wrote_nothing(const struct row *row, enum state state, const struct 
     const vahepito_item *words = &told->words;
     const int turned = row->codes[state] > BEGUN;
     if (row->writes & NUMBER) holds(told->number == 0 && told->served == (turned ? 1 : 0), state, "no number is told");
+    if (row->writes & COUNT) holds(told->number == 0, state, "nothing is counted");
     if (row->writes & ITEM) holds(item->place == 0 && item->sender == 0 && item->number == 0 && item->body == 0, state, "no item is told");
     if (row->writes & WORDS) {
         holds(words->place == 0 && words->sender == 0 && words->number == 0 && words->count == 0, state, "no item is told");
@@ -142,8 +142,8 @@ static void wrote_nothing(const struct row *row, enum state state, const struct 
 
 /* One call by a handle in one state, of a queue of its own. */
 static void call_in(const struct row *row, enum state state) {
-    vahepito_pass sender = VAHEPITO_PASS_EMPTY, receiver = VAHEPITO_PASS_EMPTY, empty = VAHEPITO_PASS_EMPTY;
-    vahepito_pass *pass = open_in(state, &sender, &receiver);
+    vahepito_handle sender = VAHEPITO_HANDLE_EMPTY, receiver = VAHEPITO_HANDLE_EMPTY, empty = VAHEPITO_HANDLE_EMPTY;
+    vahepito_handle *pass = open_in(state, &sender, &receiver);
     struct told told;
     memset(&told, 99, sizeof told);
     if (state == EMPTY) pass = &empty;
@@ -151,10 +151,10 @@ static void call_in(const struct row *row, enum state state) {
     const uint32_t code = row->call(pass, &told), refused = NO <= code && code <= NOT;
     holds(code == row->codes[state], state, "a call tells its code");
     wrote_nothing(row, state, &told);
-    if (refused || row->call == observe) is_as_before(state, pass);
+    if (refused || (row->writes & COUNT)) is_as_before(state, pass);
     if (row->call == drop) holds(!pass->live && vahepito_drop(pass) == NO, state, "a handle whose pass went is empty");
     for (int k = 0; k < 2; k++) {
-        vahepito_pass *left = k == 0 ? &sender : &receiver;
+        vahepito_handle *left = k == 0 ? &sender : &receiver;
         check(vahepito_drop(left) == (row->call == drop && left == pass ? NO : DONE), "a pass is let go once");
     }
 }

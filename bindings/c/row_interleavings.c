@@ -30,8 +30,9 @@
  * status 0 if this fails in some state: so the Makefile compiles it with each fault of row_faults.txt in the code. With --few it has the small models
  * alone, and with --sizes it prints how many states each has.
  *
- * Not searched are moments, descriptors, how a call parks that waits for a seat or its answer, and orders of memory that are weaker than the order
- * of the steps. */
+ * Not searched are moments, descriptors, how a call parks that waits for a seat or its answer (interleavings.c does), and
+ * orders of memory that are weaker than the order of the steps. On x86-64 the one store of the code that may be pending
+ * gives a seat back. No other process sees more than that the seat is still taken. */
 #undef _FORTIFY_SOURCE /* a jump to another stack is none to a caller */
 #ifndef _DEFAULT_SOURCE
 #define _DEFAULT_SOURCE
@@ -79,8 +80,9 @@ void model_free(void *memory);
 #define free model_free
 #define syscall model_futex
 /* Calls that wait for a seat or for their answer don't park here. */
-#define VAHEPITO_SERVED_ROUNDS 1000000
-#define VAHEPITO_ROUNDS 0
+#define VAHEPITO_SERVED_TIME UINT64_MAX
+#define VAHEPITO_SPIN_TIME 0
+#define VAHEPITO_AHEAD 0
 #include SOURCE
 
 #define LIES_IN(field) ((size_t)((const char *)place - (const char *)&queue->field) < sizeof queue->field)
@@ -175,7 +177,7 @@ struct pending {
 /* A queue of the library. */
 struct raw {
     uint8_t capacity, life, per_sender, accepted, closed, shares, taken[GROUPS], begun[PLACES], items[ITEMS];
-    uint8_t is_live[SIDES][PLACES], is_observed, has_ended[GROUPS];
+    uint8_t is_live[SIDES][PLACES], has_ended[GROUPS];
     struct pending pending[SIDES][PLACES];
 };
 
@@ -320,7 +322,7 @@ static void atomic(const void *place, enum access access, int order) {
 static uint32_t found_now(uint32_t side) { return code_number_of(code_queue_of(queue, side)); }
 
 /* The number of a pass: by its queue, its side and its place there. */
-static uint32_t number_in(const vahepito_pass *pass) { return (uint32_t)((uintptr_t)pass->at - 65536); }
+static uint32_t number_in(const vahepito_handle *pass) { return (uint32_t)((uintptr_t)pass->at - 65536); }
 
 static struct raw *raw_of_part(const void *part) { return &raws[number_in(code_pass_of(part)) / PLACES / SIDES]; }
 
@@ -365,7 +367,7 @@ static void check_open(void) {
 }
 
 /* A process makes a call by the pass of this side of this seat. */
-static void check_found(const vahepito_pass *pass, uint32_t side, uint32_t seat) {
+static void check_found(const vahepito_handle *pass, uint32_t side, uint32_t seat) {
     const struct block *const block = block_of(pass);
     if (current < 0 || !block) return;
     const uint32_t number = code_number_of(&memory[block->start]);
@@ -542,8 +544,6 @@ long model_futex(long number, ...) {
 
 /* ---- the library */
 
-static unsigned char observers[QUEUES];
-
 /* The place of a pass: of its queue, its side and its number. */
 struct pass_at {
     struct raw *raw;
@@ -551,7 +551,7 @@ struct pass_at {
     struct pending *pending;
 };
 
-static struct pass_at find(const vahepito_pass *pass, bool is_sender) {
+static struct pass_at find(const vahepito_handle *pass, bool is_sender) {
     (void)block_of(pass);
     const uint32_t at = number_in(pass), side = at / PLACES % SIDES;
     if (!pass->live || at / PLACES / SIDES >= world.raw_count) is_wrong("no pass is used");
@@ -563,7 +563,7 @@ static struct pass_at find(const vahepito_pass *pass, bool is_sender) {
 
 static struct pending *pending_at(uint32_t number) { return &raws[number / PLACES / SIDES].pending[number / PLACES % SIDES][number % PLACES]; }
 
-static uint32_t number_of(const vahepito_pass *pass, bool is_sender) {
+static uint32_t number_of(const vahepito_handle *pass, bool is_sender) {
     const struct pass_at at = find(pass, is_sender);
     return ((uint32_t)(at.raw - raws) * SIDES + at.side) * PLACES + at.number;
 }
@@ -600,13 +600,13 @@ static uint32_t answer(struct pass_at at, uint64_t *value, uint8_t *got) {
     return code;
 }
 
-static void begin(const vahepito_pass *pass, struct pass_at at, uint8_t kind, uint8_t item) {
+static void begin(const vahepito_handle *pass, struct pass_at at, uint8_t kind, uint8_t item) {
     if (at.pending->kind != 0) is_wrong("a pass has two calls");
     check_found(pass, at.side, at.number + 1);
     *at.pending = (struct pending){kind, item, 0, 0, 0, 0};
 }
 
-uint32_t vahepito_try_send_words(vahepito_pass *sender, const uint64_t *words, size_t count, uint64_t *place, uint32_t *served) {
+uint32_t vahepito_try_send_words(vahepito_handle *sender, const uint64_t *words, size_t count, uint64_t *place, uint32_t *served) {
     uint8_t got;
     (void)count, (void)served;
     step(model->has_turns ? BEGIN : TRY_SEND, 0);
@@ -618,11 +618,11 @@ uint32_t vahepito_try_send_words(vahepito_pass *sender, const uint64_t *words, s
     return current >= 0 && model->has_turns ? VAHEPITO_WAITING : answer(at, place, &got);
 }
 
-uint32_t vahepito_try_send(vahepito_pass *sender, uint64_t word, uint64_t *place, uint32_t *served) {
+uint32_t vahepito_try_send(vahepito_handle *sender, uint64_t word, uint64_t *place, uint32_t *served) {
     return vahepito_try_send_words(sender, &word, 1, place, served);
 }
 
-uint32_t vahepito_turn_send(vahepito_pass *sender, uint64_t *place, uint32_t *served) {
+uint32_t vahepito_turn_send(vahepito_handle *sender, uint64_t *place, uint32_t *served) {
     uint8_t got;
     (void)served;
     step(TURN, number_of(sender, true));
@@ -639,13 +639,13 @@ static uint32_t answer_of_take(struct pass_at at, vahepito_item *item, uint64_t 
     return code;
 }
 
-uint32_t vahepito_turn_take_words(vahepito_pass *receiver, vahepito_item *item, uint64_t *total, uint32_t *served) {
+uint32_t vahepito_turn_take_words(vahepito_handle *receiver, vahepito_item *item, uint64_t *total, uint32_t *served) {
     (void)served;
     step(TURN, number_of(receiver, false));
     return answer_of_take(find(receiver, false), item, total);
 }
 
-uint32_t vahepito_try_take_words(vahepito_pass *receiver, vahepito_item *item, uint64_t *total, uint32_t *served) {
+uint32_t vahepito_try_take_words(vahepito_handle *receiver, vahepito_item *item, uint64_t *total, uint32_t *served) {
     (void)served;
     step(model->has_turns ? BEGIN : TRY_TAKE, 0);
     const struct pass_at at = find(receiver, false);
@@ -655,44 +655,47 @@ uint32_t vahepito_try_take_words(vahepito_pass *receiver, vahepito_item *item, u
 }
 
 /* An item of one word has its body where one of words has the count. */
-uint32_t vahepito_try_take(vahepito_pass *receiver, vahepito_word_item *item, uint64_t *total, uint32_t *served) {
+uint32_t vahepito_try_take(vahepito_handle *receiver, vahepito_word_item *item, uint64_t *total, uint32_t *served) {
     vahepito_item same = {0, 0, 0, 0, {0, 0, 0, 0}};
     const uint32_t code = vahepito_try_take_words(receiver, &same, total, served);
     *item = (vahepito_word_item){same.place, same.sender, same.number, same.words[0]};
     return code;
 }
 
-uint32_t vahepito_begin_close(vahepito_pass *sender) {
+uint32_t vahepito_begin_close(vahepito_handle *sender) {
     if (model->has_turns) step(BEGIN, 0);
     begin(sender, find(sender, true), CLOSE, 0);
     return VAHEPITO_BEGUN;
 }
 
-uint32_t vahepito_turn_close(vahepito_pass *sender, uint64_t *total, uint32_t *served) {
+uint32_t vahepito_turn_close(vahepito_handle *sender, uint64_t *total, uint32_t *served) {
     uint8_t got;
     (void)served;
     step(model->has_turns ? TURN : CLOSE, number_of(sender, true));
     return answer(find(sender, true), total, &got);
 }
 
-static struct raw *raw_of(const vahepito_raw *observer) {
-    const size_t at = (size_t)((const unsigned char *)observer - observers);
-    if (at >= QUEUES || !raws[at].is_observed) is_wrong("an observer is used that was freed");
-    return &raws[at];
-}
-
-uint64_t vahepito_accepted(vahepito_look *look) {
-    step(COUNT, 0);
-    return raw_of(look->queue)->accepted;
-}
-
-uint64_t vahepito_taken(vahepito_look *look, uint32_t group) {
+/* Looks are by the senders of seats that are taken, and that have no call then. */
+static struct raw *looked_at(const vahepito_handle *sender, uint32_t group) {
     step(COUNT, group);
-    return raw_of(look->queue)->taken[group - 1];
+    const struct pass_at at = find(sender, true);
+    if (at.pending->kind != 0) is_wrong("a pass looks in its call");
+    if (world.since[1 + at.number][0] == 0) is_wrong("a pass looks whose seat is free");
+    return at.raw;
 }
 
-uint32_t vahepito_open_words(const vahepito_config *config, uint32_t groups, uint32_t words, vahepito_pass *senders, size_t sender_count,
-                             vahepito_pass *receivers, size_t receiver_count) {
+uint32_t vahepito_accepted(vahepito_handle *sender, uint64_t *count) {
+    *count = looked_at(sender, 0)->accepted;
+    return VAHEPITO_DONE;
+}
+
+uint32_t vahepito_taken(vahepito_handle *sender, uint32_t group, uint64_t *count) {
+    *count = looked_at(sender, group)->taken[group - 1];
+    return VAHEPITO_DONE;
+}
+
+uint32_t vahepito_open_words(const vahepito_config *config, uint32_t groups, uint32_t words, vahepito_handle *senders, size_t sender_count,
+                             vahepito_handle *receivers, size_t receiver_count) {
     if (groups != model->groups || words != model->words || sender_count != model->places || receiver_count != (size_t)groups * model->places) abort();
     if (is_refused()) return VAHEPITO_NO_MEMORY;
     if (world.raw_count == QUEUES) abort();
@@ -704,44 +707,29 @@ uint32_t vahepito_open_words(const vahepito_config *config, uint32_t groups, uin
     raw->per_sender = (uint8_t)(config->per_sender < 255 ? config->per_sender : 255);
     for (uint32_t side = 0; side <= groups; side++)
         for (uint32_t place = 0; place < model->places; place++) {
-            vahepito_pass *const pass = side == 0 ? &senders[place] : &receivers[(side - 1) * model->places + place];
+            vahepito_handle *const pass = side == 0 ? &senders[place] : &receivers[(side - 1) * model->places + place];
             if (pass->live) is_wrong("a handle isn't empty");
-            *pass = (vahepito_pass){(void *)(uintptr_t)(65536 + (number * SIDES + side) * PLACES + place), true};
+            *pass = (vahepito_handle){(void *)(uintptr_t)(65536 + (number * SIDES + side) * PLACES + place), true};
             raw->is_live[side][place] = 1;
             raw->shares++;
         }
     return VAHEPITO_DONE;
 }
 
-uint32_t vahepito_observe(vahepito_pass *pass, vahepito_raw **observer) {
-    if (is_refused()) return VAHEPITO_NO_MEMORY;
-    const struct pass_at at = find(pass, true);
-    at.raw->shares++, at.raw->is_observed = 1;
-    *observer = (vahepito_raw *)(void *)&observers[at.raw - raws];
-    return VAHEPITO_DONE;
-}
-
-uint32_t vahepito_drop(vahepito_pass *pass) {
+uint32_t vahepito_drop(vahepito_handle *pass) {
     (void)block_of(pass);
     if (!pass->live) is_wrong("a pass is dropped twice");
     const struct pass_at at = find(pass, number_in(pass) / PLACES % SIDES == 0);
     if (at.pending->kind != 0) is_wrong("a pass is dropped in its call");
     at.raw->is_live[at.side][at.number] = 0, at.raw->shares--;
-    *pass = (vahepito_pass)VAHEPITO_PASS_EMPTY;
+    *pass = (vahepito_handle)VAHEPITO_HANDLE_EMPTY;
     return VAHEPITO_DONE;
-}
-
-#undef vahepito_free
-void vahepito_free(vahepito_raw *observer) {
-    struct raw *const raw = raw_of(observer);
-    raw->is_observed = 0, raw->shares--;
 }
 
 uint32_t vahepito_version(void) { return VAHEPITO_VERSION; }
 void vahepito_sizes(size_t *config, size_t *pass, size_t *item, size_t *words_item) {
-    *config = sizeof(vahepito_config), *pass = sizeof(vahepito_pass), *item = sizeof(vahepito_word_item), *words_item = sizeof(vahepito_item);
+    *config = sizeof(vahepito_config), *pass = sizeof(vahepito_handle), *item = sizeof(vahepito_word_item), *words_item = sizeof(vahepito_item);
 }
-size_t vahepito_call_size(void) { return sizeof(vahepito_call); }
 
 /* ---- calls, and the oracle */
 

@@ -1,5 +1,5 @@
-/* An archive that replaces the proved library in a test, with another version or with other sizes. Its calls return VERSION,
- * ITEM_SIZE and CALL_SIZE, and any other call of it ends the process. Without ITEM_SIZE it has the version alone, for a library that
+/* An archive that replaces the proved library in a test, with another version or with other sizes. Its calls return VERSION
+ * and ITEM_SIZE, and any other call of it ends the process. Without ITEM_SIZE it has the version alone, for a library that
  * is the proved one but for its version. */
 #include <stddef.h>
 #include <stdint.h>
@@ -16,24 +16,12 @@ void vahepito_sizes(size_t *config, size_t *pass, size_t *item, size_t *words_it
     *words_item = ITEM_SIZE;
 }
 
-size_t vahepito_call_size(void) { return CALL_SIZE; }
-
 #define CALL(name) \
     void name(void) { abort(); }
-CALL(vahepito_new)
-CALL(vahepito_free)
-CALL(vahepito_call_send)
-CALL(vahepito_call_turn_send)
-CALL(vahepito_call_take)
-CALL(vahepito_call_turn_take)
-CALL(vahepito_call_close)
-CALL(vahepito_call_turn_close)
 CALL(vahepito_accepted)
 CALL(vahepito_taken)
 CALL(vahepito_is_shut)
-/* The exports that the Rust crate calls */
 CALL(vahepito_open_words)
-CALL(vahepito_observe)
 CALL(vahepito_drop)
 CALL(vahepito_begin_close)
 CALL(vahepito_try_send)

@@ -30,10 +30,10 @@
  *
  * An item takes up room until each group has taken it. An item has one to four words of 64 bits.
  *
- * **Waits.** A call spins for about 10 microseconds, yields five times, and then parks. It parks at once if an item has taken
+ * **Waits.** A call spins for a microsecond, yields for four, and then parks. It parks at once if an item has taken
  * more than 20 microseconds since the last wait for the same thing. A parked call takes no
  * processor time; the call that makes room or an item wakes it. Each call, those whose names end in _now too, also waits for its answer while
- * another thread serves its side: it spins and yields for about 20 microseconds, and then parks. So a thread of high priority lets the
+ * another thread serves its side: it spins for 20 microseconds, and then parks. So a thread of high priority lets the
  * thread that it waits for run. A signal ends no wait, and no call is a cancellation point. A moment is one of CLOCK_MONOTONIC, as
  * clock_gettime gives it and vahepito_after computes it; NULL is none. If its nanoseconds aren't from 0 to 999,999,999, it has come.
  *
@@ -53,7 +53,7 @@
  * - What a thread reads or writes before a take of the item `place`, in any group, comes before all that another thread does after
  *   the send which is accepted as the item `place` + `capacity`. So a queue may count buffers that are in use, and a queue of
  *   capacity 1 may be a lock: a send takes it, and a take gives it back.
- * The head of vahepito_raw.h says which steps order it.
+ * The head of handles.h, beside vahepito_queue.c, says which steps order it.
  *
  * **What a word points to** is the sender's until its send returns ACCEPTED, and the receiver's once its take returns GOT. If a send returns
  * another code, the sender keeps it. vahepito_destroy passes the items that are left in the queue to a function of the caller's.
@@ -67,8 +67,7 @@
  *   asynchronously in a call.
  * - malloc, posix_memalign, realloc and free are one allocator's.
  *
- * vahepito_raw.h has calls of the proved library itself, none of which waits: for those who poll, with a ticket for a call that waits for its
- * answer. Names that begin with vahepito_internal_ or VAHEPITO_INTERNAL_ are the headers' own.
+ * Names that begin with vahepito_internal_ or VAHEPITO_INTERNAL_ are the headers' own.
  *
  * If the thread sanitizer is on, the calls announce to it what they order: the library isn't built for the sanitizer, which sees
  * none of its steps. With VAHEPITO_VALGRIND defined before this header they announce it to valgrind's helgrind and DRD instead (the file
@@ -93,6 +92,10 @@ struct timespec;
  * third. */
 #define VAHEPITO_VERSION 4000
 
+/* The version of the library, as VAHEPITO_VERSION is that of the header. This call is the same in every version. Any thread
+ * may call. */
+uint32_t vahepito_version(void);
+
 /* A queue, for all threads. */
 typedef struct vahepito_queue vahepito_queue;
 
@@ -109,8 +112,7 @@ typedef struct {
 } vahepito_item;
 
 /* The codes that calls return. Each call lists its own, and returns it as uint32_t, which has one size for every compiler; the size
- * of an enum depends on the compiler and its options. `switch ((enum vahepito_code)code)` lets the compiler say which codes are missing.
- * vahepito_raw.h has further ones. */
+ * of an enum depends on the compiler and its options. `switch ((enum vahepito_code)code)` lets the compiler say which codes are missing. */
 enum vahepito_code {
     /* it was done */
     VAHEPITO_DONE = 0,
@@ -251,6 +253,14 @@ void vahepito_destroy(vahepito_queue *queue, vahepito_leftover *left, void *with
 
 /* The moment that comes after these nanoseconds. */
 struct timespec vahepito_after(uint64_t nanoseconds);
+
+/* Lets the calling thread, and threads that it starts later, keep a processor for 12 milliseconds before another thread
+ * gets it; Linux gives them about 3. A call is long if the thread that serves its side loses its processor, and with this
+ * fewer do. Others pay for it: a thread that gets ready on such a processor, another program's too, may wait up to 12
+ * milliseconds for it. It needs Linux 6.12 or later, and no privilege. 0; or -1 with errno, and the slice is as before:
+ * EOPNOTSUPP, the system doesn't know slices; EINVAL, the thread has another policy than SCHED_OTHER and SCHED_BATCH;
+ * otherwise as of sched_setattr. */
+int vahepito_lengthen_slice(void);
 
 /* Announcements to the thread sanitizer, or to helgrind and DRD, of what the head of this file says of memory. */
 #if defined(VAHEPITO_UNTOLD)

@@ -16,17 +16,17 @@ if(NOT TARGET vahepito::vahepito)
   set_target_properties(vahepito::heap PROPERTIES
     IMPORTED_LINK_INTERFACE_LANGUAGES C
     IMPORTED_LOCATION "${vahepito_prefix}/lib/libvahepito_heap.a")
-  add_library(vahepito::relaxed_calls STATIC IMPORTED)
+  add_library(vahepito::default_calls STATIC IMPORTED)
   add_library(vahepito::strict_calls STATIC IMPORTED)
-  set_target_properties(vahepito::relaxed_calls PROPERTIES IMPORTED_LOCATION "${vahepito_prefix}/lib/libvahepito.a")
+  set_target_properties(vahepito::default_calls PROPERTIES IMPORTED_LOCATION "${vahepito_prefix}/lib/libvahepito.a")
   set_target_properties(vahepito::strict_calls PROPERTIES IMPORTED_LOCATION "${vahepito_prefix}/lib/libvahepito_strict.a")
-  set_target_properties(vahepito::relaxed_calls vahepito::strict_calls PROPERTIES
+  set_target_properties(vahepito::default_calls vahepito::strict_calls PROPERTIES
     IMPORTED_LINK_INTERFACE_LANGUAGES C
     INTERFACE_LINK_LIBRARIES vahepito::heap)
   # The queue, over either of them.
   add_library(vahepito::vahepito STATIC IMPORTED)
   add_library(vahepito::strict STATIC IMPORTED)
-  set_target_properties(vahepito::vahepito PROPERTIES INTERFACE_LINK_LIBRARIES "vahepito::relaxed_calls;Threads::Threads")
+  set_target_properties(vahepito::vahepito PROPERTIES INTERFACE_LINK_LIBRARIES "vahepito::default_calls;Threads::Threads")
   set_target_properties(vahepito::strict PROPERTIES INTERFACE_LINK_LIBRARIES "vahepito::strict_calls;Threads::Threads")
   set_target_properties(vahepito::vahepito vahepito::strict PROPERTIES
     IMPORTED_LINK_INTERFACE_LANGUAGES C

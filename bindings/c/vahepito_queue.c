@@ -22,33 +22,10 @@
  * free after that: a call that takes its seat later reads a later queue. A call that parks for room or an item has no seat, nor has one that waits
  * for the lock: so a thread that has the lock may wait for a seat.
  *
- * Why no wake-up is lost. The senders wait in one line, and the receivers of each group in another. A line has two counts in
- * one word: `waiting`, the calls in line that aren't notified, and `notified`, the notifications that no call has used.
- *
- *     a call that waits                            a call that notifies
- *     join      waiting + 1                        make      its send or its take returns
- *     look      try                                check     is waiting 0? then that is all
- *     park      sleep while notified is 0          notify    waiting - 1 and notified + 1, in one step
- *     leave     notified - 1                       wake      one call that sleeps
- *     retry     and if there is nothing, join again
- *
- * A call whose look succeeds leaves by waiting - 1, or if that is 0 by notified - 1. A call whose time is over leaves by
- * notified - 1 and tries once more, or if that is 0 by waiting - 1. A call whose try is refused (there is no memory, say)
- * notifies the next. A call that has made several notifies as many, in one step, and all that wait if there are fewer.
- *
- * The claim: when no thread makes a step any more, no call is parked while its try would take something. Suppose that call w
- * is, and let e be the last moment with nothing to take. So w joined before e, and every try that begins after e succeeds.
- * 1. At the end `notified` is 0. Otherwise, since it last rose from 0, no call went to sleep, so each notification woke a call
- *    that slept (w was there), which used one: as many were used as were made.
- * 2. After e `waiting` was never 0. Otherwise let s be the last such moment. A call that joins after s finds something at its
- *    look, and leaves by waiting - 1; all other steps only lower `waiting`. So it is 0 at the end, though w is in line.
- * 3. So each thing that was made after e made a notification. By 1 and 2 each of these was used by a call that left by
- *    notified - 1 and tried after e. That call took something, or notified another one. So as many things were taken after e
- *    as were made, and none is left.
- * It uses that make and check of one thread, and join and look of another, have one order that all threads agree on: all
- * accesses to the counts are sequentially consistent, and so are the library's steps. vahepito_internal_in_order has what that takes on
- * each machine. The program interleavings.c runs the code of this file in every interleaving
- * of small models, and finds a lost wake-up if one of the steps is wrong. */
+ * Waits. The senders wait in one line for room, and the receivers of each group in another for an item. A line has two
+ * counts in one word: `waiting`, the calls in line that aren't notified, and `notified`, the notifications that no call has
+ * used. ../WAITS.md says how long each wait spins, and why no wake-up is lost. The program interleavings.c runs the code of
+ * this file in every interleaving of small models, and finds a lost wake-up if one of the steps is wrong. */
 #ifndef _POSIX_C_SOURCE
 #define _POSIX_C_SOURCE 200809L
 #endif
@@ -72,18 +49,32 @@
 /* As <unistd.h> declares it, which does so only with some feature macros. */
 extern long syscall(long number, ...);
 
-/* How many rounds a call spins, and how many it then yields, until it parks in a line for room or an item; and how many it spins or yields until
- * it parks for an answer or a place. A thread that yields beside a busy process runs again some milliseconds later, also if an item comes at
- * once, while one that is parked is woken. But if many items pass, a park takes longer than they, and a yield lets threads of this queue run. */
-#ifndef VAHEPITO_ROUNDS
-#define VAHEPITO_ROUNDS 7
+/* Each wait is a time by the clock, in nanoseconds, since a pause takes 4 ns on one processor and 60 on another.
+ * bindings/WAITS.md has the reasons.
+ *
+ * How long a call spins, and how long it then yields, until it parks in a line for room or an item. With 0 it parks at
+ * once. */
+#ifndef VAHEPITO_SPIN_TIME
+#define VAHEPITO_SPIN_TIME 1000
 #endif
-#ifndef VAHEPITO_YIELDS
-#define VAHEPITO_YIELDS 5
+#ifndef VAHEPITO_YIELD_TIME
+#define VAHEPITO_YIELD_TIME 4000
 #endif
-#ifndef VAHEPITO_SERVED_ROUNDS
-#define VAHEPITO_SERVED_ROUNDS 16
+
+/* How long a call spins until it parks for an answer or a seat. It doesn't yield. */
+#ifndef VAHEPITO_SERVED_TIME
+#define VAHEPITO_SERVED_TIME 20000
 #endif
+
+/* The pause after the first look, and the longest one: each is twice as long as the one before. */
+enum { FIRST_PAUSE = 150, LONGEST_PAUSE = 1000 };
+
+/* How long a call lets others of its side go ahead, if the last two calls in its seat waited for them and it comes at
+ * once: within AT_ONCE. */
+#ifndef VAHEPITO_AHEAD
+#define VAHEPITO_AHEAD 2000
+#endif
+enum { AT_ONCE = 500 };
 
 /* A side is slow if an item takes longer than this, in nanoseconds: longer than the park of a sender and that of a receiver. */
 #ifndef VAHEPITO_PACE
@@ -105,11 +96,13 @@ typedef struct {
 
 #define VAHEPITO_INTERNAL_ONE_WAITING ((uint64_t)1 << 32)
 
-/* The calls of a side that are parked until they are answered or have a place, and how many calls of the side ended while there
- * were any. */
+/* The line of calls that park until they are answered or have a seat. `waiting` is PARKED if a call may sleep that no
+ * end of a call has woken; else WAS_USED, once a call has parked. `ended` counts the ends that woke the line. */
 typedef struct {
     uint32_t waiting, ended;
 } vahepito_internal_served;
+
+enum { WAS_USED = 1, PARKED = 2 };
 
 static long vahepito_internal_futex(const void *word, int operation, uint32_t value, const struct timespec *time) {
     const int errno_before = errno;
@@ -124,10 +117,9 @@ static inline bool vahepito_internal_change(vahepito_internal_line *line, uint64
     return __atomic_compare_exchange_n(&line->counts, counts, next, 0, __ATOMIC_SEQ_CST, __ATOMIC_SEQ_CST);
 }
 
-/* Between the library's accesses of a call and one of the counts: the two have the order of the program. For x86-64 and aarch64
- * compilers agree how a sequentially consistent access is written, and no fence is needed: when a call returns, none of
- * its stores is pending on x86-64, and on aarch64 they are `stlr`, after which `ldar` and `ldaxr` wait. For other machines, where
- * the library's compiler and this one may differ, it is a fence. */
+/* Between the library's accesses of a call and one of the counts: the two have the order of the program. For x86-64 and
+ * aarch64 compilers agree how a sequentially consistent access is written, and no fence is needed (bindings/WAITS.md, "The
+ * order of memory"). For other machines, where the library's compiler and this one may differ, it is a fence. */
 static inline void vahepito_internal_in_order(void) {
 #if !defined(__x86_64__) && !defined(__aarch64__)
     __atomic_thread_fence(__ATOMIC_SEQ_CST);
@@ -195,20 +187,13 @@ static bool vahepito_internal_is_slow(const vahepito_internal_pace *pace) { retu
 
 /* Notes the end of a wait, with the item of this place. */
 static void vahepito_internal_note(vahepito_internal_pace *pace, uint64_t place) {
-    if (VAHEPITO_ROUNDS == 0) return;
+    if (VAHEPITO_SPIN_TIME == 0) return;
     const uint64_t ended = vahepito_internal_clock(), before = __atomic_load_n(&pace->ended, __ATOMIC_RELAXED);
     const uint64_t items = place - __atomic_load_n(&pace->place, __ATOMIC_RELAXED);
     if (before != 0) __atomic_store_n(&pace->is_slow, ended - before > VAHEPITO_PACE * items, __ATOMIC_RELAXED);
     __atomic_store_n(&pace->ended, ended, __ATOMIC_RELAXED);
     __atomic_store_n(&pace->place, place, __ATOMIC_RELAXED);
 }
-
-/* How a call passes the time until its next turn, or until it looks for a free place again: it spins, gives the processor to another
- * thread, and then parks, with those of its side. */
-typedef struct {
-    uint32_t round;
-    vahepito_internal_served *line;
-} vahepito_internal_backoff;
 
 /* The hint of a thread that spins: on aarch64 as Rust's std has it. */
 static inline void vahepito_internal_pause(void) {
@@ -221,69 +206,77 @@ static inline void vahepito_internal_pause(void) {
 #endif
 }
 
-/* A round of spins: each is twice as long as the one before, from 0. */
-static void vahepito_internal_spin(uint32_t round) {
-    for (uint32_t spin = (uint32_t)1 << round; spin > 0; spin--) vahepito_internal_pause();
+static void vahepito_internal_spin_until(uint64_t moment) {
+    while ((int64_t)(moment - vahepito_internal_clock()) > 0) vahepito_internal_pause();
 }
 
-/* Before a look: a call that is about to park counts itself, and a call that ends after this changes `ended`. */
-static uint32_t vahepito_internal_stand(vahepito_internal_backoff *backoff) {
-    if (backoff->round < VAHEPITO_SERVED_ROUNDS) return 0;
-    if (backoff->round++ == VAHEPITO_SERVED_ROUNDS) {
-        (void)__atomic_fetch_add(&backoff->line->waiting, 1, __ATOMIC_SEQ_CST);
-        vahepito_internal_in_order();
+/* How a call passes the time between its looks, before it parks. It begins with the first pause, after the first look.
+ * */
+typedef struct {
+    uint64_t begin, pause;
+} vahepito_internal_wait_time;
+
+/* After a look that found nothing: spins, or yields, if the time for it isn't over. Returns whether it isn't. */
+static bool vahepito_internal_passes(vahepito_internal_wait_time *it, uint64_t spins, uint64_t yields) {
+    const uint64_t now = vahepito_internal_clock();
+    if (it->pause == 0) it->begin = now, it->pause = FIRST_PAUSE;
+    const uint64_t spent = now - it->begin;
+    if (spent < spins) {
+        vahepito_internal_spin_until(now + it->pause);
+        it->pause = 2 * it->pause < LONGEST_PAUSE ? 2 * it->pause : LONGEST_PAUSE;
+    } else if (spent - spins < yields) {
+        (void)sched_yield();
+    } else {
+        return false;
     }
-    return __atomic_load_n(&backoff->line->ended, __ATOMIC_SEQ_CST);
+    return true;
+}
+
+/* How a call waits for its answer or for a seat: it spins, and then parks. */
+typedef struct {
+    vahepito_internal_served *line;
+    vahepito_internal_wait_time time;
+    bool is_over; /* whether it has spun for long enough */
+} vahepito_internal_backoff;
+
+/* Before a look of a call that is about to park. A call that ends after this changes `ended`. That is loaded first: an
+ * end that takes this call's PARKED away changes it later. */
+static uint32_t vahepito_internal_stand(const vahepito_internal_backoff *backoff) {
+    if (!backoff->is_over) return 0;
+    const uint32_t ended = __atomic_load_n(&backoff->line->ended, __ATOMIC_SEQ_CST);
+    (void)__atomic_exchange_n(&backoff->line->waiting, PARKED, __ATOMIC_SEQ_CST);
+    vahepito_internal_in_order();
+    return ended;
 }
 
 /* After a look that found nothing. */
 static void vahepito_internal_rest(vahepito_internal_backoff *backoff, uint32_t ended) {
     const struct timespec time = {0, 1000000};
-    if (backoff->round < 7) {
-        vahepito_internal_spin(backoff->round++);
-    } else if (backoff->round < VAHEPITO_SERVED_ROUNDS) {
-        backoff->round++;
-        (void)sched_yield();
-    } else if (backoff->round > VAHEPITO_SERVED_ROUNDS) {
-        (void)vahepito_internal_futex(&backoff->line->ended, FUTEX_WAIT, ended, &time);
-    }
-}
-
-/* After the last look. */
-static void vahepito_internal_go_on(const vahepito_internal_backoff *backoff) {
-    if (backoff->round > VAHEPITO_SERVED_ROUNDS)
-        (void)__atomic_fetch_sub(&backoff->line->waiting, 1, __ATOMIC_SEQ_CST);
-}
-
-/* Wakes the calls that are parked until they have an answer or a seat, after a call. */
-static void vahepito_internal_wake_served(vahepito_internal_served *line) {
-    (void)__atomic_fetch_add(&line->ended, 1, __ATOMIC_SEQ_CST);
-    (void)vahepito_internal_futex(&line->ended, FUTEX_WAKE, INT_MAX, NULL);
+    if (backoff->is_over) (void)vahepito_internal_futex(&backoff->line->ended, FUTEX_WAIT, ended, &time);
+    else backoff->is_over = !vahepito_internal_passes(&backoff->time, VAHEPITO_SERVED_TIME, 0);
 }
 
 /* Makes a call, whose code is `code`, again and again while `again` holds, and passes the time in between. */
 #define VAHEPITO_INTERNAL_UNTIL(line, code, call, again)                   \
     do {                                                                   \
-        vahepito_internal_backoff backoff = {0, line};                     \
+        vahepito_internal_backoff backoff = {line, {0, 0}, false};         \
         for (;;) {                                                         \
             const uint32_t ended = vahepito_internal_stand(&backoff);      \
             code = call;                                                   \
             if (!(again)) break;                                           \
             vahepito_internal_rest(&backoff, ended);                       \
         }                                                                  \
-        vahepito_internal_go_on(&backoff);                                 \
     } while (0)
 
 /* ---- the queue */
 
 /* A handle, in a line of the cache of its own. */
 typedef struct {
-    vahepito_pass pass;
+    vahepito_handle pass;
 } __attribute__((aligned(64))) vahepito_internal_handle;
 
 /* A proved queue of the row. */
 typedef struct vahepito_internal_part {
-    vahepito_raw *observer; /* for looks at the counts */
     struct vahepito_internal_part *next;
     uint64_t number; /* the first one of all has 0 */
     uint64_t base;   /* how many items the queues before it accepted */
@@ -291,9 +284,19 @@ typedef struct vahepito_internal_part {
     vahepito_internal_handle handles[]; /* by seats: the senders, and then the receivers of each group */
 } vahepito_internal_part;
 
+/* A seat, in a line of the cache of its own. `contention` says whether the calls in the seat contend for their side:
+ * the moment at which the last call ended that another one answered, or at which a call had let others go ahead, times
+ * CONTENTION_MOMENT; the side of that call times CONTENTION_SIDE; and CONTENDS, if that call came at once after another
+ * one that was answered so. The call that has the seat writes it. */
 typedef struct {
-    uint32_t is_taken;
+    uint32_t is_taken, quiet; /* `quiet`: at the ends of how many of its last calls no call was parked */
+    uint64_t contention;
 } __attribute__((aligned(64))) vahepito_internal_seat;
+
+/* After this number of calls of a seat at whose ends no call was parked, seats are given back by a store again. */
+enum { FORGET_AFTER = 1024 };
+
+enum { CONTENDS = 1, CONTENTION_SIDE = 2, CONTENTION_MOMENT = 32 };
 
 /* A descriptor that is readable while a take of a group, or a send, may find something; or -1. A call that finds nothing arms it, and looks once
  * more; a call that makes something writes into it, if it is armed. */
@@ -347,16 +350,87 @@ static __attribute__((noinline)) uint32_t vahepito_internal_sit(vahepito_queue *
 
 static inline uint32_t vahepito_internal_number(const vahepito_queue *queue, const vahepito_internal_seat *seat) { return (uint32_t)(seat - queue->seats); }
 
-static inline void vahepito_internal_stand_up(vahepito_queue *queue, uint32_t seat) { __atomic_store_n(&queue->seats[seat].is_taken, 0, __ATOMIC_RELEASE); }
+static inline uint32_t vahepito_internal_waiting(const vahepito_queue *queue) {
+    return __atomic_load_n(&queue->served.waiting, __ATOMIC_SEQ_CST);
+}
+
+/* By an exchange, which waits until the stores of the seat's call are in memory: one of them may have answered a call
+ * that is parked. Before an end wakes the line it takes PARKED away. So further ends make no system call while a call
+ * that was woken waits for a processor. */
+static __attribute__((noinline, cold)) void vahepito_internal_swap_and_wake(vahepito_queue *queue, vahepito_internal_seat *seat) {
+    vahepito_internal_served *const line = &queue->served;
+    const uint32_t quiet = vahepito_internal_waiting(queue) != PARKED ? seat->quiet + 1 : 0;
+    seat->quiet = quiet % FORGET_AFTER;
+    (void)__atomic_exchange_n(&seat->is_taken, 0, __ATOMIC_SEQ_CST);
+    vahepito_internal_in_order();
+    if (vahepito_internal_waiting(queue) == PARKED) {
+        (void)__atomic_exchange_n(&line->waiting, WAS_USED, __ATOMIC_SEQ_CST);
+        (void)__atomic_fetch_add(&line->ended, 1, __ATOMIC_SEQ_CST);
+        (void)vahepito_internal_futex(&line->ended, FUTEX_WAKE, INT_MAX, NULL);
+    } else if (quiet == FORGET_AFTER) {
+        (void)__atomic_fetch_and(&line->waiting, ~(uint32_t)WAS_USED, __ATOMIC_SEQ_CST);
+    }
+}
+
+/* Gives a seat back after a call, and wakes the calls that are parked until they have an answer or a seat. */
+static inline void vahepito_internal_give_back(vahepito_queue *queue, vahepito_internal_seat *seat) {
+    if (__builtin_expect(vahepito_internal_waiting(queue) != 0, 0)) vahepito_internal_swap_and_wake(queue, seat);
+    else __atomic_store_n(&seat->is_taken, 0, __ATOMIC_RELEASE);
+}
+
+static inline void vahepito_internal_stand_up(vahepito_queue *queue, uint32_t seat) {
+    vahepito_internal_give_back(queue, &queue->seats[seat]);
+}
+
+/* ---- contention */
+
+static bool vahepito_internal_comes_at_once(uint64_t contention, uint32_t side, uint64_t moment) {
+    const uint64_t side_before = contention % CONTENTION_MOMENT / CONTENTION_SIDE;
+    return side_before == side && moment - contention / CONTENTION_MOMENT < AT_ONCE;
+}
+
+/* After a call of this side in this seat that waited for its answer, from this moment on. */
+static void vahepito_internal_note_answered(vahepito_internal_seat *seat, uint32_t side, uint64_t begin) {
+    if (VAHEPITO_AHEAD == 0) return;
+    const uint64_t before = __atomic_load_n(&seat->contention, __ATOMIC_RELAXED);
+    const uint64_t now = vahepito_internal_clock() * CONTENTION_MOMENT + side * CONTENTION_SIDE;
+    __atomic_store_n(&seat->contention, now + vahepito_internal_comes_at_once(before, side, begin), __ATOMIC_RELAXED);
+}
+
+static inline bool vahepito_internal_contends(const vahepito_internal_seat *seat) {
+    return VAHEPITO_AHEAD != 0 && (__atomic_load_n(&seat->contention, __ATOMIC_RELAXED) & CONTENDS) != 0;
+}
+
+static __attribute__((noinline, cold)) void vahepito_internal_go_behind(vahepito_internal_seat *seat, uint32_t side) {
+    uint64_t contention = __atomic_load_n(&seat->contention, __ATOMIC_RELAXED) - CONTENDS;
+    const uint64_t now = vahepito_internal_clock();
+    if (vahepito_internal_comes_at_once(contention, side, now)) {
+        vahepito_internal_spin_until(now + VAHEPITO_AHEAD);
+        contention = vahepito_internal_clock() * CONTENTION_MOMENT + side * CONTENTION_SIDE;
+    }
+    __atomic_store_n(&seat->contention, contention, __ATOMIC_RELAXED);
+}
+
+/* Before a call of this side, by a thread whose seat this is and that has no lock. Two threads of a side that call
+ * again and again meet at each call, and each waits for the other. So if two calls in a row waited, and the next one
+ * comes at once, that one lets the others make some calls alone. */
+static inline void vahepito_internal_let_ahead(vahepito_internal_seat *seat, uint32_t side) {
+    if (vahepito_internal_contends(seat)) vahepito_internal_go_behind(seat, side);
+}
+
+/* The seat at which this thread looks first. */
+static inline vahepito_internal_seat *vahepito_internal_own_seat(vahepito_queue *queue) {
+    return (vahepito_internal_seat *)(void *)((char *)queue->seats + vahepito_internal_own);
+}
 
 /* The handle that a seat has of a queue: of its sender, or of the receiver of a group from 1. */
-static inline vahepito_pass *vahepito_internal_pass(vahepito_internal_part *part, const vahepito_queue *queue, uint32_t side, uint32_t seat) {
+static inline vahepito_handle *vahepito_internal_pass(vahepito_internal_part *part, const vahepito_queue *queue, uint32_t side, uint32_t seat) {
     return &part->handles[side * queue->places + seat - 1].pass;
 }
 
 /* The same of the seat at these bytes: a handle has as many as a seat. */
-static inline vahepito_pass *vahepito_internal_own_pass(vahepito_internal_part *part, const vahepito_queue *queue, uint32_t side, size_t own) {
-    return (vahepito_pass *)(void *)((char *)part + (offsetof(vahepito_internal_part, handles) - sizeof(vahepito_internal_handle)) + (side == 0 ? 0 : side * queue->stride) + own);
+static inline vahepito_handle *vahepito_internal_own_pass(vahepito_internal_part *part, const vahepito_queue *queue, uint32_t side, size_t own) {
+    return (vahepito_handle *)(void *)((char *)part + (offsetof(vahepito_internal_part, handles) - sizeof(vahepito_internal_handle)) + (side == 0 ? 0 : side * queue->stride) + own);
 }
 
 _Static_assert(sizeof(vahepito_internal_seat) == sizeof(vahepito_internal_handle), "a handle has as many bytes as a seat");
@@ -404,31 +478,27 @@ static bool vahepito_internal_arm(vahepito_internal_bell *bell) {
 
 /* ---- notifications, of which the rare parts are functions of their own */
 
-static __attribute__((noinline, cold)) void vahepito_internal_serve(vahepito_queue *queue) { vahepito_internal_wake_served(&queue->served); }
-
-static inline void vahepito_internal_notify_served(vahepito_queue *queue) {
-    if (__builtin_expect(__atomic_load_n(&queue->served.waiting, __ATOMIC_SEQ_CST) != 0, 0)) vahepito_internal_serve(queue);
-}
-
 static __attribute__((noinline, cold)) void vahepito_internal_ring_for_items(vahepito_queue *queue) {
     for (uint32_t group = 1; group <= queue->groups; group++) vahepito_internal_ring_if_armed(&queue->bells[group]);
 }
 
-/* After this number of sends that were accepted: wakes as many receivers of each group. */
-static inline void vahepito_internal_notify_items(vahepito_queue *queue, uint32_t count) {
+/* After a send that was accepted: wakes a receiver of each group. */
+static inline void vahepito_internal_notify_items(vahepito_queue *queue) {
     vahepito_internal_in_order();
     for (uint32_t group = queue->groups; group-- > 0;)
-        if (vahepito_internal_has_waiting(&queue->receivers[group])) vahepito_internal_notify(&queue->receivers[group], count);
+        if (vahepito_internal_has_waiting(&queue->receivers[group])) vahepito_internal_notify(&queue->receivers[group], 1);
     if (__builtin_expect(__atomic_load_n(&queue->has_bells, __ATOMIC_SEQ_CST), 0)) vahepito_internal_ring_for_items(queue);
 }
 
-static __attribute__((noinline, cold)) void vahepito_internal_notify_senders(vahepito_queue *queue, uint32_t count) { vahepito_internal_notify(&queue->senders, count); }
+static __attribute__((noinline, cold)) void vahepito_internal_notify_senders(vahepito_queue *queue) {
+    vahepito_internal_notify(&queue->senders, 1);
+}
 static __attribute__((noinline, cold)) void vahepito_internal_ring_for_room(vahepito_queue *queue) { vahepito_internal_ring_if_armed(&queue->bells[0]); }
 
-/* After this number of takes that got an item: wakes as many senders. */
-static inline void vahepito_internal_notify_room(vahepito_queue *queue, uint32_t count) {
+/* After a take that got an item: wakes a sender. */
+static inline void vahepito_internal_notify_room(vahepito_queue *queue) {
     vahepito_internal_in_order();
-    if (vahepito_internal_has_waiting(&queue->senders)) vahepito_internal_notify_senders(queue, count);
+    if (vahepito_internal_has_waiting(&queue->senders)) vahepito_internal_notify_senders(queue);
     if (__builtin_expect(__atomic_load_n(&queue->has_bells, __ATOMIC_SEQ_CST), 0)) vahepito_internal_ring_for_room(queue);
 }
 
@@ -444,28 +514,25 @@ static void vahepito_internal_notify_all(vahepito_queue *queue) {
 /* ---- the row */
 
 static void vahepito_internal_free_part(const vahepito_queue *queue, vahepito_internal_part *part) {
-    vahepito_free(part->observer);
     for (uint32_t k = 0; k < (1 + queue->groups) * queue->places; k++) (void)vahepito_drop(&part->handles[k].pass);
     free(part);
 }
 
 /* A further queue of the row; NULL if there is no memory. */
 static vahepito_internal_part *vahepito_internal_append(vahepito_queue *queue, uint32_t *code) {
-    vahepito_pass passes[(1 + MOST_GROUPS) * SEATS];
+    vahepito_handle passes[(1 + MOST_GROUPS) * SEATS];
     const size_t count = (1 + (size_t)queue->groups) * queue->places;
     void *memory = NULL;
     memset(passes, 0, sizeof passes);
     *code = vahepito_open_words(&queue->config, queue->groups, queue->words, passes, queue->places, passes + queue->places, count - queue->places);
     if (*code != VAHEPITO_DONE) return NULL;
     *code = VAHEPITO_NO_MEMORY;
-    vahepito_raw *observer = NULL;
-    if (posix_memalign(&memory, 64, sizeof(vahepito_internal_part) + count * sizeof(vahepito_internal_handle)) == 0) *code = vahepito_observe(&passes[0], &observer);
-    if (*code != VAHEPITO_DONE) {
+    if (posix_memalign(&memory, 64, sizeof(vahepito_internal_part) + count * sizeof(vahepito_internal_handle)) != 0) {
         for (size_t k = 0; k < count; k++) (void)vahepito_drop(&passes[k]);
-        return free(memory), NULL;
+        return NULL;
     }
+    *code = VAHEPITO_DONE;
     vahepito_internal_part *const part = memory;
-    part->observer = observer;
     part->next = NULL;
     part->number = part->base = part->unseen = 0;
     for (size_t k = 0; k < count; k++) part->handles[k].pass = passes[k];
@@ -506,15 +573,27 @@ static bool vahepito_internal_is_together(const vahepito_queue *queue) {
     return true;
 }
 
+/* How many items a queue has accepted, and how many this group, from 1, has taken of it: looks, by the sender of this seat. */
+static uint64_t vahepito_internal_accepted(vahepito_internal_part *part, const vahepito_queue *queue, uint32_t seat) {
+    uint64_t count;
+    (void)vahepito_accepted(vahepito_internal_pass(part, queue, 0, seat), &count);
+    return count;
+}
+
+static uint64_t vahepito_internal_taken(vahepito_internal_part *part, const vahepito_queue *queue, uint32_t seat, uint32_t group) {
+    uint64_t count;
+    (void)vahepito_taken(vahepito_internal_pass(part, queue, 0, seat), group, &count);
+    return count;
+}
+
 /* How many items the row has: how many the slowest group has before it. The last queue's count is loaded first, so that there were as many at
- * that moment. Under the lock. */
-static uint64_t vahepito_internal_length(const vahepito_queue *queue) {
-    vahepito_look look = {queue->last->observer};
-    const uint64_t accepted = queue->last->base + vahepito_accepted(&look);
+ * that moment. Under the lock, in this seat. */
+static uint64_t vahepito_internal_length(const vahepito_queue *queue, uint32_t seat) {
+    const uint64_t accepted = queue->last->base + vahepito_internal_accepted(queue->last, queue, seat);
     uint64_t most = 0;
-    for (uint32_t group = 0; group < queue->groups; group++) {
-        look.queue = queue->at[group]->observer;
-        const uint64_t taken = queue->at[group]->base + vahepito_taken(&look, group + 1);
+    for (uint32_t group = 1; group <= queue->groups; group++) {
+        vahepito_internal_part *const at = queue->at[group - 1];
+        const uint64_t taken = at->base + vahepito_internal_taken(at, queue, seat, group);
         if (taken < accepted && accepted - taken > most) most = accepted - taken;
     }
     return most;
@@ -523,13 +602,12 @@ static uint64_t vahepito_internal_length(const vahepito_queue *queue) {
 /* Closes the last queue, in a seat that it takes. Under the lock. */
 static uint32_t vahepito_internal_close_last(vahepito_queue *queue, uint64_t *total) {
     const uint32_t seat = vahepito_internal_sit(queue);
-    vahepito_pass *const pass = vahepito_internal_pass(queue->last, queue, 0, seat);
+    vahepito_handle *const pass = vahepito_internal_pass(queue->last, queue, 0, seat);
     uint32_t code, served;
     (void)vahepito_begin_close(pass);
     VAHEPITO_INTERNAL_UNTIL(&queue->served, code, vahepito_turn_close(pass, total, &served), code == VAHEPITO_WAITING);
     *total += queue->last->base;
     vahepito_internal_stand_up(queue, seat);
-    vahepito_internal_notify_served(queue);
     return code;
 }
 
@@ -587,12 +665,12 @@ typedef struct {
     uint64_t number; /* of the queue that refused it */
 } vahepito_internal_send_request;
 
-/* Whether the counts of this queue say that it was full at a moment at which no close had returned: the close is looked for last. */
-static bool vahepito_internal_is_full(const vahepito_queue *queue, const vahepito_internal_part *part) {
-    vahepito_look look = {part->observer};
-    const uint64_t accepted = vahepito_accepted(&look);
+/* Whether the counts of this queue say that it was full at a moment at which no close had returned: the close is looked for last. The looks are
+ * by the sender of this seat, one after the other: that such looks show Full is proved (looks_answer_full of the crate cc_queue). */
+static bool vahepito_internal_is_full(const vahepito_queue *queue, vahepito_internal_part *part, uint32_t seat) {
+    const uint64_t accepted = vahepito_internal_accepted(part, queue, seat);
     for (uint32_t group = 1; group <= queue->groups; group++)
-        if (vahepito_taken(&look, group) + queue->config.capacity <= accepted)
+        if (vahepito_internal_taken(part, queue, seat, group) + queue->config.capacity <= accepted)
             return !vahepito_internal_is_closed(queue);
     return false;
 }
@@ -600,10 +678,13 @@ static bool vahepito_internal_is_full(const vahepito_queue *queue, const vahepit
 /* After a try of a send at this queue, in this seat, with this code: until it is answered. */
 static uint32_t vahepito_internal_after_send(vahepito_internal_send_request *it, uint32_t seat, vahepito_internal_part *part, uint32_t code) {
     vahepito_queue *const queue = it->queue;
-    vahepito_pass *const pass = vahepito_internal_pass(part, queue, 0, seat);
+    vahepito_handle *const pass = vahepito_internal_pass(part, queue, 0, seat);
     uint32_t served;
-    if (code == VAHEPITO_WAITING)
+    if (code == VAHEPITO_WAITING) {
+        const uint64_t begin = VAHEPITO_AHEAD == 0 ? 0 : vahepito_internal_clock();
         VAHEPITO_INTERNAL_UNTIL(&queue->served, code, vahepito_turn_send(pass, &it->place, &served), code == VAHEPITO_WAITING);
+        vahepito_internal_note_answered(&queue->seats[seat], 0, begin);
+    }
     if (code == VAHEPITO_ACCEPTED) it->place += part->base;
     else if (code == VAHEPITO_FULL) (void)__atomic_fetch_or(&queue->special, WAS_FULL, __ATOMIC_RELAXED);
     it->number = part->number;
@@ -615,7 +696,7 @@ static uint32_t vahepito_internal_send_by(vahepito_internal_send_request *it, ui
     vahepito_queue *const queue = it->queue;
     uint32_t served;
     if ((__atomic_load_n(&queue->special, __ATOMIC_RELAXED) & WAS_FULL) != 0) {
-        if (queue->has_bound && vahepito_internal_is_full(queue, part)) return it->place = 0, VAHEPITO_FULL;
+        if (queue->has_bound && vahepito_internal_is_full(queue, part, seat)) return it->place = 0, VAHEPITO_FULL;
         (void)__atomic_fetch_and(&queue->special, ~(uint32_t)WAS_FULL, __ATOMIC_RELAXED);
     }
     return vahepito_internal_after_send(it, seat, part, vahepito_try_send_words(vahepito_internal_pass(part, queue, 0, seat), it->words, it->count, &it->place, &served));
@@ -623,6 +704,7 @@ static uint32_t vahepito_internal_send_by(vahepito_internal_send_request *it, ui
 
 /* The same of this one call, in a seat that it takes. */
 static uint32_t vahepito_internal_seated_send(vahepito_internal_send_request *it) {
+    vahepito_internal_let_ahead(vahepito_internal_own_seat(it->queue), 0);
     const uint32_t seat = vahepito_internal_sit(it->queue);
     vahepito_internal_part *const part = vahepito_internal_load(&it->queue->last);
     uint32_t code = VAHEPITO_INTERNAL_NARROW;
@@ -639,12 +721,10 @@ static uint32_t vahepito_internal_narrow_send(vahepito_internal_send_request *it
     if (vahepito_internal_is_closed(queue)) {
         code = VAHEPITO_CLOSED;
     } else if ((__atomic_load_n(&queue->special, __ATOMIC_SEQ_CST) & NARROW) != 0) {
+        const uint32_t seat = vahepito_internal_sit(queue);
         code = VAHEPITO_FULL;
-        if (vahepito_internal_length(queue) < queue->config.capacity) {
-            const uint32_t seat = vahepito_internal_sit(queue);
-            code = vahepito_internal_send_by(it, seat, queue->last);
-            vahepito_internal_stand_up(queue, seat);
-        }
+        if (vahepito_internal_length(queue, seat) < queue->config.capacity) code = vahepito_internal_send_by(it, seat, queue->last);
+        vahepito_internal_stand_up(queue, seat);
     }
     vahepito_internal_unlock(queue);
     return code;
@@ -654,7 +734,6 @@ static uint32_t vahepito_internal_narrow_send(vahepito_internal_send_request *it
 static uint32_t vahepito_internal_further_send(vahepito_internal_send_request *it, uint32_t code) {
     for (;;) {
         if (code == VAHEPITO_INTERNAL_NARROW) code = vahepito_internal_narrow_send(it);
-        vahepito_internal_notify_served(it->queue);
         if (code == VAHEPITO_WORN || code == VAHEPITO_SPENT || code == VAHEPITO_CLOSED || (code == VAHEPITO_FULL && !it->queue->has_bound))
             code = vahepito_internal_next_for_senders(it->queue, it->number);
         else if (code != VAHEPITO_INTERNAL_NARROW)
@@ -680,28 +759,39 @@ typedef struct {
 
 /* After a try of a take at this queue, in this seat, with this code: until it is answered. */
 static uint32_t vahepito_internal_after_take(vahepito_internal_take_request *it, uint32_t seat, vahepito_internal_part *part, uint32_t code) {
-    vahepito_pass *const pass = vahepito_internal_pass(part, it->queue, it->group, seat);
+    vahepito_handle *const pass = vahepito_internal_pass(part, it->queue, it->group, seat);
     uint32_t served;
-    if (code == VAHEPITO_WAITING)
+    if (code == VAHEPITO_WAITING) {
+        const uint64_t begin = VAHEPITO_AHEAD == 0 ? 0 : vahepito_internal_clock();
         VAHEPITO_INTERNAL_UNTIL(&it->queue->served, code, vahepito_turn_take_words(pass, it->item, &it->total, &served), code == VAHEPITO_WAITING);
+        vahepito_internal_note_answered(&it->queue->seats[seat], it->group, begin);
+    }
     if (code == VAHEPITO_GOT) it->item->place += part->base;
     else if (code == VAHEPITO_ENDED) it->total += part->base, it->number = part->number;
-    vahepito_internal_stand_up(it->queue, seat);
     return code;
 }
 
-/* A take at the queue that the group is at, in a seat. */
+/* A take at this queue, in this seat. */
+static uint32_t vahepito_internal_take_by(vahepito_internal_take_request *it, uint32_t seat,
+                                          vahepito_internal_part *part) {
+    vahepito_handle *const pass = vahepito_internal_pass(part, it->queue, it->group, seat);
+    uint32_t served;
+    return vahepito_internal_after_take(it, seat, part, vahepito_try_take_words(pass, it->item, &it->total, &served));
+}
+
+/* The same at the queue that the group is at, in a seat that it takes. */
 static uint32_t vahepito_internal_seated_take(vahepito_internal_take_request *it) {
+    vahepito_internal_let_ahead(vahepito_internal_own_seat(it->queue), it->group);
     const uint32_t seat = vahepito_internal_sit(it->queue);
     vahepito_internal_part *const part = vahepito_internal_load(&it->queue->at[it->group - 1]);
-    uint32_t served;
-    return vahepito_internal_after_take(it, seat, part, vahepito_try_take_words(vahepito_internal_pass(part, it->queue, it->group, seat), it->item, &it->total, &served));
+    const uint32_t code = vahepito_internal_take_by(it, seat, part);
+    vahepito_internal_stand_up(it->queue, seat);
+    return code;
 }
 
 /* After a call of a take with this code, the rest of its try: GOT, EMPTY, ENDED. */
 static uint32_t vahepito_internal_further_take(vahepito_internal_take_request *it, uint32_t code) {
     for (;;) {
-        vahepito_internal_notify_served(it->queue);
         if (code != VAHEPITO_ENDED || !vahepito_internal_next_for_group(it->queue, it->group, it->number)) return code;
         code = vahepito_internal_seated_take(it);
     }
@@ -723,25 +813,29 @@ static uint64_t vahepito_internal_place(uint32_t nothing, const void *request) {
     return nothing == VAHEPITO_FULL ? ((const vahepito_internal_send_request *)request)->place : ((const vahepito_internal_take_request *)request)->item->place;
 }
 
-/* Tries again some times, and spins or yields between the tries, unless the side is slow. */
-static uint32_t vahepito_internal_rounds(vahepito_internal_pace *pace, void *request, uint32_t nothing) {
-    const uint32_t spins = VAHEPITO_ROUNDS, rounds = spins + VAHEPITO_YIELDS;
-    if (spins == 0 || vahepito_internal_is_slow(pace)) return nothing;
-    for (uint32_t round = 0; round < rounds; round++) {
-        if (round < spins) vahepito_internal_spin(round);
-        else (void)sched_yield();
-        const uint32_t code = vahepito_internal_attempt(nothing, request);
-        if (code == nothing) continue;
-        if (round >= spins) vahepito_internal_note(pace, vahepito_internal_place(nothing, request));
-        return code;
-    }
-    return nothing;
+/* Tries again for some time, and spins or yields between the tries, unless the side is slow. */
+static uint32_t vahepito_internal_try_for_some_time(vahepito_internal_pace *pace, void *request, uint32_t nothing) {
+    vahepito_internal_wait_time time = {0, 0};
+    uint32_t code = nothing;
+    if (VAHEPITO_SPIN_TIME == 0 || vahepito_internal_is_slow(pace)) return nothing;
+    while (code == nothing && vahepito_internal_passes(&time, VAHEPITO_SPIN_TIME, VAHEPITO_YIELD_TIME))
+        code = vahepito_internal_attempt(nothing, request);
+    if (code != nothing && vahepito_internal_clock() - time.begin > VAHEPITO_SPIN_TIME)
+        vahepito_internal_note(pace, vahepito_internal_place(nothing, request));
+    return code;
+}
+
+static bool vahepito_internal_is_past(const struct timespec *moment) {
+    struct timespec now;
+    (void)clock_gettime(CLOCK_MONOTONIC, &now);
+    return now.tv_sec > moment->tv_sec || (now.tv_sec == moment->tv_sec && now.tv_nsec >= moment->tv_nsec);
 }
 
 /* Tries until a try finds something, or until this moment; `nothing` is FULL of a send, or EMPTY of a take. A try that finds nothing again
  * costs a look at the counts. */
 static uint32_t vahepito_internal_wait(vahepito_internal_line *line, vahepito_internal_pace *pace, void *request, uint32_t nothing, const struct timespec *moment) {
-    uint32_t code = vahepito_internal_rounds(pace, request, nothing);
+    if (moment && vahepito_internal_is_past(moment)) return nothing;
+    uint32_t code = vahepito_internal_try_for_some_time(pace, request, nothing);
     if (code != nothing) return code;
     do {
         (void)__atomic_fetch_add(&line->counts, VAHEPITO_INTERNAL_ONE_WAITING, __ATOMIC_SEQ_CST);
@@ -787,7 +881,7 @@ static __attribute__((noinline)) uint32_t vahepito_internal_rest_of_send(vahepit
     }
     code = vahepito_internal_further_send(&it, code);
     if (code == VAHEPITO_FULL) code = vahepito_internal_again(it.queue, 0, &it, VAHEPITO_FULL, moment);
-    if (code == VAHEPITO_ACCEPTED) vahepito_internal_notify_items(it.queue, 1);
+    if (code == VAHEPITO_ACCEPTED) vahepito_internal_notify_items(it.queue);
     if (place) *place = it.place;
     return code;
 }
@@ -796,25 +890,24 @@ static __attribute__((noinline)) uint32_t vahepito_internal_rest_of_send(vahepit
 static inline __attribute__((always_inline)) uint32_t vahepito_internal_send(vahepito_queue *queue, const uint64_t *words, size_t count, bool is_one,
                                                                              const struct timespec *moment, uint64_t *place) {
     const size_t own = vahepito_internal_own;
-    vahepito_internal_seat *const seat = (vahepito_internal_seat *)(void *)((char *)queue->seats + own);
+    vahepito_internal_seat *const seat = vahepito_internal_own_seat(queue);
     uint32_t code, served;
     uint64_t number;
-    if (__builtin_expect(vahepito_internal_try_seat(seat), 1)) {
+    if (__builtin_expect(!vahepito_internal_contends(seat) && vahepito_internal_try_seat(seat), 1)) {
         vahepito_internal_part *const part = vahepito_internal_load(&queue->last);
         if (__builtin_expect(__atomic_load_n(&queue->special, __ATOMIC_SEQ_CST) == 0, 1)) {
-            vahepito_pass *const pass = vahepito_internal_own_pass(part, queue, 0, own);
+            vahepito_handle *const pass = vahepito_internal_own_pass(part, queue, 0, own);
             code = is_one ? vahepito_try_send(pass, *words, &number, &served) : vahepito_try_send_words(pass, words, count, &number, &served);
             if (__builtin_expect(code == VAHEPITO_ACCEPTED, 1)) {
                 number += part->base;
-                __atomic_store_n(&seat->is_taken, 0, __ATOMIC_RELEASE);
-                vahepito_internal_notify_served(queue);
-                vahepito_internal_notify_items(queue, 1);
+                vahepito_internal_give_back(queue, seat);
+                vahepito_internal_notify_items(queue);
                 if (place) *place = number;
                 return VAHEPITO_ACCEPTED;
             }
             return vahepito_internal_rest_of_send((vahepito_internal_send_request){queue, words, count, number, 0}, moment, place, vahepito_internal_number(queue, seat), part, code);
         }
-        __atomic_store_n(&seat->is_taken, 0, __ATOMIC_RELEASE);
+        vahepito_internal_give_back(queue, seat);
     }
     return vahepito_internal_rest_of_send((vahepito_internal_send_request){queue, words, count, 0, 0}, moment, place, 0, NULL, 0);
 }
@@ -843,22 +936,43 @@ uint32_t vahepito_send_words_now(vahepito_queue *queue, const uint64_t *words, s
     return vahepito_internal_send(queue, words, count, false, &vahepito_internal_now, place);
 }
 
-uint32_t vahepito_send_many(vahepito_queue *queue, const uint64_t *words, size_t count, const struct timespec *moment, size_t *sent) {
-    uint32_t code = VAHEPITO_ACCEPTED, unsaid = 0;
+/* How many calls of a batch are made in one seat. */
+enum { IN_ONE_SEAT = 64 };
+
+static inline size_t vahepito_internal_least(size_t one, size_t other) { return one < other ? one : other; }
+
+/* Sends words in the thread's own seat, one after another, up to IN_ONE_SEAT of them, until one isn't accepted or the
+ * row is narrow. Each one wakes receivers, as a send does. Returns how many were accepted: 0 also if the seat isn't
+ * free. */
+static size_t vahepito_internal_send_some(vahepito_queue *queue, const uint64_t *words, size_t count) {
+    const uint32_t own = (uint32_t)(vahepito_internal_own / sizeof(vahepito_internal_seat));
+    vahepito_internal_seat *const seat = &queue->seats[own];
     size_t at = 0;
-    while (at < count) {
+    vahepito_internal_let_ahead(seat, 0);
+    if (!vahepito_internal_try_seat(seat)) return 0;
+    vahepito_internal_part *const part = vahepito_internal_load(&queue->last);
+    for (const size_t most = vahepito_internal_least(count, IN_ONE_SEAT); at < most; at++) {
+        vahepito_internal_send_request request = {queue, &words[at], 1, 0, 0};
+        if ((__atomic_load_n(&queue->special, __ATOMIC_SEQ_CST) & NARROW) != 0) break;
+        if (vahepito_internal_send_by(&request, own, part) != VAHEPITO_ACCEPTED) break;
+        vahepito_internal_notify_items(queue);
+    }
+    vahepito_internal_give_back(queue, seat);
+    return at;
+}
+
+uint32_t vahepito_send_many(vahepito_queue *queue, const uint64_t *words, size_t count, const struct timespec *moment, size_t *sent) {
+    uint32_t code = VAHEPITO_ACCEPTED;
+    size_t at = 0;
+    while (code == VAHEPITO_ACCEPTED && at < count) {
+        const size_t some = vahepito_internal_send_some(queue, &words[at], count - at);
+        at += some;
+        if (some == IN_ONE_SEAT || at == count) continue;
         vahepito_internal_send_request request = {queue, &words[at], 1, 0, 0};
         code = vahepito_internal_attempt_send(&request);
-        if (code == VAHEPITO_FULL) {
-            if (unsaid > 0) vahepito_internal_notify_items(queue, unsaid);
-            unsaid = 0;
-            code = vahepito_internal_again(queue, 0, &request, VAHEPITO_FULL, moment);
-        }
-        if (code != VAHEPITO_ACCEPTED) break;
-        at++;
-        if (++unsaid == INT_MAX) vahepito_internal_notify_items(queue, unsaid), unsaid = 0;
+        if (code == VAHEPITO_FULL) code = vahepito_internal_again(queue, 0, &request, VAHEPITO_FULL, moment);
+        if (code == VAHEPITO_ACCEPTED) at++, vahepito_internal_notify_items(queue);
     }
-    if (unsaid > 0) vahepito_internal_notify_items(queue, unsaid);
     if (sent) *sent = at;
     return code;
 }
@@ -867,10 +981,15 @@ uint32_t vahepito_send_many(vahepito_queue *queue, const uint64_t *words, size_t
 static __attribute__((noinline)) uint32_t vahepito_internal_rest_of_take(vahepito_internal_take_request it, const struct timespec *moment, uint64_t *total,
                                                                          uint32_t seat, vahepito_internal_part *part, uint32_t code) {
     if (code != VAHEPITO_BAD_GROUPS) {
-        code = seat != 0 ? vahepito_internal_after_take(&it, seat, part, code) : vahepito_internal_seated_take(&it);
+        if (seat != 0) {
+            code = vahepito_internal_after_take(&it, seat, part, code);
+            vahepito_internal_stand_up(it.queue, seat);
+        } else {
+            code = vahepito_internal_seated_take(&it);
+        }
         code = vahepito_internal_further_take(&it, code);
         if (code == VAHEPITO_EMPTY) code = vahepito_internal_again(it.queue, it.group, &it, VAHEPITO_EMPTY, moment);
-        if (code == VAHEPITO_GOT) vahepito_internal_notify_room(it.queue, 1);
+        if (code == VAHEPITO_GOT) vahepito_internal_notify_room(it.queue);
     }
     if (code != VAHEPITO_GOT) memset(it.item, 0, sizeof *it.item);
     if (total) *total = it.total;
@@ -881,25 +1000,24 @@ static __attribute__((noinline)) uint32_t vahepito_internal_rest_of_take(vahepit
 static inline __attribute__((always_inline)) uint32_t vahepito_internal_take(vahepito_queue *queue, uint32_t group, vahepito_item *item,
                                                                              const struct timespec *moment, uint64_t *total) {
     const size_t own = vahepito_internal_own;
-    vahepito_internal_seat *const seat = (vahepito_internal_seat *)(void *)((char *)queue->seats + own);
+    vahepito_internal_seat *const seat = vahepito_internal_own_seat(queue);
     uint32_t code = VAHEPITO_BAD_GROUPS, served;
     vahepito_item unused;
     uint64_t number;
     if (!item) item = &unused;
     if (__builtin_expect(group - 1 < queue->groups, 1)) {
         code = VAHEPITO_EMPTY;
-        if (__builtin_expect(vahepito_internal_try_seat(seat), 1)) {
+        if (__builtin_expect(!vahepito_internal_contends(seat) && vahepito_internal_try_seat(seat), 1)) {
             vahepito_internal_part *const part = vahepito_internal_load(&queue->at[group - 1]);
-            vahepito_pass *const pass = vahepito_internal_own_pass(part, queue, group, own);
+            vahepito_handle *const pass = vahepito_internal_own_pass(part, queue, group, own);
             const bool is_one = queue->words == 1;
             /* An item of one word begins as an item of words does, and has its body where that has the count. */
             code = is_one ? vahepito_try_take(pass, (vahepito_word_item *)(void *)item, &number, &served) : vahepito_try_take_words(pass, item, &number, &served);
             if (__builtin_expect(code == VAHEPITO_GOT, 1)) {
                 if (is_one) item->words[0] = item->count, item->count = 1, item->words[1] = item->words[2] = item->words[3] = 0;
                 item->place += part->base;
-                __atomic_store_n(&seat->is_taken, 0, __ATOMIC_RELEASE);
-                vahepito_internal_notify_served(queue);
-                vahepito_internal_notify_room(queue, 1);
+                vahepito_internal_give_back(queue, seat);
+                vahepito_internal_notify_room(queue);
                 if (total) *total = 0;
                 return VAHEPITO_GOT;
             }
@@ -921,17 +1039,39 @@ uint32_t vahepito_take_now(vahepito_queue *queue, uint32_t group, vahepito_item 
     return vahepito_internal_take(queue, group, item, &vahepito_internal_now, total);
 }
 
+/* Takes items in the thread's own seat, one after another, up to IN_ONE_SEAT of them, until there is none. Each one
+ * wakes senders, as a take does. Returns how many: 0 also if the seat isn't free. */
+static size_t vahepito_internal_take_some(vahepito_queue *queue, uint32_t group, vahepito_item *items, size_t count) {
+    const uint32_t own = (uint32_t)(vahepito_internal_own / sizeof(vahepito_internal_seat));
+    vahepito_internal_seat *const seat = &queue->seats[own];
+    size_t at = 0;
+    vahepito_internal_let_ahead(seat, group);
+    if (!vahepito_internal_try_seat(seat)) return 0;
+    vahepito_internal_part *const part = vahepito_internal_load(&queue->at[group - 1]);
+    for (const size_t most = vahepito_internal_least(count, IN_ONE_SEAT); at < most; at++) {
+        vahepito_internal_take_request request = {queue, group, &items[at], 0, 0};
+        if (vahepito_internal_take_by(&request, own, part) != VAHEPITO_GOT) break;
+        vahepito_internal_notify_room(queue);
+    }
+    vahepito_internal_give_back(queue, seat);
+    return at;
+}
+
 uint32_t vahepito_take_many(vahepito_queue *queue, uint32_t group, vahepito_item *items, size_t most, const struct timespec *moment, size_t *count, uint64_t *total) {
     vahepito_internal_take_request request = {queue, group, items, 0, 0};
-    uint32_t code = group - 1 < queue->groups ? VAHEPITO_EMPTY : VAHEPITO_BAD_GROUPS;
+    uint32_t code = group - 1 < queue->groups ? VAHEPITO_GOT : VAHEPITO_BAD_GROUPS;
     size_t got = 0;
-    for (; code != VAHEPITO_BAD_GROUPS && got < most; got++) {
+    while (code == VAHEPITO_GOT && got < most) {
+        const size_t some = vahepito_internal_take_some(queue, group, &items[got], most - got);
+        got += some;
+        if (some == IN_ONE_SEAT || got == most) continue;
         request.item = &items[got];
         code = vahepito_internal_attempt_take(&request);
         if (code == VAHEPITO_EMPTY && got == 0) code = vahepito_internal_again(queue, group, &request, VAHEPITO_EMPTY, moment);
-        if (code != VAHEPITO_GOT) break;
+        if (code == VAHEPITO_GOT) got++, vahepito_internal_notify_room(queue);
     }
-    if (got > 0) vahepito_internal_notify_room(queue, got < INT_MAX ? (uint32_t)got : INT_MAX), code = VAHEPITO_GOT;
+    if (got > 0) code = VAHEPITO_GOT;
+    else if (code == VAHEPITO_GOT) code = VAHEPITO_EMPTY;
     if (count) *count = got;
     if (total) *total = code == VAHEPITO_ENDED ? request.total : 0;
     return code;
@@ -959,7 +1099,9 @@ bool vahepito_is_closed(vahepito_queue *queue) {
 
 uint64_t vahepito_length(vahepito_queue *queue) {
     vahepito_internal_lock(queue);
-    const uint64_t length = vahepito_internal_length(queue);
+    const uint32_t seat = vahepito_internal_sit(queue);
+    const uint64_t length = vahepito_internal_length(queue, seat);
+    vahepito_internal_stand_up(queue, seat);
     vahepito_internal_unlock(queue);
     return length;
 }
@@ -1046,16 +1188,9 @@ const char *vahepito_name(uint32_t code) {
     case VAHEPITO_BAD_LIFE: return "BAD_LIFE";
     case VAHEPITO_BAD_PER_SENDER: return "BAD_PER_SENDER";
     case VAHEPITO_NO_MEMORY: return "NO_MEMORY";
-    case VAHEPITO_NO_PASS: return "NO_PASS";
-    case VAHEPITO_WRONG_SIDE: return "WRONG_SIDE";
-    case VAHEPITO_BUSY: return "BUSY";
-    case VAHEPITO_NOT_BEGUN: return "NOT_BEGUN";
-    case VAHEPITO_WORN: return "WORN";
-    case VAHEPITO_WAITING: return "WAITING";
     case VAHEPITO_ACCEPTED: return "ACCEPTED";
     case VAHEPITO_FULL: return "FULL";
     case VAHEPITO_CLOSED: return "CLOSED";
-    case VAHEPITO_SPENT: return "SPENT";
     case VAHEPITO_SHUT: return "SHUT";
     case VAHEPITO_ALREADY: return "ALREADY";
     case VAHEPITO_GOT: return "GOT";
@@ -1079,16 +1214,9 @@ const char *vahepito_text(uint32_t code) {
     case VAHEPITO_BAD_LIFE: return "the life is not from 1 to 2^48";
     case VAHEPITO_BAD_PER_SENDER: return "a place for sends may begin none";
     case VAHEPITO_NO_MEMORY: return "memory was refused";
-    case VAHEPITO_NO_PASS: return "the vahepito_call has no ticket";
-    case VAHEPITO_WRONG_SIDE: return "the ticket is that of a call of the other side";
-    case VAHEPITO_BUSY: return "each place was in use or exhausted, or the vahepito_call has a ticket";
-    case VAHEPITO_NOT_BEGUN: return "the ticket is that of another call of its side";
-    case VAHEPITO_WORN: return "each place for sends has begun as many as it may";
-    case VAHEPITO_WAITING: return "the answer is not there yet";
     case VAHEPITO_ACCEPTED: return "the item was accepted";
     case VAHEPITO_FULL: return "there was no room";
     case VAHEPITO_CLOSED: return "the queue is closed";
-    case VAHEPITO_SPENT: return "the queue has accepted as many items as it may";
     case VAHEPITO_SHUT: return "this call closed the queue";
     case VAHEPITO_ALREADY: return "the queue was closed before";
     case VAHEPITO_GOT: return "an item was taken";
@@ -1109,4 +1237,26 @@ struct timespec vahepito_after(uint64_t nanoseconds) {
     moment.tv_sec += (time_t)(nanoseconds / 1000000000u + rest / 1000000000u);
     moment.tv_nsec = (long)(rest % 1000000000u);
     return moment;
+}
+
+/* The first version of the system's `struct sched_attr`. The slice of an ordinary thread is its `runtime`. */
+typedef struct {
+    uint32_t size, policy;
+    uint64_t flags;
+    int32_t nice;
+    uint32_t priority;
+    uint64_t runtime, deadline, period;
+} vahepito_internal_attributes;
+
+int vahepito_lengthen_slice(void) {
+    const uint64_t slice = 12000000;
+    vahepito_internal_attributes of_thread;
+    memset(&of_thread, 0, sizeof of_thread);
+    if (syscall(SYS_sched_getattr, 0, &of_thread, sizeof of_thread, 0) != 0) return -1;
+    if (of_thread.policy != SCHED_OTHER && of_thread.policy != 3 /* SCHED_BATCH */) return errno = EINVAL, -1;
+    of_thread.runtime = slice;
+    if (syscall(SYS_sched_setattr, 0, &of_thread, 0) != 0) return -1;
+    /* An earlier system doesn't look at the slice. */
+    if (syscall(SYS_sched_getattr, 0, &of_thread, sizeof of_thread, 0) != 0) return -1;
+    return of_thread.runtime == slice ? 0 : (errno = EOPNOTSUPP, -1);
 }

@@ -1,11 +1,14 @@
 /* Prints whether the library that is linked is the one of the header, and both versions. */
-#include "vahepito_raw.h"
+#include "vahepito.h"
 
 #include <stdio.h>
 
 int main(void) {
-    const uint32_t code = vahepito_check_version();
+    const vahepito_attributes attributes = VAHEPITO_ATTRIBUTES;
+    vahepito_queue *queue;
+    const uint32_t code = vahepito_create_as(&attributes, &queue);
     if (code != VAHEPITO_DONE && code != VAHEPITO_BAD_VERSION) return 1;
     printf("%s: library %u, header %d\n", code == VAHEPITO_DONE ? "fits" : "refused", (unsigned)vahepito_version(), VAHEPITO_VERSION);
+    vahepito_destroy(queue, NULL, NULL);
     return 0;
 }

@@ -34,7 +34,7 @@ static void open_for(uint32_t capacity) { queue = opened(capacity, 1); }
 
 /* No call is in a line, or was notified and isn't, and none is parked or has a seat. How many calls ended beside parked ones is any number. */
 static void free_queue(void) {
-    check(queue->senders.counts == 0 && queue->served.waiting == 0, "no send waits");
+    check(queue->senders.counts == 0 && queue->served.waiting != PARKED, "no send waits");
     for (int k = 0; k < MOST_GROUPS; k++) check(queue->receivers[k].counts == 0, "no take waits");
     for (uint32_t k = 1; k <= queue->places; k++) check(!queue->seats[k].is_taken, "no call has a seat");
     vahepito_destroy(queue, NULL, NULL);
@@ -175,7 +175,6 @@ static void *takes_one(void *used_before) {
     uint64_t *const used = used_before;
     const uint64_t before = nanoseconds(CLOCK_THREAD_CPUTIME_ID);
     check(vahepito_take(queue, 1, NULL, NULL) == VAHEPITO_GOT, "a take that waits gets an item");
-    check(yields <= VAHEPITO_YIELDS, "and yielded a few times until it was parked");
     *used = nanoseconds(CLOCK_THREAD_CPUTIME_ID) - before;
     return used;
 }
@@ -189,6 +188,58 @@ static void waiting_is_parking(void) {
     check(vahepito_send(queue, 1, NULL) == VAHEPITO_ACCEPTED, "there is room");
     check(!pthread_join(taking[0], NULL), "a receiver ends");
     check(used < 100000000, "it slept");
+    free_queue();
+}
+
+/* A thread gets a longer slice, if the system knows slices; and none if it has no ordinary policy. */
+static uint64_t slice_now(void) {
+    struct {
+        uint32_t size, policy;
+        uint64_t flags, nice_and_priority, runtime, deadline, period;
+    } of_thread = {.size = sizeof of_thread}; /* valgrind reads the size here too */
+    check(syscall(SYS_sched_getattr, 0, &of_thread, sizeof of_thread, 0) == 0, "the system tells the slice");
+    return of_thread.runtime;
+}
+
+static void *gets_a_longer_slice(void *unused) {
+    const struct sched_param none = {0};
+    if (vahepito_lengthen_slice() == 0) check(slice_now() == 12000000, "the slice is longer");
+    else check(errno == EOPNOTSUPP, "the system doesn't know slices");
+    check(sched_setscheduler(0, 5 /* SCHED_IDLE */, &none) == 0, "a thread may be idle");
+    check(vahepito_lengthen_slice() == -1 && errno == EINVAL, "then it gets no longer slice");
+    return unused;
+}
+
+static void longer_slices(void) {
+    const uint64_t before = slice_now();
+    start(&taking[0], gets_a_longer_slice, NULL);
+    check(!pthread_join(taking[0], NULL), "the thread ends");
+    check(slice_now() == before, "and the others keep their slices");
+}
+
+enum { BATCH = 300000 };
+
+static uint32_t is_over;
+
+static void *takes_of_a_batch(void *unused) {
+    check(vahepito_take(queue, 1, NULL, NULL) == VAHEPITO_GOT, "a take gets an item of a batch");
+    check(!__atomic_load_n(&is_over, __ATOMIC_SEQ_CST), "before the batch is over");
+    return unused;
+}
+
+/* The first item of a batch wakes a take that is parked. */
+static void batches_wake_at_once(void) {
+    uint64_t *const words = calloc(BATCH, sizeof *words);
+    size_t sent = 0;
+    check(words && (queue = vahepito_create(0)), "there is room for any number");
+    start(&taking[0], takes_of_a_batch, NULL);
+    while (!vahepito_internal_has_waiting(&queue->receivers[0])) sleep_for(1);
+    let_them_sleep();
+    check(vahepito_send_many(queue, words, BATCH, NULL, &sent) == VAHEPITO_ACCEPTED && sent == BATCH, "a batch is sent");
+    __atomic_store_n(&is_over, 1, __ATOMIC_SEQ_CST);
+    check(!pthread_join(taking[0], NULL), "a receiver ends");
+    check(vahepito_length(queue) == BATCH - 1, "and the rest is there");
+    free(words);
     free_queue();
 }
 
@@ -357,6 +408,8 @@ int main(int count, char **words) {
     tries_are_few();
     waiting_is_parking();
     pace_is_noted();
+    longer_slices();
+    batches_wake_at_once();
     signals_and_cancellation();
     moments();
     close_over_senders();

@@ -20,7 +20,7 @@ static const vahepito_config config = {PASSES, PASSES, 4, 8, (uint64_t)1 << 48, 
 static const uint64_t five[5] = {11, 12, 13, 14, 15};
 
 struct queue {
-    vahepito_pass senders[PASSES], receivers[PASSES];
+    vahepito_handle senders[PASSES], receivers[PASSES];
 };
 
 static uint32_t open_words(struct queue *queue, uint32_t groups, uint32_t words, size_t handles) {
@@ -36,7 +36,7 @@ static void drop(struct queue *queue) {
 
 /* What an opening refuses, and which of it first. */
 static void refused_openings(void) {
-    struct queue queue = {{VAHEPITO_PASS_EMPTY}, {VAHEPITO_PASS_EMPTY}};
+    struct queue queue = {{VAHEPITO_HANDLE_EMPTY}, {VAHEPITO_HANDLE_EMPTY}};
     const uint32_t refused[] = {0, 5, UINT32_MAX};
     for (int k = 0; k < 3; k++) {
         check(open_words(&queue, 9, refused[k], PASSES) == VAHEPITO_BAD_GROUPS, "words are looked at after groups");
@@ -48,7 +48,7 @@ static void refused_openings(void) {
 
 /* What each call of several words refuses. Nothing is begun by it: the sender's first send is its first. */
 static void refused_calls(struct queue *queue) {
-    vahepito_pass empty = VAHEPITO_PASS_EMPTY, *sender = &queue->senders[0], *receiver = &queue->receivers[0];
+    vahepito_handle empty = VAHEPITO_HANDLE_EMPTY, *sender = &queue->senders[0], *receiver = &queue->receivers[0];
     vahepito_item item = {99, 99, 99, 99, {99}};
     uint64_t number = 99;
     uint32_t served = 99;
@@ -75,7 +75,7 @@ static void has_words(const vahepito_item *item, uint64_t place, size_t count) {
 
 /* A body of one to four words, sent and taken by the calls that begin and turn, and by those that do both. */
 static void each_number(struct queue *queue) {
-    vahepito_pass *sender = &queue->senders[0], *receiver = &queue->receivers[0];
+    vahepito_handle *sender = &queue->senders[0], *receiver = &queue->receivers[0];
     vahepito_item item;
     uint64_t number = 99;
     uint32_t served = 99;
@@ -99,7 +99,7 @@ static void each_number(struct queue *queue) {
 
 /* An item of one word has no room for the bodies of this queue: nothing is taken by a call that gives such a one. */
 static void no_room(struct queue *queue) {
-    vahepito_pass *receiver = &queue->receivers[0];
+    vahepito_handle *receiver = &queue->receivers[0];
     vahepito_word_item one = {99, 99, 99, 99};
     vahepito_item item;
     uint64_t number = 99;
@@ -119,7 +119,7 @@ static void no_room(struct queue *queue) {
 static void most_words(void) {
     vahepito_item item;
     for (uint32_t most = 1; most <= VAHEPITO_MOST_WORDS; most++) {
-        struct queue queue = {{VAHEPITO_PASS_EMPTY}, {VAHEPITO_PASS_EMPTY}};
+        struct queue queue = {{VAHEPITO_HANDLE_EMPTY}, {VAHEPITO_HANDLE_EMPTY}};
         check(open_words(&queue, 1, most, PASSES) == VAHEPITO_DONE, "a queue is opened");
         for (size_t count = 1; count <= 5; count++) {
             const uint32_t code = vahepito_begin_send_words(&queue.senders[0], five, count);
@@ -146,7 +146,7 @@ static void *send_all(void *sender) {
 }
 
 struct reader {
-    vahepito_pass *pass;
+    vahepito_handle *pass;
     uint64_t got, total;
 };
 
@@ -170,7 +170,7 @@ static void *take_all(void *at) {
 }
 
 static void on_threads(void) {
-    struct queue queue = {{VAHEPITO_PASS_EMPTY}, {VAHEPITO_PASS_EMPTY}};
+    struct queue queue = {{VAHEPITO_HANDLE_EMPTY}, {VAHEPITO_HANDLE_EMPTY}};
     struct reader readers[PASSES] = {{&queue.receivers[0], 0, 0}, {&queue.receivers[1], 0, 0}};
     pthread_t sending[PASSES], taking[PASSES];
     check(open_words(&queue, 1, VAHEPITO_MOST_WORDS, PASSES) == VAHEPITO_DONE, "a queue is opened");
@@ -187,7 +187,7 @@ static void on_threads(void) {
 }
 
 int main(void) {
-    struct queue queue = {{VAHEPITO_PASS_EMPTY}, {VAHEPITO_PASS_EMPTY}};
+    struct queue queue = {{VAHEPITO_HANDLE_EMPTY}, {VAHEPITO_HANDLE_EMPTY}};
     refused_openings();
     check(open_words(&queue, 1, VAHEPITO_MOST_WORDS, PASSES) == VAHEPITO_DONE, "a queue is opened");
     refused_calls(&queue);

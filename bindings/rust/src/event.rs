@@ -1,76 +1,13 @@
-//! The lines in which callers wait, and why no wake-up is lost.
+//! The lines in which callers wait. `bindings/WAITS.md` says step by step why no wake-up is lost.
 //!
 //! An event is a line of those that wait: for an item, for room, for a free seat, or until their call is served. A waiter is a
-//! [`Waker`]: a task's, or that of a thread that parks. Waiting goes so, step by step on either side:
+//! [`Waker`]: a task's, or that of a thread that parks. `waiting` is written under the lock of the line, and *check*
+//! only loads it. A task that is polled again while it is in line keeps its place, and may look once more.
 //!
-//! ```text
-//! waiter                                        notifier
-//!   stand   in line, waiting := its length        make      a try succeed: send an item, or take one
-//!   look    whether a try succeeds                check     is waiting 0? then that is all
-//!   park                                          take out  the first of the line
-//!   leave   the line                              wake      it
-//!   retry   and if there is nothing, stand again
-//! ```
-//!
-//! *Stand*, *take out* and *leave* each hold the line's lock; *check* doesn't. `waiting` is written
-//! under the lock, so that *check* reads the length of the line at some moment. A task that is polled
-//! again while it stands in line keeps its place, and may look once more.
-//!
-//! **What is used of the queue.** A try that begins after *make* was answered finds what it made,
-//! unless another try took it first. The accesses to `waiting` and the queue's steps are sequentially
-//! consistent, so that all of them have one order that every thread agrees on. On x86-64 most of the queue's stores
-//! are plain moves. When a call returns, its last store may be pending: that by which it hands over to the next call of its side, or
-//! links a call that waits. The item, the room or the close that the call made is never pending then: a mark comes behind a send's item
-//! and behind a close, a take makes room by an addition, and these are locked instructions. On aarch64 the last store of a call may
-//! be pending when the call returns, but a load of `waiting` behind it is later in that order (`stlr`, `ldar`).
 //! A seat is acquired by a sequentially consistent exchange. A look at counts that finds nothing loads each seat's flag so, until
 //! the seat was free once; beside a seat that stays held it asks the queue. So a look at counts comes after a holder of the seat, and
 //! sees what that holder has counted; or before, and then the holder's *check* comes after the look's *stand*. The other accesses to
 //! seats and counts need no more than acquire and release.
-//!
-//! **The claim.** When nobody makes a step any more, there isn't at once a waiter in line and something
-//! for its try to take.
-//!
-//! **Why.** Suppose that there were: a waiter `w` in line for good, and an item (or
-//! room) that no try took. Let `t` be the moment of `w`'s last try, which is its *look*: it came after
-//! its *stand*, since which `waiting` has never been 0, and it found nothing. Let `e` be the last moment
-//! at which there was nothing to take, so `e >= t`. After `e` things were made, and fewer were taken,
-//! since one is left. Each thing that was made after `e` has its *make* after `e`, and then its *check*,
-//! which is after `w` stood in line: so it finds `waiting` above 0, and goes on to *take out* a waiter:
-//! not `w`, which is there for good, but one that came before `w`. Each waiter that is taken out makes a
-//! try after that: its *retry*, or its *look* where it was only about to try. This try begins after `e`,
-//! and after the *make* of the notification that took the waiter out; from then on there was always something to
-//! take. So the try took something. Different notifications take out different entries of the line, and each
-//! entry has its own try; so at least as many things were taken after `e` as were made. That is a
-//! contradiction.
-//!
-//! **Seats.** A seat is freed by a store, and the holder's *check* may come before other threads see that
-//! store; an exchange would mend it, and each call would pay for it. So a notification of a free seat may be missed.
-//! Therefore a waiter for a seat doesn't wait for a notification alone: it looks again after a millisecond. It gets
-//! a seat in the end, since each seat is freed: its holder makes one call of the queue, which waits until it is served
-//! and runs no user code; in a row it may go on to further queues, under a lock whose holder waits for no seat. So a try for an item, which needs a seat, may wait for one while it
-//! stands in line for the item: the two kinds of lines don't hold each other up.
-//!
-//! **Calls that another one serves** wait in a line of their side. *Make* is a store by which a call serves another one,
-//! or hands over to it. At its end each call checks this line, and wakes all of it. Once anybody has stood in the line, each call gives
-//! its seat back by an exchange, which comes between *make* and *check*. A call that ended before that may miss waiters by its last
-//! stores: the first waiter, another one, or several. And an answer may be there before the check: its server may serve others first, or
-//! be preempted. So the waiter looks again after a millisecond. In a row a call wakes the line before it waits for the lock of the row too,
-//! since the holder of the lock may be the waiter.
-//!
-//! **Who is taken out and doesn't try any more** notifies the next in line instead
-//! ([`Event::pass_on`]): a waiter whose *look* took something while it was taken out (its try may have
-//! come before the *make*), and a task that is dropped before its next poll. A thread whose time is
-//! over tries once more after it left the line, and so needs no notification. The notification that is passed on ends
-//! at a waiter that tries, or at an empty line. **A waiter in two lines** (of two channels, say) that
-//! takes something from one has given up its tries in the other: it passes on the notification of either line
-//! that took it out. **A waiter that only waits until there is something** leaves it there, and passes on
-//! every notification, that of its own line too. **A waiter that gives back what it took** has made it, and notifies.
-//!
-//! **A waker that panics** has woken nobody: the notification is the next waiter's.
-//!
-//! **Notifications of nothing** are harmless: their waiter tries, finds nothing, and stands in line again.
-//! So a take notifies one that waits for room though another group hasn't taken the item yet, and a close notifies all.
 //!
 //! # User code
 //!
@@ -92,8 +29,8 @@
 //! | an item's drop | the drop of a last handle | the item is out of the queue, the channel is closed or goes on without the group | is raised once all are dropped |
 //! | | a send that finds a lost group in the queue | a further queue is in place, the send's item is in `Unsent`, or sent | ends |
 //! | | the drop of a future or a selected operation | the future is out of the line, the pair is gone | is raised after the other drops |
-//! | | `Parcel::unpack`, of the last share | the copy is made | ends |
-//! | an item's clone | `Parcel::unpack`, in a take of a group | the item is taken, and one that waits for room is notified | is raised once the share is given up |
+//! | | `ItemWords::unpack`, of the last share | the copy is made | ends |
+//! | an item's clone | `ItemWords::unpack`, in a take of a group | the item is taken, and one that waits for room is notified | is raised once the share is given up |
 //! | items and wakers that are left | the drop of the channel, if futures or operations were forgotten | both sides are gone | is raised once all of its list are dropped |
 //! | the expression of a selected item | `select!`, while the operation is held | the room is reserved, or the pair is made | leaves the select; the operation's drop gives back the room or the pair |
 //! | a payload's drop | the end of a panic | all of the above | ends; the second payload is forgotten |
@@ -103,7 +40,7 @@
 //! `tests/channel/wakeups.rs` searches all interleavings of these steps in small models, and finds the lost wake-up
 //! if one of them is left out; `tests/channel/looks.rs` does the same for a look at the counts of seats, and `tests/channel/served.rs` for calls that
 //! another one serves.
-use crate::backoff::{PACE, Rounds, for_others};
+use crate::backoff::{Contention, PACE, Wait, for_others};
 use std::any::Any;
 use std::cell::RefCell;
 use std::collections::BTreeMap;
@@ -224,6 +161,14 @@ impl<T> Deref for Apart<T> {
 #[derive(Clone, Copy, PartialEq, Eq, PartialOrd, Ord)]
 pub struct Ticket(NonZeroU64);
 
+/// The line in which a call waits until another one has served it, or handed over to it; and whether the calls of its
+/// seat contend.
+#[derive(Clone, Copy)]
+pub struct Served<'a> {
+    pub line: &'a Event,
+    pub contention: &'a Contention,
+}
+
 /// Whom notifications took out of a line while a waiter was in it.
 #[derive(PartialEq)]
 pub enum Notified {
@@ -235,7 +180,7 @@ pub enum Notified {
 /// A line in which callers wait.
 #[derive(Default)]
 pub struct Event {
-    /// Twice the length of the line, and 1; or 0 if no waiter was ever in it.
+    /// Twice the length of the line, and 1; or 0 if no waiter was in it, or its use is forgotten.
     waiting: AtomicUsize,
     line: Mutex<Line>,
 }
@@ -304,7 +249,16 @@ impl Event {
         }
     }
 
-    /// Whether a waiter was ever in line.
+    /// If no waiter is in line, it is as one in which there never was a waiter.
+    #[cold]
+    pub fn forget_use(&self) {
+        let line = lock(&self.line);
+        if line.len() == 0 {
+            self.waiting.store(0, Ordering::SeqCst);
+        }
+    }
+
+    /// Whether a waiter was in line, since its use was last forgotten.
     #[inline]
     pub fn was_used(&self) -> bool {
         self.waiting.load(Ordering::SeqCst) != 0
@@ -399,7 +353,8 @@ impl Parker {
     /// Until it is woken, or this moment. It waits a little for a waker that is near, and then parks.
     pub fn wait(&self, until: Option<Instant>) {
         let (begin, parks) = (Instant::now(), self.parks.load(Ordering::Relaxed));
-        for_others(parks > 0).try_until(|| self.woken.load(Ordering::SeqCst).then_some(()));
+        let is_woken = || self.woken.load(Ordering::SeqCst).then_some(());
+        for_others(parks > 0).try_until(until, is_woken);
         self.park(until);
         let is_long = begin.elapsed() > PACE;
         let parks = if is_long {
@@ -455,6 +410,11 @@ impl Again {
     }
 }
 
+/// Whether this moment has passed.
+pub fn is_over(until: Option<Instant>) -> bool {
+    until.is_some_and(|until| until <= Instant::now())
+}
+
 /// Polls until it is ready, or until this moment: then None. Between the polls it parks.
 pub fn poll_until<R>(until: Option<Instant>, mut poll: impl FnMut(&Waker) -> Poll<R>) -> Option<R> {
     Parker::with(|parker| {
@@ -462,7 +422,7 @@ pub fn poll_until<R>(until: Option<Instant>, mut poll: impl FnMut(&Waker) -> Pol
         loop {
             match poll(&waker) {
                 Poll::Ready(done) => return Some(done),
-                Poll::Pending if until.is_some_and(|it| it <= Instant::now()) => return None,
+                Poll::Pending if is_over(until) => return None,
                 Poll::Pending => {}
             }
             parker.wait(until);
@@ -473,28 +433,31 @@ pub fn poll_until<R>(until: Option<Instant>, mut poll: impl FnMut(&Waker) -> Pol
 /// Tries until it is done. It tries again each millisecond at the latest, since a notification may be missed.
 pub fn wait_without_end<R>(
     event: &Event,
-    rounds: Rounds,
+    before: &Wait,
     mut attempt: impl FnMut() -> Option<R>,
 ) -> R {
     let attempt = || attempt().ok_or_else(Again::soon);
-    wait(event, rounds, None, attempt).expect("it waits without end")
+    wait(event, before, None, attempt).expect("it waits without end")
 }
 
-/// Tries until it is done, or until this moment: then None. After these rounds it waits for notifications between
-/// its tries.
+/// Tries until it is done, or until this moment: then None. After this wait it parks, and waits for notifications
+/// between its tries. If the moment has passed it tries once.
 pub fn wait<R>(
     event: &Event,
-    rounds: Rounds,
+    before: &Wait,
     until: Option<Instant>,
     mut attempt: impl FnMut() -> Try<R>,
 ) -> Option<R> {
-    let done = rounds.try_until(|| attempt().ok());
+    if is_over(until) {
+        return attempt().ok();
+    }
+    let done = before.try_until(until, || attempt().ok());
     if done.is_some() {
         return done;
     }
     Parker::with(|parker| {
         loop {
-            if until.is_some_and(|until| until <= Instant::now()) {
+            if is_over(until) {
                 return attempt().ok();
             }
             let ticket = event.stand(parker.clone().into());

@@ -5,6 +5,8 @@ mod backoff;
 mod channel;
 mod event;
 mod queue;
+mod slice;
 
 pub use channel::*;
 pub use queue::{IS_PROVED, OpenError};
+pub use slice::lengthen_slice;

@@ -19,9 +19,10 @@ fn used_after(before: usize, call: impl FnOnce() + Send) -> usize {
 fn a_burst_is_cheap_in_memory() {
     let items = rounds(1_000_000).max(250_000);
     let tenth = items / 10;
-    // A queue has a pass for each seat, of which a side has 64 at most.
+    // A side has twice as many seats as there are processors, and 64 at most. The queue has a pass for each; the rest is the same
+    // for all machines.
     let processors = available_parallelism().map_or(1, usize::from);
-    let limit = 144 * 1024 * (2 * processors).next_power_of_two().min(64) / 8;
+    let limit = (104 + 6 * (2 * processors).next_power_of_two().min(64)) * 1024;
     let before = used();
     let (sender, receiver) = unbounded().unwrap();
     for round in 0..rounds(3) {

@@ -1,19 +1,28 @@
 //! No call spins: a thread of the class SCHED_FIFO shares one processor with two ordinary threads, which it stops in the middle of
-//! their calls. Each of its calls has to leave the processor to the thread that it waits for. Without the right to set the class,
-//! or on another system than Linux, nothing is tested.
+//! their calls. Each of its calls has to leave the processor to the thread that it waits for. So what counts is how long the call itself
+//! runs, however busy the machine is. Without the right to set the class, or on another system than Linux, nothing is tested.
 #![cfg(target_os = "linux")]
 #[path = "../src/channel/rounds.rs"]
 mod rounds;
+mod spent;
 
 use rounds::rounds;
+use spent::spent;
 use std::sync::Mutex;
 use std::sync::atomic::{AtomicBool, Ordering};
 use std::thread;
 use std::time::{Duration, Instant};
 use vahepito::{Select, channel, groups, select};
 
-/// A call that spins ends when the kernel's throttle stops its thread, after 950 ms.
-const LIMIT: Duration = Duration::from_millis(500);
+/// How long an ordinary thread waits for room.
+const WAIT: Duration = Duration::from_millis(500);
+
+/// A call that spins runs until the kernel stops the threads of its class, for the rest of each second: half of what it lets them run.
+fn limit() -> Duration {
+    let share = std::fs::read_to_string("/proc/sys/kernel/sched_rt_runtime_us");
+    let share = share.ok().and_then(|it| it.trim().parse().ok());
+    Duration::from_micros(share.unwrap_or(950_000) / 2)
+}
 
 unsafe extern "C" {
     safe fn sched_setaffinity(thread: i32, size: usize, processors: &[u64; 16]) -> i32;
@@ -33,7 +42,7 @@ fn set_class() -> bool {
     sched_setscheduler(0, 1, &1) == 0
 }
 
-/// The longest of this call's times in a thread of the class, beside two ordinary threads that make these calls. None without
+/// The longest of this call's processor times in a thread of the class, beside two ordinary threads that make these calls. None without
 /// the right to set the class.
 fn longest(others: [&(dyn Fn() + Sync); 2], mut call: impl FnMut() + Send) -> Option<Duration> {
     let processor = sched_getcpu();
@@ -55,9 +64,9 @@ fn longest(others: [&(dyn Fn() + Sync); 2], mut call: impl FnMut() + Send) -> Op
             while may && start.elapsed() < time {
                 // The sleep ends while one of the others is somewhere in a call.
                 thread::sleep(Duration::from_micros(150));
-                let from = Instant::now();
+                let before = spent();
                 call();
-                longest = longest.max(from.elapsed());
+                longest = longest.max(spent() - before);
             }
             is_over.store(true, Ordering::Relaxed);
             may.then_some(longest)
@@ -66,12 +75,12 @@ fn longest(others: [&(dyn Fn() + Sync); 2], mut call: impl FnMut() + Send) -> Op
     })
 }
 
-/// Prints a time, and holds it to the limit.
+/// Prints a processor time, and holds it to the limit.
 fn check(name: &str, longest: Option<Duration>) {
     match longest {
         Some(longest) => {
             println!("{name}: {longest:?}");
-            assert!(longest < LIMIT, "{name}: {longest:?}");
+            assert!(longest < limit(), "{name}: {longest:?}");
         }
         None => println!("{name}: skipped, without the right to set the class"),
     }
@@ -124,7 +133,7 @@ fn calls_beside_ordinary_threads() {
     // Each of these waits ends: at the end, the other thread may have stopped first.
     let waits = (
         || {
-            _ = sender.send_timeout(1, LIMIT);
+            _ = sender.send_timeout(1, WAIT);
         },
         || {
             _ = receiver.recv_timeout(Duration::from_millis(1));
@@ -133,7 +142,7 @@ fn calls_beside_ordinary_threads() {
     check(
         "send",
         longest([&waits.0, &waits.1], || {
-            _ = sender.send_timeout(4, LIMIT / 5);
+            _ = sender.send_timeout(4, WAIT / 5);
         }),
     );
 }
@@ -166,9 +175,10 @@ fn the_last_handles_beside_ordinary_threads() {
                 Ok(mut channel) => std::mem::replace(&mut *channel, open()),
                 Err(_) => return,
             };
-            let from = Instant::now();
+            let before = spent();
             drop(lost);
-            assert!(from.elapsed() < LIMIT, "{:?}", from.elapsed());
+            let it_took = spent() - before;
+            assert!(it_took < limit(), "{it_took:?}");
         }),
     );
     let weak = Mutex::new(channel::<u64>(1).unwrap().0.downgrade());

@@ -41,33 +41,33 @@ struct Boxed<T> {
 }
 
 /// An item on its way, as the words of a body. It owns the item, or its group's share of it.
-pub struct Parcel<T> {
+pub struct ItemWords<T> {
     words: Words,
     copies: Option<Copies<T>>,
     item: PhantomData<T>,
 }
 
-impl<T> Parcel<T> {
+impl<T> ItemWords<T> {
     /// Puts an item into words. It is shared by groups if there is a function that copies it.
     #[inline]
-    pub fn pack(item: T, copies: Option<Copies<T>>) -> Parcel<T> {
+    pub fn pack(item: T, copies: Option<Copies<T>>) -> ItemWords<T> {
         if is_boxed(copies) {
             let left = AtomicUsize::new(1);
-            Parcel::of(Box::into_raw(Box::new(Boxed { left, item })), copies)
+            ItemWords::of(Box::into_raw(Box::new(Boxed { left, item })), copies)
         } else {
-            Parcel::of(item, None)
+            ItemWords::of(item, None)
         }
     }
 
     /// With this value in the words: the item, or a pointer to its box.
-    fn of<V>(value: V, copies: Option<Copies<T>>) -> Parcel<T> {
+    fn of<V>(value: V, copies: Option<Copies<T>>) -> ItemWords<T> {
         assert!(size_of::<V>() <= INLINE);
         let mut words = [MaybeUninit::uninit(); 4];
         // SAFETY: the words have room for the value, and may be less aligned than it. They are those of a
-        // parcel that is made here.
+        // packed item that is made here.
         unsafe {
             words.as_mut_ptr().cast::<V>().write_unaligned(value);
-            Parcel::taken(words, copies)
+            ItemWords::taken(words, copies)
         }
     }
 
@@ -75,10 +75,10 @@ impl<T> Parcel<T> {
     ///
     /// # Safety
     ///
-    /// They are the words of a parcel of `T` that was sent, to as many groups as its share says, and this
+    /// They are the words of an item of `T` that was sent, to as many groups as its share says, and this
     /// group takes it for the first time; and `copies` is as it was there.
-    pub unsafe fn taken(words: Words, copies: Option<Copies<T>>) -> Parcel<T> {
-        Parcel {
+    pub unsafe fn taken(words: Words, copies: Option<Copies<T>>) -> ItemWords<T> {
+        ItemWords {
             words,
             copies,
             item: PhantomData,
@@ -127,7 +127,7 @@ impl<T> Parcel<T> {
             }
         }
         let this = ManuallyDrop::new(self);
-        // SAFETY: the parcel isn't used after this, nor dropped. It has the last share of the item.
+        // SAFETY: the packed item isn't used after this, nor dropped. It has the last share of the item.
         unsafe { this.open().expect("nobody else has a share") }
     }
 
@@ -135,7 +135,7 @@ impl<T> Parcel<T> {
     ///
     /// # Safety
     ///
-    /// The parcel isn't used after this.
+    /// The packed item isn't used after this.
     unsafe fn open(&self) -> Option<T> {
         let Some(at) = self.pointer() else {
             // SAFETY: the words are the item, by `pack`.
@@ -153,9 +153,9 @@ impl<T> Parcel<T> {
 }
 
 /// Drops the item, or gives the share of it up. This runs user code.
-impl<T> Drop for Parcel<T> {
+impl<T> Drop for ItemWords<T> {
     fn drop(&mut self) {
-        // SAFETY: the parcel goes.
+        // SAFETY: the packed item goes.
         drop(unsafe { self.open() });
     }
 }
@@ -165,7 +165,7 @@ impl<T> Drop for Parcel<T> {
 /// It stays where it is, and an attempt marks it as sent before the queue is called; only a refusal takes the mark back. So no user
 /// code runs between the queue's acceptance and the mark, and unwinding drops no item that the queue has.
 pub struct Unsent<T> {
-    parcel: ManuallyDrop<Parcel<T>>,
+    packed: ManuallyDrop<ItemWords<T>>,
     is_sent: bool,
 }
 
@@ -173,7 +173,7 @@ impl<T> Unsent<T> {
     #[inline]
     pub fn pack(item: T, copies: Option<Copies<T>>) -> Unsent<T> {
         Unsent {
-            parcel: ManuallyDrop::new(Parcel::pack(item, copies)),
+            packed: ManuallyDrop::new(ItemWords::pack(item, copies)),
             is_sent: false,
         }
     }
@@ -183,10 +183,10 @@ impl<T> Unsent<T> {
     pub fn send_by(&mut self, groups: usize, send: impl FnOnce(&Words) -> u32) -> u32 {
         assert!(!self.is_sent, "the item isn't sent yet");
         self.is_sent = true;
-        self.parcel.set_shares(groups);
-        let code = send(&self.parcel.words);
+        self.packed.set_shares(groups);
+        let code = send(&self.packed.words);
         if code != code::ACCEPTED {
-            self.parcel.set_shares(1);
+            self.packed.set_shares(1);
             self.is_sent = false;
         }
         code
@@ -204,8 +204,8 @@ impl<T> Unsent<T> {
     pub fn into_inner(self) -> T {
         let this = ManuallyDrop::new(self);
         assert!(!this.is_sent, "the item isn't sent yet");
-        // SAFETY: the parcel wasn't sent, and isn't used after this, nor dropped.
-        unsafe { this.parcel.open() }.expect("an item that isn't sent has one owner")
+        // SAFETY: the packed item wasn't sent, and isn't used after this, nor dropped.
+        unsafe { this.packed.open() }.expect("an item that isn't sent has one owner")
     }
 }
 
@@ -214,8 +214,8 @@ impl<T> Drop for Unsent<T> {
     #[inline]
     fn drop(&mut self) {
         if !self.is_sent {
-            // SAFETY: the parcel wasn't sent or taken out, by the mark, and this is its end.
-            unsafe { ManuallyDrop::drop(&mut self.parcel) }
+            // SAFETY: the packed item wasn't sent or taken out, by the mark, and this is its end.
+            unsafe { ManuallyDrop::drop(&mut self.packed) }
         }
     }
 }

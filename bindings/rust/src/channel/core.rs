@@ -9,12 +9,12 @@
 //!
 //! **Order of locks**: the list of groups, all seats, the row, a line. A holder of a seat makes one call of the queue, and
 //! takes no other lock; that of a row takes the row's lock. User code (an item's drop or copy, a waker) runs while none is held.
-use super::body::{Copies, Parcel, Unsent, words_of};
-use super::pool::{Pass, Pool, SeatGuard};
+use super::body::{Copies, ItemWords, Unsent, words_of};
+use super::pool::{Pool, QueueHandle, SeatGuard};
 use super::rendezvous::Rendezvous;
 use super::row::{Row, Shape};
 use super::side::{Shared, Source};
-use crate::backoff::{PACE, Rounds, for_others};
+use crate::backoff::{PACE, Wait, for_others};
 use crate::event::{Again, Apart, Event, Panics, Try, drop_each, ignore_panics, lock};
 use crate::queue::handle::{self, Handle, code, hands_over, has_taken, unexpected};
 use crate::queue::{self, Config, MOST_GROUPS, OpenError};
@@ -41,7 +41,9 @@ impl Side {
     /// With these passes of a queue of this number of groups.
     #[inline]
     fn new(handles: impl IntoIterator<Item = Handle>, shares: usize) -> Side {
-        let passes = handles.into_iter().map(|it| Pass::new(it, 0, shares));
+        let passes = handles
+            .into_iter()
+            .map(|it| QueueHandle::new(it, 0, shares));
         Side {
             line: Apart::default(),
             seats: Pool::new(passes),
@@ -57,7 +59,7 @@ impl Side {
     }
 
     /// How a call waits for the other side before it parks.
-    pub fn rounds(&self) -> Rounds {
+    pub fn before_park(&self) -> &'static Wait {
         for_others(self.is_slow.load(Ordering::Relaxed))
     }
 
@@ -294,7 +296,7 @@ impl<T> Core<T> {
     /// Acquires a free seat of this side, and waits for one. If the side has one seat alone and that is held, it gets its others.
     #[inline]
     fn acquire_seat<'a>(&'a self, side: &'a Side) -> SeatGuard<'a> {
-        let seat = side.seats.try_acquire();
+        let seat = side.seats.try_acquire_behind();
         seat.unwrap_or_else(|| self.acquire_another_seat(side))
     }
 
@@ -369,7 +371,7 @@ impl<T> Core<T> {
     /// After the queue of this seat refused an item with this code. Returns whether a further try is to be made; if not,
     /// the channel is closed.
     pub fn retry_after_refusal(&self, code: u32, mut seat: SeatGuard) -> Try<bool> {
-        let &mut Pass { queue, shares, .. } = seat.pass().0;
+        let &mut QueueHandle { queue, shares, .. } = seat.pass().0;
         drop(seat);
         // Whether a lost group is in the queue, and holds up the others.
         let is_stale = shares != self.alive().count();
@@ -400,14 +402,14 @@ impl<T> Core<T> {
 
     /// Takes an item of the queue for a group; of a row, of the seat's queue. Gives the code if there is none, or no queue.
     #[inline]
-    pub fn take(&self, group: usize) -> Result<Parcel<T>, u32> {
+    pub fn take(&self, group: usize) -> Result<ItemWords<T>, u32> {
         if self.rendezvous.is_some() {
             return Err(code::EMPTY);
         }
         let mut seat = self.acquire_seat(self.groups.of(group));
-        let parcel = self.take_by(&mut seat)?;
+        let packed = self.take_by(&mut seat)?;
         self.count_taken(seat);
-        Ok(parcel)
+        Ok(packed)
     }
 
     /// Counts an item that was taken by this seat, and notifies.
@@ -421,10 +423,10 @@ impl<T> Core<T> {
 
     /// Tries to take an item for a group. Gives None at the end of the channel.
     #[inline]
-    pub fn try_recv(&self, group: usize) -> Try<Option<Parcel<T>>> {
+    pub fn try_recv(&self, group: usize) -> Try<Option<ItemWords<T>>> {
         if let Some(rendezvous) = &self.rendezvous {
             let item = rendezvous.try_take()?;
-            return Ok(item.map(|item| Parcel::pack(item, None)));
+            return Ok(item.map(|item| ItemWords::pack(item, None)));
         }
         let found_none = &self.groups.of(group).found_none;
         if found_none.load(Ordering::Relaxed) {
@@ -432,7 +434,7 @@ impl<T> Core<T> {
             found_none.store(false, Ordering::Relaxed);
         }
         match self.take(group) {
-            Ok(parcel) => Ok(Some(parcel)),
+            Ok(packed) => Ok(Some(packed)),
             Err(code) => self.recv_after(group, code),
         }
     }
@@ -441,7 +443,7 @@ impl<T> Core<T> {
     /// of the channel.
     #[cold]
     #[inline(never)]
-    fn recv_after(&self, group: usize, code: u32) -> Try<Option<Parcel<T>>> {
+    fn recv_after(&self, group: usize, code: u32) -> Try<Option<ItemWords<T>>> {
         match (code, &self.row) {
             (code::EMPTY, _) => {
                 self.side(group).found_none.store(true, Ordering::Relaxed);
@@ -472,12 +474,12 @@ impl<T> Core<T> {
 
     /// Takes an item by this seat. Gives the queue's code if there is none.
     #[allow(unsafe_code)]
-    pub fn take_by(&self, seat: &mut SeatGuard) -> Result<Parcel<T>, u32> {
+    pub fn take_by(&self, seat: &mut SeatGuard) -> Result<ItemWords<T>, u32> {
         let (pass, line) = seat.pass();
         let words = pass.handle.take(words_of(self.copies), line)?;
         // SAFETY: what is in the queue was sent as the words of parcels, with these `copies`; each was
         // for as many groups as the queue has; and a group takes each item of the queue once.
-        Ok(unsafe { Parcel::taken(words, self.copies) })
+        Ok(unsafe { ItemWords::taken(words, self.copies) })
     }
 
     /// Closes the channel. Returns whether it was open.

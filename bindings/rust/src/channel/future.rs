@@ -6,7 +6,7 @@
 //!
 //! **Panics of wakers** that are dropped end in the poll that is done, whose result would be lost; another poll
 //! raises the first of them again at its end, and so does the drop of a future.
-use super::body::Parcel;
+use super::body::ItemWords;
 use super::rendezvous::{OfferState, TakerState};
 use super::select::Case;
 use super::side::Source;
@@ -144,7 +144,7 @@ impl<T> Future for RecvFuture<'_, T> {
                 (Takes::InLine(ticket), Source::Channel(shared)) => {
                     let attempt = || shared.try_take();
                     let taken = poll_in_line(ticket, receiver, waker, panics, attempt);
-                    taken.map(|parcel| parcel.map(Parcel::unpack))
+                    taken.map(|packed| packed.map(ItemWords::unpack))
                 }
                 (Takes::InLine(ticket), Source::Timer(timer)) => {
                     poll_in_line(ticket, receiver, waker, panics, || timer.try_recv())

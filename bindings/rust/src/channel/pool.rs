@@ -8,14 +8,14 @@
 //! for the other seats ([`Core::acquire_seat`](super::core::Core::acquire_seat)). They are added once, while all seats are held.
 #![allow(unsafe_code)]
 
-use crate::backoff::{FOR_A_LOOK, FOR_OWN_SIDE};
-use crate::event::{Apart, Event, Panics, wait_without_end};
+use crate::backoff::{Contention, FOR_A_LOOK, FOR_OWN_SIDE};
+use crate::event::{Apart, Event, Panics, Served, wait_without_end};
 use crate::queue::handle::Handle;
 use std::cell::{Cell, UnsafeCell};
 use std::iter;
 use std::ptr::null_mut;
 use std::sync::OnceLock;
-use std::sync::atomic::{AtomicBool, AtomicPtr, AtomicU64, AtomicUsize, Ordering};
+use std::sync::atomic::{AtomicBool, AtomicPtr, AtomicU16, AtomicU64, AtomicUsize, Ordering};
 use std::thread::available_parallelism;
 
 /// The passes of a side are no more than these.
@@ -33,17 +33,17 @@ pub fn seats() -> usize {
 }
 
 /// A pass, and which of the channel's queues it is of.
-pub struct Pass {
+pub struct QueueHandle {
     pub handle: Handle,
     pub queue: u64,
     /// How many groups that queue has.
     pub shares: usize,
 }
 
-impl Pass {
+impl QueueHandle {
     #[inline]
-    pub fn new(handle: Handle, queue: u64, shares: usize) -> Pass {
-        Pass {
+    pub fn new(handle: Handle, queue: u64, shares: usize) -> QueueHandle {
+        QueueHandle {
             handle,
             queue,
             shares,
@@ -55,20 +55,23 @@ impl Pass {
 #[repr(align(64))]
 struct Seat {
     held: AtomicBool,
+    /// At the ends of how many of its last calls no call was parked. The holder alone writes it.
+    quiet: AtomicU16,
     /// Its number among the seats, from 1.
-    number: usize,
+    number: u32,
+    contention: Contention,
     /// How many items went through it. The holder alone writes it.
     count: AtomicU64,
     /// The count at the last question for it, by [`Pool::check_ahead`].
     asked: AtomicU64,
-    pass: UnsafeCell<Pass>,
+    pass: UnsafeCell<QueueHandle>,
 }
 
 // SAFETY: `pass` is reached by the holder of the seat alone ([`SeatGuard`]), and there is one at a time:
 // whoever sets `held` from false to true, until it is set back. Threads so have the pass one after
 // another, each with what the one before it did, by an acquire and a release; which is to send it from
-// one to the next, and `Pass` is `Send`.
-unsafe impl Sync for Seat where Pass: Send {}
+// one to the next, and `QueueHandle` is `Send`.
+unsafe impl Sync for Seat where QueueHandle: Send {}
 
 /// A seat beside others: it also has the line that is fetched with its own.
 #[repr(align(128))]
@@ -134,10 +137,12 @@ pub struct SeatGuard<'a> {
 }
 
 impl Seat {
-    fn new(number: usize, pass: Pass) -> Seat {
+    fn new(number: u32, pass: QueueHandle) -> Seat {
         Seat {
             held: AtomicBool::new(false),
+            quiet: AtomicU16::new(0),
             number,
+            contention: Contention::default(),
             count: AtomicU64::new(0),
             asked: AtomicU64::new(0),
             pass: UnsafeCell::new(pass),
@@ -156,13 +161,14 @@ impl Seat {
 }
 
 impl<'a> SeatGuard<'a> {
-    /// Its pass, and the line in which a call of the pass waits until it is served.
+    /// Its pass, and where a call of the pass waits until it is served.
     #[inline]
-    pub fn pass(&mut self) -> (&mut Pass, &'a Event) {
+    pub fn pass(&mut self) -> (&mut QueueHandle, Served<'a>) {
         // SAFETY: this is the holder of the seat, so there is no other reference to its pass; and this
         // one lasts no longer than the borrow of `self`, which gives the seat back at its drop.
         let pass = unsafe { &mut *self.seat.pass.get() };
-        (pass, &self.pool.served)
+        let (line, contention) = (&*self.pool.served, &self.seat.contention);
+        (pass, Served { line, contention })
     }
 
     /// Wakes the waiters that the call of this seat may have served. The holder does so before it waits for a lock: the lock may be theirs.
@@ -180,7 +186,7 @@ impl<'a> SeatGuard<'a> {
 
     /// Its index among the seats, from 0.
     pub fn index(&self) -> usize {
-        self.seat.number - 1
+        self.seat.number as usize - 1
     }
 
     /// Counts an item that went through the seat.
@@ -188,19 +194,29 @@ impl<'a> SeatGuard<'a> {
     pub fn count_one(&mut self) {
         let count = self.seat.count.load(Ordering::Relaxed);
         if count == 0 {
-            self.pool.used.fetch_max(self.seat.number, Ordering::AcqRel);
+            let number = self.index() + 1;
+            self.pool.used.fetch_max(number, Ordering::AcqRel);
         }
         self.seat.count.store(count + 1, Ordering::Release);
     }
 }
 
+/// After this number of calls of a seat at whose ends no call was parked, seats are given back by a store again.
+const FORGET_AFTER: u16 = 1024;
+
 /// Gives a seat back, or keeps it, by an exchange. The exchange waits until the stores of the seat's call are in memory: one of them may
 /// have served a waiter of this line. Then it wakes all waiters.
 #[cold]
 fn store_and_wake(seat: &Seat, held: bool, served: &Event) {
+    let is_quiet = !served.has_waiters();
+    let before = seat.quiet.load(Ordering::Relaxed);
+    let quiet = if is_quiet { before + 1 } else { 0 };
+    seat.quiet.store(quiet % FORGET_AFTER, Ordering::Relaxed);
     seat.held.swap(held, Ordering::SeqCst);
     if served.has_waiters() {
         served.notify_all(&mut Panics::default());
+    } else if quiet == FORGET_AFTER {
+        served.forget_use();
     }
 }
 
@@ -227,7 +243,7 @@ thread_local! {
 impl Pool {
     /// With a seat for each of these passes, whose number is a power of two.
     #[inline]
-    pub fn new(passes: impl IntoIterator<Item = Pass>) -> Pool {
+    pub fn new(passes: impl IntoIterator<Item = QueueHandle>) -> Pool {
         let mut passes = passes.into_iter();
         let first = passes.next().expect("a side has a seat");
         let others = Pool::seats_of(passes);
@@ -241,7 +257,7 @@ impl Pool {
     }
 
     /// Other seats with these passes, if there are some.
-    fn seats_of(passes: impl Iterator<Item = Pass>) -> Option<Box<[Other]>> {
+    fn seats_of(passes: impl Iterator<Item = QueueHandle>) -> Option<Box<[Other]>> {
         let seat = |(number, pass)| Other(Seat::new(number, pass));
         let others: Box<[Other]> = (2..).zip(passes).map(seat).collect();
         debug_assert!((1 + others.len()).is_power_of_two());
@@ -250,7 +266,7 @@ impl Pool {
 
     /// Adds seats with these passes, if there are some. The caller has all seats, and none was added before. With the one seat
     /// that there is they are a power of two.
-    pub fn add(&self, passes: impl Iterator<Item = Pass>) {
+    pub fn add(&self, passes: impl Iterator<Item = QueueHandle>) {
         if let Some(others) = Pool::seats_of(passes) {
             let added = self.others.set(others);
             debug_assert!(added);
@@ -319,6 +335,15 @@ impl Pool {
         self.try_seat(self.seat())
     }
 
+    /// The same of a thread that holds no lock, once others of the side have gone ahead, if the seat's calls contend
+    /// with theirs.
+    #[inline]
+    pub fn try_acquire_behind(&self) -> Option<SeatGuard<'_>> {
+        let seat = self.seat();
+        seat.contention.let_ahead();
+        self.try_seat(seat)
+    }
+
     /// Acquires a free seat, and waits for one.
     #[inline]
     pub fn acquire(&self) -> SeatGuard<'_> {
@@ -327,7 +352,7 @@ impl Pool {
 
     /// Waits in line for a free seat. The holder's look at the line may come before this thread sees the store that frees the seat.
     fn wait_for_free<R>(&self, attempt: impl FnMut() -> Option<R>) -> R {
-        wait_without_end(&self.free, FOR_OWN_SIDE, attempt)
+        wait_without_end(&self.free, &FOR_OWN_SIDE, attempt)
     }
 
     #[cold]
@@ -395,7 +420,7 @@ impl Pool {
 
     #[cold]
     fn pause_for(seat: &Seat) -> bool {
-        let free = FOR_A_LOOK.try_until(|| (!seat.is_held()).then_some(()));
+        let free = FOR_A_LOOK.try_until(None, || (!seat.is_held()).then_some(()));
         free.is_some()
     }
 

@@ -1,5 +1,5 @@
 //! The receivers of a channel.
-use super::body::Parcel;
+use super::body::ItemWords;
 use super::core::Core;
 use super::future::RecvFuture;
 use super::rendezvous::Rendezvous;
@@ -73,7 +73,7 @@ impl<T> Receiver<T> {
     /// ```
     pub fn try_recv(&self) -> Result<T, TryRecvError> {
         let taken = match &*self.0 {
-            Source::Channel(shared) => shared.try_take().map(|it| it.map(Parcel::unpack)),
+            Source::Channel(shared) => shared.try_take().map(|it| it.map(ItemWords::unpack)),
             Source::Timer(timer) => timer.try_recv(),
         };
         match taken {
@@ -87,8 +87,8 @@ impl<T> Receiver<T> {
     #[inline]
     fn recv_until<E>(&self, until: Option<Instant>, or: fn(RecvTimeoutError) -> E) -> Result<T, E> {
         if let Source::Channel(Shared { core, side }) = &*self.0 {
-            if let Ok(parcel) = core.take(*side) {
-                return Ok(parcel.unpack());
+            if let Ok(packed) = core.take(*side) {
+                return Ok(packed.unpack());
             }
         }
         self.wait_for_item(until).map_err(or)
@@ -102,9 +102,9 @@ impl<T> Receiver<T> {
                     return self.meet_until(until);
                 }
                 let taken = shared.wait(until, || shared.try_take());
-                taken.map(|parcel| parcel.map(Parcel::unpack))
+                taken.map(|packed| packed.map(ItemWords::unpack))
             }
-            Source::Timer(timer) => wait(&timer.line, FOR_OTHERS, until, || timer.try_recv()),
+            Source::Timer(timer) => wait(&timer.line, &FOR_OTHERS, until, || timer.try_recv()),
         };
         let taken = taken.ok_or(RecvTimeoutError::Timeout)?;
         taken.ok_or(RecvTimeoutError::Disconnected)

@@ -1,8 +1,9 @@
 //! A further queue in the place of a channel's present one.
-use super::body::{Parcel, words_of};
+use super::body::{ItemWords, words_of};
 use super::core::{Core, SENDERS, Side};
-use super::pool::Pass;
-use crate::event::{Event, Panics, ignore_panics};
+use super::pool::QueueHandle;
+use crate::backoff::Contention;
+use crate::event::{Event, Panics, Served, ignore_panics};
 use crate::queue::handle::{Handle, code, unexpected};
 use crate::queue::{self, Config};
 use std::sync::TryLockError;
@@ -56,7 +57,7 @@ impl<T> Core<T> {
         &self,
         in_queue: &mut Vec<usize>,
         grows: Option<&Side>,
-    ) -> Option<Vec<Parcel<T>>> {
+    ) -> Option<Vec<ItemWords<T>>> {
         let (words, capacity) = (words_of(self.copies), self.config.capacity as usize);
         let is_alive = |&group: &usize| !self.side(group).is_lost();
         let (alive, lost): (Vec<_>, Vec<_>) = in_queue.iter().copied().partition(is_alive);
@@ -66,7 +67,11 @@ impl<T> Core<T> {
         kept.try_reserve_exact(capacity).ok()?;
         left_by_lost.try_reserve_exact(lost.len() * capacity).ok()?;
         // From here on no other thread makes a call, until the seats are given back, so none waits in this line.
-        let line = &Event::default();
+        let (event, contention) = (&Event::default(), &Contention::default());
+        let line = Served {
+            line: event,
+            contention,
+        };
         let sides = || iter::once(SENDERS).chain(alive.iter().copied());
         let mut seats: Vec<_> = sides()
             .map(|it| self.side(it).seats.acquire_all())
@@ -78,7 +83,7 @@ impl<T> Core<T> {
         }
         for seats in &mut others {
             left_by_lost.extend(iter::from_fn(|| self.take_by(&mut seats[0]).ok()));
-            let empty = |pass: &mut Pass| pass.handle = Handle::empty();
+            let empty = |pass: &mut QueueHandle| pass.handle = Handle::empty();
             seats.iter_mut().for_each(|seat| empty(seat.pass().0));
         }
         // The items that the others have left are the end of those that the slowest group has left.
@@ -100,7 +105,9 @@ impl<T> Core<T> {
         let queue = seats[0][0].pass().0.queue + 1;
         let shares = alive.len();
         for ((side, seats), handles) in sides().zip(&mut seats).zip(handles) {
-            let mut passes = handles.into_iter().map(|it| Pass::new(it, queue, shares));
+            let mut passes = handles
+                .into_iter()
+                .map(|it| QueueHandle::new(it, queue, shares));
             for (seat, pass) in seats.iter_mut().zip(passes.by_ref()) {
                 *seat.pass().0 = pass;
             }

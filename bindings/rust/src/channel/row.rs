@@ -25,10 +25,10 @@
 //! other senders, which wait for the lock then, don't wait for an opening, which takes some ten microseconds.
 //!
 //! **Without memory** for a further queue nothing changes, and the send is tried again later.
-use super::body::{Parcel, Unsent};
+use super::body::{ItemWords, Unsent};
 use super::core::{Core, SENDERS};
 use super::limit::Limit;
-use super::pool::{Pass, SeatGuard};
+use super::pool::{QueueHandle, SeatGuard};
 use crate::event::{Again, Try, ignore_panics, lock};
 use crate::queue::handle::{Handle, code, unexpected};
 use crate::queue::{self, Config, OpenError};
@@ -227,7 +227,7 @@ impl Locked<'_> {
             let (index, pass) = (seat.index(), seat.pass().0);
             if pass.queue < number {
                 let handle = replace(&mut queue.passes[side][index], Handle::empty());
-                let next = Pass::new(handle, number, shares);
+                let next = QueueHandle::new(handle, number, shares);
                 self.released.push(replace(pass, next).handle);
             }
         };
@@ -341,13 +341,13 @@ impl<T> Core<T> {
     }
 
     /// Tries to take an item for a group, of the queue that it is at or of those behind it. Gives None at the end of the channel.
-    pub fn take_in_row(&self, row: &Row, group: usize) -> Try<Option<Parcel<T>>> {
+    pub fn take_in_row(&self, row: &Row, group: usize) -> Try<Option<ItemWords<T>>> {
         let mut seat = self.side(group).seats.acquire();
         loop {
             match self.take_by(&mut seat) {
-                Ok(parcel) => {
+                Ok(packed) => {
                     self.count_taken(seat);
-                    return Ok(Some(parcel));
+                    return Ok(Some(packed));
                 }
                 Err(code::EMPTY) => return Err(Again::WhenNotified),
                 Err(code::ENDED) if self.next_for_group(row, group, &mut seat) => {}
@@ -372,7 +372,7 @@ impl<T> Core<T> {
 
     /// Appends a queue without the groups that have lost their receivers, and gives what they haven't taken. If there is no memory,
     /// the next queue that is appended is without them.
-    pub fn go_on_without_lost(&self, row: &Row) -> Vec<Parcel<T>> {
+    pub fn go_on_without_lost(&self, row: &Row) -> Vec<ItemWords<T>> {
         let mut seat = self.senders.seats.acquire();
         let mut locked = row.lock();
         let groups = self.groups_of_next(&locked.queues);
@@ -387,7 +387,7 @@ impl<T> Core<T> {
     }
 
     /// The items that are left by groups which have lost their receivers, and are in no queue from the last one on.
-    fn left_by_lost(&self, row: &Row) -> Vec<Parcel<T>> {
+    fn left_by_lost(&self, row: &Row) -> Vec<ItemWords<T>> {
         let left = mem::take(&mut row.lock().queues.left);
         let items = |group| iter::from_fn(move || self.try_recv(group).ok()?);
         left.into_iter().flat_map(items).collect()

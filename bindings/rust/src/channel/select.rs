@@ -31,7 +31,7 @@ use super::{
     TrySelectError,
 };
 use crate::backoff::FOR_OTHERS;
-use crate::event::{Again, Event, Notified, Panics, Parker, Ticket, Try};
+use crate::event::{Again, Event, Notified, Panics, Parker, Ticket, Try, is_over};
 use std::cell::Cell;
 use std::hash::{BuildHasher, Hasher, RandomState};
 use std::ops::{Deref, DerefMut, Range};
@@ -115,7 +115,7 @@ impl<T> Receiver<T> {
             Source::Channel(shared) => match &shared.core.rendezvous {
                 Some(rendezvous) => try_meet(&**rendezvous, Role::Take),
                 None => Ok(match shared.try_take()? {
-                    Some(parcel) => keep(&shared.core, parcel.unpack()),
+                    Some(packed) => keep(&shared.core, packed.unpack()),
                     None => Begun::Closed,
                 }),
             },
@@ -602,7 +602,7 @@ impl<'s, R: Copy + Deref<Target: Case>> Turn<'s, R> {
     }
 
     fn is_over(&self) -> bool {
-        self.until.is_some_and(|until| until <= Instant::now())
+        is_over(self.until)
     }
 
     /// Whether it is posted for others to meet: then it isn't in a line.
@@ -621,11 +621,7 @@ impl<'s, R: Copy + Deref<Target: Case>> Turn<'s, R> {
         let mut done = None;
         // Those that may meet another are posted at once.
         if !self.entries.iter().any(|it| self.is_posted(it)) {
-            let attempt = || match self.try_once() {
-                None if !self.is_over() => None,
-                tried => Some(tried),
-            };
-            done = FOR_OTHERS.try_until(attempt).flatten();
+            done = FOR_OTHERS.try_until(self.until, || self.try_once());
         }
         done.or_else(|| {
             Parker::with(|parker| {

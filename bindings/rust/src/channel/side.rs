@@ -1,9 +1,9 @@
 //! The parts that the handles of both sides have in common: their count, the end of a side, and the wait.
-use super::body::Parcel;
+use super::body::ItemWords;
 use super::core::{Core, SENDERS, Side};
 use super::timer::Timer;
 use crate::backoff::{FOR_OTHERS, let_ahead};
-use crate::event::{Event, Try, lock, wait, wait_without_end};
+use crate::event::{Event, Try, is_over, lock, wait, wait_without_end};
 use std::panic::RefUnwindSafe;
 use std::sync::{Arc, OnceLock, Weak};
 use std::time::Instant;
@@ -62,7 +62,7 @@ impl<T> Shared<T> {
 
     /// Tries to take an item, if it is a group. Gives None at the end of the channel.
     #[inline]
-    pub fn try_take(&self) -> Try<Option<Parcel<T>>> {
+    pub fn try_take(&self) -> Try<Option<ItemWords<T>>> {
         self.core.try_recv(self.side)
     }
 
@@ -75,7 +75,14 @@ impl<T> Shared<T> {
     ///
     /// A thread that passed several items since its last wait is faster than the other side. If it tries again at
     /// once, both meet at each item, and wait for the same cache line. So it lets the other side go ahead.
-    pub fn wait<R>(&self, until: Option<Instant>, attempt: impl FnMut() -> Try<R>) -> Option<R> {
+    pub fn wait<R>(
+        &self,
+        until: Option<Instant>,
+        mut attempt: impl FnMut() -> Try<R>,
+    ) -> Option<R> {
+        if is_over(until) {
+            return attempt().ok();
+        }
         let (own, other) = (self.core.side(self.side), self.other_side());
         let Side { line, seats, .. } = own;
         let has_room = self.core.capacity().is_none_or(|it| it >= ROOM_AHEAD);
@@ -83,7 +90,7 @@ impl<T> Shared<T> {
             let_ahead();
         }
         let (begin, passed) = (Instant::now(), other.seats.count());
-        let done = wait(line, own.rounds(), until, attempt);
+        let done = wait(line, own.before_park(), until, attempt);
         own.note_wait(begin.elapsed(), other.seats.count() - passed);
         done
     }
@@ -106,7 +113,7 @@ impl<T> Core<T> {
             // comes of it. Nobody else waits there any more, so it takes away no notification.
             let side = self.side(side);
             let is_lost = || side.is_lost().then_some(());
-            wait_without_end(&side.line, FOR_OTHERS, is_lost);
+            wait_without_end(&side.line, &FOR_OTHERS, is_lost);
             drop(lock(&self.in_queue));
         }
         shared

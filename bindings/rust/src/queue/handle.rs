@@ -5,13 +5,13 @@
 use super::{Config, OpenError, Word};
 pub use super::{Words, code, unexpected};
 use crate::backoff::FOR_OWN_SIDE;
-use crate::event::{Event, wait_without_end};
+use crate::event::{Served, wait_without_end};
 use std::ffi::c_void;
 use std::mem::size_of;
 use std::ptr::{null_mut, read_volatile};
 
 #[repr(C)]
-struct Pass {
+struct RawHandle {
     at: *mut c_void,
     live: bool,
 }
@@ -49,27 +49,37 @@ unsafe extern "C" {
         receivers: *mut Handle,
         receiver_count: usize,
     ) -> u32;
-    safe fn vahepito_drop(pass: &mut Pass) -> u32;
-    safe fn vahepito_begin_close(sender: &mut Pass) -> u32;
-    safe fn vahepito_try_send(_: &mut Pass, body: Word, place: &mut u64, _: &mut u32) -> u32;
+    safe fn vahepito_drop(pass: &mut RawHandle) -> u32;
+    safe fn vahepito_begin_close(sender: &mut RawHandle) -> u32;
+    safe fn vahepito_try_send(_: &mut RawHandle, body: Word, place: &mut u64, _: &mut u32) -> u32;
     fn vahepito_try_send_words(
-        sender: &mut Pass,
+        sender: &mut RawHandle,
         words: *const Word,
         count: usize,
         place: &mut u64,
         served: &mut u32,
     ) -> u32;
-    safe fn vahepito_turn_send(_: &mut Pass, place: &mut u64, served: &mut u32) -> u32;
-    safe fn vahepito_turn_close(_: &mut Pass, total: &mut u64, served: &mut u32) -> u32;
+    safe fn vahepito_turn_send(_: &mut RawHandle, place: &mut u64, served: &mut u32) -> u32;
+    safe fn vahepito_turn_close(_: &mut RawHandle, total: &mut u64, served: &mut u32) -> u32;
     // These write the item, the total of items at the end, and how many calls were served.
-    safe fn vahepito_turn_take(_: &mut Pass, _: &mut Taken, _: &mut u64, _: &mut u32) -> u32;
-    safe fn vahepito_turn_take_words(_: &mut Pass, _: &mut Taken, _: &mut u64, _: &mut u32) -> u32;
-    safe fn vahepito_try_take(_: &mut Pass, _: &mut Taken, _: &mut u64, _: &mut u32) -> u32;
-    safe fn vahepito_try_take_words(_: &mut Pass, _: &mut Taken, _: &mut u64, _: &mut u32) -> u32;
+    safe fn vahepito_turn_take(_: &mut RawHandle, _: &mut Taken, _: &mut u64, _: &mut u32) -> u32;
+    safe fn vahepito_turn_take_words(
+        _: &mut RawHandle,
+        _: &mut Taken,
+        _: &mut u64,
+        _: &mut u32,
+    ) -> u32;
+    safe fn vahepito_try_take(_: &mut RawHandle, _: &mut Taken, _: &mut u64, _: &mut u32) -> u32;
+    safe fn vahepito_try_take_words(
+        _: &mut RawHandle,
+        _: &mut Taken,
+        _: &mut u64,
+        _: &mut u32,
+    ) -> u32;
 }
 
 /// A take that writes an item: one of the last four.
-type Take = extern "C" fn(&mut Pass, &mut Taken, &mut u64, &mut u32) -> u32;
+type Take = extern "C" fn(&mut RawHandle, &mut Taken, &mut u64, &mut u32) -> u32;
 
 /// A take writes it, or nothing is read of it.
 const NO_ITEM: Taken = [Word::uninit(); 7];
@@ -90,7 +100,7 @@ fn words_of(item: &Taken, count: usize) -> Words {
 /// One pass of a queue. It is empty, or `open` filled it; it isn't copied, and its drop lets the
 /// pass go.
 #[repr(transparent)]
-pub struct Handle(Pass);
+pub struct Handle(RawHandle);
 
 // SAFETY: the library proves its handle `Send` (`unsafe impl Send for Held`, with its proof). Calls
 // on one handle don't overlap, since each takes it by `&mut`; and moving a value between threads
@@ -99,7 +109,7 @@ unsafe impl Send for Handle {}
 
 impl Handle {
     pub const fn empty() -> Handle {
-        Handle(Pass {
+        Handle(RawHandle {
             at: null_mut(),
             live: false,
         })
@@ -107,61 +117,63 @@ impl Handle {
 
     /// Sends these words, of this number, and waits for the answer in this line: the code of a send.
     #[inline]
-    pub fn send(&mut self, words: &Words, count: usize, line: &Event) -> u32 {
+    pub fn send(&mut self, words: &Words, count: usize, line: Served) -> u32 {
         let at = words.as_ptr();
-        let first = match count {
+        let code = match count {
             1 => vahepito_try_send(&mut self.0, words[0], &mut 0, &mut 0),
             // SAFETY: there are four words, and the library refuses to read more.
             _ => unsafe { vahepito_try_send_words(&mut self.0, at, count, &mut 0, &mut 0) },
         };
-        let turn = || vahepito_turn_send(&mut self.0, &mut 0, &mut 0);
-        answered(first, line, turn)
+        if code != code::WAITING {
+            return code;
+        }
+        wait_until_served(line, || vahepito_turn_send(&mut self.0, &mut 0, &mut 0))
     }
 
     /// Takes the words of an item, of this number, and waits for the answer in this line. If there is no item, it returns
     /// the code of the take.
     #[inline]
-    pub fn take(&mut self, count: usize, line: &Event) -> Result<Words, u32> {
+    pub fn take(&mut self, count: usize, line: Served) -> Result<Words, u32> {
         let (take, turn): (Take, Take) = match count {
             1 => (vahepito_try_take, vahepito_turn_take),
             _ => (vahepito_try_take_words, vahepito_turn_take_words),
         };
         let mut item = NO_ITEM;
-        let first = take(&mut self.0, &mut item, &mut 0, &mut 0);
-        let turn = || turn(&mut self.0, &mut item, &mut 0, &mut 0);
-        match answered(first, line, turn) {
+        let mut code = take(&mut self.0, &mut item, &mut 0, &mut 0);
+        if code == code::WAITING {
+            let turn = || turn(&mut self.0, &mut item, &mut 0, &mut 0);
+            code = wait_until_served(line, turn);
+        }
+        match code {
             code::GOT => Ok(words_of(&item, count)),
             code => Err(code),
         }
     }
 
     /// Closes the queue, and waits for the answer in this line. Returns whether it was open.
-    pub fn close(&mut self, line: &Event) -> bool {
+    pub fn close(&mut self, line: Served) -> bool {
         match vahepito_begin_close(&mut self.0) {
             code::BEGUN => {}
             code => unexpected(code),
         }
         let mut turn = || vahepito_turn_close(&mut self.0, &mut 0, &mut 0);
-        answered(turn(), line, turn) == code::SHUT
-    }
-}
-
-/// The code of a call that was turned once, and gave this one. If it isn't answered yet it is turned on.
-fn answered(first: u32, line: &Event, turn: impl FnMut() -> u32) -> u32 {
-    match first {
-        code::WAITING => wait_until_served(line, turn),
-        code => code,
+        let code = match turn() {
+            code::WAITING => wait_until_served(line, turn),
+            code => code,
+        };
+        code == code::SHUT
     }
 }
 
 /// Turns a call until it is answered. It waits in this line, in which each call of its side wakes it at its end.
 #[cold]
-fn wait_until_served(line: &Event, mut turn: impl FnMut() -> u32) -> u32 {
+fn wait_until_served(served: Served, mut turn: impl FnMut() -> u32) -> u32 {
     let turn = || match turn() {
         code::WAITING => None,
         code => Some(code),
     };
-    wait_without_end(line, FOR_OWN_SIDE, turn)
+    let Served { line, contention } = served;
+    contention.note_served(|| wait_without_end(line, &FOR_OWN_SIDE, turn))
 }
 
 impl Drop for Handle {
@@ -182,7 +194,12 @@ pub fn check_library() -> Result<(), OpenError> {
         vahepito_sizes(&mut config, &mut pass, &mut item, &mut words_item);
     }
     let word = size_of::<Word>();
-    let here = [size_of::<Config>(), size_of::<Pass>(), 3 * word, 7 * word];
+    let here = [
+        size_of::<Config>(),
+        size_of::<RawHandle>(),
+        3 * word,
+        7 * word,
+    ];
     if [config, pass, item, words_item] == here {
         return Ok(());
     }

@@ -17,7 +17,7 @@ use std::iter;
 use std::mem::MaybeUninit;
 
 /// Whether the library is below the channels: without the feature `unproved`. With the feature `strict` it is the library
-/// as it was proved; by default a script has relaxed some of its stores. The channels themselves are tested.
+/// as it was proved; by default some of its stores are release stores. The channels themselves are tested.
 ///
 /// Cargo builds a crate once for all that depend on it, with the features of all. A program that is to have the proved
 /// queue says so:

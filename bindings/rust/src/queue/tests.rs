@@ -1,7 +1,8 @@
 //! The answers of each call that the channel makes, on one thread.
 use super::handle::{Handle, Words, code};
 use super::{Config, OpenError, open};
-use crate::event::Event;
+use crate::backoff::Contention;
+use crate::event::{Event, Served};
 use std::mem::MaybeUninit;
 
 const SMALL: Config = Config::new(2, 2, 2);
@@ -18,8 +19,18 @@ fn body(first: u64) -> Words {
     [0, 1, 2, 3].map(|more| MaybeUninit::new(first.wrapping_add(more)))
 }
 
+/// Makes a call while no other one waits.
+fn alone<R>(call: impl FnOnce(Served) -> R) -> R {
+    let (line, contention) = (&Event::default(), &Contention::default());
+    call(Served { line, contention })
+}
+
+fn close(sender: &mut Handle) -> bool {
+    alone(|line| sender.close(line))
+}
+
 fn send(sender: &mut Handle, word: u64) -> u32 {
-    sender.send(&body(word), 1, &Event::default())
+    alone(|line| sender.send(&body(word), 1, line))
 }
 
 /// The first words of a body, of this number.
@@ -31,9 +42,7 @@ fn values(words: Words, count: usize) -> Vec<u64> {
 }
 
 fn take(receiver: &mut Handle) -> Result<u64, u32> {
-    receiver
-        .take(1, &Event::default())
-        .map(|words| values(words, 1)[0])
+    alone(|line| receiver.take(1, line)).map(|words| values(words, 1)[0])
 }
 
 #[test]
@@ -86,14 +95,13 @@ fn one_to_eight_groups_are_opened() {
 
 #[test]
 fn all_bodies_pass() {
-    let line = &Event::default();
     for count in 1..=4 {
         let mut sides = open(&SMALL, 1, count).unwrap();
         for first in [0, 1, u64::from(u32::MAX), 1 << 56, u64::MAX] {
-            assert_eq!(sides[0][0].send(&body(first), count, line), code::ACCEPTED);
-            let taken = sides[1][0]
-                .take(count, line)
-                .map(|words| values(words, count));
+            let sent = alone(|line| sides[0][0].send(&body(first), count, line));
+            assert_eq!(sent, code::ACCEPTED);
+            let taken = alone(|line| sides[1][0].take(count, line));
+            let taken = taken.map(|words| values(words, count));
             assert_eq!(taken, Ok(values(body(first), count)));
         }
     }
@@ -108,8 +116,8 @@ fn items_come_in_order_up_to_the_end() {
     assert_eq!(send(&mut one, 9), code::FULL);
     assert_eq!(take(&mut second), Ok(7));
     assert_eq!(send(&mut two, 9), code::ACCEPTED);
-    assert!(one.close(&Event::default()));
-    assert!(!two.close(&Event::default()) && !one.close(&Event::default()));
+    assert!(close(&mut one));
+    assert!(!close(&mut two) && !close(&mut one));
     assert_eq!(send(&mut one, 6), code::CLOSED);
     assert_eq!(send(&mut two, 6), code::CLOSED);
     assert_eq!((take(&mut first), take(&mut second)), (Ok(8), Ok(9)));
@@ -127,7 +135,7 @@ fn a_life_is_spent() {
     assert_eq!(send(&mut one, 3), code::SPENT);
     assert_eq!(send(&mut two, 3), code::SPENT);
     assert_eq!(take(&mut receiver), Err(code::EMPTY));
-    assert!(two.close(&Event::default()));
+    assert!(close(&mut two));
     assert_eq!(send(&mut two, 3), code::CLOSED);
     // If the queue is full too, a send returns that its life is over.
     let ([mut one, _], _receivers) = two_and_two(Config { life: 2, ..SMALL });
@@ -147,7 +155,7 @@ fn a_sender_is_worn_by_sends_that_were_refused_too() {
     assert_eq!(take(&mut receiver), Ok(0));
     assert_eq!(send(&mut one, 3), code::WORN);
     assert_eq!(send(&mut two, 4), accepted);
-    assert!(one.close(&Event::default()));
+    assert!(close(&mut one));
     assert_eq!(send(&mut one, 3), code::WORN);
     assert_eq!(send(&mut two, 4), code::CLOSED);
 }
@@ -166,7 +174,7 @@ fn each_group_gets_every_item_once() {
     assert_eq!(take(&mut two[1]), Ok(70));
     assert_eq!((sends(91), sends(92)), (code::ACCEPTED, code::FULL));
     assert_eq!(take(&mut one[1]), Ok(91));
-    assert!(senders[1].close(&Event::default()));
+    assert!(close(&mut senders[1]));
     assert_eq!(take(&mut one[0]), Err(code::ENDED));
     assert_eq!((take(&mut two[1]), take(&mut two[0])), (Ok(80), Ok(91)));
     assert_eq!(take(&mut two[0]), Err(code::ENDED));

@@ -2,7 +2,7 @@
 //! proved one. It builds for any target, and nothing of it is proved.
 use super::{Config, MOST_GROUPS, OpenError};
 pub use super::{Words, code, unexpected};
-use crate::event::Event;
+use crate::event::Served;
 use std::collections::VecDeque;
 use std::sync::{Arc, Mutex, PoisonError};
 
@@ -43,7 +43,7 @@ impl Handle {
     }
 
     /// Sends these words, and returns the code of the send.
-    pub fn send(&mut self, words: &Words, _count: usize, _line: &Event) -> u32 {
+    pub fn send(&mut self, words: &Words, _count: usize, _line: Served) -> u32 {
         let Some(left) = self.sends.checked_sub(1) else {
             return code::WORN;
         };
@@ -64,7 +64,7 @@ impl Handle {
     }
 
     /// Takes the words of an item. If there is none, it returns the code of the take.
-    pub fn take(&mut self, _count: usize, _line: &Event) -> Result<Words, u32> {
+    pub fn take(&mut self, _count: usize, _line: Served) -> Result<Words, u32> {
         self.call(|queue| {
             let Some(&words) = queue.items.get(queue.taken[self.group]) else {
                 return Err([code::EMPTY, code::ENDED][usize::from(queue.closed)]);
@@ -79,7 +79,7 @@ impl Handle {
     }
 
     /// Closes the queue. Returns whether it was open.
-    pub fn close(&mut self, _line: &Event) -> bool {
+    pub fn close(&mut self, _line: Served) -> bool {
         self.call(|queue| !std::mem::replace(&mut queue.closed, true))
     }
 }

@@ -9,7 +9,7 @@ use std::sync::mpsc;
 use std::sync::{Arc, Mutex};
 use std::task::{Context, Poll, Wake, Waker};
 use std::thread;
-use std::time::{Duration, Instant};
+use std::time::Duration;
 use vahepito::{Receiver, RecvError, Sender, TryRecvError, channel, groups};
 
 const SOON: Duration = Duration::from_millis(30);
@@ -41,28 +41,28 @@ fn two<T>((sender, mut receivers): (Sender<T>, Vec<Receiver<T>>)) -> (Sender<T>,
     (sender, [one, other])
 }
 
-/// The drop of a lost group's item takes two seconds: others continue meanwhile.
+/// The drop of a lost group's item takes as long as the others need for their calls: they continue meanwhile.
 #[test]
 fn a_slow_drop_of_a_lost_group_delays_no_call() {
     ends(|| {
         let (sender, [one, lost]) = two(groups(1, 2).unwrap());
-        let (begins, begun) = mpsc::channel();
-        let begins = Mutex::new(begins);
+        let ((begins, begun), (ends, ended)) = (mpsc::channel(), mpsc::channel::<()>());
+        let of_the_drop = Mutex::new((begins, ended));
         let slow = move || {
-            begins.lock().unwrap().send(()).unwrap();
-            thread::sleep(Duration::from_secs(2));
+            let (begins, ended) = &*of_the_drop.lock().unwrap();
+            begins.send(()).unwrap();
+            ended.recv().unwrap();
         };
         sender.send(on_drop(slow)).ok().unwrap();
         drop(one.recv().unwrap());
         let drops = thread::spawn(move || drop(lost));
         begun.recv().unwrap();
-        let start = Instant::now();
         assert!(sender.try_send(OnDrop(None)).is_ok());
         assert!(one.recv().is_ok());
         assert!(sender.send(OnDrop(None)).is_ok());
         assert!(one.try_recv().is_ok() && sender.is_empty());
-        assert!(start.elapsed() < Duration::from_secs(1));
         assert!(!drops.is_finished());
+        ends.send(()).unwrap();
         drops.join().unwrap();
     });
 }

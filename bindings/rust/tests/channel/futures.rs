@@ -1,12 +1,15 @@
 //! Sends and takes as futures, polled by a loop that parks.
+use crate::ends::ends;
 use crate::polling::{Woken, poll};
 use crate::rounds::rounds;
+#[cfg(target_os = "linux")]
+use crate::spent::spent;
 use std::panic::{AssertUnwindSafe, catch_unwind};
 use std::pin::pin;
 use std::sync::Arc;
 use std::task::{Context, Poll, Wake};
 use std::thread;
-use std::time::{Duration, Instant};
+use std::time::Duration;
 use vahepito::{RecvError, RecvFuture, SendError, SendFuture, channel};
 
 struct Unpark(thread::Thread);
@@ -75,17 +78,18 @@ fn futures_of_many_threads() {
 /// An executor may wait by `thread::park` alone. So a call inside of a poll may not use up the token of its waker.
 #[test]
 fn a_call_that_parks_leaves_the_token_of_its_thread() {
-    let (sender, receiver) = channel(1).unwrap();
-    thread::current().unpark();
-    let sending = thread::spawn(move || {
-        thread::sleep(Duration::from_millis(50));
-        sender.send(7)
+    ends(|| {
+        let (sender, receiver) = channel(1).unwrap();
+        thread::current().unpark();
+        let sending = thread::spawn(move || {
+            thread::sleep(Duration::from_millis(50));
+            sender.send(7)
+        });
+        assert_eq!(receiver.recv(), Ok(7));
+        // Without the token it never returns.
+        thread::park();
+        assert!(sending.join().unwrap().is_ok());
     });
-    assert_eq!(receiver.recv(), Ok(7));
-    let begin = Instant::now();
-    thread::park_timeout(Duration::from_secs(20));
-    assert!(begin.elapsed() < Duration::from_secs(10));
-    assert!(sending.join().unwrap().is_ok());
 }
 
 #[test]
@@ -182,31 +186,39 @@ fn futures_that_have_their_handles() {
     assert!(sender.is_closed());
 }
 
-/// A hundred thousand tasks wait in one line. Each is polled again, and keeps its place; then each leaves.
-#[test]
-fn a_task_leaves_a_long_line_at_once() {
+/// This number of tasks waits in one line. Each is polled again, and keeps its place; then each leaves. The processor time of that.
+#[cfg(target_os = "linux")]
+fn polled_and_left(tasks: u64) -> Duration {
     let (sender, receiver) = channel::<u64>(1).unwrap();
     let woken = Arc::new(Woken::default());
-    let mut all: Vec<_> = (0..rounds(100_000))
-        .map(|_| receiver.recv_async())
-        .collect();
+    let mut all: Vec<_> = (0..tasks).map(|_| receiver.recv_async()).collect();
     assert!(all.iter_mut().all(|it| poll(it, &woken).is_pending()));
-    let start = Instant::now();
+    let before = spent();
     assert!(all.iter_mut().rev().all(|it| poll(it, &woken).is_pending()));
-    let again = start.elapsed();
+    let again = spent() - before;
     sender.send(1).unwrap();
     assert_eq!(woken.times(), 1);
     // The first in line was woken, and its notification is passed on as long as tasks leave.
     let first = Arc::new(Woken::default());
     assert_eq!(poll(&mut all[0], &first), Poll::Ready(Ok(1)));
-    let start = Instant::now();
+    let before = spent();
     while all.len() > 1 {
         drop(all.swap_remove(all.len() / 2));
     }
-    let left = start.elapsed();
-    println!("polled again in {again:?}, left in {left:?}");
-    // A line that is searched takes tens of seconds. As it is, an optimized build takes about 30 ms.
-    assert!(again + left < Duration::from_secs(5));
+    again + (spent() - before)
+}
+
+/// A task takes as long in a line of a hundred thousand as in one of a fiftieth of that. In a line that is searched it takes fifty
+/// times as long; a tenth of that is left for the caches.
+#[cfg(target_os = "linux")]
+#[test]
+fn a_task_leaves_a_long_line_at_once() {
+    const TIMES: u32 = 50;
+    let few = rounds(100_000) / u64::from(TIMES);
+    let short: Duration = (0..TIMES).map(|_| polled_and_left(few)).sum();
+    let long = polled_and_left(few * u64::from(TIMES));
+    println!("in short lines {short:?}, in a long one {long:?}");
+    assert!(long < short * TIMES / 10, "{long:?}, {short:?}");
 }
 
 /// Whether a poll of this future, which is done, panics.

@@ -12,5 +12,8 @@ mod rendezvous;
 mod rounds;
 mod select;
 mod served;
+#[cfg(target_os = "linux")]
+#[path = "../spent/mod.rs"]
+mod spent;
 mod user_code;
 mod wakeups;

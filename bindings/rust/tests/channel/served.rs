@@ -1,5 +1,5 @@
 //! Calls that another call serves lose no wake-up, but for one exception: all interleavings of small models are searched, in which
-//! stores wait in a buffer as on x86-64. `src/event.rs` explains their line in "Calls that another one serves".
+//! stores wait in a buffer as on x86-64. `bindings/WAITS.md` explains their line in "Answers and seats".
 //!
 //! **A call** gets its place in the chain of its side by an exchange, stores its link, and makes a turn. A turn loads the state of the
 //! call. If the call has to serve, the turn serves the call itself and the linked calls behind it, up to the bound, and hands over to
@@ -19,8 +19,9 @@
 //! were in the buffer then, and the call looked before they came out. Such a call is **missed**. So no call is missed whose server ends
 //! after some call stood in line.
 //!
-//! event.rs has the millisecond for this exception. The first call in line may be missed, another call, or two calls at once; and a call
-//! behind a missed call waits too. Without buffers no call is missed, nor if each call gave its seat back by an exchange.
+//! The millisecond is for this exception; and after a time without waiters the line counts as unused again, which no
+//! model has. The first call in line may be missed, another call, or two calls at once; and a call behind a missed
+//! call waits too. Without buffers no call is missed, nor if each call gave its seat back by an exchange.
 //!
 //! **In a row of queues** a send that its queue refused keeps its seat while it waits for the lock of the row. Another call has this lock
 //! while it closes the queue. The send may have served that close, or handed over to a call before it. So the send checks the line before

@@ -1,0 +1,157 @@
+//! A longer slice of the processor, for threads that ask for it.
+#![allow(unsafe_code)]
+
+use std::io;
+
+/// Lets the calling thread, and threads that it starts later, keep a processor for 12 milliseconds before another
+/// thread gets it; Linux gives them about 3.
+///
+/// A call is long if the thread that serves its side loses its processor. With this fewer do: of 16 senders one send of
+/// 10,000 takes some ten microseconds or more, and not some milliseconds (`docs/BENCH.md`). Others pay for it: a thread
+/// that gets ready on such a processor, another program's too, may wait up to 12 milliseconds for it. No call of the
+/// crate asks for it by itself. It needs Linux 6.12 or later, and no privilege.
+///
+/// # Errors
+///
+/// [`Unsupported`](io::ErrorKind::Unsupported) if the system doesn't know slices;
+/// [`InvalidInput`](io::ErrorKind::InvalidInput) if the thread has another policy than `SCHED_OTHER` and `SCHED_BATCH`;
+/// otherwise what the system says, for a filter of system calls say. The slice is as before then.
+///
+/// ```
+/// if let Err(error) = vahepito::lengthen_slice() {
+///     eprintln!("the slice stays as it is: {error}");
+/// }
+/// ```
+pub fn lengthen_slice() -> io::Result<()> {
+    lengthen()
+}
+
+#[cfg(all(
+    target_os = "linux",
+    any(target_arch = "x86_64", target_arch = "aarch64")
+))]
+use of_linux::lengthen;
+
+#[cfg(not(all(
+    target_os = "linux",
+    any(target_arch = "x86_64", target_arch = "aarch64")
+)))]
+fn lengthen() -> io::Result<()> {
+    Err(io::ErrorKind::Unsupported.into())
+}
+
+#[cfg(all(
+    target_os = "linux",
+    any(target_arch = "x86_64", target_arch = "aarch64")
+))]
+mod of_linux {
+    use std::ffi::{c_int, c_long, c_uint};
+    use std::io;
+
+    const NANOSECONDS: u64 = 12_000_000;
+    const OTHER: u32 = 0;
+    const BATCH: u32 = 3;
+
+    /// The numbers of `sched_setattr` and `sched_getattr`.
+    const CALLS: (c_long, c_long) = if cfg!(target_arch = "x86_64") {
+        (314, 315)
+    } else {
+        (274, 275)
+    };
+
+    /// `struct sched_attr` in its first version. The slice of an ordinary thread is its `runtime`.
+    #[repr(C)]
+    #[derive(Default)]
+    struct Attributes {
+        size: u32,
+        policy: u32,
+        flags: u64,
+        nice: i32,
+        priority: u32,
+        runtime: u64,
+        deadline: u64,
+        period: u64,
+    }
+
+    const SIZE: u32 = size_of::<Attributes>() as u32;
+
+    unsafe extern "C" {
+        fn syscall(number: c_long, ...) -> c_long;
+    }
+
+    fn checked(result: c_long) -> io::Result<()> {
+        if result < 0 {
+            return Err(io::Error::last_os_error());
+        }
+        Ok(())
+    }
+
+    fn attributes() -> io::Result<Attributes> {
+        let mut of_thread = Attributes::default();
+        let (thread, flags): (c_int, c_uint) = (0, 0);
+        // SAFETY: the system writes at most this number of bytes there.
+        checked(unsafe { syscall(CALLS.1, thread, &raw mut of_thread, SIZE, flags) })?;
+        Ok(of_thread)
+    }
+
+    pub fn lengthen() -> io::Result<()> {
+        let before = attributes()?;
+        if ![OTHER, BATCH].contains(&before.policy) {
+            return Err(io::ErrorKind::InvalidInput.into());
+        }
+        let wanted = Attributes {
+            size: SIZE,
+            runtime: NANOSECONDS,
+            ..before
+        };
+        let (thread, flags): (c_int, c_uint) = (0, 0);
+        // SAFETY: the system reads as many bytes there as `size` says.
+        checked(unsafe { syscall(CALLS.0, thread, &raw const wanted, flags) })?;
+        // An earlier system doesn't look at the slice.
+        match attributes()?.runtime {
+            NANOSECONDS => Ok(()),
+            _ => Err(io::ErrorKind::Unsupported.into()),
+        }
+    }
+
+    #[cfg(test)]
+    mod tests {
+        use super::{NANOSECONDS, attributes, lengthen};
+        use std::ffi::{c_int, c_long};
+        use std::io;
+        use std::thread;
+
+        const IDLE: c_int = 5;
+
+        unsafe extern "C" {
+            fn sched_setscheduler(thread: c_int, policy: c_int, priority: &c_int) -> c_long;
+        }
+
+        fn slice() -> u64 {
+            attributes().unwrap().runtime
+        }
+
+        #[test]
+        fn a_thread_and_those_that_it_starts_get_a_longer_slice() {
+            let before = slice();
+            let longer = thread::spawn(|| {
+                lengthen().map(|()| (slice(), thread::spawn(slice).join().unwrap()))
+            });
+            match longer.join().unwrap() {
+                Ok(both) => assert_eq!(both, (NANOSECONDS, NANOSECONDS)),
+                Err(error) => assert_eq!(error.kind(), io::ErrorKind::Unsupported),
+            }
+            assert_eq!(slice(), before);
+        }
+
+        #[test]
+        fn an_idle_thread_gets_none() {
+            let refused = thread::spawn(|| {
+                // SAFETY: the C library's declaration.
+                assert!(unsafe { sched_setscheduler(0, IDLE, &0) } >= 0);
+                lengthen().map_err(|error| error.kind())
+            });
+            assert_eq!(refused.join().unwrap(), Err(io::ErrorKind::InvalidInput));
+        }
+    }
+}
