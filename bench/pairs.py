@@ -1,9 +1,9 @@
 #!/usr/bin/env python3
-"""Times a send with its take on one thread, by handles and by one pointer, beside the library of another commit.
+"""Times a send with its take on one thread, by handles, beside the library of another commit.
 
     bench/pairs.py COMMIT [--rounds N] [--write]
 
-A round runs bench/pair.c with each archive (the default one of COMMIT, of this tree, and this tree's strict one), both ways, in a
+A round runs bench/pair.c with each archive (the default one of COMMIT, of this tree, and this tree's strict one), in a
 random order, for some 40 ms each. It prints medians with quartiles in nanoseconds, of 31 rounds if no number is given. --write
 writes the table of docs/BENCH.md.
 """
@@ -43,16 +43,12 @@ def main() -> int:
         now, strict = ((TOP / KEPT / each).read_bytes() for each in ("libvahepito.a", "libvahepito_strict.a"))
         programs = {each: build(room, each, archive) for each, archive in (("before", before), ("now", now), ("strict", strict))}
         for _ in range(words.rounds):
-            runs = [(way, each) for way in ("handles", "pointer") for each in programs]
-            random.shuffle(runs)
-            for way, each in runs:
-                said = subprocess.run([programs[each], way, str(PAIRS)], check=True, stdout=subprocess.PIPE, text=True).stdout
-                times.setdefault((way, each), []).append(float(said))
-    rows = [["a send and its take", "before", "now", "now, strict", "now / before"]]
-    for way in ("handles", "pointer"):
-        told = [spread(times[way, each], 1) for each in ("before", "now", "strict")]
-        quotients = [now / before for before, now in zip(times[way, "before"], times[way, "now"])]
-        rows.append([f"by {'handles' if way == 'handles' else 'the pointer of C'}", *told, spread(quotients, 2)])
+            for each in random.sample(list(programs), len(programs)):
+                said = subprocess.run([programs[each], str(PAIRS)], check=True, stdout=subprocess.PIPE, text=True).stdout
+                times.setdefault(each, []).append(float(said))
+    told = [spread(times[each], 1) for each in ("before", "now", "strict")]
+    quotients = [now / before for before, now in zip(times["before"], times["now"])]
+    rows = [["a send and its take", "before", "now", "now, strict", "now / before"], ["by handles", *told, spread(quotients, 2)]]
     print("\n".join(map(row, rows)))
     if words.write:
         write("pairs", rows)

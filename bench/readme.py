@@ -3,8 +3,7 @@
 
     bench/readme.py [--write]
 
-Each figure is a cell of docs/BENCH.md: an item's time by the clock, a send that finds the queue full at a capacity of 1,024, and the
-p99.99 of a send beside four receivers and, once `bench/peers/run.py --all` has measured that, a busy process on each processor. The
+Each figure is a cell of docs/BENCH.md: an item's time by the clock, and the p99.99 of a send of 16 senders beside four receivers. The
 peers' versions are those that docs/BENCH.md names. Without --write it writes nothing, and says if README differs; exit status 1
 then.
 """
@@ -14,10 +13,9 @@ import sys
 
 TOP = os.path.dirname(os.path.dirname(os.path.abspath(__file__)))
 BEGIN, END = "<!-- speed -->\n", "<!-- end of speed -->\n"
-# The rows, by their names in the tables of docs/BENCH.md.
-ROWS = ["words", "typed", "crossbeam-channel", "crossbeam's ArrayQueue", "async-channel", "Mutex+Condvar"]
-LIBRARIES = {"crossbeam's ArrayQueue": "crossbeam-queue"}
-IN_TAIL = {"crossbeam's ArrayQueue": "crossbeam-queue"}
+# The rows, by their names in the tables of docs/BENCH.md, and the columns of an item's time.
+ROWS = {"typed": "**vahepito** (Rust)", "crossbeam-channel": None, "flume": None, "async-channel": None, "Mutex+Condvar": "std `Mutex`, `Condvar`"}
+COLUMNS = {"one thread": "one thread", "1/1": "1→1", "4/4": "4→4", "32/32": "32→32"}
 
 
 def rows_after(text, mark):
@@ -31,13 +29,10 @@ def rows_after(text, mark):
 
 def named(text, row):
     """A row's name, with the version that was measured."""
-    if row in ("words", "typed"):
-        return f"**{row}**"
-    if row == "Mutex+Condvar":
-        return row if "which notifies only if a thread waits" in " ".join(text.split()) else "Mutex+Condvar, always notifying"
-    library = LIBRARIES.get(row, row)
-    version = re.search(rf"\b{library} ([\d.]*\d)", " ".join(text[text.index("The peers are"):].split()))
-    return f"{'ArrayQueue' if library != row else library} {version[1]}"
+    if ROWS[row]:
+        return ROWS[row]
+    version = re.search(rf"\b{row} ([\d.]*\d)", " ".join(text[text.index("The peers are"):].split()))
+    return f"{row} {version[1]}"
 
 
 def brief(nanoseconds):
@@ -48,22 +43,14 @@ def brief(nanoseconds):
 
 def section(text):
     clock, _ = rows_after(text, "### An item's time, by the clock")
-    full, _ = rows_after(text, "### A send that finds the queue full, by capacity")
-    is_busy = "<!-- busy_tail -->" in text
-    _, tails = rows_after(text, "<!-- busy_tail -->" if is_busy else "<!-- tail -->")
+    _, tails = rows_after(text, "<!-- tail -->")
     tail = next(row for row in tails if row["part"] == "p99.99" and row["senders"] == "16")
-    columns = ["one thread", "4/4", "32/32", "Full"] + ["p99.99"] * is_busy
-    lines = ["In nanoseconds, on four idle processors: a send and its take on one thread; an item at 4 and at 32",
-             "senders and receivers; a send to a full queue of 1,024" + ("; a send's p99.99 by 16 threads beside busy processes." if is_busy else "."),
-             "", f"| | {' | '.join(columns)} |", "|---" * (len(columns) + 1) + "|"]
+    lines = ["On four idle processors ([more](docs/BENCH.md)):", "",
+             f"| ns an item, senders→receivers | {' | '.join(COLUMNS.values())} | slowest of 10,000 sends, 16→4 |",
+             "|---" * (len(COLUMNS) + 2) + "|"]
     for row in ROWS:
-        cells = [clock[row][column] for column in columns[:3]] + [full[row]["1024"]]
-        if is_busy:
-            slowest = tail.get(IN_TAIL.get(row, row))
-            cells.append(brief(slowest) if slowest else "–")
+        cells = [clock[row][column] for column in COLUMNS] + [brief(tail[row])]
         lines.append(f"| {named(text, row)} | {' | '.join(cells)} |")
-    if not is_busy:
-        lines += ["", f"The p99.99 of a send, with 16 senders: typed {brief(tail['typed'])}, crossbeam-channel {brief(tail['crossbeam-channel'])}."]
     return "\n".join(lines) + "\n"
 
 

@@ -1,7 +1,7 @@
 #!/usr/bin/env python3
 """Times the proved queue beside its peers, in one run, and writes the tables and pictures of docs/BENCH.md.
 
-    bench/peers/run.py [--seconds N] [--print | --all | --busy | --tail | --busy-tail | --steps | --unbounded] [--again]
+    bench/peers/run.py [--seconds N] [--print | --all | --busy | --tail | --busy-tail | --steps | --unbounded | --pinned] [--again]
 
 One command, in some N seconds (420 where no number is given; 120 are a short form, and 20 a trial), after the build. It
 takes crossbeam's, flume's and smol's queues from Debian's packages: those that aren't there it installs, where it is root
@@ -13,7 +13,8 @@ meanwhile is measured and written beside them. --print writes nothing into docs,
 With --busy a process is busy on each processor meanwhile, and the table `busy` of docs/BENCH.md is written. With --tail
 the slowest calls are measured, and the table `tail` is written; with --busy-tail these with a process that is busy on each processor,
 and the table `busy_tail`. With --steps the exports are timed with the same atomic steps by hand, and the table `steps` is written.
-With --unbounded queues without a bound are timed, and the table `unbounded` is written.
+With --unbounded queues without a bound are timed, and the table `unbounded` is written. With --pinned short bursts of pinned threads
+are timed, of which those count in which no thread lost its processor, and the table `pinned` is written: also on a busy machine.
 --all measures all but the steps and the queues without a bound, in some N + 300 seconds, then draws the pictures and writes README's table (bench/readme.py).
 """
 import argparse
@@ -98,8 +99,8 @@ def build(there):
 
 def command_of(programs, mode, queue, it, milliseconds):
     """The command of a burst. *strict* is the typed channel over the strict archive."""
-    relaxed, strict = programs
-    program = [strict, mode, "typed"] if queue == "strict" else [relaxed, mode, queue]
+    default, strict = programs
+    program = [strict, mode, "typed"] if queue == "strict" else [default, mode, queue]
     return [*program, *map(str, it), str(milliseconds)]
 
 
@@ -275,7 +276,7 @@ def text_of(machine, length, versions, all_tables, numbers):
         + f"other processes had {machine['others']:.2f} processors in the mean and {machine['worst']:.2f} in the worst round "
         f"({busiest}), and the host took {machine['stolen']:.2f}."), "", wrapped(
         f"*words* are the exports of the library, with bodies of one word, and *typed* the channel of any type of `bindings/rust`, with a bound of {BOUND}. "
-        "Both are over the relaxed archive, and *typed, strict* is the channel over the strict one. "
+        "Both are over the default archive, and *typed, strict* is the channel over the strict one. "
         f"The peers are {queues}std's `sync_channel`, whose one receiver is shared under a lock, and std's `Mutex` with two "
         "`Condvar`s round a `VecDeque`, which notifies only if a thread waits. ArrayQueue and concurrent-queue have no calls that wait: they are tried again, first with "
         "spinning between two tries and then with yields. Cells have the medians of the rounds, the pictures the quartiles too."), "",
@@ -373,7 +374,9 @@ def timed(shapes, queues, seconds):
             (mode, it, _), (program, called, capacity) = shapes[name], queues[queue]
             command = [program, mode, called, *map(str, (*it[:2], capacity, it[3])), "100"]
             done = subprocess.run(command, capture_output=True, text=True, check=True, timeout=60)
-            times[name, queue].append(float(done.stdout.split()[0]))
+            time_of_item = float(done.stdout.split()[0])
+            if not math.isnan(time_of_item):
+                times[name, queue].append(time_of_item)
     print(f"peers: {min(map(len, times.values()))} rounds")
     return times
 
@@ -385,8 +388,8 @@ def quotient(ones, others):
 
 def by_hand(programs, seconds):
     """The rows of the table `steps`: an item's time by the exports over both archives and by the same steps by hand."""
-    relaxed, strict = programs
-    queues = {"words": (relaxed, "words", 64), "words, strict": (strict, "words", 64), "by hand": (relaxed, "steps", 64)}
+    default, strict = programs
+    queues = {"words": (default, "words", 64), "words, strict": (strict, "words", 64), "by hand": (default, "steps", 64)}
     each = lambda queue: True
     shapes = {"one thread": ("alone", shape(1, 1), each), **{f"{n[0]}/{n[1]}": ("pass", shape(*n), each) for n in PAIRS[:4]}}
     times = timed(shapes, queues, seconds)
@@ -396,12 +399,23 @@ def by_hand(programs, seconds):
     return rows
 
 
+def in_short_bursts(programs, there, seconds):
+    """The rows of the table `pinned`: an item's time while each thread has a processor of its own."""
+    relaxed, _ = programs
+    names = [*OURS, *(library for library in ("crossbeam-channel", "crossbeam-queue") if library in there)]
+    queues = {name: (relaxed, name, 4096) for name in names}
+    each = lambda queue: True
+    shapes = {f"{n}/{n}": ("pinned", shape(n, n), each) for n in (1, 2) if 2 * n <= os.cpu_count()}
+    times = timed(shapes, queues, seconds)
+    return [["senders/receivers", *queues], *([name, *(spread(times[name, queue]) for queue in queues)] for name in shapes)]
+
+
 def without_bound(programs, there, seconds):
     """The rows of the table `unbounded`: an item's time in queues without a bound, and in the channel with one."""
-    relaxed, _ = programs
-    queues = {"typed, capacity 64": (relaxed, "typed", 64), "typed": (relaxed, "typed", 0)}
-    queues |= {library: (relaxed, library, 0) for library in ("crossbeam-channel", "flume") if library in there}
-    queues |= {"SegQueue": (relaxed, "SegQueue", 0)} if "crossbeam-queue" in there else {}
+    default, _ = programs
+    queues = {"typed, capacity 64": (default, "typed", 64), "typed": (default, "typed", 0)}
+    queues |= {library: (default, library, 0) for library in ("crossbeam-channel", "flume") if library in there}
+    queues |= {"SegQueue": (default, "SegQueue", 0)} if "crossbeam-queue" in there else {}
     each = lambda queue: True
     shapes = {
         "a pair on one thread": ("alone", shape(1, 1), each),
@@ -432,7 +446,7 @@ def main():
     parser.add_argument("--seconds", type=int, default=420)
     parser.add_argument("--again", action="store_true")
     what = parser.add_mutually_exclusive_group()
-    for name in ("print", "all", "busy", "busy-tail", "tail", "steps", "unbounded"):
+    for name in ("print", "all", "busy", "busy-tail", "tail", "steps", "unbounded", "pinned"):
         what.add_argument(f"--{name}", action="store_true")
     options = parser.parse_args()
     if options.all and options.again:
@@ -450,6 +464,8 @@ def main():
             return write("steps", by_hand(programs, options.seconds))
         if options.unbounded:
             return write("unbounded", without_bound(programs, there, options.seconds))
+        if options.pinned:
+            return write("pinned", in_short_bursts(programs, there, options.seconds))
         if options.tail:
             return write_tail(programs, there, options.seconds)
         if options.busy_tail:

@@ -3,6 +3,7 @@
 #[path = "../../clock.rs"]
 mod clock;
 mod exports;
+mod pinned;
 #[cfg(any(feature = "crossbeam-queue", feature = "concurrent-queue"))]
 mod polled;
 mod queues;
@@ -260,6 +261,12 @@ fn idle<Q: Queue>(it: &Burst) -> Vec<f64> {
     })
 }
 
+/// Short bursts of pinned threads.
+fn pinned<Q: Queue>(it: &Burst) -> Vec<f64> {
+    let (senders, receivers) = it.open::<Q>();
+    pinned::pinned::<Q>(senders, receivers, it.capacity / 2, it.time)
+}
+
 fn burst<Q: Queue>(mode: &str, it: &Burst) -> Vec<f64> {
     match mode {
         "pass" => pass::<Q>(it),
@@ -270,6 +277,7 @@ fn burst<Q: Queue>(mode: &str, it: &Burst) -> Vec<f64> {
         "tail" => tail::<Q>(it),
         "paced" => paced::<Q>(it),
         "idle" => idle::<Q>(it),
+        "pinned" => pinned::<Q>(it),
         _ => panic!("no mode {mode}"),
     }
 }
