@@ -194,52 +194,14 @@ const TASKS = {
   },
 };
 
-// The least number of steps after which a run reaches a goal: all states that n steps lead to, for n = 1, 2 and so on. A read of a
-// state that is 1 leads to no other state.
+// The least number of steps after which a run reaches a goal, by the search of the page.
 function leastSteps(machine, run, goal) {
-  const from = run.now, texts = new WeakMap(), numbers = new Map(), values = [], sides = run.history.map(() => ''), undone = [];
-  const small = (_, value) => typeof value === 'bigint' ? Number(value) : value;
-  const standText = stand => { if (!texts.has(stand)) texts.set(stand, JSON.stringify([stand.made, stand.node, stand.place], small)); return texts.get(stand); };
-  const put = (w, value) => { const key = machine.keyOf(w); if (!numbers.has(key)) { numbers.set(key, values.length); values.push(0); } values[numbers.get(key)] = Number(value); };
-  const answers = e => e.answer && e.answer[0].is, knows = call => Object.values(call.knows).join();
-  function redo(e) {
-    run.redo(e);
-    put(e.w, e.value);
-    undone.push(sides[e.x + 1]);
-    sides[e.x + 1] += (e.enters ? '|' + e.enters.row + ' ' + knows(e.enters) : '') + (e.decides ? '>' + machine.answerText(e.decides) : '') + (e.marks ? '.' : '');
-  }
-  function undo(e) {
-    run.undo(e);
-    put(e.w, e.found);
-    sides[e.x + 1] = undone.pop();
-  }
+  const answers = e => e.answer && e.answer[0].is;
   const isGoal = e => goal.breaks ? e.breaks.some(law => goal.breaks.includes(law))
     : answers(e) === goal.returns && (goal.returns === 'Empty' ? run.got[e.x] < run.accepted.length : run.accepted.length - Math.min(...run.got) < run.capacity);
-  const pathTo = state => { const path = []; for (; state.e; state = state.before) path.unshift(state); return path; };
-  let level = [{ e: null, before: null }], here = [];
-  const seen = new Set();
-  for (let steps = 1; level.length; steps++) {
-    const next = [];
-    for (const state of level) {
-      const path = pathTo(state);
-      let same = 0;
-      while (same < here.length && same < path.length && here[same] === path[same]) same++;
-      while (here.length > same) undo(here.pop().e);
-      for (; same < path.length; same++) { redo(path[same].e); here.push(path[same]); }
-      for (let row = 0; row < run.rows; row++) {
-        const e = run.nextEvent(row);
-        if (!e || e.waits) continue;
-        e.breaks = run.brokenBy(e);
-        redo(e);
-        if (isGoal(e)) return steps;
-        const key = run.stands.map(standText).join('') + values.join() + sides.join('/');
-        if (!seen.has(key)) { seen.add(key); next.push({ e, before: state }); }
-        undo(e);
-      }
-    }
-    level = next;
+  const search = machine.shortest(run, isGoal);
+  for (;;) {
+    const { done, value } = search.next();
+    if (done) return value ? value.length : Infinity;
   }
-  return Infinity;
 }
-
-TASKS[process.argv[2]](process.argv.slice(3));

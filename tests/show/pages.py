@@ -7,7 +7,7 @@
     tests/show/pages.py by_node      the same steps of the pages' machine alone, by node, with the laws
     tests/show/pages.py lessons      the tour, scenarios and broken queues of docs/pages/index.html, by node
     tests/show/pages.py plans        each plan of tests/rows.py is read or refused as by `ccq play`, by node
-    tests/show/pages.py learns       the index: each lesson by clicks and keys, side by side, exercises, a queue of one's own, plans, links, keys
+    tests/show/pages.py learns       the index: each lesson by clicks and keys, side by side, exercises, also on paper, the adversary, a queue of one's own, plans, links, keys
     tests/show/pages.py lectures     each screen of each lecture; the path of docs/TEACHING.md; motion; the page as a site serves it
     tests/show/pages.py shortest     the solutions of the exercises are shortest ones, by node
     tests/show/pages.py judged       pages of `ccq judge --page`: one of each fault, of a clean log, and of 100,000 calls
@@ -220,7 +220,7 @@ def plans():
 
 def learns():
     index = {"src": "/index.html", **LAPTOP}
-    jobs = [{"test": "lessons", **index}, {"test": "beside", **index}, {"test": "exercises", **index}, {"test": "own", **index}, {"test": "keys", **index},
+    jobs = [{"test": "lessons", **index}, {"test": "beside", **index}, {"test": "exercises", **index}, {"test": "own", **index}, {"test": "keys", **index}, {"test": "adversary", **index}, {"test": "paper", **index},
             *({"test": "link", "text": plan.read_text(), **index} for plan in PLANS)]
     right = True
     for job, answer in zip(jobs, in_browser(jobs)):

@@ -534,6 +534,40 @@ const tests = {
     assert(job.still ? page.getAnimations().length === 0 : moved >= 4, moved + ' nodes moved');
     await wait(1500);
     assert(page.getAnimations().length === 0, 'a motion does not end');
+    // In no frame of a motion has a row of nodes a scroll bar that it doesn't have at rest.
+    const barred = () => [...page.querySelectorAll('#lecture .strip, #lecture .list')].map(row => row.offsetHeight > row.clientHeight || row.offsetWidth > row.clientWidth);
+    key(page.body, 'Home');
+    for (let screen = 0, frames = 0; screen < 12 || !frames && !job.still; screen++) {
+      key(page.body, 'PageDown');
+      const seen = [];
+      do { await new Promise(view.requestAnimationFrame); seen.push(barred()); } while (page.getAnimations().length);
+      frames += seen.length;
+      const rest = barred();
+      for (const frame of seen) assert(frame.every((bar, k) => !bar || rest[k]), 'a row has a scroll bar in motion, at ' + textOf($('lecture-count')));
+    }
+    return true;
+  },
+
+  // The adversary finds a law that a random schedule of a broken queue breaks, and a schedule none is shorter than.
+  async adversary({ $, page, wait }) {
+    assert(!visible($('adversary')), 'there is an adversary of the right queue');
+    page.querySelector('#choose a[data-id=freed_dummy]').click();
+    assert(visible($('adversary')), 'there is no adversary');
+    $('search').click();
+    for (let k = 0; k < 2000 && !/no schedule that breaks a law is shorter/.test(textOf($('search-state'))); k++) await wait(100);
+    same([textOf($('lesson-title')), textOf($('search-state')).replace(/had \d+ steps/, 'had N steps')],
+      ['A shortest schedule that breaks a law', 'The first random schedule that broke a law had N steps, and this one has 58: no schedule that breaks a law is shorter.'], 'the search');
+    assert(whereOf($) === 58 && /^Broken: /.test($('breaks').textContent), 'it leads to ' + $('where').textContent + ': ' + $('breaks').textContent);
+    return true;
+  },
+
+  // The exercises on paper: each with its text, and the hints behind them.
+  async paper({ $, page, view }) {
+    await follow(view, '#handout');
+    const exercises = JSON.parse($('exercises').textContent), cards = [...$('handout').querySelectorAll('article')];
+    assert(visible($('handout')) && !visible($('stage')) && cards.length === exercises.length + 1, 'the handout has ' + cards.length + ' parts');
+    exercises.forEach(({ title, text, hint }, k) => assert(textOf(cards[k]).startsWith((k + 1) + '. ' + title + bare(text)) && textOf(cards.at(-1)).includes(bare(hint)), 'the handout says ' + textOf(cards[k])));
+    await follow(view, '');
     return true;
   },
 

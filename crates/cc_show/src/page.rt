@@ -121,7 +121,7 @@ kbd { border: 1px solid var(--edge); border-radius: 4px; padding: 0 4px; font: 1
 .pass.moved .step { border-color: var(--ink); border-width: 2px; }
 .dot { display: inline-block; flex: none; width: 11px; height: 11px; border-radius: 3px; margin-right: 3px; }
 .legend { font-size: 12.5px; margin: 4px 0 0; } .legend span { display: inline-block; margin-right: 10px; }
-.strip { overflow-x: auto; padding-bottom: 3px; }
+.strip { overflow-x: auto; padding-bottom: 3px; } .strip.roomy, .list.roomy { overflow: visible; }
 .boxes { display: flex; flex-wrap: nowrap; align-items: stretch; list-style: none; margin: 0; padding: 0; width: max-content; font-size: 12.5px; }
 .boxes > li { display: flex; align-items: flex-end; }
 #stage.pair .boxes { font-size: 12px; } #stage.pair .boxes:not(.many) { flex-wrap: wrap; width: auto; }
@@ -187,7 +187,10 @@ dt { font-weight: 600; } dd { margin: 0; color: var(--dim); }
 footer { padding-bottom: 24px; font-size: 13px; }
 body.bare header, body.bare #intro, body.bare #choose, body.bare footer { display: none; } body.bare main { padding-top: 8px; }
 /* The lecture: one moment a screen. */
-body.lecture > header, body.lecture > main, body.lecture > footer, body.lecture > .skip { display: none; }
+#handout { display: none; max-width: 900px; margin: 0 auto; padding: 14px; } body.handout #handout { display: block; }
+body.handout > header, body.handout > main, body.handout > footer, body.handout > .skip { display: none; }
+#handout .answer { border-bottom: 1px solid var(--edge); min-height: 3em; }
+body.lecture { overflow-x: clip; } body.lecture > header, body.lecture > main, body.lecture > footer, body.lecture > .skip { display: none; }
 #lecture { min-height: 100vh; display: grid; grid-template-columns: minmax(0, 1fr); grid-template-rows: auto auto 1fr auto auto; gap: 8px; padding: 14px 26px;
   max-width: 2800px; margin: 0 auto; }
 #lecture h2 { font-size: clamp(20px, 2.3vw, 60px); line-height: 1.2; margin: 0; } #lecture .top { align-items: baseline; }
@@ -203,6 +206,9 @@ body.lecture > header, body.lecture > main, body.lecture > footer, body.lecture 
 #lecture-line p { margin: 0; background: var(--touch); border-left: 6px solid var(--touch-line); border-radius: 4px; padding: 4px 14px; }
 #lecture-line span { color: var(--dim); font-size: .75em; margin-right: 1em; } #lecture-line p span { color: var(--ink); }
 #lecture-line code { font-size: .95em; white-space: pre-wrap; font-weight: 600; }
+#lecture-code { display: grid; grid-auto-flow: column; grid-auto-columns: minmax(0, 1fr); gap: 26px; align-content: center; }
+#lecture-code .program { font-size: clamp(12.5px, min(2.1vw, 66vh / var(--lines) / 1.5), 44px); } #lecture.pair #lecture-code .program { font-size: clamp(12px, min(1.05vw, 66vh / var(--lines) / 1.5), 30px); }
+#lecture-code li { white-space: pre-wrap; } #lecture-code li span:last-child { display: none; }
 #lecture nav { gap: 8px; align-items: center; } #lecture nav button, #lecture nav select { min-height: 40px; font-size: 16px; } #lecture nav .gap { flex: 1; }
 body.lecture #tip { font-size: clamp(15px, 1.5vw, 22px); max-width: min(560px, 94vw); }
 body.blank #lecture > *, body.blank #tip { visibility: hidden; } body.blank { background: #000; }
@@ -240,7 +246,7 @@ body.blank #lecture > *, body.blank #tip { visibility: hidden; } body.blank { ba
   #lanes, .list, .strip { max-height: none; overflow: visible; } #cells, #turns { overflow: hidden; }
   #law button { border: 0; padding: 0; min-height: 0; background: none; font-weight: 600; } #law .row span { padding-top: 0; }
   details:not([open]), .chain.idle { display: none; }
-  .card { break-inside: avoid; } .boxes { width: auto; flex-wrap: wrap; } .program li { white-space: pre-wrap; }
+  .hints { break-before: page; } .card { break-inside: avoid; } .boxes { width: auto; flex-wrap: wrap; } .program li { white-space: pre-wrap; }
   #stage { display: block; } #lecture { min-height: 0; padding: 0; } #lecture .part .boxes { font-size: 15px; } #lecture.pair .part .boxes { font-size: 12px; }
   .pair #sides, #lecture.pair #lecture-sides { grid-template-columns: minmax(0, 1fr) minmax(0, 1fr); }
 }
@@ -257,6 +263,8 @@ body.blank #lecture > *, body.blank #tip { visibility: hidden; } body.blank { ba
 <noscript><p class=\"bad\">The pictures are drawn by the script of this page, which is turned off. The events and the report are in its source.</p></noscript>
 <div id=\"alarm\" role=\"alert\"></div>
 <section class=\"card\" id=\"intro\" aria-labelledby=\"intro-title\">
+<p>This page shows CC-Queue (Fatourou and Kallimanis, PPoPP 2012) step by step. It is the algorithm of Vahepito, a queue that is proved for every
+order of these steps. Vahepito's program <code>ccq</code> writes this page for a run of your own: <code>ccq show PLAN &gt; page.html</code>.</p>
 <h2 id=\"intro-title\">The algorithm in five sentences</h2>
 <div class=\"intro\">
 <ol>
@@ -304,7 +312,7 @@ and appends after the last node.\">
 <div><h3>Guided tour</h3><ol id=\"tour\"></ol></div>
 <div><h3>Scenarios</h3><ul id=\"examples\"></ul></div>
 <div><h3>Broken queues, beside the right one</h3><ul id=\"broken\"></ul></div>
-<div><h3>Exercises</h3><ul id=\"exercise-list\"></ul></div>
+<div><h3>Exercises</h3><ul id=\"exercise-list\"></ul><p><a class=\"pick\" href=\"#handout\">all of them, to be printed</a></p></div>
 </div>
 <details id=\"own\"><summary>Your own queue, or a plan</summary>
 <form id=\"own-form\" class=\"own\">
@@ -386,6 +394,8 @@ and appends after the last node.\">
 <section class=\"card\" id=\"law-card\" aria-labelledby=\"law-title\" hidden>
 <h2 id=\"law-title\">What is broken</h2>
 <div id=\"law\"></div>
+<div class=\"row\" id=\"adversary\"><button id=\"search\" title=\"random schedules of this queue until one breaks a law, and then a shortest one\">break it at random</button>
+<span id=\"search-state\" role=\"status\"></span></div>
 </section>
 <section class=\"card\" id=\"code\" tabindex=\"0\" aria-labelledby=\"code-title\">
 <div id=\"code-head\"><h2 id=\"code-title\">The program, and the line of this step</h2><div id=\"holds\"></div></div>
@@ -413,12 +423,15 @@ and appends after the last node.\">
 <div class=\"top\"><h2 id=\"lecture-title\"></h2><span id=\"lecture-count\"></span></div>
 <p id=\"lecture-text\" role=\"status\" aria-live=\"polite\"></p>
 <div id=\"lecture-sides\"></div>
+<div id=\"lecture-code\" hidden></div>
 <div id=\"lecture-line\"></div>
 <nav aria-label=\"Lecture\"><button id=\"lecture-back\" title=\"the screen before (left arrow, Page up)\">&#8592; back</button>
 <select id=\"lecture-lesson\" aria-label=\"the lesson\"></select><span class=\"gap\"></span>
+<button id=\"lecture-program\" title=\"the program in large letters, or the picture (c)\" aria-pressed=\"false\">program</button>
 <button id=\"lecture-full\" title=\"the whole screen (f)\">full screen</button><button id=\"lecture-leave\" title=\"back to the run (Escape)\">leave</button>
 <button id=\"lecture-next\" title=\"the next screen (right arrow, space, Page down)\">next &#8594;</button></nav>
 </section>
+<section id=\"handout\" aria-label=\"The exercises on paper\"></section>
 <footer>
 <section id=\"keys\"><h2>Keys</h2>
 <p><kbd>&#8592;</kbd> <kbd>&#8594;</kbd> one event; <kbd>space</kbd> plays and stops, except in a field for text, and <kbd>Enter</kbd> presses a button; <kbd>d</kbd> <kbd>D</kbd> the next
@@ -426,7 +439,7 @@ decision, and the one before; <kbd>1</kbd> to <kbd>9</kbd> a step of the first t
 and the one before; <kbd>m</kbd> <kbd>M</kbd> the next moment of a stop, and the one before; <kbd>l</kbd> the lecture; <kbd>Esc</kbd> hides the explanation of a word. In the player <kbd>Home</kbd> and
 <kbd>End</kbd> go to the first and the last event, <kbd>Page up</kbd> and <kbd>Page down</kbd> to decisions. A step that the run doesn't have next begins a branch.</p>
 <p>In a lecture <kbd>&#8594;</kbd>, <kbd>space</kbd>, <kbd>Enter</kbd> and <kbd>Page down</kbd> show the next screen, <kbd>&#8592;</kbd>, <kbd>Backspace</kbd> and <kbd>Page up</kbd> the one before, <kbd>Home</kbd> and
-<kbd>End</kbd> the first and the last of the lesson; <kbd>f</kbd> fills the whole screen, <kbd>b</kbd> or <kbd>.</kbd> blanks it, and <kbd>Esc</kbd> leaves. Presenters' clickers press these keys.</p></section>
+<kbd>End</kbd> the first and the last of the lesson; <kbd>c</kbd> shows the program in place of the picture, <kbd>f</kbd> fills the whole screen, <kbd>b</kbd> or <kbd>.</kbd> blanks it, and <kbd>Esc</kbd> leaves. Presenters' clickers press these keys.</p></section>
 <section id=\"glossary\"><h2>Words</h2><dl id=\"words\"></dl></section>
 <details><summary>What a step of each kind does</summary><dl id=\"kinds\"></dl></details>
 </footer>
@@ -1788,9 +1801,77 @@ function reached(run, goal) {
   return 0;
 }
 
+// A shortest schedule after which `is_goal` holds of the last event: all states that n steps lead to, for n = 1, 2 and so on. A read of a
+// state that is 1 leads to no other state. It gives the number of steps and of states from time to time, and returns the passes of the
+// steps, or null if there is no such schedule or if `most` states were looked at.
+function* shortest(run, is_goal, most = Infinity) {
+  const texts = new WeakMap(), numbers = new Map(), values = [], sides = run.history.map(() => ''), undone = [];
+  const small = (_, value) => typeof value === 'bigint' ? Number(value) : value;
+  const standText = stand => { if (!texts.has(stand)) texts.set(stand, JSON.stringify([stand.made, stand.node, stand.place], small)); return texts.get(stand); };
+  const put = (w, value) => { const key = keyOf(w); if (!numbers.has(key)) { numbers.set(key, values.length); values.push(0); } values[numbers.get(key)] = Number(value); };
+  const knows = call => Object.values(call.knows).join();
+  function redo(e) {
+    run.redo(e);
+    put(e.w, e.value);
+    undone.push(sides[e.x + 1]);
+    sides[e.x + 1] += (e.enters ? '|' + e.enters.row + ' ' + knows(e.enters) : '') + (e.decides ? '>' + answerText(e.decides) : '') + (e.marks ? '.' : '');
+  }
+  function undo(e) {
+    run.undo(e);
+    put(e.w, e.found);
+    sides[e.x + 1] = undone.pop();
+  }
+  const pathTo = state => { const path = []; for (; state.e; state = state.before) path.unshift(state); return path; };
+  const seen = new Set();
+  for (let level = [{ e: null, before: null }], here = [], steps = 1; level.length; steps++) {
+    const next = [];
+    for (const [k, state] of level.entries()) {
+      if (k % 50 === 0) yield { steps, states: seen.size };
+      const path = pathTo(state);
+      let same = 0;
+      while (same < here.length && same < path.length && here[same] === path[same]) same++;
+      while (here.length > same) undo(here.pop().e);
+      for (; same < path.length; same++) { redo(path[same].e); here.push(path[same]); }
+      for (let row = 0; row < run.rows; row++) {
+        const e = run.nextEvent(row);
+        if (!e || e.waits) continue;
+        e.breaks = run.brokenBy(e);
+        redo(e);
+        if (is_goal(e)) return [...path, { e }].map(one => one.e.row);
+        const key = run.stands.map(standText).join('') + values.join() + sides.join('/');
+        if (!seen.has(key)) { seen.add(key); next.push({ e, before: state }); }
+        undo(e);
+      }
+      if (seen.size > most) return null;
+    }
+    level = next;
+  }
+  return null;
+}
+
+// Random schedules of at most this number of steps, each by a run that `fresh` opens, until one breaks a law. It gives the number of
+// schedules from time to time, and returns the run, which ends with that event; or null after `most` schedules. A pass makes one to
+// sixteen steps before another one is chosen.
+function* broken(fresh, steps, most) {
+  for (let tries = 1; tries <= most; tries++) {
+    if (tries % 5 === 1) yield tries;
+    const run = fresh();
+    for (let left = steps, alive = true; alive && left > 0;) {
+      const able = [...Array(run.rows).keys()].filter(row => run.nextEvent(row));
+      const row = able[Math.floor(Math.random() * able.length)];
+      for (let k = 1 + Math.floor(Math.random() * 16); k > 0 && left > 0 && able.length; k--, left--) {
+        if (!run.step(row)) break;
+        if (run.events[run.now - 1].breaks.length) return run;
+      }
+      alive = able.length > 0;
+    }
+  }
+  return null;
+}
+
 const further = tag => Number(Codes_further_words(tag));
 const codeOf = ret => Number(Codes_code_of(ret));
-return { open, beside, reached, planOfRun, planOfText, CHANGES, LAWS, KINDS, EVENT_LIMIT, OUTSIDE, number, tail, node, item, object, keyOf, callText, answerText, further, codeOf,
+return { open, beside, reached, shortest, broken, planOfRun, planOfText, CHANGES, LAWS, KINDS, EVENT_LIMIT, OUTSIDE, number, tail, node, item, object, keyOf, callText, answerText, further, codeOf,
   senderOf: Codes_tag_sender, numberOf: Codes_tag_number, valueOf: Codes_value_of, listReads: Codes_list_reads };
 })();
 </script>
@@ -2311,15 +2392,20 @@ function moving(parts, of, at, draw) {
   const moves = moved_from && moved_from.of === of && moved_from.at !== at;
   moved_from = { of, at };
   if (!moves || STILL.matches || playing && Number($('speed').value) < 300) { draw(); return; }
-  const before = placesOf(parts);
+  const before = placesOf(parts), all = selector => parts.flatMap(part => [...part.querySelectorAll(selector)]);
   draw();
   if (!before.size) return;
-  for (const part of parts) for (const element of part.querySelectorAll('[data-key]')) {
-    const was = before.get(element.dataset.key);
-    if (!was) { element.animate([{ opacity: 0 }, { opacity: 1 }], 240); continue; }
-    const is = element.getBoundingClientRect(), x = was.left - is.left, y = was.top - is.top;
-    if (Math.abs(x) + Math.abs(y) > 1) element.animate([{ transform: 'translate(' + x + 'px,' + y + 'px)' }, { transform: 'none' }], { duration: 260, easing: 'ease-out' });
-  }
+  // A row with room for its nodes shows them also while they are outside of it, and so has no scroll bar in motion.
+  const roomy = all('.strip, .list').filter(row => row.scrollWidth <= row.clientWidth && row.scrollHeight <= row.clientHeight);
+  const moved = all('[data-key]').map(element => [element, before.get(element.dataset.key), element.getBoundingClientRect()]);
+  for (const row of roomy) row.classList.add('roomy');
+  const done = moved.map(([element, was, is]) => {
+    if (!was) return element.animate([{ opacity: 0 }, { opacity: 1 }], 240).finished;
+    const x = was.left - is.left, y = was.top - is.top;
+    return Math.abs(x) + Math.abs(y) <= 1 ? null
+      : element.animate([{ transform: 'translate(' + x + 'px,' + y + 'px)' }, { transform: 'none' }], { duration: 260, easing: 'ease-out' }).finished;
+  });
+  Promise.allSettled(done).then(() => { for (const row of roomy) row.classList.remove('roomy'); });
 }
 
 // ---- Pictures of a chain and of the list, by the texts of Telling.
@@ -2417,20 +2503,21 @@ const canPair = () => !!run.variant || !!(source.lesson && source.lesson.table);
 
 // ---- The program.
 
+// A part of the program, by the table of this name, with the line that is told of.
+function partText(variant, part, told) {
+  const [title, lines] = Telling.PROGRAM[part], broken = (Telling.BROKEN_LINES[variant] || {})[part] || {};
+  return '<div class=\"part\"><h3>' + title + '</h3><ol class=\"program\">' + lines.map(([text, places], k) => {
+    const lit = told && told.part === part && told.k === k, changed = broken[k];
+    return '<li class=\"' + (lit ? 'lit ' : '') + (changed ? 'changed' : '') + '\"' + (lit ? ' aria-current=\"step\"' : '')
+      + (changed ? ' title=\"this line is changed\"' : '') + '><span>' + (changed || text) + '</span><span>'
+      + places.map(place => Telling.WORDS_OF[place]).filter(word => word).join(' ') + '</span></li>';
+  }).join('') + '</ol></div>';
+}
+
 function drawProgram() {
   const told = Telling.program(run), e = run.now > 0 ? run.events[run.now - 1] : null;
-  const broken = Telling.BROKEN_LINES[run.variant] || {};
   const service = e && e.x >= 0 ? ['take'] : e && e.serves && e.serves.close ? ['close'] : e ? ['send'] : ['send', 'take'];
-  const html = ['call', 'combine', ...service].map(part => {
-    const [title, lines] = Telling.PROGRAM[part];
-    return '<div class=\"part\"><h3>' + title + '</h3><ol class=\"program\">' + lines.map(([text, places], k) => {
-      const lit = told && told.part === part && told.k === k;
-      const changed = (broken[part] || {})[k];
-      return '<li class=\"' + (lit ? 'lit ' : '') + (changed ? 'changed' : '') + '\"' + (lit ? ' aria-current=\"step\"' : '')
-        + (changed ? ' title=\"this line is changed\"' : '') + '><span>' + (changed || text) + '</span><span>'
-        + places.map(place => Telling.WORDS_OF[place]).filter(word => word).join(' ') + '</span></li>';
-    }).join('') + '</ol></div>';
-  }).join('');
+  const html = ['call', 'combine', ...service].map(part => partText(run.variant, part, told)).join('');
   if (show('program', html) && told) {
     const line = $('program').querySelector('.lit'), card = $('code');
     if (card.scrollHeight > card.clientHeight) {
@@ -2720,6 +2807,7 @@ function drawTask() {
 function drawLaw() {
   const variant = run.variant || (source.lesson && source.lesson.table) || '';
   $('law-card').hidden = !variant;
+  $('adversary').hidden = !run.variant || !!source.exercise;
   if (!variant) { show('law', ''); return; }
   const found = Telling.broken(run, run.events.length);
   let html = !run.variant ? '<p class=\"good\">This is the right table, and no law is broken.</p>'
@@ -2761,6 +2849,53 @@ function draw() {
   drawLaw();
 }
 
+// ---- The adversary: random schedules of a broken queue until one breaks a law, and then a shortest one.
+
+const SEARCH = { steps: 500, schedules: 20000, shorter: 500, states: 40000 };
+let searches = 0;             // how many were begun: one ends when another begins, or another run is opened
+async function search() {
+  const mine = ++searches, { variant } = run, plan = run.planText(0), fresh = () => Machine.open(Machine.planOfText(plan), variant);
+  const tell = text => { $('search-state').textContent = text; };
+  // The end of a search, which has some milliseconds at a time, so that the page answers meanwhile.
+  async function endOf(found, told) {
+    for (let stop = performance.now() + 25; ; stop = performance.now() + 25) {
+      while (performance.now() < stop) {
+        const { done, value } = found.next();
+        if (done) return value;
+        tell(told(value));
+      }
+      await new Promise(resolve => setTimeout(resolve));
+      if (mine !== searches) throw new Error('another run was opened');
+    }
+  }
+  try {
+    let best = await endOf(Machine.broken(fresh, SEARCH.steps, SEARCH.schedules), tries => plural(tries, 'random schedule') + ' so far');
+    if (!best) { tell('None of ' + SEARCH.schedules + ' random schedules broke a law.'); return; }
+    const first = best.now;
+    for (let next = best; next; next = await endOf(Machine.broken(fresh, best.now - 1, SEARCH.shorter), tries => 'broken by ' + plural(best.now, 'step')
+      + '; tries shorter schedules at random: ' + tries)) best = next;
+    const path = await endOf(Machine.shortest(fresh(), e => e.breaks.length > 0, SEARCH.states), ({ steps, states }) => 'broken by ' + plural(best.now, 'step')
+      + '; looks at all schedules of ' + plural(steps, 'step') + ': ' + plural(states, 'state'));
+    if (path) { best = fresh(); for (const row of path) best.step(row); }
+    openPlan(best.planText(), best.now, variant, path ? 'A shortest schedule that breaks a law' : 'A random schedule that breaks a law');
+    tell('The first random schedule that broke a law had ' + plural(first, 'step') + ', and this one has ' + best.now + ': '
+      + (path ? 'no schedule that breaks a law is shorter.' : 'the shortest that random tries found.'));
+    keepPlace();
+  } catch (stopped) { if (mine === searches) throw stopped; }
+}
+
+// ---- The handout: the exercises on paper.
+
+function openHandout() {
+  $('handout').innerHTML = '<h2>CC-Queue: exercises</h2><p>Open ' + escape(location.href.replace(/#.*/, '')) + ' in a browser, choose an exercise, and make the steps of each pass. Write down the schedule that you found, and why it does that.</p>'
+    + EXERCISES.map(({ title, text, plan, table, goal, id }, k) => '<article class=\"card\"><h3>' + (k + 1) + '. ' + title + '</h3><p>' + marked(text) + '</p><p class=\"dim\">Capacity '
+      + plan.capacity + ', bound ' + plan.bound + '; ' + (table ? 'a broken queue' : 'the right queue') + '; the address ends with <code>#exercise=' + id + '</code></p>'
+      + '<p class=\"answer\">Schedule:</p><p class=\"answer\">Why:</p></article>').join('')
+    + '<article class=\"card hints\"><h3>Hints</h3><ol>' + EXERCISES.map(({ hint }) => '<li>' + marked(hint) + '</li>').join('') + '</ol></article>';
+  document.body.classList.add('handout');
+  document.title = 'Exercises - CC-Queue';
+}
+
 // ---- The lecture: the screens of a lesson, each with a title, a sentence, the picture and the line of the program.
 
 let lecture = null;
@@ -2793,6 +2928,7 @@ function drawLecture() {
   const sides = two ? [shown, lecture.pair.run] : [shown];
   hideTip();
   $('lecture-title').textContent = screen.title;
+  document.title = screen.title + ' - CC-Queue';
   $('lecture-count').textContent = 'screen ' + (at + 1) + ' of ' + screens.length;
   if ($('lecture-text').dataset.of !== lesson.id + at) { $('lecture-text').dataset.of = lesson.id + at; $('lecture-text').innerHTML = marked(screen.text); }
   $('lecture').classList.toggle('pair', two);
@@ -2804,15 +2940,26 @@ function drawLecture() {
   }).join('');
   $('lecture-line').innerHTML = sides.map(one => Telling.program(one)).map(told => told ? '<p><span>' + told.title + '</span><code>' + escape(told.line.trim())
     + '</code></p>' : '<span>No step yet.</span>').join('');
-  if (lecture.html !== html || lecture.width !== window.innerWidth || lecture.height !== window.innerHeight) moving([$('lecture-sides')], lesson, at,
+  for (const id of ['lecture-sides', 'lecture-line']) $(id).hidden = has_code;
+  $('lecture-code').hidden = !has_code;
+  $('lecture-program').setAttribute('aria-pressed', has_code ? 'true' : 'false');
+  const parts = sides.map(one => [one, Telling.program(one)]).map(([one, told]) => partText(one.variant, told ? told.part : 'call', told));
+  $('lecture-code').innerHTML = parts.join('');
+  $('lecture-code').style.setProperty('--lines', Math.max(...parts.map(text => text.split('<li').length)));
+  if (!has_code && (lecture.html !== html || lecture.width !== window.innerWidth || lecture.height !== window.innerHeight)) moving([$('lecture-sides')], lesson, at,
     () => { $('lecture-sides').innerHTML = html; fitLecture(); });
-  Object.assign(lecture, { html, width: window.innerWidth, height: window.innerHeight });
+  Object.assign(lecture, { html: has_code ? '' : html, width: window.innerWidth, height: window.innerHeight });
   for (const side of $('lecture-sides').children) showTouched(side);
   // the Tab key stops at a row of nodes only where that scrolls
   for (const strip of $('lecture-sides').querySelectorAll('.strip')) strip.tabIndex = strip.scrollWidth > strip.clientWidth ? 0 : -1;
   $('lecture-lesson').value = lesson.id;
   $('lecture-back').disabled = at === 0 && LECTURES[0] === lesson;
   $('lecture-next').disabled = at === screens.length - 1 && LECTURES[LECTURES.length - 1] === lesson;
+}
+let has_code = false;         // whether the lecture shows the program in place of the picture
+function toggleCode() {
+  has_code = !has_code;
+  drawLecture();
 }
 const stripOfLecture = told => chainText(told, false).replace(/^<p class=\"head\">.*?<\\/p>/, '');
 
@@ -2961,6 +3108,8 @@ function cardsOf(prefix) {
 
 // Shows a run from an event on. `from` says what it is of: a lesson, an exercise, the program's text, or a plan.
 function openRun(opened, from, event) {
+  searches++;
+  $('search-state').textContent = '';
   play(false);
   hideTip();
   use(opened);
@@ -2979,8 +3128,9 @@ function openRun(opened, from, event) {
   const { lesson, exercise } = from, { title, text } = lesson ? part() : exercise || { title: from.title, text: '' };
   document.body.classList.toggle('begins', !!from.is_own);
   $('lesson-title').textContent = lesson ? (lesson.kind === 'tour' ? 'Stop ' + (TOUR.indexOf(lesson) + 1) + ' of ' + TOUR.length + ': ' : '') + title
-    : (exercise ? 'Exercise: ' : '') + title + (from.is_own && !run.faults.length ? ', played by this page too, with the same events and report' : '');
-  $('lesson-text').innerHTML = marked(text);
+    : (exercise ? 'Exercise: ' : '') + title;
+  document.title = title + ' - CC-Queue';
+  $('lesson-text').innerHTML = marked(from.is_own && !run.faults.length ? 'This page played it too, with the same events and report.' : text);
   $('stop-before').hidden = $('stop-next').hidden = !(lesson && lesson.kind === 'tour');
   $('to-lecture').hidden = !(lesson && lesson.moments.length);
   $('compare').hidden = !(lesson && lesson.table);
@@ -2988,7 +3138,7 @@ function openRun(opened, from, event) {
   $('pair').hidden = !canPair();
   $('task-hint').hidden = true;
   $('config').textContent = 'Capacity ' + run.capacity + ', bound ' + run.bound + ', life ' + run.life + '; ' + plural(senders, 'sender') + ', '
-    + (groups > 1 ? groups + ' groups of ' : '') + plural(receivers, 'receiver') + '; ' + plural(run.events.length, 'event') + '.';
+    + (groups > 1 ? groups + ' groups of ' : '') + plural(receivers, 'receiver') + '.';
   for (const link of document.querySelectorAll('#choose a[data-id]')) {
     const here = (lesson || exercise || {}).id === link.dataset.id && !lesson === (link.dataset.of === 'exercise');
     link.classList.toggle('here', here);
@@ -3047,6 +3197,8 @@ function fromAddress() {
   const numberOf = name => /^\\d+$/.test(words.get(name) || '') ? Number(words.get(name)) : null;
   const event = numberOf('event'), table = words.get('table');
   document.body.classList.toggle('bare', words.get('view') === 'run');
+  document.body.classList.remove('handout');
+  if (words.has('handout')) { openHandout(); return false; }
   if (words.has('lecture') && openLecture(words.get('lecture'), (numberOf('screen') || 1) - 1)) return false;
   if (lecture) { lecture = null; document.body.classList.remove('lecture', 'blank'); $('lecture').hidden = true; }
   if (words.has('exercise') && openExercise(words.get('exercise'), stepsOf(words.get('steps') || ''), event)) return true;
@@ -3136,12 +3288,14 @@ $('names').addEventListener('click', click => {
 $('stop-before').addEventListener('click', () => toStop(-1));
 $('stop-next').addEventListener('click', () => toStop(1));
 $('to-lecture').addEventListener('click', toLecture);
+$('search').addEventListener('click', search);
 $('hint-button').addEventListener('click', () => { $('task-hint').hidden = false; $('task-hint').innerHTML = marked('Hint: ' + source.exercise.hint); });
 $('solve').addEventListener('click', () => { openExercise(source.exercise.id, source.exercise.solution, source.from); keepPlace(); });
 $('again').addEventListener('click', () => { openExercise(source.exercise.id, [], null); keepPlace(); });
 $('lecture-back').addEventListener('click', () => toScreen(-1));
 $('lecture-next').addEventListener('click', () => toScreen(1));
 $('lecture-leave').addEventListener('click', leaveLecture);
+$('lecture-program').addEventListener('click', toggleCode);
 $('lecture-full').addEventListener('click', fullScreen);
 // after a click the keys lead on, and don't press that button once more
 $('lecture').addEventListener('click', click => { const button = click.detail > 0 && click.target.closest('button'); if (button) button.blur(); });
@@ -3221,7 +3375,7 @@ const SCREEN_KEYS = { ArrowRight: 1, ArrowDown: 1, PageDown: 1, ' ': 1, Enter: 1
 function lectureKey(key) {
   if (key.target.closest('button') && ['Enter', ' '].includes(key.key)) return;
   if (key.target.closest('select') && !['PageDown', 'PageUp', 'ArrowRight', 'ArrowLeft', 'Escape'].includes(key.key)) return;
-  const others = { Home: () => openLecture(lecture.lesson.id, 0), End: () => openLecture(lecture.lesson.id, Infinity), Escape: leaveLecture, l: leaveLecture, f: fullScreen, b: blank, '.': blank };
+  const others = { Home: () => openLecture(lecture.lesson.id, 0), End: () => openLecture(lecture.lesson.id, Infinity), Escape: leaveLecture, l: leaveLecture, c: toggleCode, f: fullScreen, b: blank, '.': blank };
   const blanked = document.body.classList.contains('blank');
   if (!SCREEN_KEYS[key.key] && !others[key.key]) return;
   key.preventDefault();
