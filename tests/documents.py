@@ -12,9 +12,8 @@
   behind the # of a link, is one of that document.
   In the texts of STRANGERS, which a reader of a clone has, no program is one that a build leaves, and a line of a block of code
   that begins with a path begins with that of a file of the tree.
-- Numbers: a size behind the name of a file, as `NAME` (12 KB), is its size, and no size stands where no file is named. The number of
-  stores in which the archives differ is that of the library's PROOF. The line of
-  the proof that docs/TRUST.md quotes is that of the library, and it explains each word of the lines of each PROOF.
+- Numbers: a size behind the name of a file, as `NAME` (12 KB), is its size, and no size stands where no file is named. The line of the
+  proof that docs/TRUST.md quotes is that of the library, and it explains each word of the lines of each PROOF.
 - Merges: no document has a line that a merge leaves, as `<<<<<<< ` and a branch.
 - The map: docs/MAP.md names each source and spec file of the crates, each file of FOLDERS and each one at the top. A name in
   backticks is a path from the folder or the crate that the heading names, or from the folder of the name before it in its
@@ -39,19 +38,19 @@ from sources import TOP, crates, read_definitions, read_files, read_items
 NOTE = re.compile(r'("(?:\\.|[^"\\])*")|(^|(?<=\s))--[^\n]*', re.M)
 REMARK = re.compile(r"""(?P<comment>//[^\n]*|/\*.*?\*/)|b?r(?P<fence>\#*)".*?"(?P=fence)|"(?:\\.|[^"\\])*"|'(?:\\.|[^'\\\n])'""", re.S)
 
-DOCUMENTS = ["README.md", "CONTRIBUTING.md", "docs/*.md", "bindings/*/*.md"]
+DOCUMENTS = ["README.md", "CONTRIBUTING.md", "docs/*.md", "bindings/*.md", "bindings/*/*.md"]
 # Texts that name sections, and those of readers who have a clone and no toolchain.
 TEXTS = [*DOCUMENTS, "CHANGELOG.md", "examples/*.md", "crates/*/src/**/*.rt", "bindings/*/**/*.rs", "bindings/c/*.[ch]", "tools/*.sh", "tests/*.sh", "tools/*.py", "tests/*.py", "play", "show", "test", "Makefile"]
 STRANGERS = ["README.md", "examples/*.md", "bindings/*/*.md", "docs/FORMATS.md", "docs/JUDGE.md", "docs/USING.md", "docs/BENCH.md", "docs/TEACHING.md", "play", "show", "Makefile"]
 PROOFS = ["bin/x86_64-unknown-linux-gnu/PROOF", "bindings/rust/lib/x86_64-unknown-linux-gnu/PROOF", "bindings/rust/lib/aarch64-unknown-linux-gnu/PROOF"]
 # Lines that strangers' texts may not have: a section that isn't there, a program that a build leaves or that nothing leaves, a
-# size that no file has, one of no file, and numbers of stores that PROOF doesn't have.
-WRONG = ['(README.md, "Nowhere")', '(`docs/MODEL.md`, "Nowhere")', 'docs/MODEL.md,\n"Nowhere"', 'above, "Nowhere"', "[here](docs/MODEL.md#nowhere)", "    crates/ccq/out/ccq play", "    ./nowhere PLAN", "```sh\n./nowhere PLAN\n```", "`libvahepito.a` (1 KB)", "an archive of 45 KB", "which differs in 7 stores", "plain moves of 7\nlocked stores"]
+# size that no file has, and one of no file.
+WRONG = ['(README.md, "Nowhere")', '(`docs/MODEL.md`, "Nowhere")', 'docs/MODEL.md,\n"Nowhere"', 'above, "Nowhere"', "[here](docs/MODEL.md#nowhere)", "    crates/ccq/out/ccq play", "    ./nowhere PLAN", "```sh\n./nowhere PLAN\n```", "`libvahepito.a` (1 KB)", "an archive of 45 KB"]
 # Names that the tree doesn't have, and whose they are.
 OUTSIDE = {
     **dict.fromkeys(["std", "core", "None", "write"], "Rust's"),
     **dict.fromkeys(["stdbool.h", "stddef.h", "stdint.h"], "C's"),
-    **dict.fromkeys(["mov", "xchg"], "the processor's"),
+    **dict.fromkeys(["bt", "backtrace"], "gdb's"),
     **dict.fromkeys(["Lts", "start_io"], "the toolchain's"),
     **dict.fromkeys(["tick"], "crossbeam's"),
     **dict.fromkeys(["into_sink", "into_stream", "Selector"], "flume's"),
@@ -306,16 +305,8 @@ def wrong_proofs():
                 yield f"docs/TRUST.md doesn't explain `{word}=` of {path}"
 
 
-def wrong_stores(text):
-    """Numbers of the stores in which the archives differ that aren't the library's PROOF's, with their lines."""
-    due = re.search(r"^stores: (\d+) of", (TOP / PROOFS[1]).read_text(), re.M)[1]
-    for found in re.finditer(r"\b(?:differs in|plain moves of)\s(\d+)\s(?:locked )?stores\b", text):
-        if found[1] != due:
-            yield text.count("\n", 0, found.start()) + 1, f"{found[0]}: PROOF has {due} plain stores"
-
-
 def wrong_for_strangers(tree, path, text):
-    return [*wrong_pointers(path, text), *wrong_programs(tree, path, text), *wrong_sizes(tree, text), *wrong_stores(text)]
+    return [*wrong_pointers(path, text), *wrong_programs(tree, path, text), *wrong_sizes(tree, text)]
 
 
 def blocks(text):
@@ -377,7 +368,6 @@ def main():
         found += [f"{path.relative_to(TOP)}:{line}: `{name}` is nowhere in the tree" for line, name in sorted(wrong)]
         marks = [line for line, words in enumerate(text.splitlines(), 1) if words.startswith(("<<<<<<< ", ">>>>>>> "))]
         found += [f"{path.relative_to(TOP)}:{line}: a merge left this line" for line in marks]
-        found += [f"{path.relative_to(TOP)}:{line}: {said}" for line, said in wrong_stores(text)]
     for path in sorted({path for pattern in TEXTS for path in TOP.glob(pattern) if path.is_file() and path.name != "documents.py"}):
         found += [f"{path.relative_to(TOP)}:{line}: {said}" for line, said in wrong_pointers(path, path.read_text())]
     for path in [path for pattern in STRANGERS for path in sorted(TOP.glob(pattern))]:

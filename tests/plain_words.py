@@ -5,8 +5,8 @@
 
 Five checks, in about two seconds:
 
-- Words: README.md has at most 900, and README.md with docs/*.md at most 36,000, as `wc -w` counts them, without
-  docs/STATEMENTS* and tables between marks, which scripts write. --words prints the number of words of each document, and checks nothing.
+- Words: README.md has at most 900, as `wc -w` counts them, without tables between marks, which scripts write. --words prints the
+  number of words of each document, and checks nothing.
 - Patterns: none of PATTERNS is found in a document, or in a comment of the code, of definitions and of the bindings, in
   letters of either case. Each names the words to use, and has a sentence in which it is found.
 - Names: none of the words of NAMES is a part of a name in the code, in definitions or in the bindings.
@@ -28,7 +28,7 @@ import sys
 import textwrap
 
 TOP = os.path.dirname(os.path.dirname(os.path.abspath(__file__)))
-LIMIT_OF_README, LIMIT_OF_ALL = 900, 36_000
+LIMIT_OF_README = 900
 COUNTED = ["README.md", "docs/*.md"]
 READ = [*COUNTED, "CONTRIBUTING.md", "CHANGELOG.md", "bindings/*/*.md", "examples/README.md"]
 C_CODE = ["bindings/c/*.[ch]", "bindings/c/*.hpp"]
@@ -90,11 +90,9 @@ def count(text):
 
 
 def check_words():
-    counts = {path: count(read(path)) for path in documents(COUNTED)}
-    if counts["README.md"] > LIMIT_OF_README:
-        yield f"README.md: {counts['README.md']} words, and {LIMIT_OF_README} are the limit"
-    if sum(counts.values()) > LIMIT_OF_ALL:
-        yield f"README.md and docs: {sum(counts.values())} words, and {LIMIT_OF_ALL} are the limit"
+    words = count(read("README.md"))
+    if words > LIMIT_OF_README:
+        yield f"README.md: {words} words, and {LIMIT_OF_README} are the limit"
 
 
 def prose(text):

@@ -49,13 +49,13 @@ CHANGES = [
     ("the lines of a `do` are joined otherwise", "cc_plan", "specs", r"(\no >>= f =) [^\n]*", r"\1 None"),
     ("operators of definitions change names", "cc_judge", "specs", r"◌≢◌, (.*?)◌<◌", r"◌<◌ as ◌≢◌, \1◌≢◌ as ◌<◌"),
     ("an operator of clauses has another name", "cc_queue", "src", r"(ghost use [^\n]*)◌≤◌", r"\1◌<◌ as ◌≤◌"),
-    ("a comment in a comment hides clauses", "cc_capi", "src", r"(vahepito_call_send.*?)\n( *ensures .*?)\n\{\n", r"\1\n/* /* */\n\2\n// */\n{\n"),
+    ("a comment in a comment hides clauses", "cc_capi", "src", r"(vahepito_try_send.*?)\n( *ensures .*?)\n\{\n", r"\1\n/* /* */\n\2\n// */\n{\n"),
     ("a path of a library in a definition", "cc_runs", "specs", r"(\nHistoryIsFifo = [^\n]*) Fifo ", r"\1 Rattle.cc_model.specs.Fifo.Fifo "),
 ]
 
 # A crate of some files, on which steps are tried.
-LIB, NUMBERS, ECHO, BASE, OTHER, NAMES = (
-    "crates/low/" + name for name in ("src/lib.rt", "src/numbers.rt", "specs/Echo.antt", "specs/Base.antt", "specs/Other.antt", "specs/Names.antt")
+LIB, NUMBERS, BELOW, ECHO, BASE, OTHER, NAMES = (
+    "crates/low/" + name for name in ("src/lib.rt", "src/numbers.rt", "src/deep.rt", "specs/Echo.antt", "specs/Base.antt", "specs/Other.antt", "specs/Names.antt")
 )
 LOW = {
     "crates.txt": "low:\n",
@@ -180,6 +180,17 @@ A >> B = B
 """,
     NAMES: "-- Names that pass through.\npub use Rattle.low.specs.Base.{IsSame}\n",
 }
+DEEP = """\
+//! What is deep.
+ghost use Rattle.std.specs.Prelude.{◌≤◌};
+use crate::LIMIT;
+
+pub fn least() -> usize
+    ensures { result ≤ LIMIT }
+{
+    7
+}
+"""
 ANY = "abbrev pub IsEcho : ℕ → ℕ → Type 0\nIsEcho x y = Unit {0}\n"
 ECHOES = "IsEcho x y = ((x ≡ y) → ⊥) → ⊥"
 # What is tried, what the refusal says if it is refused, and its steps: in each, some texts of files that become others, or that a
@@ -229,6 +240,11 @@ STEPS = [
     ("a constant of an impl", None, [{LIB: ("LEAST: usize = 2", "LEAST: usize = 0")}]),
     ("a constant by another name", None, [{NUMBERS: ("= 7", "= 9")}]),
     ("a type of the same name, passed on", None, [{"crates/low/src/further.rt": ("numbers::Count", "others::Count")}]),
+    ("a private import of the module above", "nor passed on", [{LIB: ("mod further;", "mod further;\nmod deep;\npub use deep::least;"), BELOW: ("", DEEP)}]),
+    ("a private import of the module above, by a path", "nor passed on", [
+        {LIB: ("mod further;", "mod further;\nmod deep;\npub use deep::least;"), BELOW: ("", DEEP.replace("use crate::LIMIT;\n", "").replace("-> usize", "-> [u8; super::LIMIT]"))}]),
+    ("an import of the module above that is passed on", None, [
+        {LIB: [("mod further;", "mod further;\nmod deep;\npub use deep::least;"), ("use numbers::SMALL", "pub(crate) use numbers::SMALL")], BELOW: ("", DEEP)}, {NUMBERS: ("= 7", "= 9")}]),
     ("all names of a module of the code", "all names of a module", [{LIB: ("use further::Count;", "use further::*;")}]),
     ("the empty list of another file", None, [{ECHO: [(r"\[\], ", ""), ("Names.{IsSame}", "Other.{IsSame, []}")]}]),
     ("an operator with one side", None, [

@@ -12,12 +12,16 @@ line says of the log's begin and the last one of its end holds for each lane.
 Clean lanes mean: no item was taken twice, none was taken that wasn't sent, and the items of one thread were taken in the order in which it
 sent them. They don't mean that a take which found none was right, so a lost item is found only if a later one of its sender is
 taken. Prints a line for each lane that isn't clean, and one of all lanes; the exit status is the greatest of `ccq judge`, or 64 for a line
-that isn't understood. The program is `ccq` on the path, or what CCQ names.
+that isn't understood. The program is what CCQ names, or `ccq` on the path, or else the one in bin.
 """
 import json
 import os
+import pathlib
+import shutil
 import subprocess
 import sys
+
+CCQ = os.environ.get("CCQ") or shutil.which("ccq") or str(pathlib.Path(__file__).resolve().parent.parent / "bin/x86_64-unknown-linux-gnu/ccq")
 
 # The lane of takes of items that no line sent.
 UNSENT = "no line"
@@ -89,7 +93,7 @@ def main(words):
         return 64
     try:
         with open(words[0], encoding="utf-8") as file:
-            said = judge_lanes(os.environ.get("CCQ", "ccq"), file.readlines(), words[1:])
+            said = judge_lanes(CCQ, file.readlines(), words[1:])
     except (OSError, Refused, UnicodeDecodeError) as error:
         print(f"lanes: {error}", file=sys.stderr)
         return 64
