@@ -205,3 +205,5 @@ function leastSteps(machine, run, goal) {
     if (done) return value ? value.length : Infinity;
   }
 }
+
+TASKS[process.argv[2]](process.argv.slice(3));

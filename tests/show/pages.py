@@ -56,6 +56,14 @@ def output(program, *words, given=b""):
     return subprocess.run([program, *words], input=given, stdout=subprocess.PIPE, check=True, timeout=120).stdout.decode()
 
 
+def alone(task, *words):
+    """What the page's machine says by node, a line of JSON each. A task that says nothing is a fault."""
+    said = [json.loads(line) for line in output("node", HERE / "alone.js", task, *words).splitlines()]
+    if not said:
+        sys.exit(f"pages: alone.js {task} says nothing")
+    return said
+
+
 def page_of(plan):
     return output(PROGRAM, "show", given=plan)
 
@@ -187,14 +195,13 @@ def by_node():
             path = os.path.join(room, f"{seed}.html")
             pathlib.Path(path).write_text(page_of(plan_without_events(*of)))
             words += [path, str(seed), str(STEPS), str(of[-1])]
-        return driven([json.loads(line) for line in output("node", HERE / "alone.js", "steps", *words).splitlines()])
+        return driven(alone("steps", *words))
 
 
 def lessons():
     """The plans of the lessons: those of examples/ are its files, and each has the report of `ccq play`."""
     right = True
-    for line in output("node", HERE / "alone.js", "lessons", INDEX).splitlines():
-        lesson = json.loads(line)
+    for lesson in alone("lessons", INDEX):
         if lesson["kind"] == "example" and lesson["given"] != json.loads((TOP / "examples" / f"{lesson['id']}.json").read_text()):
             print(f"{lesson['id']}: the plan isn't that of examples/")
             right = False
@@ -208,10 +215,10 @@ def plans():
     with tempfile.TemporaryDirectory() as room:
         for name, row in plays:
             pathlib.Path(room, name).write_bytes(row.input)
-        answers = output("node", HERE / "alone.js", "plans", INDEX, *[pathlib.Path(room, name) for name, _ in plays]).splitlines()
+        answers = alone("plans", INDEX, *[pathlib.Path(room, name) for name, _ in plays])
     wrong = 0
-    for (name, row), line in zip(plays, answers):
-        answer, is_plan = json.loads(line), row.status == 0
+    for (name, row), answer in zip(plays, answers):
+        is_plan = row.status == 0
         if (answer["refused"] == "") != is_plan or is_plan and not answer["is_long"] and answer["report"] != row.out.decode():
             print(f"{name}: {answer['refused'] or 'the page reads it as a plan, with another answer'}")
             wrong += 1
@@ -257,8 +264,7 @@ def lectures():
 def shortest():
     """Of each exercise no run with fewer steps than its solution reaches the goal."""
     right = True
-    for line in output("node", HERE / "alone.js", "shortest", INDEX).splitlines():
-        exercise = json.loads(line)
+    for exercise in alone("shortest", INDEX):
         if not exercise["least"] == exercise["solved"] == exercise["steps"]:
             print(f"{exercise['id']}: the solution has {exercise['steps']} steps, solves it with {exercise['solved']}, and {exercise['least']} are enough")
             right = False
