@@ -56,7 +56,7 @@ sums() {
 }
 
 # The sum of what libvahepito.a rests on beside.
-sum_of_law() { { sum_of_sources cc_x86 && sum_of "$top/tools/release_stores.py"; } | sum_of -; }
+sum_of_law() { { sum_of_sources cc_x86 && sum_of "$top"/tools/{release_stores,module_filter}.py; } | sum_of -; }
 
 compare_sums() {
     local target kept status=0

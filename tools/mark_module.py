@@ -14,12 +14,10 @@ attributes, or the module has other flags.
 import re
 import sys
 
+from module_filter import Refused, changes
+
 TABLES = "uwtable"
 FLAGS = ("cf-protection-return", "cf-protection-branch")
-
-
-class Refused(Exception):
-    """Why a module can't be marked."""
 
 
 def with_tables(text: str) -> str:
@@ -54,20 +52,5 @@ def marked(text: str) -> str:
     return with_flags(text) if re.search('^target triple = "x86_64-', text, re.M) else text
 
 
-def main() -> int:
-    if sys.argv[1:] in (["-h"], ["--help"]):
-        print(__doc__)
-        return 0
-    if sys.argv[1:]:
-        print("usage: tools/mark_module.py < MODULE > MARKED", file=sys.stderr)
-        return 64
-    try:
-        sys.stdout.write(marked(sys.stdin.read()))
-    except Refused as why:
-        print(f"mark_module: refused: {why}", file=sys.stderr)
-        return 1
-    return 0
-
-
 if __name__ == "__main__":
-    sys.exit(main())
+    sys.exit(changes(marked, __doc__))

@@ -16,13 +16,11 @@ its store with another function; then the exit status is 1, and nothing is writt
 import re
 import sys
 
+from module_filter import Refused, changes
+
 STORES = ("cc_steps::operations::store_release", "cc_steps::operations::begin_with")
 # Over this no access of memory moves in the compiler.
 BARRIER = r'  call void asm sideeffect "", "~\{memory\}"\(\)\n'
-
-
-class Refused(Exception):
-    """Why a module isn't one whose stores are known."""
 
 
 def one(pattern: str, text: str) -> str:
@@ -53,20 +51,5 @@ def released(text: str) -> str:
     return text.replace(raw, raw + "\n" + raw.replace(name, name + ".release").replace(" seq_cst,", " release,"))
 
 
-def main() -> int:
-    if sys.argv[1:] in (["-h"], ["--help"]):
-        print(__doc__)
-        return 0
-    if sys.argv[1:]:
-        print("usage: tools/release_stores.py < MODULE > RELEASED", file=sys.stderr)
-        return 64
-    try:
-        sys.stdout.write(released(sys.stdin.read()))
-    except Refused as why:
-        print(f"release_stores: refused: {why}", file=sys.stderr)
-        return 1
-    return 0
-
-
 if __name__ == "__main__":
-    sys.exit(main())
+    sys.exit(changes(released, __doc__))
