@@ -23,20 +23,20 @@ CALLS = 300
 
 # What the crate's user writes, and the most instructions that it may cost.
 IN_RUST = {
-    "send and recv of a word": ("let (s, r) = channel::<u64>(64)?;", "s.send(i).unwrap(); assert_eq!(r.recv(), Ok(i));", 788),
-    "try_send and try_recv of a word": ("let (s, r) = channel::<u64>(64)?;", "s.try_send(i).unwrap(); assert_eq!(r.try_recv(), Ok(i));", 802),
-    "four words": ("let (s, r) = channel::<[u64; 4]>(64)?;", "s.send([i; 4]).unwrap(); assert_eq!(r.recv(), Ok([i; 4]));", 1127),
-    "two groups": ("let (s, r) = groups::<u64>(64, 2)?;", "s.send(i).unwrap(); for r in &r { assert_eq!(r.recv(), Ok(i)); }", 1366),
+    "send and recv of a word": ("let (s, r) = channel::<u64>(64)?;", "s.send(i).unwrap(); assert_eq!(r.recv(), Ok(i));", 730),
+    "try_send and try_recv of a word": ("let (s, r) = channel::<u64>(64)?;", "s.try_send(i).unwrap(); assert_eq!(r.try_recv(), Ok(i));", 743),
+    "four words": ("let (s, r) = channel::<[u64; 4]>(64)?;", "s.send([i; 4]).unwrap(); assert_eq!(r.recv(), Ok([i; 4]));", 1063),
+    "two groups": ("let (s, r) = groups::<u64>(64, 2)?;", "s.send(i).unwrap(); for r in &r { assert_eq!(r.recv(), Ok(i)); }", 1290),
     "a refused try_send": ("let (s, _r) = channel::<u64>(1)?; s.send(0).unwrap();", "assert!(s.try_send(i).is_err());", 184),
     "the same with 4,096 places": (
         "let (s, _r) = channel::<u64>(4096)?; (0..4096).for_each(|i| s.send(i).unwrap());", "assert!(s.try_send(i).is_err());", 243,
     ),
     "an empty try_recv": ("let (_s, r) = channel::<u64>(64)?;", "assert!(r.try_recv().is_err() && i < calls);", 77),
     "send, and a select that takes": (
-        "let (s, r) = channel::<u64>(64)?;", "s.send(i).unwrap(); select! { recv(r) -> it => assert_eq!(it, Ok(i)) }", 883,
+        "let (s, r) = channel::<u64>(64)?;", "s.send(i).unwrap(); select! { recv(r) -> it => assert_eq!(it, Ok(i)) }", 825,
     ),
     "a select that sends, and recv": (
-        "let (s, r) = channel::<u64>(64)?;", "select! { send(s, i) -> it => it.unwrap() } assert_eq!(r.recv(), Ok(i));", 1035,
+        "let (s, r) = channel::<u64>(64)?;", "select! { send(s, i) -> it => it.unwrap() } assert_eq!(r.recv(), Ok(i));", 980,
     ),
     "after and its drop": ("", "let r = after(std::time::Duration::from_secs(100)); assert!(r.len() as u64 <= i);", 380),
     "never and its drop": ("", "let r = never::<u64>(); assert!(r.len() as u64 <= i);", 290),
@@ -49,26 +49,26 @@ OPENINGS = {
 # The same pair with a bound and without one, in a program of their own too. By the limits the second one costs at most a twentieth more.
 BOUNDS = {
     f"send and recv of a word, {name}": (f"let (s, r) = {opening}?;", "s.send(i).unwrap(); assert_eq!(r.recv(), Ok(i));", limit)
-    for name, opening, limit in (("capacity 64", "channel::<u64>(64)", 790), ("without a bound", "unbounded::<u64>()", 807))
+    for name, opening, limit in (("capacity 64", "channel::<u64>(64)", 731), ("without a bound", "unbounded::<u64>()", 748))
 }
 # Futures that are ready at their first poll, in a program of their own too.
 CONTEXT = "let context = &mut std::task::Context::from_waker(std::task::Waker::noop());"
 FUTURES = {
     "a try_send, and a ready recv_async": (
         f"let (s, r) = channel::<u64>(64)?; {CONTEXT}",
-        "s.try_send(i).unwrap(); assert_eq!(std::pin::pin!(r.recv_async()).poll(context), std::task::Poll::Ready(Ok(i)));", 912,
+        "s.try_send(i).unwrap(); assert_eq!(std::pin::pin!(r.recv_async()).poll(context), std::task::Poll::Ready(Ok(i)));", 860,
     ),
     "a ready send_async, and a try_recv": (
         f"let (s, r) = channel::<u64>(64)?; {CONTEXT}",
-        "assert!(std::pin::pin!(s.send_async(i)).poll(context).is_ready()); assert_eq!(r.try_recv(), Ok(i));", 910,
+        "assert!(std::pin::pin!(s.send_async(i)).poll(context).is_ready()); assert_eq!(r.try_recv(), Ok(i));", 854,
     ),
 }
 # The pairs of the program in C: by handles, as the Rust crate makes them, and the calls that wait, which take a seat and make a call by its handle.
 # The last number is how many of these may be locked: two exchanges of a tail, a mark, and an addition; and for each call that waits one, by
 # which it takes a seat.
 IN_C = {
-    "vahepito_try_send and vahepito_try_take": ("handles", 612, 4),
-    "vahepito_send and vahepito_take": ("waits", 747, 6),
+    "vahepito_try_send and vahepito_try_take": ("handles", 555, 4),
+    "vahepito_send and vahepito_take": ("waits", 690, 6),
 }
 RUST = """#![allow(unused_imports)]
 use vahepito::{after, channel, groups, never, select, unbounded};

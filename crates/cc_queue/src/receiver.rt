@@ -40,15 +40,17 @@ pub fn begin_take(queue: &Queue, receiver: Receiver) -> PendingTake
 /// One turn of a take on the words of its walk.
 #[inline(always)]
 fn turned_take(
+    queue: &Queue,
     words: &ChainWords<'_>,
     pending: PendingTake,
 ) -> Turn<PendingTake, Receiver, TakeAnswer>
-    requires here { IsOf words.now.topic pending }
+    requires here { IsOf queue.now pending }
+    requires topic { words.now.topic ≡ queue.now }
     requires chain { IsOn pending words.now.chain }
     ensures { Turned (λ p. p) (λ r. r) Answer.Take pending result }
 {
     let PendingTake { mut at } = pending;
-    let turn = turns::turn_take(words, &mut at.seat, at.group, at.node);
+    let turn = turns::turn_take(queue.words(), words, &mut at.seat, at.group, at.node);
     at.seat.is_sound();
     match turn {
         None => Turn::Waiting(PendingTake { at }),
@@ -69,7 +71,7 @@ pub fn turn_take(queue: &Queue, pending: PendingTake) -> Turn<PendingTake, Recei
 {
     let at = &pending.at;
     let words = queue.words().resume(&at.seat, Chain::Take(at.group));
-    turned_take(&words, pending)
+    turned_take(queue, &words, pending)
 }
 
 /// Begins a take and turns it once, in one walk: nothing lies between the begin and the turn.
@@ -81,7 +83,7 @@ pub fn try_take(queue: &Queue, receiver: Receiver) -> Turn<PendingTake, Receiver
     let at = &receiver.at;
     let words = queue.words().on(&at.seat, Chain::Take(at.group));
     let pending = begun_take(&words, receiver);
-    turned_take(&words, pending)
+    turned_take(queue, &words, pending)
 }
 
 impl Receiver {

@@ -68,15 +68,16 @@ pub fn begin_close(queue: &Queue, sender: Sender) -> PendingClose
 /// One turn of a send on the words of its walk.
 #[inline(always)]
 fn turned_send(
+    queue: &Queue,
     words: &ChainWords<'_>,
     pending: PendingSend,
 ) -> Turn<PendingSend, Sender, SendAnswer>
-    requires here { IsOf words.now.topic pending }
-    requires chain { words.now.chain ≡ Chain.Send }
+    requires here { IsOf queue.now pending }
+    requires walk { words.now ≡ record { topic = queue.now; chain = Chain.Send } }
     ensures { Turned (λ p. p) (λ s. s) Answer.Send pending result }
 {
     let PendingSend { mut at } = pending;
-    let turn = turn_request(words, &mut at.seat, at.node);
+    let turn = turn_request(queue.words(), words, &mut at.seat, at.node);
     at.seat.is_sound();
     match turn {
         None => Turn::Waiting(PendingSend { at }),
@@ -96,7 +97,7 @@ pub fn turn_send(queue: &Queue, pending: PendingSend) -> Turn<PendingSend, Sende
     ensures { Turned (λ p. p) (λ s. s) Answer.Send pending result }
 {
     let words = queue.words().resume(&pending.at.seat, Chain::Send);
-    turned_send(&words, pending)
+    turned_send(queue, &words, pending)
 }
 
 /// Begins a send of this body and turns it once, in one walk: nothing lies between the begin and the turn. Err is as at `begin_send`.
@@ -114,7 +115,7 @@ pub fn try_send(
 {
     let words = queue.words().on(&sender.at.seat, Chain::Send);
     let pending = begun_send(&words, sender, body)?;
-    Ok(turned_send(&words, pending))
+    Ok(turned_send(queue, &words, pending))
 }
 
 /// One turn of a close, as of a send.
@@ -124,7 +125,7 @@ pub fn turn_close(queue: &Queue, pending: PendingClose) -> Turn<PendingClose, Se
 {
     let words = queue.words().resume(&pending.at.seat, Chain::Send);
     let PendingClose { mut at } = pending;
-    let turn = turn_request(&words, &mut at.seat, at.node);
+    let turn = turn_request(queue.words(), &words, &mut at.seat, at.node);
     at.seat.is_sound();
     match turn {
         None => Turn::Waiting(PendingClose { at }),

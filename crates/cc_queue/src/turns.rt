@@ -12,7 +12,7 @@ use cc_model::{CloseAnswer, SendAnswer, TakeAnswer};
 use cc_runs::{CODE, Chain, NodeField};
 use cc_steps::seats::PassSeat;
 use cc_steps::steps;
-use cc_steps::words::ChainWords;
+use cc_steps::words::{ChainWords, Words};
 
 /// Reads the state of the current node once. If it is 1 the call waits; if it is 0 the pass combines; and then its
 /// answer may be read, and this is how many calls it served.
@@ -31,26 +31,40 @@ fn await_answer(words: &ChainWords<'_>, seat: &mut PassSeat, chain: Chain, node:
 }
 
 /// `await_answer` on the senders' chain: compiled for it alone, and once for all who call. All that a turn calls is inlined
-/// into it, so that the words of the chain stay in registers.
+/// into it, so that the words of the chain stay in registers. `walk` is here for the clauses alone.
 #[inline(never)]
-fn await_request(words: ChainWords<'_>, seat: &mut PassSeat, node: u64) -> Option<u32>
-    requires turn { CanTurn words.topic Chain.Send node seat.old }
-    requires chain { words.chain ≡ Chain.Send }
+fn await_request(
+    words: &Words,
+    walk: &ChainWords<'_>,
+    seat: &mut PassSeat,
+    node: u64,
+) -> Option<u32>
+    requires turn { CanTurn words.now Chain.Send node seat.old }
+    requires walk { walk.now ≡ record { topic = words.now; chain = Chain.Send } }
     ensures waits { IfNone result (Waits seat.old seat.new) }
     ensures done { IfSome result (λ n. Turns seat.old Phase.ReadAnswer n seat.new) }
 {
-    await_answer(&words, seat, Chain::Send, node)
+    let here = words.again(walk, seat, Chain::Send);
+    await_answer(&here, seat, Chain::Send, node)
 }
 
 /// `await_answer` on a group's chain, in the same way.
 #[inline(never)]
-fn await_item(words: ChainWords<'_>, seat: &mut PassSeat, group: u32, node: u64) -> Option<u32>
-    requires turn { CanTurn words.topic (Chain.Take group) node seat.old }
-    requires chain { words.chain ≡ Chain.Take group }
+fn await_item(
+    words: &Words,
+    walk: &ChainWords<'_>,
+    seat: &mut PassSeat,
+    group: u32,
+    node: u64,
+) -> Option<u32>
+    requires turn { CanTurn words.now (Chain.Take group) node seat.old }
+    requires walk { walk.now ≡ record { topic = words.now; chain = Chain.Take group } }
     ensures waits { IfNone result (Waits seat.old seat.new) }
     ensures done { IfSome result (λ n. Turns seat.old Phase.ReadAnswer n seat.new) }
 {
-    await_answer(&words, seat, Chain::Take(group), node)
+    let chain = Chain::Take(group);
+    let here = words.again(walk, seat, chain);
+    await_answer(&here, seat, chain, node)
 }
 
 /// Reads the answer word of a send or a close.
@@ -89,33 +103,39 @@ fn read_take_answer(
 
 /// A turn of a send or a close: its answer word, and how many calls were served, if it doesn't wait.
 #[inline(always)]
-pub fn turn_request(words: &ChainWords<'_>, seat: &mut PassSeat, node: u64) -> Option<(u64, u32)>
-    requires turn { CanTurn words.now.topic Chain.Send node seat.old }
-    requires chain { words.now.chain ≡ Chain.Send }
+pub fn turn_request(
+    words: &Words,
+    walk: &ChainWords<'_>,
+    seat: &mut PassSeat,
+    node: u64,
+) -> Option<(u64, u32)>
+    requires turn { CanTurn words.now Chain.Send node seat.old }
+    requires walk { walk.now ≡ record { topic = words.now; chain = Chain.Send } }
     ensures waits { IfNone result (Waits seat.old seat.new) }
     ensures done { IfSome result (λ r. Turns seat.old Phase.Idle r.1 seat.new) }
     ensures told { IfSome result (λ r. IsToldAt seat.new (Phase.Finished (list_reads r.0))) }
 {
-    let served = await_request(words.copied(), seat, node)?;
-    Some((read_request_answer(words, seat, node), served))
+    let served = await_request(words, walk, seat, node)?;
+    Some((read_request_answer(walk, seat, node), served))
 }
 
 /// A turn of a take: its answer, and how many calls were served, if it doesn't wait.
 #[inline(always)]
 pub fn turn_take(
-    words: &ChainWords<'_>,
+    words: &Words,
+    walk: &ChainWords<'_>,
     seat: &mut PassSeat,
     group: u32,
     node: u64,
 ) -> Option<(TakeAnswer, u32)>
-    requires turn { CanTurn words.now.topic (Chain.Take group) node seat.old }
-    requires chain { words.now.chain ≡ Chain.Take group }
+    requires turn { CanTurn words.now (Chain.Take group) node seat.old }
+    requires walk { walk.now ≡ record { topic = words.now; chain = Chain.Take group } }
     ensures waits { IfNone result (Waits seat.old seat.new) }
     ensures done { IfSome result (λ r. Turns seat.old Phase.Idle r.1 seat.new) }
     ensures told { IfSome result (λ r. IsToldAt seat.new (Phase.Finished (Answer.Take r.0))) }
 {
-    let served = await_item(words.copied(), seat, group, node)?;
-    Some((read_take_answer(words, seat, group, node), served))
+    let served = await_item(words, walk, seat, group, node)?;
+    Some((read_take_answer(walk, seat, group, node), served))
 }
 
 /// The answer of a send that an answer word is.
