@@ -3,6 +3,7 @@ pub mod Declined
 pub mod DriveLine
 pub mod DriveClaims
 pub mod Explained
+pub mod Flag
 pub mod JudgeOptions
 pub mod Hard
 pub mod Judged

@@ -1,6 +1,6 @@
 -- The words of a line that its parser doesn't see: help by its word, the form of a run that is shown, and the file of a task's
 -- input.
-use Rattle.std.specs.Prelude.{ℕ, ◌==◌, ◌+◌, ◌&&◌, ◌||◌, ◌++◌, Bool, false, true, not, List, [], ◌∷◌, codes, if◌then◌else◌, Option, Some, None, slice_index_or, length}
+use Rattle.std.specs.Prelude.{ℕ, ◌==◌, ◌+◌, ◌&&◌, ◌||◌, ◌++◌, Bool, false, true, not, List, [], ◌∷◌, codes, if◌then◌else◌, Option, Some, None, is_some, slice_index_or, length}
 use Rattle.std.specs.List.{remove}
 use Rattle.std.specs.Str.{bytes_eq}
 use Rattle.cc_cli.specs.Names.{Form}
@@ -10,19 +10,28 @@ abbrev pub spelled : List (List ℕ) → List (List ℕ)
 spelled [] = []
 spelled (word ∷ rest) = if bytes_eq word (codes "help") then rest ++ codes "--help" ∷ [] else word ∷ rest
 
--- a line that shows a run, and has `--trace` as its second word
-abbrev pub is_traced : List (List ℕ) → Bool
-is_traced (task ∷ flag ∷ rest) = bytes_eq task (codes "show") && bytes_eq flag (codes "--trace")
-is_traced words = false
+-- the place of `--trace` among words of which the first one has this place, if no mark `--` comes before it
+abbrev pub place_of_flag : (place : ℕ) → List (List ℕ) → Option ℕ
+place_of_flag place [] = None
+place_of_flag place (word ∷ rest) = if bytes_eq word (codes "--trace") then Some place else (if bytes_eq word (codes "--") then None else place_of_flag (place + 1) rest)
+
+-- the place of `--trace` in a line that shows a run
+abbrev pub place_of_form : List (List ℕ) → Option ℕ
+place_of_form [] = None
+place_of_form (task ∷ rest) = if bytes_eq task (codes "show") then place_of_flag 1 rest else None
 
 -- the form in which it shows the run
 abbrev pub form_of : List (List ℕ) → Form
-form_of words = if is_traced words then Form.Trace else Form.Page
+form_of words = if is_some (place_of_form words) then Form.Trace else Form.Page
+
+-- the words but the one at this place
+abbrev pub without_place : Option ℕ → List (List ℕ) → List (List ℕ)
+without_place None words = words
+without_place (Some place) words = remove words place
 
 -- the line without `--trace`
 abbrev pub line_without_form : List (List ℕ) → List (List ℕ)
-line_without_form (task ∷ flag ∷ rest) = if bytes_eq task (codes "show") && bytes_eq flag (codes "--trace") then task ∷ rest else task ∷ flag ∷ rest
-line_without_form words = words
+line_without_form words = without_place (place_of_form words) words
 
 -- a task that reads an input
 abbrev pub reads_input : List ℕ → Bool
@@ -52,11 +61,6 @@ file_at (Some place) words = if length words == place + 1 then file_named (slice
 -- the file that a line names, if no word follows it
 abbrev pub file_of : List (List ℕ) → Option (List ℕ)
 file_of words = file_at (place_of_file words) words
-
--- the words but the one at this place
-abbrev pub without_place : Option ℕ → List (List ℕ) → List (List ℕ)
-without_place None words = words
-without_place (Some place) words = remove words place
 
 -- the line without its file
 abbrev pub line_without_file : List (List ℕ) → List (List ℕ)

@@ -288,7 +288,7 @@ A log has a JSON object for each call, one a line, 65536 bytes at most:
 
 The first line may be {\"begins\":\"late\"}, the last one {\"ends\":\"whole\"} or {\"ends\":\"early\"}.
 
-Options:
+Options, before or behind LOG:
   --page        writes the answer as a page for a browser that draws the calls; needs no network
   --capacity N  the queue holds at most N items: judges that, and the answer full
   --skew N      clocks may differ by N: a call may have begun N earlier and ended N later
@@ -322,7 +322,7 @@ Exit status:
 const SHOW_DETAILS: &str = "\
 The page draws the run of a plan event by event, forwards and backwards, and needs no network.
 
-Option, right behind `show`:
+Option, before or behind PLAN:
   --trace  in its place writes a line of JSON for each event: its pass, its kind, its word with the
            values before and after, and the number of the pass's call
 

@@ -1,7 +1,7 @@
 //! The words of a line that its parser doesn't see: help by its word, the form of a run that is shown, and the file of a
 //! task's input.
-ghost use Rattle.std.specs.Prelude.{◌≡◌, ◌<◌, IfOk, IfSome, length, map, option_map, string_bytes};
-ghost use Rattle.cc_cli.specs.Words.{file_named, file_of, form_of, is_option, line_without_file, line_without_form, place_of_file, reads_input, spelled, waiting_task, writes_page};
+ghost use Rattle.std.specs.Prelude.{◌≡◌, ◌<◌, ◌≤◌, IfOk, IfSome, length, map, option_map, string_bytes};
+ghost use Rattle.cc_cli.specs.Words.{file_named, file_of, form_of, is_option, line_without_file, line_without_form, place_of_file, place_of_flag, place_of_form, reads_input, spelled, waiting_task, writes_page};
 
 use cc_log::Options;
 use cc_show::Form;
@@ -34,23 +34,49 @@ pub struct WithoutForm {
     pub form: Form,
 }
 
-/// The line, and the form in which it shows a run: a trace if its words begin with `show --trace`, and else a page.
+/// The place in a line of `--trace`, if the words behind its task have it, and no mark `--` before it.
+fn place_of_flag(words: &[String]) -> Option<usize>
+    ensures place { result ≡ place_of_flag 1 (map string_bytes words.now) }
+    ensures within { IfSome result (λ place. place ≤ length words.now) }
+{
+    for (index, word) in words.iter().enumerate() {
+        let word = word.as_str();
+        if word == "--trace" {
+            return Some(index + 1);
+        }
+        if word == "--" {
+            return None;
+        }
+    }
+    None
+}
+
+/// The place of `--trace` in a line that shows a run.
+fn place_of_form(words: &[String]) -> Option<usize>
+    ensures place { result ≡ place_of_form (map string_bytes words.now) }
+    ensures within { IfSome result (λ place. place < length words.now) }
+{
+    match words {
+        [task, rest @ ..] if task.as_str() == "show" => place_of_flag(rest),
+        _ => None,
+    }
+}
+
+/// The line, and the form in which it shows a run: a trace if `--trace` is a word of it, before any mark `--`; and else
+/// a page.
+#[tactic(auto, using(crate::proofs::Removed::map_remove))]
 pub fn without_form(words: Vec<String>) -> WithoutForm
     ensures words { map string_bytes result.words.items ≡ line_without_form (map string_bytes words.items) }
     ensures form { result.form ≡ form_of (map string_bytes words.items) }
 {
     let mut words = words;
-    let traced = match words.as_slice() {
-        [task, flag, ..] => task.as_str() == "show" && flag.as_str() == "--trace",
-        _ => false,
-    };
-    if !traced {
+    let Some(place) = place_of_form(words.as_slice()) else {
         return WithoutForm {
             words,
             form: Form::Page,
         };
-    }
-    let _flag = words.remove(1);
+    };
+    let _flag = words.remove(place);
     WithoutForm {
         words,
         form: Form::Trace,
