@@ -3,9 +3,11 @@
 
 Usage: tests/histories.py
 
-The logs that are due, and the verdicts, are written here by hand. Each kind of history is judged as it is, and with a planted fault, which has to
-be found; histories that aren't understood have to be refused, each by its line. Of lanes: two senders' items overtake each
-other, which is a fault of the log and none of its lanes; a planted fault in one lane has the line numbers of the whole log.
+The logs that are due, and the verdicts, are written here by hand. Each kind of history is judged as it is, and with a
+planted fault, which has to be found; histories that aren't understood have to be refused, each by its line or with the
+counts of what isn't understood, and read right by the option that the refusal names. Of lanes: two senders' items
+overtake each other, which is a fault of the log and none of its lanes; a planted fault in one lane has the line numbers
+of the whole log.
 """
 
 import os
@@ -81,6 +83,94 @@ PORCUPINE_LOG = """
 {"thread":"2","begin":30,"take":null}
 """
 
+# An item is polled that was never sent.
+POLL = """
+{:type :invoke, :f :enqueue, :value 1, :process 0, :time 1}
+{:type :ok, :f :enqueue, :value 1, :process 0, :time 2}
+{:type :invoke, :f :poll, :value nil, :process 1, :time 3}
+{:type :ok, :f :poll, :value 9, :process 1, :time 4}
+"""
+# Calls on the queues of two keys, whose item has one number: each queue alone has an order.
+KEYS = """
+{:type :invoke, :f :enqueue, :value [7 1], :process 0, :time 10}
+{:type :ok, :f :enqueue, :value [7 1], :process 0, :time 20}
+{:type :invoke, :f :enqueue, :value [:b 1], :process 0, :time 21}
+{:type :ok, :f :enqueue, :value [:b 1], :process 0, :time 25}
+{:type :invoke, :f :dequeue, :value [:b nil], :process 1, :time 30}
+{:type :ok, :f :dequeue, :value [:b 1], :process 1, :time 40}
+{:type :invoke, :f :dequeue, :value [7 nil], :process 1, :time 41}
+{:type :ok, :f :dequeue, :value [7 1], :process 1, :time 42}
+{:type :invoke, :f :dequeue, :value [7 nil], :process 1, :time 43}
+{:type :info, :f :dequeue, :value [7 nil], :process 1, :time 44}
+"""
+# Items that are texts, the first of which is taken first.
+TEXTS = """
+[{:type :invoke, :f :enqueue, :value "x", :process 0}
+{:type :ok, :f :enqueue, :value "x", :process 0}
+{:type :invoke, :f :enqueue, :value :x, :process 0}
+{:type :ok, :f :enqueue, :value :x, :process 0}
+{:type :invoke, :f :dequeue, :process 1}
+{:type :ok, :f :dequeue, :value "x", :process 1}]
+"""
+# Operations of many threads by one ClientId: two that overlap, then one, and one that hasn't returned while it is made.
+ONE_CLIENT = """
+{"ClientId":0,"Input":{"Op":"enqueue","Value":1},"Call":1,"Output":null,"Return":20}
+{"ClientId":0,"Input":{"Op":"dequeue"},"Call":5,"Output":{"Value":1,"Ok":true},"Return":25}
+{"ClientId":0,"Input":{"Op":"dequeue"},"Call":20,"Output":{"Value":2},"Return":9223372036854775807}
+{"ClientId":0,"Input":{"Op":"enqueue","Value":2},"Call":21,"Output":null,"Return":30}
+"""
+# The call at 20 may not follow that of thread 0, which ended at 20: lines would order the two.
+THREADS = """
+{"thread":"0","begin":1,"end":20,"send":1}
+{"thread":"1","begin":5,"end":25,"take":1}
+{"thread":"2","begin":20,"take":null}
+{"thread":"0","begin":21,"end":30,"send":2}
+"""
+# Operations whose names are Go's numbers.
+NUMBERED = """[{"ClientId":0,"Input":{"Op":0,"Value":1},"Call":1,"Output":{},"Return":2},
+{"ClientId":0,"Input":{"Op":1},"Call":3,"Output":{"Value":1},"Return":4},
+{"ClientId":0,"Input":{"Op":1},"Call":5,"Output":{},"Return":6}]"""
+# The kind of a history, its text, options, and how the verdict begins, or what the refusal has.
+READ_BY_OPTIONS = [
+    ("jepsen", POLL, [], "to_log: FILE: unknown operations: poll (2); known are enqueue, "),
+    ("jepsen", POLL, ["--ops", "poll=dequeue"], "judge fault: never sent: line 2 "),
+    ("jepsen", POLL, ["--ignore", ":poll"], "to_log: left out: ignored poll (2)\njudge clean: 1 calls"),
+    ("jepsen", POLL.replace(":enqueue", ":txn"), [], "to_log: FILE: unknown operations: txn (2), poll (2); "),
+    ("jepsen", POLL, ["--ignore", "poll", "--ignore=enqueue"],
+     "to_log: FILE: no calls are left; left out: ignored enqueue (2), ignored poll (2)"),
+    ("jepsen", KEYS, [], "to_log: FILE: calls on several queues, by their keys: 7 (3), b (2); --key KEY "),
+    ("jepsen", KEYS, ["--key", "7"], "judge clean: 3 calls"),
+    ("jepsen", KEYS, ["--key", ":b"], "judge clean: 2 calls"),
+    ("jepsen", KEYS.replace("[:b 1], :process 1", "[:b 2], :process 1"), ["--key", "b"],
+     "judge fault: never sent: line 2 "),
+    ("jepsen", KEYS.replace("[:b 1], :process 1", "[7 1], :process 1"), ["--key", "b"],
+     "to_log: FILE: operation 6: process 1 began an "),
+    ("jepsen", KEYS.replace("[7 1], :process 1", "1, :process 1"), ["--key=7"], "to_log: FILE: operation 8: no pair "),
+    ("jepsen", KEYS, ["--key", "8"], "to_log: FILE: no call has the key 8; calls by their keys: 7 (3), b (2)"),
+    ("jepsen", TEXTS, [],
+     'to_log: FILE: operation 2: no item of one to four whole numbers below 2^64: "x"; --number-items '),
+    ("jepsen", TEXTS, ["--number-items"], "judge clean: 3 calls"),
+    ("jepsen", TEXTS.replace('"x", :process 1', ":x, :process 1"), ["--number-items"],
+     "judge fault: overtaken: line 1 "),
+    ("porcupine", ONE_CLIENT, [],
+     "to_log: FILE: operations that began before the last one of their client returned: ClientId 0 (3); "),
+    ("porcupine", ONE_CLIENT, ["--no-clients"], "judge clean: 4 calls"),
+    ("porcupine", ONE_CLIENT.replace('"Value":1,"Ok"', '"Value":3,"Ok"'), ["--no-clients"],
+     "judge fault: never sent: line 2 "),
+    ("porcupine", NUMBERED, [], "to_log: FILE: unknown operations: 1 (2), 0 (1); "),
+    ("porcupine", NUMBERED, ["--ops", "0=enqueue", "--ops", "1=take"], "judge clean: 3 calls"),
+    ("porcupine", NUMBERED, ["--ops", "1=enqueue", "--ops", "0=take"], "to_log: FILE: operation 2: no item "),
+    ("porcupine", NUMBERED, ["--ignore", "1", "--ops=0=Put"], "to_log: left out: ignored 1 (2)\njudge clean: 1 calls"),
+    ("porcupine", NUMBERED.replace('"Op":0,', ""), [], "to_log: FILE: 1 of 3 operations have no Op in Input: "),
+]
+# Lines that are refused.
+LINES = [
+    ["knossos", "FILE"],
+    ["jepsen", "--no-clients", "FILE"],
+    ["porcupine", "--drained", "FILE"],
+    ["jepsen", "--ops", "poll=peek", "FILE"],
+]
+
 # The kind of a history, its text, and what its refusal has.
 REFUSED = [
     ("jepsen", "", "no operation of a client"),
@@ -92,7 +182,8 @@ REFUSED = [
     ("jepsen", "{:process 0 :type}", "a key without a value"),
     ("porcupine", "", "no operation"),
     ("porcupine", "{", "no JSON"),
-    ("porcupine", '{"ClientId":0,"Call":1,"Return":2,"Input":{"Op":"peek"}}', "operation 1: an Op of "),
+    ("jepsen", '{:process "a" :type :invoke :f :dequeue}', "operation 1: no map with a :process "),
+    ("porcupine", '{"ClientId":0,"Call":1,"Return":2,"Input":{"Op":"drain"}}', "operation 1: a drain, "),
     ("porcupine", '{"ClientId":0,"Call":1,"Return":2,"Input":{"Op":"send","Value":"x"}}', "operation 1: no item"),
     ("porcupine", '{"ClientId":0,"Call":1,"Input":{"Op":"send","Value":1}}', "operation 1: no ClientId, Call, Return"),
 ]
@@ -134,7 +225,7 @@ def tool(name, words, text):
         file.flush()
         command = [sys.executable, "-B", TOP / "tools" / name, *[file.name if word == "FILE" else word for word in words]]
         run = subprocess.run(command, capture_output=True, text=True, check=False, env=os.environ | {"CCQ": str(PROGRAM)})
-    return run.returncode, run.stdout, run.stderr
+    return run.returncode, run.stdout, run.stderr.replace(file.name, "FILE")
 
 
 def is_right(what, found, due):
@@ -146,7 +237,8 @@ def is_right(what, found, due):
 def judge_histories():
     """Whether all is as it has to be."""
     found = tool("to_log.py", ["jepsen", "FILE"], JEPSEN)
-    right = is_right("Jepsen's", found, (0, JEPSEN_LOG.lstrip(), "to_log: 2 calls failed, and are left out\n"))
+    left = "to_log: left out: failed enqueue (1), failed dequeue (1)\n"
+    right = is_right("Jepsen's", found, (0, JEPSEN_LOG.lstrip(), left))
     for (old, new), options, due in JEPSEN_ROWS:
         _, log, _ = tool("to_log.py", ["jepsen", *options, "FILE"], JEPSEN.replace(old, new) if old else JEPSEN)
         right &= is_right(f"{new} {options}", judge(log)[: len(due)], due)
@@ -159,14 +251,23 @@ def judge_histories():
     for kind, text, due in REFUSED:
         status, out, error = tool("to_log.py", [kind, "FILE"], text)
         right &= is_right(f"{text}: {error}", (status, out, due in error), (1, "", True))
+    for kind, text, options, due in READ_BY_OPTIONS:
+        status, out, error = tool("to_log.py", [kind, *options, "FILE"], text)
+        said = error + judge(out) if status == 0 else error
+        right &= is_right(f"{options} {text}", (said[: len(due)], status), (due, int("FILE" in due)))
+    found = tool("to_log.py", ["porcupine", "--no-clients", "FILE"], ONE_CLIENT)
+    right &= is_right("without clients", found, (0, THREADS.lstrip(), ""))
     right &= is_right("no file", tool("to_log.py", ["jepsen", "/nowhere"], "")[0], 1)
-    right &= is_right("no kind", tool("to_log.py", ["knossos", "FILE"], "")[0], 64)
+    for line in LINES:
+        right &= is_right(f"{line}", tool("to_log.py", line, POLL)[0], 64)
     right &= is_right("the whole log", judge(LANES)[:12], "judge fault:")
     for (old, new), due in LANE_ROWS:
         right &= is_right("lanes", tool("lanes.py", ["FILE"], LANES.replace(old, new) if old else LANES)[1], due)
     right &= is_right("no lanes", tool("lanes.py", ["FILE"], "\n")[0], 64)
     right &= is_right("no log", tool("lanes.py", ["FILE"], "[1]\n")[0], 64)
-    print(f"histories: {len(JEPSEN_ROWS) + 4} histories are converted, {len(REFUSED)} refused, {len(LANE_ROWS)} logs split into lanes")
+    refused = len(REFUSED) + sum("FILE" in due for *_, due in READ_BY_OPTIONS)
+    converted = len(JEPSEN_ROWS) + 4 + len(REFUSED) + len(READ_BY_OPTIONS) - refused
+    print(f"histories: {converted} histories are converted, {refused} refused, {len(LANE_ROWS)} logs split into lanes")
     return right
 
 
