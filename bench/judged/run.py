@@ -5,7 +5,8 @@
     bench/judged/run.py --short
 
 Threads send and take on each queue, in a program of its language, which records the calls; `ccq judge` judges the log. In C, C++ and
-Rust half of the runs are with stops: threads are stopped in the middle of their calls. What a program needs and the machine lacks is installed,
+Rust half of the runs are with stops: threads are stopped in the middle of their calls; in the other languages one program is
+killed, and what it leaves has to be clean. What a program needs and the machine lacks is installed,
 if this is root's and there is apt-get; what can't be had is skipped, and a line names it. All runs use two processors. N is how many runs
 there are of each number of threads, with stops and without (1). --only runs the queues of one
 language, and takes what was seen last of the others; --again takes that of all. --print writes nothing into docs.
@@ -254,14 +255,14 @@ def build_rust(_):
 
 def build_java(room):
     jars = [jar for jar in JARS if os.path.exists(jar)]
-    sources = [SOURCES / "Judged.java"] + [SOURCES / "Jars.java"] * (len(jars) == len(JARS))
+    sources = [SOURCES / "Judged.java", SOURCES / "Recorder.java"] + [SOURCES / "Jars.java"] * (len(jars) == len(JARS))
     path = ":".join([str(room), *jars])
     told(["javac", "-nowarn", "-d", room, "-cp", path, *sources])
     return ["java", "-cp", path, "Judged"]
 
 
 def build_go(room):
-    told(["go", "build", "-o", room / "channels", SOURCES / "main.go"])
+    told(["go", "build", "-o", room / "channels", SOURCES / "main.go", SOURCES / "recorder.go"])
     return [room / "channels"]
 
 
@@ -300,12 +301,21 @@ def verdict_of(log, queue):
     return "clean" if run.returncode == 0 else fault[1] if fault else (run.stdout + run.stderr).strip()
 
 
+def join_threads(log):
+    """Makes one log of the files of the threads, which are the log's with their numbers."""
+    if parts := [*log.parent.glob(f"{log.name}.*")]:
+        log.write_bytes(b"".join(part.read_bytes() for part in parts))
+    for part in parts:
+        part.unlink()
+
+
 def run_once(command, result, log, shape, calls, seed, stops, has_stops):
     """Records a run, and has it judged. Its verdict."""
     words = [*command, result.queue.name, log, *map(str, shape), str(calls // sum(shape)), str(seed), *([str(int(stops))] * has_stops)]
     done = subprocess.run(words, capture_output=True, text=True, timeout=LIMIT, check=False)
     if done.returncode:
         raise RuntimeError(done.stderr.strip() or f"exit status {done.returncode}")
+    join_threads(log)
     verdict = verdict_of(log, result.queue)
     result.runs, result.stopped = result.runs + 1, result.stopped + stops
     with open(log, "rb") as file:
@@ -363,6 +373,19 @@ def wrong_of(result):
     return None
 
 
+def wrong_if_killed(command, queue, room):
+    """What is wrong with what a program leaves that is killed while it records a correct queue, or None."""
+    log = room / "killed.log"
+    last = log.with_name(log.name + ".3")
+    with subprocess.Popen([*command, queue.name, log, "2", "2", str(10**9), "1"]) as run:
+        while run.poll() is None and not (last.exists() and last.stat().st_size > 1 << 14):
+            time.sleep(0.01)
+        run.kill()
+    join_threads(log)
+    verdict = verdict_of(log, queue)
+    return None if verdict == "clean" else f"killed, it leaves a log: {verdict}"
+
+
 def judge_program(program, short, seeds, skip):
     """The results of a program's queues, those that are skipped, and whether all are as they have to be."""
     missing = [tool for tool in program.tools if not shutil.which(tool)]
@@ -377,6 +400,10 @@ def judge_program(program, short, seeds, skip):
         except (OSError, RuntimeError) as error:
             say(f"the program in {program.language} isn't built: {error}")
             return [], False
+        # The recorders in C and Rust are killed by tests/judge.py
+        if not program.stops and (wrong := wrong_if_killed(command, program.queues[0], room)):
+            say(f"{program.language}: {wrong}")
+            right = False
         for queue in program.queues:
             if queue.package and not version(queue.package):
                 skip.append(f"{program.language}: {queue.name}: {queue.package} is not on this machine")

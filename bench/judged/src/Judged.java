@@ -2,12 +2,11 @@
 //
 //     java Judged QUEUE LOG SENDERS TAKERS CALLS SEED
 //
-// Each thread makes this number of calls. A first round isn't written: it lets the compiler do its work. At the end the items that are left
-// are taken, until two takes have found none. The queues are those of java.util.concurrent and, by the class Jars, those of libraries.
-import java.io.BufferedWriter;
-import java.io.FileWriter;
+// The files of the threads are LOG with their numbers. Each thread makes this number of calls. A first round, whose
+// files the second one writes anew, lets the compiler do its work. At the end the items that are left are taken,
+// until two takes have found none. A call that unwinds, as those of a broken list may, hasn't returned, and is its
+// thread's last one. The queues are those of java.util.concurrent and, by the class Jars, those of libraries.
 import java.io.IOException;
-import java.io.PrintWriter;
 import java.util.ArrayDeque;
 import java.util.LinkedList;
 import java.util.concurrent.ArrayBlockingQueue;
@@ -58,79 +57,43 @@ public class Judged {
         }
     }
 
-    /** The calls of a thread: their times, items, and what each was. */
-    static class Calls {
-        static final byte SENT = 0, FULL = 1, TOOK = 2, NONE = 3, UNWOUND = 4;
-        final long[] begins, ends, items;
-        final byte[] kinds;
-        int count;
-
-        Calls(int room) {
-            begins = new long[room];
-            ends = new long[room];
-            items = new long[room];
-            kinds = new byte[room];
-        }
-
-        /** A call that unwinds, as those of a broken list may, hasn't returned, and is the thread's last. */
-        boolean send(Queue queue, long item) {
-            items[count] = item;
-            kinds[count] = UNWOUND;
-            begins[count] = System.nanoTime();
-            boolean sent = queue.send(item);
-            ends[count] = System.nanoTime();
-            kinds[count++] = sent ? SENT : FULL;
-            return sent;
-        }
-
-        boolean take(Queue queue) {
-            items[count] = -1;
-            kinds[count] = UNWOUND;
-            begins[count] = System.nanoTime();
-            Long item = queue.take();
-            ends[count] = System.nanoTime();
-            items[count] = item == null ? 0 : item;
-            kinds[count++] = item == null ? NONE : TOOK;
-            return item != null;
-        }
-
-        void write(PrintWriter out, int thread) {
-            int all = count < kinds.length && begins[count] != 0 ? count + 1 : count;
-            for (int call = 0; call < all; call++) {
-                byte kind = kinds[call];
-                out.print("{\"thread\":" + thread + ",\"begin\":" + begins[call]);
-                if (kind != UNWOUND) out.print(",\"end\":" + ends[call]);
-                boolean sends = kind == SENT || kind == FULL || kind == UNWOUND && items[call] >= 0;
-                String item = kind == NONE || kind == UNWOUND && !sends ? "null" : "" + items[call];
-                out.println((sends ? ",\"send\":" : ",\"take\":") + item + (kind == FULL ? ",\"answer\":\"full\"}" : "}"));
-            }
-        }
+    static boolean send(Queue queue, Recorder mine, long item) throws IOException {
+        mine.begin("\"send\":%s", item);
+        boolean sent = queue.send(item);
+        mine.end(sent ? "\"send\":%s" : "\"send\":%s,\"answer\":\"full\"", item);
+        return sent;
     }
 
-    static void work(Queue queue, Calls mine, int thread, int senders, int calls, long seed) {
+    static boolean take(Queue queue, Recorder mine) throws IOException {
+        mine.begin("\"take\":null");
+        Long item = queue.take();
+        mine.end("\"take\":%s", item);
+        return item != null;
+    }
+
+    static void work(Queue queue, Recorder mine, int thread, int senders, int calls, long seed) throws IOException {
         long random = seed * 7919 + thread * 104729L + 1;
         for (long call = 0; call < calls; call++) {
             random ^= random << 13;
             random ^= random >>> 7;
             random ^= random << 17;
             for (long pause = random & 63; pause > 0; pause--) Thread.onSpinWait();
-            boolean done = thread < senders ? mine.send(queue, (thread + 1L) << 32 | call) : mine.take(queue);
+            boolean done = thread < senders ? send(queue, mine, (thread + 1L) << 32 | call) : take(queue, mine);
             if (!done || (random >>> 20) % 512 == 0) LockSupport.parkNanos(PAUSE);
         }
     }
 
-    static Calls[] round(String name, int senders, int threads, int calls, long seed) throws Exception {
+    static void round(String name, String log, int senders, int threads, int calls, long seed) throws Exception {
         Queue queue = make(name);
-        Calls[] all = new Calls[threads + 1];
         Thread[] running = new Thread[threads];
         CyclicBarrier there = new CyclicBarrier(threads);
         for (int at = 0; at < threads; at++) {
             int thread = at;
-            all[thread] = new Calls(calls);
+            Recorder mine = new Recorder(log + "." + thread, thread);
             running[thread] = new Thread(() -> {
                 try {
                     there.await();
-                    work(queue, all[thread], thread, senders, calls, seed);
+                    work(queue, mine, thread, senders, calls, seed);
                 } catch (Exception unwound) {
                     System.err.println("Judged: a call unwound: " + unwound);
                 }
@@ -138,24 +101,20 @@ public class Judged {
             running[thread].start();
         }
         for (Thread thread : running) thread.join();
-        Calls last = all[threads] = new Calls(senders * calls + 2);
+        Recorder last = new Recorder(log + "." + threads, threads);
         try {
-            for (int none = 0; none < 2 && last.count < last.kinds.length;) none += last.take(queue) ? 0 : 1;
+            int none = 0;
+            for (int left = senders * calls + 2; none < 2 && left > 0; left--) none += take(queue, last) ? 0 : 1;
         } catch (RuntimeException unwound) {
             System.err.println("Judged: a call unwound: " + unwound);
         }
-        return all;
     }
 
     public static void main(String[] words) throws Exception {
         int senders = Integer.parseInt(words[2]), threads = senders + Integer.parseInt(words[3]);
         int calls = Integer.parseInt(words[4]);
         long seed = Long.parseLong(words[5]);
-        round(words[0], senders, threads, calls, seed + 1);
-        Calls[] all = round(words[0], senders, threads, calls, seed);
-        try (PrintWriter out = new PrintWriter(new BufferedWriter(new FileWriter(words[1])))) {
-            for (int thread = 0; thread <= threads; thread++) all[thread].write(out, thread);
-            if (out.checkError()) throw new IOException("the log isn't whole");
-        }
+        round(words[0], words[1], senders, threads, calls, seed + 1);
+        round(words[0], words[1], senders, threads, calls, seed);
     }
 }

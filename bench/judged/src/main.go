@@ -1,13 +1,13 @@
 // Records the calls of threads on a channel of Go, as a log to be judged.
 //
-//	go run main.go QUEUE LOG SENDERS TAKERS CALLS SEED
+//	go run main.go recorder.go QUEUE LOG SENDERS TAKERS CALLS SEED
 //
-// Each thread makes this number of calls. The channel `chan_closed` is closed once all sends are done. At the end the items that are left
-// are taken, until two takes have found none.
+// The files of the threads are LOG with their numbers. Each thread makes this number of calls. The channel
+// `chan_closed` is closed once all sends are done. At the end the items that are left are taken, until two takes have
+// found none.
 package main
 
 import (
-	"bufio"
 	"fmt"
 	"os"
 	"runtime"
@@ -16,110 +16,66 @@ import (
 	"time"
 )
 
-type kind int
-
-const (
-	sent kind = iota
-	full
-	took
-	none
-	ended
-	closed
-)
-
-type call struct {
-	begin, end int64
-	what       kind
-	item       uint64
-}
-
 // How long a thread sleeps that found no item or no room.
 const pause = 20 * time.Microsecond
 
-var start = time.Now()
-
-func now() int64 { return int64(time.Since(start)) }
-
-func send(queue chan uint64, item uint64) call {
-	it := call{begin: now(), what: sent, item: item}
+// Sends an item, and records that. Whether it is sent.
+func send(mine *recorder, queue chan uint64, item uint64) bool {
+	mine.begin(`"send":%d`, item)
 	select {
 	case queue <- item:
+		mine.end(`"send":%d`, item)
+		return true
 	default:
-		it.what = full
+		mine.end(`"send":%d,"answer":"full"`, item)
+		return false
 	}
-	it.end = now()
-	return it
 }
 
-func take(queue chan uint64) call {
-	it, open := call{begin: now(), what: took}, true
+// Takes an item, and records that. Whether it is taken.
+func take(mine *recorder, queue chan uint64) bool {
+	mine.begin(`"take":null`)
 	select {
-	case it.item, open = <-queue:
+	case item, open := <-queue:
+		if open {
+			mine.end(`"take":%d`, item)
+		} else {
+			mine.end(`"take":null,"answer":"ended"`)
+		}
+		return open
 	default:
-		it.what = none
+		mine.end(`"take":null`)
+		return false
 	}
-	it.end = now()
-	if !open {
-		it.what = ended
-	}
-	return it
 }
 
-func work(queue chan uint64, thread, senders, calls, seed uint64) []call {
+func work(mine *recorder, queue chan uint64, thread, senders, calls, seed uint64) {
 	random := seed*7919 + thread*104729 + 1
-	var mine []call
 	for number := uint64(0); number < calls; number++ {
 		random ^= random << 13
 		random ^= random >> 7
 		random ^= random << 17
 		for spins := random % 64; spins > 0; spins-- {
 		}
-		var it call
+		var done bool
 		if thread < senders {
-			it = send(queue, (thread+1)<<32|number)
+			done = send(mine, queue, (thread+1)<<32|number)
 		} else {
-			it = take(queue)
+			done = take(mine, queue)
 		}
-		mine = append(mine, it)
-		if it.what == full || it.what == none || random>>20%512 == 0 {
+		if !done || random>>20%512 == 0 {
 			time.Sleep(pause)
 		}
 	}
-	return mine
 }
 
-func line(thread int, it call) string {
-	text := fmt.Sprintf("{\"thread\":%d,\"begin\":%d,\"end\":%d,", thread, it.begin, it.end)
-	switch it.what {
-	case sent:
-		return text + fmt.Sprintf("\"send\":%d}\n", it.item)
-	case full:
-		return text + fmt.Sprintf("\"send\":%d,\"answer\":\"full\"}\n", it.item)
-	case took:
-		return text + fmt.Sprintf("\"take\":%d}\n", it.item)
-	case none:
-		return text + "\"take\":null}\n"
-	case ended:
-		return text + "\"take\":null,\"answer\":\"ended\"}\n"
-	}
-	return text + "\"close\":true}\n"
-}
-
-func write(path string, all [][]call) error {
-	file, err := os.Create(path)
+// The recorder of a thread, whose file is LOG with its number.
+func open(thread uint64) *recorder {
+	file, err := os.Create(fmt.Sprintf("%s.%d", os.Args[2], thread))
 	if err != nil {
-		return err
+		panic(err)
 	}
-	out := bufio.NewWriter(file)
-	for thread, calls := range all {
-		for _, it := range calls {
-			out.WriteString(line(thread, it))
-		}
-	}
-	if err := out.Flush(); err != nil {
-		return err
-	}
-	return file.Close()
+	return &recorder{file: file, thread: int(thread)}
 }
 
 func main() {
@@ -134,7 +90,7 @@ func main() {
 	}
 	senders, threads := numbers[0], numbers[0]+numbers[1]
 	capacity := map[string]int{"chan": 16, "chan_single": 1, "chan_closed": 16}[os.Args[1]]
-	queue, all := make(chan uint64, capacity), make([][]call, threads+2)
+	queue := make(chan uint64, capacity)
 	var sending, running sync.WaitGroup
 	sending.Add(int(senders))
 	for thread := uint64(0); thread < threads; thread++ {
@@ -142,7 +98,7 @@ func main() {
 		go func(thread uint64) {
 			defer running.Done()
 			runtime.LockOSThread()
-			all[thread] = work(queue, thread, senders, numbers[2], numbers[3])
+			work(open(thread), queue, thread, senders, numbers[2], numbers[3])
 			if thread < senders {
 				sending.Done()
 			}
@@ -150,21 +106,15 @@ func main() {
 	}
 	if os.Args[1] == "chan_closed" {
 		sending.Wait()
-		it := call{begin: now(), what: closed}
+		it := open(threads + 1)
+		it.begin(`"close":true`)
 		close(queue)
-		it.end = now()
-		all[threads+1] = append(all[threads+1], it)
+		it.end(`"close":true`)
 	}
 	running.Wait()
-	for found := 0; found < 2; {
-		it := take(queue)
-		all[threads] = append(all[threads], it)
-		if it.what != took {
+	for last, found := open(threads), 0; found < 2; {
+		if !take(last, queue) {
 			found++
 		}
-	}
-	if err := write(os.Args[2], all); err != nil {
-		fmt.Fprintln(os.Stderr, err)
-		os.Exit(1)
 	}
 }

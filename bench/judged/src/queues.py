@@ -3,10 +3,10 @@
 
     queues.py QUEUE LOG SENDERS TAKERS CALLS SEED
 
-Each thread makes this number of calls. At the end the items that are left are taken, until two takes have found none.
+The files of the threads are LOG with their numbers. Each thread makes this number of calls. At the end the items that
+are left are taken, until two takes have found none.
 """
 import collections
-import json
 import multiprocessing
 import os
 import queue
@@ -14,6 +14,9 @@ import random
 import sys
 import threading
 import time
+
+sys.dont_write_bytecode = True
+from recorder import Recorder
 
 CAPACITY = 16
 # How long a thread sleeps now and then.
@@ -55,53 +58,49 @@ def calls_of(name):
     sys.exit(f"queues: no queue is {name}")
 
 
-def work(calls, thread, senders, count, seed, lines):
+def work(calls, mine, thread, senders, count, seed):
     rng = random.Random(seed * 100 + thread)
     for number in range(count):
         if thread < senders:
-            item = (thread + 1) << 32 | number
-            lines.append(send(calls[0], thread, item))
+            send(calls[0], mine, (thread + 1) << 32 | number)
         else:
-            lines.append(take(calls[1], thread))
+            take(calls[1], mine)
         if rng.random() < 0.002:
             time.sleep(PAUSE)
 
 
-def send(put, thread, item):
-    answer = {}
-    begin = time.monotonic_ns()
+def send(put, mine, item):
+    mine.begin(send=item)
     try:
         put(item)
+        mine.end(send=item)
     except queue.Full:
-        answer = {"answer": "full"}
-    end = time.monotonic_ns()
-    return {"thread": thread, "begin": begin, "end": end, "send": item} | answer
+        mine.end(send=item, answer="full")
 
 
-def take(get, thread):
-    begin = time.monotonic_ns()
+def take(get, mine):
+    """Whether there was an item."""
+    mine.begin(take=None)
     try:
         item = get()
     except (queue.Empty, IndexError):
         item = None
-    end = time.monotonic_ns()
-    return {"thread": thread, "begin": begin, "end": end, "take": item}
+    mine.end(take=item)
+    return item is not None
 
 
 def main(name, log, senders, takers, count, seed):
     sys.setswitchinterval(1e-5)
-    calls, lines = calls_of(name), [[] for _ in range(senders + takers)]
-    threads = [threading.Thread(target=work, args=(calls, at, senders, count, seed, lines[at])) for at in range(len(lines))]
+    calls = calls_of(name)
+    *mine, last = [Recorder(f"{log}.{at}", at) for at in range(senders + takers + 1)]
+    threads = [threading.Thread(target=work, args=(calls, it, it.thread, senders, count, seed)) for it in mine]
     for thread in threads:
         thread.start()
     for thread in threads:
         thread.join()
-    last = []
-    while len(last) < 2 or last[-1]["take"] is not None or last[-2]["take"] is not None:
-        last.append(take(calls[1], len(lines)))
-    with open(log, "w") as file:
-        for line in sum([*lines, last], []):
-            file.write(json.dumps(line) + "\n")
+    none = 0
+    while none < 2:
+        none = 0 if take(calls[1], last) else none + 1
     # Items that multiprocessing's thread still holds back are not waited for
     sys.stdout.flush()
     os._exit(0)
