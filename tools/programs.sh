@@ -53,8 +53,11 @@ answer() {
         cmp <(PATH=$path ./show examples/one_item.json) <("$program" show examples/one_item.json)
 }
 
+built() { [ -e "$program" ] || { echo "programs: there is no $program: run \`rt ci\` first" >&2 && exit 1; }; }
+
 case ${1-} in
 '')
+    built
     if ! cmp "$kept/ccq" "$program"; then
         echo "programs: $kept/ccq isn't what the gate built: tools/programs.sh --update LOG copies it" >&2
         exit 1
@@ -68,6 +71,6 @@ case ${1-} in
     echo "programs: $kept/PROOF isn't of these sources and this program: tools/programs.sh --update LOG writes it" >&2
     exit 1
     ;;
---update) update "${2?the output of rt ci}" ;;
+--update) built && update "${2?the output of rt ci}" ;;
 *) echo 'usage: tools/programs.sh [--sums | --update LOG]' >&2 && exit 64 ;;
 esac
