@@ -28,9 +28,10 @@
  * In the strict archive all of them are sequentially consistent (on aarch64 `stlr`, `ldar`, and `ldaxr` with `stlxr`), so that a store
  * synchronises with the load that finds it. In the default archive some of the stores are release stores, which synchronise
  * too; those of x86-64 become visible in the order of the program.
- * A begun call waits for at most one service and three steps of itself and of each call of its kind before it, one further
- * service, and six steps of each handle of its kind. Then it may serve `bound` calls itself. This is proved, in rounds in which each of
- * these threads makes a step: no other thread can hold a call up. That the system runs these threads isn't.
+ * A begun call waits for at most one service and three steps of itself and of each call of its kind before it, one
+ * further service, and six steps of each handle of its kind. Then it may serve `bound` calls itself. This is proved, in
+ * rounds in which each of these threads makes a step: no other thread can hold a call up. That the system runs these
+ * threads isn't.
  *
  * The caller must do the following, and nothing checks it:
  * - A handle begins as VAHEPITO_HANDLE_EMPTY, or all zero, and is filled by the opening alone. Its bytes are neither changed nor copied to a second
