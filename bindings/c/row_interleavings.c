@@ -21,14 +21,22 @@
  * queue if a take of the group found the end; who takes the lock finds the last queue of an open row open. A queue is freed once the senders and
  * all groups have gone on, and each seat was free since, or taken later.
  *
+ * Nor does it break the rules of a bound (`KeepBound` and `FindsFull` of crates/cc_row/specs/BoundThreads.antt). A send
+ * begins at a queue to which all groups have come; or its thread has loaded how many items the last queue had accepted,
+ * while no other sender had a call there, then found room for each group by what the group had taken of the queue that
+ * it was at, and no sender began a call there since. A close begins where all groups have come, or while no sender has
+ * a call. A send is told that there is no room, or parks, after a queue had none, or after loads of the same kind that
+ * find none. It is a look of the same call each time.
+ *
  * The answers are checked by an oracle that knows no row. It is one queue, first in, first out, whose calls take effect at one moment between
  * their begin and their return. With each state go all orders of the calls that explain the answers so far. A length is, for the slowest group, what
  * was accepted at one moment of the call less what was taken at a later one.
  *
- * It ends with status 0 if in each state some order explains the answers and no rule is broken; and if, when no process makes a step, each
- * call has returned or sleeps and would find nothing, and vahepito_destroy gives what is left and frees all memory. With --faults it ends with
- * status 0 if this fails in some state: so the Makefile compiles it with each fault of row_faults.txt in the code. With --few it has the small models
- * alone, and with --sizes it prints how many states each has.
+ * It ends with status 0 if in each state some order explains the answers and no rule is broken; and if, when no process
+ * makes a step, each call has returned or sleeps and would find nothing, and vahepito_destroy gives what is left and
+ * frees all memory. With --faults it ends with status 0 if this fails in some state, whatever the rules of a bound say;
+ * with --faults RULE, if this one of them is broken: so the Makefile compiles it with each fault of row_faults.txt in
+ * the code. With --few it has the small models alone, and with --sizes it prints how many states each has.
  *
  * Not searched are moments, descriptors, how a call parks that waits for a seat or its answer (interleavings.c does), and
  * orders of memory that are weaker than the order of the steps. On x86-64 the one store of the code that may be pending
@@ -167,6 +175,10 @@ struct process {
     uint32_t kind, number; /* its next step: at a line, a field, a queue */
     uint32_t answer, seat;
     uint32_t reads; /* the blocks that it accessed plainly since its last step */
+    /* Its look at the counts in this call: at which queue, with 1 added, and how many items the row had accepted by
+     * then; while no other sender had a call there or began one, for which groups it found room; and whether there was
+     * none, by this look or by the queue. */
+    uint8_t looks_at, accepted, is_alone, has_room, finds_full;
 };
 
 /* A call of the library that is begun, and its answer once it has taken effect. */
@@ -216,12 +228,19 @@ static jmp_buf scheduler;
 static int current = -1;    /* the process that runs; or none: then nothing is a step */
 static uint32_t choice;     /* of the step that is made */
 static const char *fault;   /* what is wrong in this state */
+static const char *wanted;  /* the one rule of a bound that counts then, or NULL */
+static bool has_rules = true; /* else no rule of a bound counts */
 static bool has_waits;      /* whether a call of the model waits */
 static uint32_t seat_found; /* by a look of the last step, or 0 */
 
 static _Noreturn void is_wrong(const char *what) {
     fault = what;
     _longjmp(scheduler, 1);
+}
+
+/* A rule of a bound is broken. */
+static void breaks(const char *rule) {
+    if (has_rules && (!wanted || strcmp(rule, wanted) == 0)) is_wrong(rule);
 }
 
 /* ---- a process */
@@ -364,6 +383,66 @@ static void changed(const void *place, uint64_t before) {
 /* A process has taken the lock: so it may append, or close the row. */
 static void check_open(void) {
     if (!code_is_closed(queue) && has_close(raw_of_part(code_queue_of(queue, 0)))) is_wrong("the last queue of an open row is closed");
+}
+
+/* ---- the rules of a bound */
+
+/* Of the queues of the row before this one, how many items they accepted. */
+static uint32_t accepted_below(uint32_t number) {
+    uint32_t count = 0;
+    for (uint32_t k = 0; k < number; k++) count += raws[k].accepted;
+    return count;
+}
+
+static uint32_t queue_now(uint32_t side) { return (uint32_t)(raw_of_part(code_queue_of(queue, side)) - raws); }
+
+/* Whether some sender has a call at this queue. */
+static bool has_sender(uint32_t number) {
+    bool has = false;
+    for (uint32_t place = 0; place < PLACES; place++) has |= raws[number].pending[0][place].kind != 0;
+    return has;
+}
+
+/* This process has loaded how many items this queue accepted, or how many a group has taken of it. */
+static void looked(uint32_t number, uint32_t group) {
+    struct process *const it = this_process();
+    if (group == 0) {
+        it->looks_at = (uint8_t)(number + 1), it->accepted = (uint8_t)accepted_below(number + 1);
+        it->is_alone = number == queue_now(0) && !has_sender(number), it->has_room = it->finds_full = 0;
+        return;
+    }
+    const bool is_there = number == queue_now(group);
+    const uint32_t taken = accepted_below(number) + raws[number].taken[group - 1];
+    const bool has_room = it->accepted < taken + model->capacity;
+    if (is_there && it->is_alone && has_room) it->has_room |= (uint8_t)(1u << (group - 1));
+    if (it->looks_at > 0 && (is_there || number + 1u == it->looks_at) && !has_room) it->finds_full = 1;
+}
+
+static void forget_look(struct process *it) {
+    it->looks_at = it->accepted = it->is_alone = it->has_room = it->finds_full = 0;
+}
+
+/* A sender begins a send or a close at this queue, which has no call of it yet. */
+static void check_bound(uint32_t number, bool closes) {
+    bool have_come = model->capacity == 0;
+    if (current < 0) return;
+    const struct process *const it = this_process();
+    for (uint32_t group = 1; !have_come && number <= queue_now(group); group++) have_come = group == model->groups;
+    if (closes) {
+        if (!have_come && has_sender(number)) breaks("a close begins beside a send in a narrow row");
+    } else if (!have_come && (!it->is_alone || it->looks_at != number + 1)) {
+        breaks("a send begins in a narrow row without a look while it is alone");
+    } else if (!have_come && it->has_room != (1u << model->groups) - 1) {
+        breaks("a send begins in a narrow row without room for each group");
+    }
+    forget_look(this_process());
+    for (int process = 0; process < process_count; process++)
+        if (processes[process].looks_at == number + 1) processes[process].is_alone = processes[process].has_room = 0;
+}
+
+/* A call of this process relies on it that there was no room. */
+static void check_full(void) {
+    if (!this_process()->finds_full) breaks("there is no room by a wrong look");
 }
 
 /* A process makes a call by the pass of this side of this seat. */
@@ -536,6 +615,7 @@ long model_futex(long number, ...) {
         return wake(line, (uint32_t)value), 0;
     }
     step(SLEEP, line);
+    if (line == 0) check_full();
     if (*word != (uint32_t)value) return errno = EAGAIN, -1;
     this_process()->status = SLEEPS;
     step(ASLEEP, line);
@@ -597,12 +677,14 @@ static uint32_t answer(struct pass_at at, uint64_t *value, uint8_t *got) {
     const uint32_t code = it->code;
     *value = it->value, *got = it->got;
     memset(it, 0, sizeof *it);
+    if (current >= 0 && at.side == 0) this_process()->finds_full = code == VAHEPITO_FULL;
     return code;
 }
 
 static void begin(const vahepito_handle *pass, struct pass_at at, uint8_t kind, uint8_t item) {
     if (at.pending->kind != 0) is_wrong("a pass has two calls");
     check_found(pass, at.side, at.number + 1);
+    if (at.side == 0) check_bound((uint32_t)(at.raw - raws), kind == CLOSE);
     *at.pending = (struct pending){kind, item, 0, 0, 0, 0};
 }
 
@@ -681,6 +763,7 @@ static struct raw *looked_at(const vahepito_handle *sender, uint32_t group) {
     const struct pass_at at = find(sender, true);
     if (at.pending->kind != 0) is_wrong("a pass looks in its call");
     if (world.since[1 + at.number][0] == 0) is_wrong("a pass looks whose seat is free");
+    if (model->capacity != 0) looked((uint32_t)(at.raw - raws), group);
     return at.raw;
 }
 
@@ -740,6 +823,8 @@ static uint8_t item_of(int process, uint32_t call) { return (uint8_t)((uint32_t)
 static uint32_t answer_as(uint32_t code, uint64_t value) { return ANSWERED | code << 8 | (value < 256 ? (uint32_t)value : 255); }
 static uint32_t got_as(uint64_t place, uint64_t item) { return answer_as(VAHEPITO_GOT, place < 16 && item < 16 ? place << 4 | item : 255); }
 
+static uint32_t code_of(uint32_t answer) { return answer >> 8 & 63; }
+
 static uint32_t make_take(uint32_t group, bool waits) {
     vahepito_item item;
     uint64_t total;
@@ -778,6 +863,8 @@ static void run_process(void) {
         const char call = model->calls[current][this_process()->call];
         if (!call) this_process()->status = OVER, stop(), abort();
         this_process()->answer = make_call(call, item_of(current, this_process()->call));
+        if (code_of(this_process()->answer) == VAHEPITO_FULL) check_full();
+        forget_look(this_process());
         this_process()->status = RETURNED;
         stop();
     }
@@ -806,8 +893,6 @@ static uint32_t take_in(struct order *at, uint32_t group) {
     if (model->groups == 1 || at->taken[2 - group] >= *taken) at->items[*taken - 1] = 0;
     return got;
 }
-
-static uint32_t code_of(uint32_t answer) { return answer >> 8 & 63; }
 
 /* A part of a call of several sends, takes or loads; or its end. */
 static uint32_t part_in(struct order *at, char call, uint32_t before, uint8_t item) {
@@ -1177,6 +1262,8 @@ static const struct model models[] = {
     {{"mm", "nn", "", ""}, 1, 0, 1, 1, 1, 0, 1, false, APART, 1}, {{"mm", "nn", "", ""}, 0, 1, 1, 2, 0, 0, 1, false, THERE, 1},
     {{"mmm", "nc", "", ""}, 1, 0, 1, 2, 1, 0, 0, false, THERE, 1}, {{"mmm", "no", "", ""}, 1, 0, 2, 2, 2, 0, 0, false, THERE, 1},
     {{"mm", "n", "n", ""}, 0, 1, 1, 1, 0, 0, 0, false, THERE, 1}, {{"mmm", "nn", "", ""}, 1, 0, 1, 2, 2, 0, 0, false, THERE, 1},
+    {{"mbb", "nn", "", ""}, 2, 0, 1, 2, 2, 0, 0, false, THERE, 1},
+    {{"mm", "mn", "", ""}, 2, 0, 1, 2, 1, 0, 0, true, THERE, 1},
     {{"mm", "c", "c", ""}, 2, 0, 1, 2, 1, 0, 0, false, THERE, 1}, {{"mm", "m", "", ""}, 1, 0, 1, 2, 1, 0, 0, false, THERE, 1},
     {{"mm", "nn", "", ""}, 2, 0, 1, 1, 1, 0, 0, false, THERE, 1}, {{"mm", "oon", "", ""}, 2, 0, 2, 2, 1, 0, 0, false, THERE, 1},
     {{"mmm", "nnc", "", ""}, 1, 0, 1, 1, 2, 0, 0, false, THERE, 1}, {{"mm", "nm", "", ""}, 0, 1, 1, 1, 0, 0, 0, true, THERE, 1},
@@ -1218,13 +1305,15 @@ int main(int count, char **words) {
     const char *const word = count > 1 ? words[1] : "";
     const bool faults = strcmp(word, "--faults") == 0, few = strcmp(word, "--few") == 0, sizes = strcmp(word, "--sizes") == 0;
     size_t all = 0;
+    if (faults && count > 2) wanted = words[2];
+    has_rules = !faults || wanted;
     grow();
     for (size_t at = 0; at < (few ? FEW : sizeof models / sizeof *models); at++) {
         const bool found = search(&models[at]);
         const char *const *const calls = models[at].calls;
         all += state_count;
         if (sizes || (found && !faults)) fprintf(stderr, "%s %s %s %s: %zu states\n", calls[0], calls[1], calls[2], calls[3], state_count);
-        if (!found) continue;
+        if (!found || (wanted && strcmp(fault, wanted) != 0)) continue;
         if (faults) return printf("%s %s %s %s: %s\n", calls[0], calls[1], calls[2], calls[3], fault) < 0;
         fprintf(stderr, "%s, after these steps:\n", fault);
         print_path();
