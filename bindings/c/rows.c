@@ -10,6 +10,7 @@
 
 #include "checks.h"
 
+#include <fcntl.h>
 #include <poll.h>
 #include <pthread.h>
 
@@ -201,7 +202,9 @@ static void batches(void) {
     queue = opened(4, 1);
     check(vahepito_send_many(queue, words, 0, &now, &count) == VAHEPITO_ACCEPTED && count == 0, "none are none");
     check(vahepito_send_many(queue, words, 6, &now, &count) == VAHEPITO_FULL && count == 4, "four have room");
+    errno = 77;
     check(vahepito_send_many(queue, words, 1, &soon, &count) == VAHEPITO_FULL && count == 0, "and no more, until the moment");
+    check(errno == 77, "a wait changes no errno");
     check(vahepito_take_many(queue, 1, got, 3, NULL, &count, &total) == VAHEPITO_GOT && count == 3 && total == 0, "three are taken");
     check(got[0].words[0] == 1 && got[1].words[0] == 2 && got[2].words[0] == 3 && got[2].place == 2, "in order");
     check(vahepito_take_many(queue, 1, got, 6, NULL, &count, NULL) == VAHEPITO_GOT && count == 1 && got[0].words[0] == 4, "and what is left");
@@ -242,11 +245,13 @@ static void descriptors(void) {
     const int item = vahepito_descriptor(queue, 1), room = vahepito_descriptor(queue, 0);
     check(item >= 0 && room >= 0 && item != room && vahepito_descriptor(queue, 1) == item, "there are two");
     check(vahepito_descriptor(queue, 2) == -1 && errno == EINVAL, "and no more");
+    errno = 77;
     check(vahepito_take_now(queue, 1, NULL, NULL) == VAHEPITO_EMPTY && !is_readable(item, 0), "after a take that found nothing it isn't readable");
     check(vahepito_send_now(queue, 1, NULL) == VAHEPITO_ACCEPTED && is_readable(item, 0), "after a send it is");
     check(vahepito_send_now(queue, 2, NULL) == VAHEPITO_FULL && !is_readable(room, 0), "there is no room");
     check(vahepito_take_now(queue, 1, NULL, NULL) == VAHEPITO_GOT && is_readable(room, 0), "and then there is");
     check(vahepito_take_now(queue, 1, NULL, NULL) == VAHEPITO_EMPTY && !is_readable(item, 0), "and no item");
+    check(errno == 77, "these calls change no errno");
     check(!pthread_create(&thread, NULL, polls, NULL), "a thread starts");
     for (uint64_t number = 0; number < 5000;) {
         const uint32_t code = vahepito_send_now(queue, number, NULL);
@@ -257,6 +262,7 @@ static void descriptors(void) {
     check(!pthread_join(thread, NULL), "a thread ends");
     check(is_readable(item, 0) && is_readable(room, 0), "and then both are readable");
     vahepito_destroy(queue, NULL, NULL);
+    check(fcntl(item, F_GETFD) == -1 && fcntl(room, F_GETFD) == -1, "and are closed with the queue");
 }
 
 int main(int count, char **words) {
