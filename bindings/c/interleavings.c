@@ -378,7 +378,7 @@ static void finds(struct place *it, int side, bool something) {
     it->watching &= (uint8_t)~(1u << side);
 }
 
-/* A try of this side has this code. What a send makes is for each group, and what a take makes for the senders. */
+/* A try of this side has this code. A send makes an item for each group, and a take makes room for the senders. */
 static void tries_with(struct place *it, int side, uint64_t code) {
     if (code == VAHEPITO_WAITING || code == VAHEPITO_SPENT) return;
     finds(it, side, code != VAHEPITO_FULL && code != VAHEPITO_EMPTY);

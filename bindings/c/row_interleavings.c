@@ -25,7 +25,7 @@
  * begins at a queue to which all groups have come; or its thread has loaded how many items the last queue had accepted,
  * while no other sender had a call there, then found room for each group by what the group had taken of the queue that
  * it was at, and no sender began a call there since. A close begins where all groups have come, or while no sender has
- * a call. A send is told that there is no room, or parks, after a queue had none, or after loads of the same kind that
+ * a call. A send returns that there is no room, or parks, after a queue had none, or after loads of the same kind that
  * find none. It is a look of the same call each time.
  *
  * The answers are checked by an oracle that knows no row. It is one queue, first in, first out, whose calls take effect at one moment between
