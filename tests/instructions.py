@@ -69,6 +69,7 @@ FUTURES = {
 IN_C = {
     "vahepito_try_send and vahepito_try_take": ("handles", 555, 4),
     "vahepito_send and vahepito_take": ("waits", 690, 6),
+    "the same by the twentieth thread, with 8 places": ("few", 690, 6),
 }
 RUST = """#![allow(unused_imports)]
 use vahepito::{after, channel, groups, never, select, unbounded};
@@ -84,6 +85,7 @@ fn main() -> Result<(), Box<dyn std::error::Error>> {
 }
 """
 C = """#include "handles.h"
+#include <pthread.h>
 #include <stdlib.h>
 
 static const vahepito_config config = {1, 1, 64, 64, 1000000, 1000000};
@@ -101,9 +103,10 @@ static int by_handles(uint64_t calls) {
     return 0;
 }
 
+static vahepito_queue *queue;
+
 static int by_waits(uint64_t calls) {
-    vahepito_queue *queue = vahepito_create(64);
-    if (!queue) return 1;
+    if (!queue && !(queue = vahepito_create(64))) return 1;
     for (uint64_t i = 0; i < calls; i++) {
         vahepito_item item;
         if (vahepito_send(queue, i, NULL) != VAHEPITO_ACCEPTED) return 2;
@@ -112,9 +115,26 @@ static int by_waits(uint64_t calls) {
     return 0;
 }
 
+static void *in_thread(void *calls) {
+    if (by_waits(*(uint64_t *)calls) != 0) exit(5);
+    return NULL;
+}
+
+static int by_few(uint64_t calls) {
+    vahepito_attributes attributes = VAHEPITO_ATTRIBUTES;
+    uint64_t one = 1;
+    attributes.places = 8;
+    if (vahepito_create_as(&attributes, &queue) != VAHEPITO_DONE) return 1;
+    for (int number = 1; number <= 20; number++) {
+        pthread_t thread;
+        if (pthread_create(&thread, NULL, in_thread, number == 20 ? &calls : &one) || pthread_join(thread, NULL)) return 2;
+    }
+    return 0;
+}
+
 int main(int count, char **args) {
     if (count != 3) return 4;
-    return (args[1][0] == 'h' ? by_handles : by_waits)(strtoull(args[2], NULL, 10));
+    return (args[1][0] == 'h' ? by_handles : args[1][0] == 'f' ? by_few : by_waits)(strtoull(args[2], NULL, 10));
 }
 """
 

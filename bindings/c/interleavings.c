@@ -215,7 +215,7 @@ static uint32_t model_swap(uint32_t *place, uint32_t value) {
 static void model_store(const void *place, uint64_t value) {
     (void)value;
     if (place == &queue.is_closed) (void)result_of((struct step){MARK_CLOSED, 0, 0, 0, false});
-    if (place == &queue.seats[1].is_taken) queue.seats[1].is_taken = 0;
+    if (place == &queue.seats[0].is_taken) queue.seats[0].is_taken = 0;
 }
 
 static int model_lock(void) { return (int)result_of((struct step){LOCK, 0, 0, 0, false}); }
@@ -314,7 +314,7 @@ uint32_t vahepito_turn_take_words(vahepito_handle *receiver, vahepito_item *item
 
 /* The queue as each call finds it: what is a model's state isn't in it. */
 static void reset(void) {
-    memset(&queue, 0, offsetof(vahepito_queue, seats) + 2 * sizeof *queue.seats);
+    memset(&queue, 0, offsetof(vahepito_queue, seats) + sizeof *queue.seats);
     queue.config.capacity = (uint32_t)model->capacity;
     queue.groups = (uint32_t)model->groups;
     queue.words = queue.places = 1;

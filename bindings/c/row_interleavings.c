@@ -61,7 +61,7 @@
  * others; the counts of a line; a seat; and words that stay as they are here. */
 enum field { FIXED, LOCKED, GUARDED, WORD, LINE, SEAT, QUIET };
 
-/* The bytes of a queue, up to its seats, and of a seat. */
+/* The bytes of a queue; of it up to a seat before the first one, as seats are numbered from 1; and of a seat. */
 struct layout {
     size_t size, seats, seat;
 };
@@ -95,7 +95,7 @@ void model_free(void *memory);
 
 #define LIES_IN(field) ((size_t)((const char *)place - (const char *)&queue->field) < sizeof queue->field)
 
-const struct layout code_layout = {sizeof(vahepito_queue), offsetof(vahepito_queue, seats), sizeof(vahepito_internal_seat)};
+const struct layout code_layout = {sizeof(vahepito_queue), offsetof(vahepito_queue, seats) - sizeof(vahepito_internal_seat), sizeof(vahepito_internal_seat)};
 
 enum field code_field(const void *of, const void *place, uint32_t *number) {
     const vahepito_queue *const queue = of;
@@ -108,7 +108,7 @@ enum field code_field(const void *of, const void *place, uint32_t *number) {
     if (LIES_IN(special)) return WORD;
     if (LIES_IN(senders)) return LINE;
     if (LIES_IN(receivers)) return *number = 1 + (uint32_t)((const vahepito_internal_line *)place - queue->receivers), LINE;
-    if (LIES_IN(seats)) return *number = (uint32_t)((const vahepito_internal_seat *)place - queue->seats), SEAT;
+    if (LIES_IN(seats)) return *number = 1 + (uint32_t)((const vahepito_internal_seat *)place - queue->seats), SEAT;
     return LIES_IN(bells) || LIES_IN(has_bells) || LIES_IN(served) || LIES_IN(pace) ? QUIET : FIXED;
 }
 
@@ -128,7 +128,7 @@ const void *code_pass_of(const void *part) { return &((const vahepito_internal_p
 UNSEEN uint32_t code_number_of(const void *part) { return (uint32_t)((const vahepito_internal_part *)part)->number; }
 UNSEEN bool code_is_closed(const void *queue) { return ((const vahepito_queue *)queue)->is_closed; }
 
-/* Before each step of a process: the seat at which it looks first, or 0 if it has none yet, and how many threads have one; and after a step. */
+/* Before each step of a process: its number, or 0 if it has none yet, and how many threads have one; and after a step. */
 void code_begin(size_t seat, uint32_t threads) { vahepito_internal_own = seat * sizeof(vahepito_internal_seat), vahepito_internal_threads = threads; }
 size_t code_seat(void) { return vahepito_internal_own / sizeof(vahepito_internal_seat); }
 
@@ -157,8 +157,8 @@ struct model {
     uint8_t words;
 };
 
-/* At one that there is; at another one for each process, also if there is none; or it has none yet, as a new thread. */
-enum { THERE, APART, NEW };
+/* At one for each process, as far as there are as many; or it has none yet, as a new thread. */
+enum { THERE, NEW };
 
 static const struct model *model;
 
@@ -324,7 +324,7 @@ static void atomic(const void *place, enum access access, int order) {
     if (!block || current < 0) return;
     const enum field field = field_of(block, place, &number);
     if (field == FIXED || field == LOCKED || block != blocks) is_wrong("it is no atomic");
-    const bool stays = field == QUIET || (field == SEAT && (number == 0 || number > model->places));
+    const bool stays = field == QUIET || (field == SEAT && number > model->places);
     if (stays && (access == STORE || (access == UPDATE && field == QUIET))) is_wrong("what stays as it is is written");
     if (stays) return;
     if ((field == LINE && !has_waits) || (field == GUARDED && access == LOAD && is_locked())) return;
@@ -365,7 +365,7 @@ static void changed(const void *place, uint64_t before) {
     uint32_t number;
     if (!block || block != blocks) return;
     const enum field field = code_field(queue, place, &number);
-    if (field == SEAT && number != 0 && number <= model->places) {
+    if (field == SEAT && number <= model->places) {
         const bool is_taken = *(const uint32_t *)place != 0;
         if (is_taken != (before != 0)) seat_changed(number, is_taken);
     } else if (field == GUARDED && number == LAST_WORD) {
@@ -1077,6 +1077,7 @@ static void resume(int process) {
         code_begin(it->seat, (uint32_t)process);
         if (_setjmp(scheduler) == 0) _longjmp(it->context, 1);
         it->seat = (uint32_t)code_seat();
+        if (it->seat > model->places) it->seat = 1 + (it->seat - 1) % model->places; /* the same to the code */
         current = -1;
         if (fault || it->status != RETURNED) return;
         if (!is_explained(process, it->answer)) {
@@ -1096,7 +1097,7 @@ static void start(int process) {
     context.uc_stack.ss_size = STACK;
     makecontext(&context, run_process, 0);
     current = process;
-    processes[process].seat = model->seats == NEW ? 0 : 1u + (uint32_t)process % (model->seats == APART ? PROCESSES : model->places);
+    processes[process].seat = model->seats == NEW ? 0 : 1u + (uint32_t)process % model->places;
     code_begin(processes[process].seat, (uint32_t)process);
     if (_setjmp(scheduler) == 0) (void)setcontext(&context);
     processes[process].seat = (uint32_t)code_seat();
@@ -1259,7 +1260,7 @@ static const struct model models[] = {
     {{"mmmm", "n", "", ""}, 0, 2, 1, 2, 0, 0, 0, false, THERE, 1}, {{"b", "k", "", ""}, 0, 1, 1, 2, 1, 0, 1, false, THERE, 1},
     {{"b", "k", "", ""}, 2, 0, 1, 2, 1, 0, 0, false, THERE, 1}, {{"mm", "nn", "", ""}, 2, 0, 1, 1, 1, 0, 0, false, NEW, 1},
     {{"mn", "mn", "", ""}, 0, 1, 1, 2, 1, 0, 0, false, NEW, 1}, {{"mm", "no", "", ""}, 1, 0, 2, 2, 1, 0, 0, false, THERE, 1},
-    {{"mm", "nn", "", ""}, 1, 0, 1, 1, 1, 0, 1, false, APART, 1}, {{"mm", "nn", "", ""}, 0, 1, 1, 2, 0, 0, 1, false, THERE, 1},
+    {{"mm", "nn", "", ""}, 1, 0, 1, 1, 1, 0, 1, false, THERE, 1}, {{"mm", "nn", "", ""}, 0, 1, 1, 2, 0, 0, 1, false, THERE, 1},
     {{"mmm", "nc", "", ""}, 1, 0, 1, 2, 1, 0, 0, false, THERE, 1}, {{"mmm", "no", "", ""}, 1, 0, 2, 2, 2, 0, 0, false, THERE, 1},
     {{"mm", "n", "n", ""}, 0, 1, 1, 1, 0, 0, 0, false, THERE, 1}, {{"mmm", "nn", "", ""}, 1, 0, 1, 2, 2, 0, 0, false, THERE, 1},
     {{"mbb", "nn", "", ""}, 2, 0, 1, 2, 2, 0, 0, false, THERE, 1},
@@ -1268,7 +1269,7 @@ static const struct model models[] = {
     {{"mm", "nn", "", ""}, 2, 0, 1, 1, 1, 0, 0, false, THERE, 1}, {{"mm", "oon", "", ""}, 2, 0, 2, 2, 1, 0, 0, false, THERE, 1},
     {{"mmm", "nnc", "", ""}, 1, 0, 1, 1, 2, 0, 0, false, THERE, 1}, {{"mm", "nm", "", ""}, 0, 1, 1, 1, 0, 0, 0, true, THERE, 1},
     {{"mm", "nn", "", ""}, 1, 0, 1, 2, 1, 0, 0, true, THERE, 1}, {{"mm", "nn", "", ""}, 2, 0, 1, 1, 1, 0, 0, true, THERE, 2},
-    {{"m", "m", "n", ""}, 1, 0, 1, 2, 1, 0, 0, false, APART, 1}, {{"mmmm", "nnn", "", ""}, 3, 0, 2, 2, 2, 0, 0, false, THERE, 1},
+    {{"m", "m", "n", ""}, 1, 0, 1, 2, 1, 0, 0, false, THERE, 1}, {{"mmmm", "nnn", "", ""}, 3, 0, 2, 2, 2, 0, 0, false, THERE, 1},
     {{"mm", "m", "nn", ""}, 1, 0, 1, 1, 2, 0, 0, false, THERE, 1}, {{"mn", "mn", "l", ""}, 0, 1, 1, 2, 1, 0, 0, false, THERE, 1},
     {{"m", "m", "n", ""}, 0, 1, 1, 2, 1, 0, 0, true, THERE, 1}, {{"mmm", "nnn", "", ""}, 0, 1, 1, 2, 1, 0, 0, false, THERE, 1},
     {{"mmm", "nnn", "", ""}, 2, 0, 1, 1, 2, 0, 0, false, THERE, 1}, {{"mm", "nn", "l", ""}, 0, 1, 1, 2, 0, 0, 0, false, THERE, 1},

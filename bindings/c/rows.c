@@ -127,7 +127,7 @@ static void many_threads(const struct shape *shape) {
     check(parts_kept() == 1, "of which the last one is left, when no call has a seat");
     check(vahepito_length(queue) == 0, "nothing is left");
     check(vahepito_send(queue, 1, NULL) == VAHEPITO_CLOSED, "and nothing is accepted");
-    for (uint32_t k = 1; k <= queue->places; k++) check(!queue->seats[k].is_taken, "no call has a seat");
+    for (uint32_t k = 0; k < queue->places; k++) check(!queue->seats[k].is_taken, "no call has a seat");
     check(queue->senders.counts == 0 && queue->receivers[0].counts == 0, "and none is in a line");
     vahepito_destroy(queue, NULL, NULL);
 }

@@ -164,7 +164,7 @@ typedef struct {
     uint32_t capacity;   /* how many items the queue holds at once: 1 to 4096, or 0: any number, as memory allows */
     uint32_t groups;     /* of receivers: 1 to 8; 0 is 1 */
     uint32_t words;      /* how many words an item has at most: 1 to 4; 0 is 1 */
-    uint32_t places;     /* how many calls are under way at once, which others wait for: 1 to 64; 0 is 64. With fewer a queue needs less memory */
+    uint32_t places;     /* how many calls are under way at once, which others wait for: 1 to 64, rounded up to a power of two; 0 is 16 */
     uint32_t bound;      /* how many waiting calls one call serves before it hands over to the next: 1 to 1024; 0 is 64, which is right */
     uint32_t per_sender; /* for tests: after how many sends of a place a further queue follows; 0 is 2^32 - 1 */
     uint64_t life;       /* for tests: after how many items a further queue follows: 1 to 2^48; 0 is 2^48 */

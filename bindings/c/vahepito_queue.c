@@ -82,7 +82,7 @@ enum { AT_ONCE = 500 };
 #endif
 
 /* A row without a bound begins with a queue of the least capacity, and each further one has four times as much, up to the most. */
-enum { SEATS = 64, MOST_GROUPS = 8, LEAST_CAPACITY = 64, MOST_CAPACITY = 4096, NARROW = 1, WAS_FULL = 2 };
+enum { SEATS = 64, USUAL_SEATS = 16, MOST_GROUPS = 8, LEAST_CAPACITY = 64, MOST_CAPACITY = 4096, NARROW = 1, WAS_FULL = 2 };
 
 /* What a try of a send returns if the row is narrow: no code of the library. */
 #define VAHEPITO_INTERNAL_NARROW UINT32_MAX
@@ -307,8 +307,8 @@ typedef struct {
 
 struct vahepito_queue {
     vahepito_config config;
-    uint32_t groups, words, places; /* how many seats there are */
-    size_t stride;                  /* the bytes of a side's handles in a queue of the row */
+    uint32_t groups, words, places; /* how many seats there are: a power of two */
+    size_t stride, own_mask;        /* the bytes of a side's handles in a queue of the row; and up to which bytes a seat begins */
     bool has_bound, is_closed;
     bool has_bells;   /* whether some bell isn't -1 */
     uint32_t special; /* NARROW: some group isn't at the last queue, and there is a bound. WAS_FULL: a send found no room; so a send looks first */
@@ -320,23 +320,43 @@ struct vahepito_queue {
     vahepito_internal_pace pace[1 + MOST_GROUPS]; /* of the senders, and of each group */
     vahepito_internal_line senders __attribute__((aligned(64)));
     vahepito_internal_line receivers[MOST_GROUPS] __attribute__((aligned(64)));
-    vahepito_internal_seat seats[1 + SEATS]; /* the first one is never free, nor are those after `places` further ones */
+    vahepito_internal_seat seats[SEATS];    /* of which `places` are used; the first one has the number 1 */
 };
 
-/* The seat at which a thread looks first, from 1 (0: it has none yet), as the bytes from the queue's first seat on; and how many threads have one. */
+/* The number of a thread, from 1 (0: it has none yet), times the bytes of a seat; and how many threads have one. */
 static __thread size_t vahepito_internal_own __attribute__((tls_model("initial-exec")));
 static uint32_t vahepito_internal_threads;
 
+static __attribute__((noinline, cold)) void vahepito_internal_number_thread(void) {
+    const uint32_t before = __atomic_fetch_add(&vahepito_internal_threads, 1, __ATOMIC_RELAXED);
+    vahepito_internal_own = (1 + before % SEATS) * sizeof(vahepito_internal_seat);
+}
+
+/* The seat at which this thread looks first, as the bytes from the queue's first one on: by its number, modulo the seats. */
+static inline size_t vahepito_internal_own_at(const vahepito_queue *queue) {
+    if (__builtin_expect(vahepito_internal_own == 0, 0)) vahepito_internal_number_thread();
+    return vahepito_internal_own & queue->own_mask;
+}
+
+static inline vahepito_internal_seat *vahepito_internal_seat_at(vahepito_queue *queue, size_t own) {
+    return (vahepito_internal_seat *)(void *)((char *)queue->seats + own);
+}
+
 static inline bool vahepito_internal_try_seat(vahepito_internal_seat *seat) { return __atomic_exchange_n(&seat->is_taken, 1, __ATOMIC_SEQ_CST) == 0; }
 
-/* The number of a seat, or 0 if none is free. */
+static inline uint32_t vahepito_internal_number(const vahepito_queue *queue, const vahepito_internal_seat *seat) {
+    return 1 + (uint32_t)(seat - queue->seats);
+}
+
+/* The number of a seat, or 0 if none is free. A thread whose own seat is taken has met another one with the same. From
+ * then on the seat that it finds is its own. */
 static uint32_t vahepito_internal_enter(vahepito_queue *queue) {
-    if (vahepito_internal_own == 0)
-        vahepito_internal_own = (1 + __atomic_fetch_add(&vahepito_internal_threads, 1, __ATOMIC_RELAXED) % SEATS) * sizeof(vahepito_internal_seat);
-    for (uint32_t k = 0; k < queue->places; k++) {
-        const uint32_t number = 1 + ((uint32_t)(vahepito_internal_own / sizeof(vahepito_internal_seat)) - 1 + k) % queue->places;
-        vahepito_internal_seat *const seat = &queue->seats[number];
-        if (__atomic_load_n(&seat->is_taken, __ATOMIC_RELAXED) == 0 && vahepito_internal_try_seat(seat)) return number;
+    const size_t own = vahepito_internal_own_at(queue);
+    for (size_t on = 0; on <= queue->own_mask; on += sizeof(vahepito_internal_seat)) {
+        vahepito_internal_seat *const seat = vahepito_internal_seat_at(queue, (own + on) & queue->own_mask);
+        if (__atomic_load_n(&seat->is_taken, __ATOMIC_RELAXED) != 0 || !vahepito_internal_try_seat(seat)) continue;
+        vahepito_internal_own += on;
+        return vahepito_internal_number(queue, seat);
     }
     return 0;
 }
@@ -347,8 +367,6 @@ static __attribute__((noinline)) uint32_t vahepito_internal_sit(vahepito_queue *
     VAHEPITO_INTERNAL_UNTIL(&queue->served, seat, vahepito_internal_enter(queue), seat == 0);
     return seat;
 }
-
-static inline uint32_t vahepito_internal_number(const vahepito_queue *queue, const vahepito_internal_seat *seat) { return (uint32_t)(seat - queue->seats); }
 
 static inline uint32_t vahepito_internal_waiting(const vahepito_queue *queue) {
     return __atomic_load_n(&queue->served.waiting, __ATOMIC_SEQ_CST);
@@ -379,7 +397,7 @@ static inline void vahepito_internal_give_back(vahepito_queue *queue, vahepito_i
 }
 
 static inline void vahepito_internal_stand_up(vahepito_queue *queue, uint32_t seat) {
-    vahepito_internal_give_back(queue, &queue->seats[seat]);
+    vahepito_internal_give_back(queue, &queue->seats[seat - 1]);
 }
 
 /* ---- contention */
@@ -420,7 +438,7 @@ static inline void vahepito_internal_let_ahead(vahepito_internal_seat *seat, uin
 
 /* The seat at which this thread looks first. */
 static inline vahepito_internal_seat *vahepito_internal_own_seat(vahepito_queue *queue) {
-    return (vahepito_internal_seat *)(void *)((char *)queue->seats + vahepito_internal_own);
+    return vahepito_internal_seat_at(queue, vahepito_internal_own_at(queue));
 }
 
 /* The handle that a seat has of a queue: of its sender, or of the receiver of a group from 1. */
@@ -430,7 +448,7 @@ static inline vahepito_handle *vahepito_internal_pass(vahepito_internal_part *pa
 
 /* The same of the seat at these bytes: a handle has as many as a seat. */
 static inline vahepito_handle *vahepito_internal_own_pass(vahepito_internal_part *part, const vahepito_queue *queue, uint32_t side, size_t own) {
-    return (vahepito_handle *)(void *)((char *)part + (offsetof(vahepito_internal_part, handles) - sizeof(vahepito_internal_handle)) + (side == 0 ? 0 : side * queue->stride) + own);
+    return (vahepito_handle *)(void *)((char *)part->handles + (side == 0 ? 0 : side * queue->stride) + own);
 }
 
 _Static_assert(sizeof(vahepito_internal_seat) == sizeof(vahepito_internal_handle), "a handle has as many bytes as a seat");
@@ -485,8 +503,10 @@ static __attribute__((noinline, cold)) void vahepito_internal_ring_for_items(vah
 /* After a send that was accepted: wakes a receiver of each group. */
 static inline void vahepito_internal_notify_items(vahepito_queue *queue) {
     vahepito_internal_in_order();
-    for (uint32_t group = queue->groups; group-- > 0;)
+    uint32_t group = 0;
+    do
         if (vahepito_internal_has_waiting(&queue->receivers[group])) vahepito_internal_notify(&queue->receivers[group], 1);
+    while (++group < queue->groups);
     if (__builtin_expect(__atomic_load_n(&queue->has_bells, __ATOMIC_SEQ_CST), 0)) vahepito_internal_ring_for_items(queue);
 }
 
@@ -553,8 +573,8 @@ static void vahepito_internal_retire(vahepito_queue *queue) {
     }
     uint64_t are_free = 0;
     if (queue->retired)
-        for (uint32_t seat = 0; seat < SEATS; seat++)
-            are_free |= (uint64_t)(__atomic_load_n(&queue->seats[1 + seat].is_taken, __ATOMIC_SEQ_CST) == 0) << seat;
+        for (uint32_t seat = 0; seat < queue->places; seat++)
+            are_free |= (uint64_t)(__atomic_load_n(&queue->seats[seat].is_taken, __ATOMIC_SEQ_CST) == 0) << seat;
     for (vahepito_internal_part **place = &queue->retired; *place;) {
         vahepito_internal_part *const part = *place;
         if ((part->unseen &= ~are_free) == 0) {
@@ -683,7 +703,7 @@ static uint32_t vahepito_internal_after_send(vahepito_internal_send_request *it,
     if (code == VAHEPITO_WAITING) {
         const uint64_t begin = VAHEPITO_AHEAD == 0 ? 0 : vahepito_internal_clock();
         VAHEPITO_INTERNAL_UNTIL(&queue->served, code, vahepito_turn_send(pass, &it->place, &served), code == VAHEPITO_WAITING);
-        vahepito_internal_note_answered(&queue->seats[seat], 0, begin);
+        vahepito_internal_note_answered(&queue->seats[seat - 1], 0, begin);
     }
     if (code == VAHEPITO_ACCEPTED) it->place += part->base;
     else if (code == VAHEPITO_FULL) (void)__atomic_fetch_or(&queue->special, WAS_FULL, __ATOMIC_RELAXED);
@@ -764,7 +784,7 @@ static uint32_t vahepito_internal_after_take(vahepito_internal_take_request *it,
     if (code == VAHEPITO_WAITING) {
         const uint64_t begin = VAHEPITO_AHEAD == 0 ? 0 : vahepito_internal_clock();
         VAHEPITO_INTERNAL_UNTIL(&it->queue->served, code, vahepito_turn_take_words(pass, it->item, &it->total, &served), code == VAHEPITO_WAITING);
-        vahepito_internal_note_answered(&it->queue->seats[seat], it->group, begin);
+        vahepito_internal_note_answered(&it->queue->seats[seat - 1], it->group, begin);
     }
     if (code == VAHEPITO_GOT) it->item->place += part->base;
     else if (code == VAHEPITO_ENDED) it->total += part->base, it->number = part->number;
@@ -889,8 +909,8 @@ static __attribute__((noinline)) uint32_t vahepito_internal_rest_of_send(vahepit
 /* A send. Its first try is here, if the thread's own seat is free, and there is nothing special. */
 static inline __attribute__((always_inline)) uint32_t vahepito_internal_send(vahepito_queue *queue, const uint64_t *words, size_t count, bool is_one,
                                                                              const struct timespec *moment, uint64_t *place) {
-    const size_t own = vahepito_internal_own;
-    vahepito_internal_seat *const seat = vahepito_internal_own_seat(queue);
+    const size_t own = vahepito_internal_own_at(queue);
+    vahepito_internal_seat *const seat = vahepito_internal_seat_at(queue, own);
     uint32_t code, served;
     uint64_t number;
     if (__builtin_expect(!vahepito_internal_contends(seat) && vahepito_internal_try_seat(seat), 1)) {
@@ -945,8 +965,8 @@ static inline size_t vahepito_internal_least(size_t one, size_t other) { return 
  * row is narrow. Each one wakes receivers, as a send does. Returns how many were accepted: 0 also if the seat isn't
  * free. */
 static size_t vahepito_internal_send_some(vahepito_queue *queue, const uint64_t *words, size_t count) {
-    const uint32_t own = (uint32_t)(vahepito_internal_own / sizeof(vahepito_internal_seat));
-    vahepito_internal_seat *const seat = &queue->seats[own];
+    vahepito_internal_seat *const seat = vahepito_internal_own_seat(queue);
+    const uint32_t own = vahepito_internal_number(queue, seat);
     size_t at = 0;
     vahepito_internal_let_ahead(seat, 0);
     if (!vahepito_internal_try_seat(seat)) return 0;
@@ -999,8 +1019,8 @@ static __attribute__((noinline)) uint32_t vahepito_internal_rest_of_take(vahepit
 /* A take. Its first try is here, if the thread's own seat is free. */
 static inline __attribute__((always_inline)) uint32_t vahepito_internal_take(vahepito_queue *queue, uint32_t group, vahepito_item *item,
                                                                              const struct timespec *moment, uint64_t *total) {
-    const size_t own = vahepito_internal_own;
-    vahepito_internal_seat *const seat = vahepito_internal_own_seat(queue);
+    const size_t own = vahepito_internal_own_at(queue);
+    vahepito_internal_seat *const seat = vahepito_internal_seat_at(queue, own);
     uint32_t code = VAHEPITO_BAD_GROUPS, served;
     vahepito_item unused;
     uint64_t number;
@@ -1042,8 +1062,8 @@ uint32_t vahepito_take_now(vahepito_queue *queue, uint32_t group, vahepito_item 
 /* Takes items in the thread's own seat, one after another, up to IN_ONE_SEAT of them, until there is none. Each one
  * wakes senders, as a take does. Returns how many: 0 also if the seat isn't free. */
 static size_t vahepito_internal_take_some(vahepito_queue *queue, uint32_t group, vahepito_item *items, size_t count) {
-    const uint32_t own = (uint32_t)(vahepito_internal_own / sizeof(vahepito_internal_seat));
-    vahepito_internal_seat *const seat = &queue->seats[own];
+    vahepito_internal_seat *const seat = vahepito_internal_own_seat(queue);
+    const uint32_t own = vahepito_internal_number(queue, seat);
     size_t at = 0;
     vahepito_internal_let_ahead(seat, group);
     if (!vahepito_internal_try_seat(seat)) return 0;
@@ -1128,15 +1148,16 @@ static void vahepito_internal_begin(vahepito_queue *queue, const vahepito_attrib
     memset(queue, 0, sizeof *queue);
     queue->has_bound = attributes->capacity != 0;
     queue->config.capacity = vahepito_internal_or(attributes->capacity, LEAST_CAPACITY);
-    queue->places = queue->config.senders = queue->config.receivers = vahepito_internal_or(attributes->places, SEATS);
+    for (queue->places = 1; queue->places < vahepito_internal_or(attributes->places, USUAL_SEATS);) queue->places *= 2;
+    queue->config.senders = queue->config.receivers = queue->places;
     queue->config.bound = vahepito_internal_or(attributes->bound, 64);
     queue->config.life = attributes->life ? attributes->life : (uint64_t)1 << 48;
     queue->config.per_sender = vahepito_internal_or(attributes->per_sender, UINT32_MAX);
     queue->stride = queue->places * sizeof(vahepito_internal_handle);
+    queue->own_mask = (queue->places - 1) * sizeof(vahepito_internal_seat);
     queue->groups = vahepito_internal_or(attributes->groups, 1);
     queue->words = vahepito_internal_or(attributes->words, 1);
     for (uint32_t bell = 0; bell <= MOST_GROUPS; bell++) queue->bells[bell].place = -1;
-    for (uint32_t seat = 0; seat <= SEATS; seat++) queue->seats[seat].is_taken = seat == 0 || seat > queue->places;
 }
 
 uint32_t vahepito_create_as(const vahepito_attributes *attributes, vahepito_queue **opened) {

@@ -36,7 +36,7 @@ static void open_for(uint32_t capacity) { queue = opened(capacity, 1); }
 static void free_queue(void) {
     check(queue->senders.counts == 0 && queue->served.waiting != PARKED, "no send waits");
     for (int k = 0; k < MOST_GROUPS; k++) check(queue->receivers[k].counts == 0, "no take waits");
-    for (uint32_t k = 1; k <= queue->places; k++) check(!queue->seats[k].is_taken, "no call has a seat");
+    for (uint32_t k = 0; k < queue->places; k++) check(!queue->seats[k].is_taken, "no call has a seat");
     vahepito_destroy(queue, NULL, NULL);
 }
 
