@@ -324,7 +324,7 @@ struct vahepito_queue {
 };
 
 /* The number of a thread, from 1 (0: it has none yet), times the bytes of a seat; and how many threads have one. */
-static __thread size_t vahepito_internal_own __attribute__((tls_model("initial-exec")));
+static __thread size_t vahepito_internal_own;
 static uint32_t vahepito_internal_threads;
 
 static __attribute__((noinline, cold)) void vahepito_internal_number_thread(void) {
