@@ -64,7 +64,7 @@
 static uint64_t model_load(const void *place), model_served_time(void);
 static uint32_t model_swap(uint32_t *place, uint32_t value);
 static uint64_t model_add(const void *place, uint64_t by);
-static bool model_exchange(const uint64_t *place, uint64_t *old, uint64_t new);
+static bool model_exchange(uint64_t *place, uint64_t *old, uint64_t new);
 static void model_store(const void *place, uint64_t value);
 static int model_lock(void), model_unlock(void);
 #include SOURCE
@@ -194,7 +194,8 @@ static uint64_t model_add(const void *place, uint64_t by) {
     return result_of((struct step){ADD, line_of(place), by, 0, false});
 }
 
-static bool model_exchange(const uint64_t *place, uint64_t *old, uint64_t new) {
+static bool model_exchange(uint64_t *place, uint64_t *old, uint64_t new) {
+    if (place == &queue.seats[0].is_taken) return model_swap((uint32_t *)place, (uint32_t)new) == 0;
     const uint64_t found = result_of((struct step){EXCHANGE, line_of(place), *old, new, false});
     const bool is_same = found == *old;
     *old = found;
@@ -213,9 +214,8 @@ static uint32_t model_swap(uint32_t *place, uint32_t value) {
 
 /* Any other store is of a seat, or of the hint that there was no room. */
 static void model_store(const void *place, uint64_t value) {
-    (void)value;
     if (place == &queue.is_closed) (void)result_of((struct step){MARK_CLOSED, 0, 0, 0, false});
-    if (place == &queue.seats[0].is_taken) queue.seats[0].is_taken = 0;
+    if (place == &queue.seats[0].is_taken) queue.seats[0].is_taken = (uintptr_t)value;
 }
 
 static int model_lock(void) { return (int)result_of((struct step){LOCK, 0, 0, 0, false}); }

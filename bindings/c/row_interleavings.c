@@ -19,7 +19,7 @@
  * that is freed (`left_queues_rest`). A call is made in a seat, at a queue that was the last one, or its group's, at some moment since the seat was taken.
  * A seat is given back without a call. A further queue is appended if the last one was closed and the row wasn't; a group goes on to the next
  * queue if a take of the group found the end; who takes the lock finds the last queue of an open row open. A queue is freed once the senders and
- * all groups have gone on, and each seat was free since, or taken later.
+ * all groups have gone on, and each seat was free since, or taken later, or said that its call is at another queue; then that call is.
  *
  * Nor does it break the rules of a bound (`KeepBound` and `FindsFull` of crates/cc_row/specs/BoundThreads.antt). A send
  * begins at a queue to which all groups have come; or its thread has loaded how many items the last queue had accepted,
@@ -213,6 +213,7 @@ static struct {
     uint32_t refusals;
     /* Of each seat that is taken, from 1, with 1 added: the number of the last queue when it was taken, and of the queue of each group. */
     uint8_t since[1 + PLACES][SIDES];
+    uint8_t said[1 + PLACES]; /* and the number of the queue that its call is at, if it says so */
 } world;
 
 static struct process processes[PROCESSES];
@@ -331,7 +332,7 @@ static void atomic(const void *place, enum access access, int order) {
     if (field == SEAT && access == UPDATE && number == seat_found) return;
     const bool looks = field == SEAT && access == LOAD && order == __ATOMIC_RELAXED;
     step(looks ? LOOK_FOR_SEAT : ACCESS, (uint32_t)((const unsigned char *)place - memory));
-    if (looks && *(const uint32_t *)place == 0) seat_found = number;
+    if (looks && *(const uintptr_t *)place == 0) seat_found = number;
     if (field == GUARDED && access != LOAD && !is_locked()) is_wrong("it is stored without the lock");
 }
 
@@ -352,6 +353,7 @@ static bool has_close(const struct raw *raw) {
 }
 
 static void seat_changed(uint32_t seat, bool is_taken) {
+    world.said[seat] = 0;
     for (uint32_t side = 0; side < SIDES; side++) {
         world.since[seat][side] = is_taken && side <= model->groups ? (uint8_t)(found_now(side) + 1) : 0;
         for (uint32_t number = 0; number < world.raw_count; number++)
@@ -366,8 +368,9 @@ static void changed(const void *place, uint64_t before) {
     if (!block || block != blocks) return;
     const enum field field = code_field(queue, place, &number);
     if (field == SEAT && number <= model->places) {
-        const bool is_taken = *(const uint32_t *)place != 0;
-        if (is_taken != (before != 0)) seat_changed(number, is_taken);
+        const uintptr_t at = *(const uintptr_t *)place;
+        if ((at != 0) != (before != 0)) seat_changed(number, at != 0);
+        else if (at != before) world.said[number] = (uint8_t)(code_number_of((const void *)at) + 1);
     } else if (field == GUARDED && number == LAST_WORD) {
         const void *const last = (const void *)(uintptr_t)before;
         if (code_is_closed(queue) || !raw_of_part(last)->closed) is_wrong("a queue is appended to one that isn't closed, or to a closed row");
@@ -452,6 +455,7 @@ static void check_found(const vahepito_handle *pass, uint32_t side, uint32_t sea
     const uint32_t number = code_number_of(&memory[block->start]);
     if (world.since[seat][side] == 0) is_wrong("a call is made without a seat");
     if (number + 1 < world.since[seat][side] || number > found_now(side)) is_wrong("a call is made at a queue that wasn't found since the seat was taken");
+    if (world.said[seat] != 0 && number + 1 != world.said[seat]) is_wrong("a call is made at another queue than its seat says");
 }
 
 /* A part is freed that was shown. */
@@ -460,7 +464,8 @@ static void check_left(const void *part) {
     for (uint32_t side = 0; side <= model->groups; side++) {
         if (number >= found_now(side)) is_wrong("a queue is freed that isn't left");
         for (uint32_t seat = 1; seat <= model->places; seat++)
-            if (world.since[seat][side] != 0 && number + 1 >= world.since[seat][side]) is_wrong("a queue is freed that a call may have found");
+            if (world.since[seat][side] != 0 && (world.said[seat] ? number + 1 == world.said[seat] : number + 1 >= world.since[seat][side]))
+                is_wrong("a queue is freed that a call may have found");
     }
 }
 
@@ -517,7 +522,7 @@ void *__tsan_memset(void *to, int byte, size_t size) { return plain(to, true), m
         (void)other;                                                                                                 \
         atomic(place, UPDATE, order);                                                                                \
         const uint##bits##_t found = *place;                                                                         \
-        if (found == old) *place = value;                                                                            \
+        if (found == old) *place = value, changed(place, found);                                                     \
         return found;                                                                                                \
     }                                                                                                                \
     int __tsan_atomic##bits##_compare_exchange_strong(uint##bits##_t *place, uint##bits##_t *old, uint##bits##_t value, int order, int other) { \
@@ -1052,7 +1057,7 @@ static void grow(void) {
 
 static bool has_free_seat(void) {
     for (uint32_t seat = 1; seat <= model->places; seat++)
-        if (*(const uint32_t *)(const void *)&memory[code_layout.seats + seat * code_layout.seat] == 0) return true;
+        if (*(const uintptr_t *)(const void *)&memory[code_layout.seats + seat * code_layout.seat] == 0) return true;
     return false;
 }
 

@@ -192,6 +192,21 @@ static void no_bound(void) {
     vahepito_destroy(queue, NULL, NULL);
 }
 
+/* A call that stands still in its seat, at the first queue. */
+static void stalled(void) {
+    const struct shape shape = {0, 1, 8, 0, 100};
+    vahepito_item item;
+    open_as(&shape);
+    queue->seats[5].is_taken = (uintptr_t)queue->first;
+    for (uint64_t number = 1; number <= 5000; number++)
+        check(vahepito_send_now(queue, number, NULL) == VAHEPITO_ACCEPTED && vahepito_take_now(queue, 1, &item, NULL) == VAHEPITO_GOT, "the others go on");
+    check(queue->last->number >= 49 && parts_kept() == 2, "its queue is kept, and no other one that is done with");
+    queue->seats[5].is_taken = 0;
+    vahepito_internal_retire(queue);
+    check(parts_kept() == 1, "until it returns");
+    vahepito_destroy(queue, NULL, NULL);
+}
+
 /* Batches: as many as there is room for, and as many as there are. */
 static void batches(void) {
     const struct timespec now = {0, 0}, soon = vahepito_after(20000000);
@@ -281,6 +296,7 @@ int main(int count, char **words) {
         bound_over_queues(20, 1, 1, groups);
     }
     no_bound();
+    stalled();
     batches();
     descriptors();
     for (; at < sizeof shapes / sizeof *shapes; at++) many_threads(&shapes[at]);

@@ -18,8 +18,8 @@
  * `narrow`: then each send is made under the lock, after a look at the counts. So Full is returned only if `capacity` items were in the row.
  *
  * Seats. A call takes a seat and then reads at which queue it is. A seat has one sender, and one receiver of each group, of each queue of the row, so
- * that one thread at a time uses them. A queue that all groups have left is freed once each seat was seen
- * free after that: a call that takes its seat later reads a later queue. A call that parks for room or an item has no seat, nor has one that waits
+ * that one thread at a time uses them. Then the seat says which queue that is. A queue that all groups have left is freed once each seat was seen
+ * away from it after that, free or at another one: a call that takes its seat later reads a later queue. So a call that stands still keeps one queue. A call that parks for room or an item has no seat, nor has one that waits
  * for the lock: so a thread that has the lock may wait for a seat.
  *
  * Waits. The senders wait in one line for room, and the receivers of each group in another for an item. A line has two
@@ -81,8 +81,9 @@ enum { AT_ONCE = 500 };
 #define VAHEPITO_PACE 20000
 #endif
 
-/* A row without a bound begins with a queue of the least capacity, and each further one has four times as much, up to the most. */
-enum { SEATS = 64, USUAL_SEATS = 16, MOST_GROUPS = 8, LEAST_CAPACITY = 64, MOST_CAPACITY = 4096, NARROW = 1, WAS_FULL = 2 };
+/* A row without a bound begins with a queue of the least capacity, and each further one has twice as much, up to the most: a further one is opened
+ * under the lock, and one of 4,096 takes a third of a millisecond. */
+enum { SEATS = 64, USUAL_SEATS = 16, MOST_GROUPS = 8, LEAST_CAPACITY = 64, MOST_CAPACITY = 512, NARROW = 1, WAS_FULL = 2 };
 
 /* What a try of a send returns if the row is narrow: no code of the library. */
 #define VAHEPITO_INTERNAL_NARROW UINT32_MAX
@@ -280,7 +281,7 @@ typedef struct vahepito_internal_part {
     struct vahepito_internal_part *next;
     uint64_t number; /* the first one of all has 0 */
     uint64_t base;   /* how many items the queues before it accepted */
-    uint64_t unseen; /* of one that all groups have left: the seats that weren't seen free since then */
+    uint64_t unseen; /* of one that all groups have left: the seats that weren't seen away from it since then */
     vahepito_internal_handle handles[]; /* by seats: the senders, and then the receivers of each group */
 } vahepito_internal_part;
 
@@ -289,14 +290,15 @@ typedef struct vahepito_internal_part {
  * CONTENTION_MOMENT; the side of that call times CONTENTION_SIDE; and CONTENDS, if that call came at once after another
  * one that was answered so. The call that has the seat writes it. */
 typedef struct {
-    uint32_t is_taken, quiet; /* `quiet`: at the ends of how many of its last calls no call was parked */
+    uintptr_t is_taken; /* 0; or TAKEN; or the address of the queue that its call has found */
     uint64_t contention;
+    uint32_t quiet; /* at the ends of how many of its last calls no call was parked */
 } __attribute__((aligned(64))) vahepito_internal_seat;
 
 /* After this number of calls of a seat at whose ends no call was parked, seats are given back by a store again. */
 enum { FORGET_AFTER = 1024 };
 
-enum { CONTENDS = 1, CONTENTION_SIDE = 2, CONTENTION_MOMENT = 32 };
+enum { TAKEN = 1, CONTENDS = 1, CONTENTION_SIDE = 2, CONTENTION_MOMENT = 32 };
 
 /* A descriptor that is readable while a take of a group, or a send, may find something; or -1. A call that finds nothing arms it, and looks once
  * more; a call that makes something writes into it, if it is armed. */
@@ -342,7 +344,11 @@ static inline vahepito_internal_seat *vahepito_internal_seat_at(vahepito_queue *
     return (vahepito_internal_seat *)(void *)((char *)queue->seats + own);
 }
 
-static inline bool vahepito_internal_try_seat(vahepito_internal_seat *seat) { return __atomic_exchange_n(&seat->is_taken, 1, __ATOMIC_SEQ_CST) == 0; }
+/* What a seat says that is taken stays. */
+static inline bool vahepito_internal_try_seat(vahepito_internal_seat *seat) {
+    uintptr_t nobody = 0;
+    return __atomic_compare_exchange_n(&seat->is_taken, &nobody, TAKEN, false, __ATOMIC_SEQ_CST, __ATOMIC_SEQ_CST);
+}
 
 static inline uint32_t vahepito_internal_number(const vahepito_queue *queue, const vahepito_internal_seat *seat) {
     return 1 + (uint32_t)(seat - queue->seats);
@@ -463,6 +469,13 @@ static inline vahepito_internal_part *vahepito_internal_load(vahepito_internal_p
     return part;
 }
 
+/* The queue at this place, by a call in this seat, which says that the call uses that one. */
+static inline vahepito_internal_part *vahepito_internal_find(vahepito_internal_seat *seat, vahepito_internal_part *const *place) {
+    vahepito_internal_part *const part = vahepito_internal_load(place);
+    __atomic_store_n(&seat->is_taken, (uintptr_t)part, __ATOMIC_RELEASE);
+    return part;
+}
+
 static inline bool vahepito_internal_is_closed(const vahepito_queue *queue) { return __atomic_load_n(&queue->is_closed, __ATOMIC_SEQ_CST); }
 
 static void vahepito_internal_lock(vahepito_queue *queue) { (void)pthread_mutex_lock(&queue->lock); }
@@ -559,6 +572,12 @@ static vahepito_internal_part *vahepito_internal_append(vahepito_queue *queue, u
     return part;
 }
 
+/* Whether no call in this seat may use a queue that all groups have left. */
+static bool vahepito_internal_is_away(const vahepito_internal_seat *seat, const vahepito_internal_part *part) {
+    const uintptr_t at = __atomic_load_n(&seat->is_taken, __ATOMIC_SEQ_CST);
+    return at != TAKEN && at != (uintptr_t)part;
+}
+
 /* Frees the queues that all groups have left, as far as no call may use them. Under the lock. */
 static void vahepito_internal_retire(vahepito_queue *queue) {
     uint64_t least = queue->last->number;
@@ -571,13 +590,11 @@ static void vahepito_internal_retire(vahepito_queue *queue) {
         part->unseen = UINT64_MAX >> (SEATS - queue->places);
         queue->retired = part;
     }
-    uint64_t are_free = 0;
-    if (queue->retired)
-        for (uint32_t seat = 0; seat < queue->places; seat++)
-            are_free |= (uint64_t)(__atomic_load_n(&queue->seats[seat].is_taken, __ATOMIC_SEQ_CST) == 0) << seat;
     for (vahepito_internal_part **place = &queue->retired; *place;) {
         vahepito_internal_part *const part = *place;
-        if ((part->unseen &= ~are_free) == 0) {
+        for (uint32_t seat = 0; seat < queue->places; seat++)
+            if (vahepito_internal_is_away(&queue->seats[seat], part)) part->unseen &= ~((uint64_t)1 << seat);
+        if (part->unseen == 0) {
             *place = part->next;
             vahepito_internal_free_part(queue, part);
         } else {
@@ -640,7 +657,7 @@ static __attribute__((noinline)) uint32_t vahepito_internal_next_for_senders(vah
         code = VAHEPITO_CLOSED;
     } else if (queue->last->number == number) {
         const uint32_t capacity = queue->config.capacity;
-        if (!queue->has_bound && capacity < MOST_CAPACITY) queue->config.capacity = 4 * capacity;
+        if (!queue->has_bound && capacity < MOST_CAPACITY) queue->config.capacity = 2 * capacity;
         vahepito_internal_part *const next = vahepito_internal_append(queue, &code);
         if (!next) {
             if (!queue->has_bound) queue->config.capacity = capacity;
@@ -726,7 +743,7 @@ static uint32_t vahepito_internal_send_by(vahepito_internal_send_request *it, ui
 static uint32_t vahepito_internal_seated_send(vahepito_internal_send_request *it) {
     vahepito_internal_let_ahead(vahepito_internal_own_seat(it->queue), 0);
     const uint32_t seat = vahepito_internal_sit(it->queue);
-    vahepito_internal_part *const part = vahepito_internal_load(&it->queue->last);
+    vahepito_internal_part *const part = vahepito_internal_find(&it->queue->seats[seat - 1], &it->queue->last);
     uint32_t code = VAHEPITO_INTERNAL_NARROW;
     if ((__atomic_load_n(&it->queue->special, __ATOMIC_SEQ_CST) & NARROW) == 0) code = vahepito_internal_send_by(it, seat, part);
     vahepito_internal_stand_up(it->queue, seat);
@@ -803,7 +820,7 @@ static uint32_t vahepito_internal_take_by(vahepito_internal_take_request *it, ui
 static uint32_t vahepito_internal_seated_take(vahepito_internal_take_request *it) {
     vahepito_internal_let_ahead(vahepito_internal_own_seat(it->queue), it->group);
     const uint32_t seat = vahepito_internal_sit(it->queue);
-    vahepito_internal_part *const part = vahepito_internal_load(&it->queue->at[it->group - 1]);
+    vahepito_internal_part *const part = vahepito_internal_find(&it->queue->seats[seat - 1], &it->queue->at[it->group - 1]);
     const uint32_t code = vahepito_internal_take_by(it, seat, part);
     vahepito_internal_stand_up(it->queue, seat);
     return code;
@@ -914,7 +931,7 @@ static inline __attribute__((always_inline)) uint32_t vahepito_internal_send(vah
     uint32_t code, served;
     uint64_t number;
     if (__builtin_expect(!vahepito_internal_contends(seat) && vahepito_internal_try_seat(seat), 1)) {
-        vahepito_internal_part *const part = vahepito_internal_load(&queue->last);
+        vahepito_internal_part *const part = vahepito_internal_find(seat, &queue->last);
         if (__builtin_expect(__atomic_load_n(&queue->special, __ATOMIC_SEQ_CST) == 0, 1)) {
             vahepito_handle *const pass = vahepito_internal_own_pass(part, queue, 0, own);
             code = is_one ? vahepito_try_send(pass, *words, &number, &served) : vahepito_try_send_words(pass, words, count, &number, &served);
@@ -970,7 +987,7 @@ static size_t vahepito_internal_send_some(vahepito_queue *queue, const uint64_t 
     size_t at = 0;
     vahepito_internal_let_ahead(seat, 0);
     if (!vahepito_internal_try_seat(seat)) return 0;
-    vahepito_internal_part *const part = vahepito_internal_load(&queue->last);
+    vahepito_internal_part *const part = vahepito_internal_find(seat, &queue->last);
     for (const size_t most = vahepito_internal_least(count, IN_ONE_SEAT); at < most; at++) {
         vahepito_internal_send_request request = {queue, &words[at], 1, 0, 0};
         if ((__atomic_load_n(&queue->special, __ATOMIC_SEQ_CST) & NARROW) != 0) break;
@@ -1028,7 +1045,7 @@ static inline __attribute__((always_inline)) uint32_t vahepito_internal_take(vah
     if (__builtin_expect(group - 1 < queue->groups, 1)) {
         code = VAHEPITO_EMPTY;
         if (__builtin_expect(!vahepito_internal_contends(seat) && vahepito_internal_try_seat(seat), 1)) {
-            vahepito_internal_part *const part = vahepito_internal_load(&queue->at[group - 1]);
+            vahepito_internal_part *const part = vahepito_internal_find(seat, &queue->at[group - 1]);
             vahepito_handle *const pass = vahepito_internal_own_pass(part, queue, group, own);
             const bool is_one = queue->words == 1;
             /* An item of one word begins as an item of words does, and has its body where that has the count. */
@@ -1067,7 +1084,7 @@ static size_t vahepito_internal_take_some(vahepito_queue *queue, uint32_t group,
     size_t at = 0;
     vahepito_internal_let_ahead(seat, group);
     if (!vahepito_internal_try_seat(seat)) return 0;
-    vahepito_internal_part *const part = vahepito_internal_load(&queue->at[group - 1]);
+    vahepito_internal_part *const part = vahepito_internal_find(seat, &queue->at[group - 1]);
     for (const size_t most = vahepito_internal_least(count, IN_ONE_SEAT); at < most; at++) {
         vahepito_internal_take_request request = {queue, group, &items[at], 0, 0};
         if (vahepito_internal_take_by(&request, own, part) != VAHEPITO_GOT) break;
