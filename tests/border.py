@@ -16,6 +16,8 @@ from sources import TOP, read_items
 
 # Codes that the header has for itself.
 OF_THE_HEADER = {"BAD_VERSION"}
+# The code of the headers that has another name in the library: one number of places is for both sides.
+RENAMED = {"BAD_PLACES": "BAD_SENDERS"}
 # The numbers that are no code any more.
 FREE = {16}
 # The structs by their names in the header, in the library, and in the Rust crate.
@@ -103,6 +105,7 @@ def of_the_headers():
         structs[name] = [" ".join(field.split()) for field in fields.split(";") if field.strip()]
     said = [re.findall(r'case VAHEPITO_(\w+): return "(.*)";', code.split(f"*vahepito_{name}(")[1].split("default:")[0]) for name in ("name", "text")]
     of_calls = sorted(re.findall(r"^ *VAHEPITO_(\w+) = \d+", own, re.M), key=codes.get)
+    codes = {RENAMED.get(name, name): number for name, number in codes.items()}
     return codes, int(defined["VERSION"]), exports, {name: structs[name] for name, _, _ in STRUCTS}, of_calls, *said
 
 

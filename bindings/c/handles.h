@@ -44,7 +44,7 @@
  *
  * Every call writes its out-parameters, with 0 in each field that its code gives no meaning.
  *
- * The library must serve this header: vahepito_check_version checks it, before the first opening. */
+ * The library must serve this header: vahepito_check_library checks it, before the first opening. */
 #ifndef VAHEPITO_HANDLES_H
 #define VAHEPITO_HANDLES_H
 
@@ -80,6 +80,10 @@ typedef struct {
 
 /* The codes that these calls have beside those of vahepito.h. */
 enum {
+    /* the opening: the number of senders (which is of `places` in vahepito.h), or of receivers, is out of its range */
+    VAHEPITO_BAD_SENDERS = VAHEPITO_BAD_PLACES,
+    VAHEPITO_BAD_RECEIVERS = 2,
+
     /* the opening: not one handle for each pass, or one that is not empty */
     VAHEPITO_BAD_HANDLES = 8,
 
@@ -117,7 +121,7 @@ void vahepito_sizes(size_t *config, size_t *pass, size_t *item, size_t *words_it
  * first two numbers and an earlier third one: so a later patch may come in its place. The sizes above have to be the same. A
  * program asks once, before its first opening; if this is BAD_VERSION, it makes no other call but these above. Any thread may call.
  * DONE, BAD_VERSION. */
-static inline uint32_t vahepito_check_version(void) {
+static inline uint32_t vahepito_check_library(void) {
     size_t config = 0, pass = 0, item = 0, words_item = 0;
     const uint32_t version = vahepito_version();
     if (version / 1000 != VAHEPITO_VERSION / 1000 || version < VAHEPITO_VERSION) return VAHEPITO_BAD_VERSION;

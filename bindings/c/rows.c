@@ -192,7 +192,7 @@ static void no_bound(void) {
     vahepito_destroy(queue, NULL, NULL);
 }
 
-/* A call that stands still in its seat, at the first queue. */
+/* A call that is stopped in its seat, at the first queue. */
 static void stalled(void) {
     const struct shape shape = {0, 1, 8, 0, 100};
     vahepito_item item;

@@ -1,9 +1,9 @@
 /* Vahepito for C: a first-in, first-out queue that threads share, from many senders to many receivers.
  *
  *     vahepito_queue *queue = vahepito_create(64);                  room for 64 items, for all threads
- *     vahepito_send(queue, 7, NULL);                              waits for room
+ *     if (vahepito_send(queue, 7, NULL) != VAHEPITO_ACCEPTED) ..    waits for room
  *     vahepito_item item;
- *     vahepito_take(queue, 1, &item, NULL);                       waits for an item: item.words[0] is 7
+ *     if (vahepito_take(queue, 1, &item, NULL) == VAHEPITO_GOT) ..  waits for an item: item.words[0] is 7
  *     vahepito_close(queue, NULL);                                takes come to the end
  *     vahepito_destroy(queue, NULL, NULL);                        after the last call
  *
@@ -89,6 +89,15 @@ extern "C" {
 
 struct timespec;
 
+/* For the compiler: which parameters of a call, from 1, are no NULL; and that its result is to be looked at. */
+#if defined(__GNUC__)
+#define VAHEPITO_INTERNAL_NO_NULL(...) __attribute__((nonnull(__VA_ARGS__)))
+#define VAHEPITO_INTERNAL_LOOK_AT __attribute__((warn_unused_result))
+#else
+#define VAHEPITO_INTERNAL_NO_NULL(...)
+#define VAHEPITO_INTERNAL_LOOK_AT
+#endif
+
 /* The version of this header, 0.4.0: a million times the first of its three numbers, a thousand times the second, and the
  * third. */
 #define VAHEPITO_VERSION 4000
@@ -96,6 +105,11 @@ struct timespec;
 /* The version of the library, as VAHEPITO_VERSION is that of the header. This call is the same in every version. Any thread
  * may call. */
 uint32_t vahepito_version(void);
+
+/* Whether the library serves a header of this version: one with the same first two numbers, and the same third one or an earlier one. A
+ * program asks with VAHEPITO_VERSION. vahepito_create_as asks too. Any thread may call.
+ * DONE, BAD_VERSION. */
+uint32_t vahepito_check_version(uint32_t version) VAHEPITO_INTERNAL_LOOK_AT;
 
 /* A queue, for all threads. */
 typedef struct vahepito_queue vahepito_queue;
@@ -119,8 +133,7 @@ enum vahepito_code {
     VAHEPITO_DONE = 0,
 
     /* an opening: the first number that is out of its range */
-    VAHEPITO_BAD_SENDERS = 1,
-    VAHEPITO_BAD_RECEIVERS = 2,
+    VAHEPITO_BAD_PLACES = 1,
     VAHEPITO_BAD_CAPACITY = 3,
     VAHEPITO_BAD_BOUND = 4,
     VAHEPITO_BAD_LIFE = 5,
@@ -154,6 +167,9 @@ enum vahepito_code {
     VAHEPITO_LONG = 29
 };
 
+/* Whether what a call was for was done: DONE, ACCEPTED, SHUT or GOT. So a code isn't asked as a truth. Any thread may call. */
+bool vahepito_is_done(uint32_t code);
+
 /* The name of a code, without VAHEPITO_ before it; and what it says, in a sentence without its full stop. Any thread may call. */
 const char *vahepito_name(uint32_t code);
 const char *vahepito_text(uint32_t code);
@@ -173,77 +189,87 @@ typedef struct {
 #define VAHEPITO_ATTRIBUTES {VAHEPITO_VERSION, 64, 1, 1, 0, 0, 0, 0}
 
 /* Opens a queue. Any thread may call.
- * DONE: *queue is the pointer. BAD_VERSION, BAD_SENDERS to BAD_PER_SENDER, BAD_GROUPS, BAD_WORDS, NO_MEMORY: *queue is NULL. (BAD_SENDERS is of
- * `places`. Too many places or groups are found first.) */
-uint32_t vahepito_create_as(const vahepito_attributes *attributes, vahepito_queue **queue);
+ * DONE: *queue is the pointer. BAD_VERSION, BAD_PLACES to BAD_PER_SENDER, BAD_GROUPS, BAD_WORDS, NO_MEMORY: *queue is NULL. (Too many places or
+ * groups are found first.) */
+uint32_t vahepito_create_as(const vahepito_attributes *attributes, vahepito_queue **queue)
+    VAHEPITO_INTERNAL_NO_NULL(1, 2) VAHEPITO_INTERNAL_LOOK_AT;
 
 /* Opens a queue of this capacity (0: any number), else as VAHEPITO_ATTRIBUTES says. NULL if it isn't opened. Any thread may call. */
-static inline vahepito_queue *vahepito_create(uint32_t capacity) {
-    vahepito_attributes attributes = VAHEPITO_ATTRIBUTES;
-    vahepito_queue *queue;
-    attributes.capacity = capacity;
-    (void)vahepito_create_as(&attributes, &queue);
-    return queue;
-}
+vahepito_queue *vahepito_create(uint32_t capacity) VAHEPITO_INTERNAL_LOOK_AT;
 
 /* Sends an item of one word, and waits for room. Any thread may call, as for all calls below.
  * ACCEPTED with the place. CLOSED: not accepted, and nothing will be. NO_MEMORY: not accepted; a further queue of the row could not be opened. */
-uint32_t vahepito_send(vahepito_queue *queue, uint64_t word, uint64_t *place);
+uint32_t vahepito_send(vahepito_queue *queue, uint64_t word, uint64_t *place)
+    VAHEPITO_INTERNAL_NO_NULL(1) VAHEPITO_INTERNAL_LOOK_AT;
 
 /* The same until this moment. ACCEPTED, CLOSED, NO_MEMORY as above. FULL: the moment has come, and at the last try there was no room. */
-uint32_t vahepito_send_until(vahepito_queue *queue, uint64_t word, const struct timespec *moment, uint64_t *place);
+uint32_t vahepito_send_until(vahepito_queue *queue, uint64_t word, const struct timespec *moment, uint64_t *place)
+    VAHEPITO_INTERNAL_NO_NULL(1) VAHEPITO_INTERNAL_LOOK_AT;
 
 /* The same without a wait for room. ACCEPTED, CLOSED, NO_MEMORY as above. FULL: there is none. */
-uint32_t vahepito_send_now(vahepito_queue *queue, uint64_t word, uint64_t *place);
+uint32_t vahepito_send_now(vahepito_queue *queue, uint64_t word, uint64_t *place)
+    VAHEPITO_INTERNAL_NO_NULL(1) VAHEPITO_INTERNAL_LOOK_AT;
 
 /* The same three of an item of `count` words, which are copied. ACCEPTED, CLOSED, NO_MEMORY as above. BAD_WORDS, LONG: no such item is sent. */
-uint32_t vahepito_send_words(vahepito_queue *queue, const uint64_t *words, size_t count, uint64_t *place);
+uint32_t vahepito_send_words(vahepito_queue *queue, const uint64_t *words, size_t count, uint64_t *place)
+    VAHEPITO_INTERNAL_NO_NULL(1, 2) VAHEPITO_INTERNAL_LOOK_AT;
 
 /* ACCEPTED, FULL, CLOSED, NO_MEMORY, BAD_WORDS, LONG. */
-uint32_t vahepito_send_words_until(vahepito_queue *queue, const uint64_t *words, size_t count, const struct timespec *moment, uint64_t *place);
+uint32_t vahepito_send_words_until(vahepito_queue *queue, const uint64_t *words, size_t count,
+    const struct timespec *moment, uint64_t *place)
+    VAHEPITO_INTERNAL_NO_NULL(1, 2) VAHEPITO_INTERNAL_LOOK_AT;
 
 /* ACCEPTED, FULL, CLOSED, NO_MEMORY, BAD_WORDS, LONG. */
-uint32_t vahepito_send_words_now(vahepito_queue *queue, const uint64_t *words, size_t count, uint64_t *place);
+uint32_t vahepito_send_words_now(vahepito_queue *queue, const uint64_t *words, size_t count, uint64_t *place)
+    VAHEPITO_INTERNAL_NO_NULL(1, 2) VAHEPITO_INTERNAL_LOOK_AT;
 
 /* Sends `count` items of one word each, one after another, and waits for room until this moment, or not at all if it is {0, 0}. Each item is a
  * send of its own, and others' items may come between them. The receivers are woken once, for all of them.
  * ACCEPTED: all were. FULL, CLOSED, NO_MEMORY: as above, and the first `sent` were accepted. */
-uint32_t vahepito_send_many(vahepito_queue *queue, const uint64_t *words, size_t count, const struct timespec *moment, size_t *sent);
+uint32_t vahepito_send_many(vahepito_queue *queue, const uint64_t *words, size_t count,
+    const struct timespec *moment, size_t *sent)
+    VAHEPITO_INTERNAL_NO_NULL(1, 2) VAHEPITO_INTERNAL_LOOK_AT;
 
 /* Takes an item for this group, from 1, and waits until there is one. GOT with the item; ENDED with the total: there will be
  * none any more. BAD_GROUPS: there is no such group. */
-uint32_t vahepito_take(vahepito_queue *queue, uint32_t group, vahepito_item *item, uint64_t *total);
+uint32_t vahepito_take(vahepito_queue *queue, uint32_t group, vahepito_item *item, uint64_t *total)
+    VAHEPITO_INTERNAL_NO_NULL(1) VAHEPITO_INTERNAL_LOOK_AT;
 
 /* The same until this moment. GOT, ENDED, BAD_GROUPS as above. EMPTY: the moment has come, and at the last try there was no item. */
-uint32_t vahepito_take_until(vahepito_queue *queue, uint32_t group, vahepito_item *item, const struct timespec *moment, uint64_t *total);
+uint32_t vahepito_take_until(vahepito_queue *queue, uint32_t group, vahepito_item *item,
+    const struct timespec *moment, uint64_t *total)
+    VAHEPITO_INTERNAL_NO_NULL(1) VAHEPITO_INTERNAL_LOOK_AT;
 
 /* The same without a wait for an item. GOT, ENDED, BAD_GROUPS as above. EMPTY: there is none. */
-uint32_t vahepito_take_now(vahepito_queue *queue, uint32_t group, vahepito_item *item, uint64_t *total);
+uint32_t vahepito_take_now(vahepito_queue *queue, uint32_t group, vahepito_item *item, uint64_t *total)
+    VAHEPITO_INTERNAL_NO_NULL(1) VAHEPITO_INTERNAL_LOOK_AT;
 
 /* Takes up to `most` items, one after another: waits for the first one until this moment, or not at all if it is {0, 0}, and takes those that
  * are there then. Senders are woken once, for all of them. GOT: `count` items, at least one. ENDED, EMPTY, BAD_GROUPS: as above; EMPTY too if
  * `most` is 0. */
-uint32_t vahepito_take_many(vahepito_queue *queue, uint32_t group, vahepito_item *items, size_t most, const struct timespec *moment, size_t *count, uint64_t *total);
+uint32_t vahepito_take_many(vahepito_queue *queue, uint32_t group, vahepito_item *items, size_t most,
+    const struct timespec *moment, size_t *count, uint64_t *total)
+    VAHEPITO_INTERNAL_NO_NULL(1, 3) VAHEPITO_INTERNAL_LOOK_AT;
 
 /* Closes the queue: nothing is accepted after it, and takes come to the end once they have taken what was accepted. All calls that
  * wait are woken. SHUT, ALREADY with the total. */
-uint32_t vahepito_close(vahepito_queue *queue, uint64_t *total);
+uint32_t vahepito_close(vahepito_queue *queue, uint64_t *total) VAHEPITO_INTERNAL_NO_NULL(1);
 
 /* Whether a close has returned, or has had its effect. */
-bool vahepito_is_closed(vahepito_queue *queue);
+bool vahepito_is_closed(vahepito_queue *queue) VAHEPITO_INTERNAL_NO_NULL(1);
 
 /* How many items the queue holds: those that the slowest group hasn't taken. It was so at some moment of the call, but for items of
  * calls that are under way. */
-uint64_t vahepito_length(vahepito_queue *queue);
+uint64_t vahepito_length(vahepito_queue *queue) VAHEPITO_INTERNAL_NO_NULL(1);
 
 /* How many items the queue holds at most; 0: any number. */
-uint32_t vahepito_capacity(const vahepito_queue *queue);
+uint32_t vahepito_capacity(const vahepito_queue *queue) VAHEPITO_INTERNAL_NO_NULL(1);
 
 /* A file descriptor for poll, select and epoll, which is readable while a take for this group may find something, or the end; of group 0: while a
  * send may find room, or the close. Once it is readable call vahepito_take_now (vahepito_send_now) until that returns EMPTY (FULL), which
  * makes it unreadable. The descriptor is the queue's, is one for each group, and is closed by vahepito_destroy; nothing is read from it, and nothing
  * written. -1 with errno: EINVAL, there is no such group; otherwise as of eventfd. */
-int vahepito_descriptor(vahepito_queue *queue, uint32_t group);
+int vahepito_descriptor(vahepito_queue *queue, uint32_t group) VAHEPITO_INTERNAL_NO_NULL(1) VAHEPITO_INTERNAL_LOOK_AT;
 
 /* What an item that is left in a queue is given to, with its group. */
 typedef void vahepito_leftover(void *with, uint32_t group, const vahepito_item *item);

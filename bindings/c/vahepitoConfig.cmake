@@ -11,15 +11,16 @@ include(CMakeFindDependencyMacro)
 find_dependency(Threads)
 
 if(NOT TARGET vahepito::vahepito)
-  get_filename_component(vahepito_prefix "${CMAKE_CURRENT_LIST_DIR}/../../.." ABSOLUTE)
+  get_filename_component(vahepito_lib "${CMAKE_CURRENT_LIST_DIR}/../.." ABSOLUTE)
+  get_filename_component(vahepito_include "${vahepito_lib}/@UP@/include" ABSOLUTE)
   add_library(vahepito::heap STATIC IMPORTED)
   set_target_properties(vahepito::heap PROPERTIES
     IMPORTED_LINK_INTERFACE_LANGUAGES C
-    IMPORTED_LOCATION "${vahepito_prefix}/lib/libvahepito_heap.a")
+    IMPORTED_LOCATION "${vahepito_lib}/libvahepito_heap.a")
   add_library(vahepito::default_calls STATIC IMPORTED)
   add_library(vahepito::strict_calls STATIC IMPORTED)
-  set_target_properties(vahepito::default_calls PROPERTIES IMPORTED_LOCATION "${vahepito_prefix}/lib/libvahepito.a")
-  set_target_properties(vahepito::strict_calls PROPERTIES IMPORTED_LOCATION "${vahepito_prefix}/lib/libvahepito_strict.a")
+  set_target_properties(vahepito::default_calls PROPERTIES IMPORTED_LOCATION "${vahepito_lib}/libvahepito.a")
+  set_target_properties(vahepito::strict_calls PROPERTIES IMPORTED_LOCATION "${vahepito_lib}/libvahepito_strict.a")
   set_target_properties(vahepito::default_calls vahepito::strict_calls PROPERTIES
     IMPORTED_LINK_INTERFACE_LANGUAGES C
     INTERFACE_LINK_LIBRARIES vahepito::heap)
@@ -30,13 +31,13 @@ if(NOT TARGET vahepito::vahepito)
   set_target_properties(vahepito::strict PROPERTIES INTERFACE_LINK_LIBRARIES "vahepito::strict_calls;Threads::Threads")
   set_target_properties(vahepito::vahepito vahepito::strict PROPERTIES
     IMPORTED_LINK_INTERFACE_LANGUAGES C
-    IMPORTED_LOCATION "${vahepito_prefix}/lib/libvahepito_queue.a"
-    INTERFACE_INCLUDE_DIRECTORIES "${vahepito_prefix}/include"
+    IMPORTED_LOCATION "${vahepito_lib}/libvahepito_queue.a"
+    INTERFACE_INCLUDE_DIRECTORIES "${vahepito_include}"
     INTERFACE_LINK_OPTIONS "LINKER:--exclude-libs,libvahepito_queue.a:libvahepito.a:libvahepito_strict.a:libvahepito_heap.a")
   add_library(vahepito::shared SHARED IMPORTED)
   set_target_properties(vahepito::shared PROPERTIES
-    IMPORTED_LOCATION "${vahepito_prefix}/lib/@SONAME@"
+    IMPORTED_LOCATION "${vahepito_lib}/@SONAME@"
     IMPORTED_SONAME @SONAME@
-    INTERFACE_INCLUDE_DIRECTORIES "${vahepito_prefix}/include"
+    INTERFACE_INCLUDE_DIRECTORIES "${vahepito_include}"
     INTERFACE_LINK_LIBRARIES Threads::Threads)
 endif()

@@ -19,7 +19,7 @@
  *
  * Seats. A call takes a seat and then reads at which queue it is. A seat has one sender, and one receiver of each group, of each queue of the row, so
  * that one thread at a time uses them. Then the seat says which queue that is. A queue that all groups have left is freed once each seat was seen
- * away from it after that, free or at another one: a call that takes its seat later reads a later queue. So a call that stands still keeps one queue. A call that parks for room or an item has no seat, nor has one that waits
+ * away from it after that, free or at another one: a call that takes its seat later reads a later queue. So a call whose thread is stopped keeps one queue. A call that parks for room or an item has no seat, nor has one that waits
  * for the lock: so a thread that has the lock may wait for a seat.
  *
  * Waits. The senders wait in one line for room, and the receivers of each group in another for an item. A line has two
@@ -346,8 +346,8 @@ static inline vahepito_internal_seat *vahepito_internal_seat_at(vahepito_queue *
 
 /* What a seat says that is taken stays. */
 static inline bool vahepito_internal_try_seat(vahepito_internal_seat *seat) {
-    uintptr_t nobody = 0;
-    return __atomic_compare_exchange_n(&seat->is_taken, &nobody, TAKEN, false, __ATOMIC_SEQ_CST, __ATOMIC_SEQ_CST);
+    uintptr_t none = 0;
+    return __atomic_compare_exchange_n(&seat->is_taken, &none, TAKEN, false, __ATOMIC_SEQ_CST, __ATOMIC_SEQ_CST);
 }
 
 static inline uint32_t vahepito_internal_number(const vahepito_queue *queue, const vahepito_internal_seat *seat) {
@@ -1177,13 +1177,17 @@ static void vahepito_internal_begin(vahepito_queue *queue, const vahepito_attrib
     for (uint32_t bell = 0; bell <= MOST_GROUPS; bell++) queue->bells[bell].place = -1;
 }
 
+uint32_t vahepito_check_version(uint32_t version) {
+    if (version / 1000 != VAHEPITO_VERSION / 1000 || version > VAHEPITO_VERSION) return VAHEPITO_BAD_VERSION;
+    return vahepito_check_library();
+}
+
 uint32_t vahepito_create_as(const vahepito_attributes *attributes, vahepito_queue **opened) {
     void *memory = NULL;
     uint32_t code;
     *opened = NULL;
-    if (attributes->version / 1000 != VAHEPITO_VERSION / 1000 || attributes->version > VAHEPITO_VERSION) return VAHEPITO_BAD_VERSION;
-    if (vahepito_check_version() != VAHEPITO_DONE) return VAHEPITO_BAD_VERSION;
-    if (attributes->places > SEATS) return VAHEPITO_BAD_SENDERS;
+    if (vahepito_check_version(attributes->version) != VAHEPITO_DONE) return VAHEPITO_BAD_VERSION;
+    if (attributes->places > SEATS) return VAHEPITO_BAD_PLACES;
     if (attributes->groups > MOST_GROUPS) return VAHEPITO_BAD_GROUPS;
     if (posix_memalign(&memory, 64, sizeof(vahepito_queue)) != 0) return VAHEPITO_NO_MEMORY;
     vahepito_queue *const queue = memory;
@@ -1194,6 +1198,13 @@ uint32_t vahepito_create_as(const vahepito_attributes *attributes, vahepito_queu
     for (uint32_t group = 0; group < queue->groups; group++) queue->at[group] = queue->first;
     *opened = queue;
     return VAHEPITO_DONE;
+}
+
+vahepito_queue *vahepito_create(uint32_t capacity) {
+    vahepito_attributes attributes = VAHEPITO_ATTRIBUTES;
+    vahepito_queue *queue;
+    attributes.capacity = capacity;
+    return vahepito_create_as(&attributes, &queue) == VAHEPITO_DONE ? queue : NULL;
 }
 
 /* What each group has left goes to `left`. */
@@ -1216,11 +1227,14 @@ void vahepito_destroy(vahepito_queue *queue, vahepito_leftover *left, void *with
     free(queue);
 }
 
+bool vahepito_is_done(uint32_t code) {
+    return code == VAHEPITO_DONE || code == VAHEPITO_ACCEPTED || code == VAHEPITO_SHUT || code == VAHEPITO_GOT;
+}
+
 const char *vahepito_name(uint32_t code) {
     switch (code) {
     case VAHEPITO_DONE: return "DONE";
-    case VAHEPITO_BAD_SENDERS: return "BAD_SENDERS";
-    case VAHEPITO_BAD_RECEIVERS: return "BAD_RECEIVERS";
+    case VAHEPITO_BAD_PLACES: return "BAD_PLACES";
     case VAHEPITO_BAD_CAPACITY: return "BAD_CAPACITY";
     case VAHEPITO_BAD_BOUND: return "BAD_BOUND";
     case VAHEPITO_BAD_LIFE: return "BAD_LIFE";
@@ -1245,8 +1259,7 @@ const char *vahepito_name(uint32_t code) {
 const char *vahepito_text(uint32_t code) {
     switch (code) {
     case VAHEPITO_DONE: return "it was done";
-    case VAHEPITO_BAD_SENDERS: return "the number of places for sends is not from 1 to 64";
-    case VAHEPITO_BAD_RECEIVERS: return "the number of places for takes is not from 1 to 64";
+    case VAHEPITO_BAD_PLACES: return "the number of places is not from 1 to 64";
     case VAHEPITO_BAD_CAPACITY: return "the capacity is not from 1 to 4096";
     case VAHEPITO_BAD_BOUND: return "the bound is not from 1 to 1024";
     case VAHEPITO_BAD_LIFE: return "the life is not from 1 to 2^48";
