@@ -340,7 +340,7 @@ static uint32_t make_call(char call) {
     case 'S': return vahepito_send_until(&queue, 1, &some_time, NULL);
     case 'm': return vahepito_send_now(&queue, 1, NULL);
     case 'b': return vahepito_send_many(&queue, words, 2, NULL, NULL);
-    case 'e': return vahepito_internal_notify_items(&queue), vahepito_internal_attempt_send(&(vahepito_internal_send_request){&queue, words, 1, 0, 0});
+    case 'e': return vahepito_internal_notify_items(&queue, false), vahepito_internal_attempt_send(&(vahepito_internal_send_request){&queue, words, 1, 0, 0});
     case 't': case 'u': return vahepito_take(&queue, (uint32_t)group_of_take, NULL, NULL);
     case 'T': case 'U': return vahepito_take_until(&queue, (uint32_t)group_of_take, NULL, &some_time, NULL);
     case 'n': return vahepito_take_now(&queue, 1, NULL, NULL);

@@ -207,6 +207,36 @@ static void stalled(void) {
     vahepito_destroy(queue, NULL, NULL);
 }
 
+/* Groups leave: what they have left takes up no room, and the last one closes the queue. */
+static void *leaves(void *unused) {
+    vahepito_item item;
+    for (int count = 0; count < 100; count++) check(vahepito_take(queue, 2, &item, NULL) == VAHEPITO_GOT, "the group takes");
+    check(vahepito_leave(queue, 2) == VAHEPITO_DONE, "and leaves");
+    return unused;
+}
+
+static void leaving(const struct shape *shape) {
+    const uint64_t words[2] = {7, 8};
+    pthread_t thread, sending[SENDING];
+    static uint32_t numbers[SENDING];
+    uint64_t total, taken = 0;
+    vahepito_item item;
+    open_as(shape);
+    memset(place_counts, 0, sizeof place_counts);
+    inside = INT64_MIN / 2; /* the bound isn't looked at here */
+    check(!pthread_create(&thread, NULL, leaves, NULL), "a thread starts");
+    for (uint32_t k = 0; k < SENDING; k++) numbers[k] = k, check(!pthread_create(&sending[k], NULL, sends, &numbers[k]), "a thread starts");
+    while (taken < SENDING * items) check(vahepito_take(queue, 1, &item, NULL) == VAHEPITO_GOT && item.place == taken++, "the other group has all");
+    for (uint32_t k = 0; k < SENDING; k++) check(!pthread_join(sending[k], NULL), "a sender ends");
+    check(!pthread_join(thread, NULL) && vahepito_length(queue) == 0, "nothing is left of either");
+    check(vahepito_send_many(queue, words, 1, NULL, NULL) == VAHEPITO_ACCEPTED && vahepito_take(queue, 1, &item, NULL) == VAHEPITO_GOT, "a batch too");
+    check(vahepito_length(queue) == 0 && !vahepito_is_closed(queue), "and it is open");
+    check(vahepito_leave(queue, 3) == VAHEPITO_BAD_GROUPS && vahepito_leave(queue, 0) == VAHEPITO_BAD_GROUPS, "no other group leaves");
+    check(vahepito_leave(queue, 1) == VAHEPITO_DONE && vahepito_send(queue, 1, NULL) == VAHEPITO_CLOSED, "the last one closes it");
+    check(vahepito_close(queue, &total) == VAHEPITO_ALREADY && total == SENDING * items + 1, "after all items");
+    vahepito_destroy(queue, NULL, NULL);
+}
+
 /* Batches: as many as there is room for, and as many as there are. */
 static void batches(void) {
     const struct timespec now = {0, 0}, soon = vahepito_after(20000000);
@@ -297,6 +327,9 @@ int main(int count, char **words) {
     }
     no_bound();
     stalled();
+    leaving(&(struct shape){3, 2, 2, 0, 0});
+    leaving(&(struct shape){8, 2, 1, 0, 7});
+    leaving(&(struct shape){0, 2, 0, 0, 100});
     batches();
     descriptors();
     for (; at < sizeof shapes / sizeof *shapes; at++) many_threads(&shapes[at]);

@@ -312,7 +312,8 @@ struct vahepito_queue {
     uint32_t groups, words, places; /* how many seats there are: a power of two */
     size_t stride, own_mask;        /* the bytes of a side's handles in a queue of the row; and up to which bytes a seat begins */
     bool has_bound, is_closed;
-    bool has_bells;   /* whether some bell isn't -1 */
+    bool has_bells;   /* whether some bell isn't -1, or some group has left */
+    bool has_left[MOST_GROUPS];
     uint32_t special; /* NARROW: some group isn't at the last queue, and there is a bound. WAS_FULL: a send found no room; so a send looks first */
     vahepito_internal_part *last, *at[MOST_GROUPS];
     pthread_mutex_t lock;                   /* for `is_closed`, NARROW, the queues, and the two lists of them */
@@ -513,14 +514,18 @@ static __attribute__((noinline, cold)) void vahepito_internal_ring_for_items(vah
     for (uint32_t group = 1; group <= queue->groups; group++) vahepito_internal_ring_if_armed(&queue->bells[group]);
 }
 
+/* The same, and takes what groups have that have left: in no seat. */
+static void vahepito_internal_ring_and_skip(vahepito_queue *queue);
+
 /* After a send that was accepted: wakes a receiver of each group. */
-static inline void vahepito_internal_notify_items(vahepito_queue *queue) {
+static inline void vahepito_internal_notify_items(vahepito_queue *queue, bool has_seat) {
     vahepito_internal_in_order();
     uint32_t group = 0;
     do
         if (vahepito_internal_has_waiting(&queue->receivers[group])) vahepito_internal_notify(&queue->receivers[group], 1);
     while (++group < queue->groups);
-    if (__builtin_expect(__atomic_load_n(&queue->has_bells, __ATOMIC_SEQ_CST), 0)) vahepito_internal_ring_for_items(queue);
+    if (__builtin_expect(__atomic_load_n(&queue->has_bells, __ATOMIC_SEQ_CST), 0))
+        (has_seat ? vahepito_internal_ring_for_items : vahepito_internal_ring_and_skip)(queue);
 }
 
 static __attribute__((noinline, cold)) void vahepito_internal_notify_senders(vahepito_queue *queue) {
@@ -837,6 +842,19 @@ static uint32_t vahepito_internal_further_take(vahepito_internal_take_request *i
 /* One try of a take. */
 static uint32_t vahepito_internal_attempt_take(vahepito_internal_take_request *it) { return vahepito_internal_further_take(it, vahepito_internal_seated_take(it)); }
 
+/* Takes all that a group has, which has left or is leaving. */
+static void vahepito_internal_skip(vahepito_queue *queue, uint32_t group) {
+    vahepito_item item;
+    vahepito_internal_take_request request = {queue, group, &item, 0, 0};
+    while (vahepito_internal_attempt_take(&request) == VAHEPITO_GOT) vahepito_internal_notify_room(queue);
+}
+
+static __attribute__((noinline, cold)) void vahepito_internal_ring_and_skip(vahepito_queue *queue) {
+    vahepito_internal_ring_for_items(queue);
+    for (uint32_t group = 1; group <= queue->groups; group++)
+        if (__atomic_load_n(&queue->has_left[group - 1], __ATOMIC_SEQ_CST)) vahepito_internal_skip(queue, group);
+}
+
 /* ---- waits */
 
 /* A try, of a send or of a take. */
@@ -918,7 +936,7 @@ static __attribute__((noinline)) uint32_t vahepito_internal_rest_of_send(vahepit
     }
     code = vahepito_internal_further_send(&it, code);
     if (code == VAHEPITO_FULL) code = vahepito_internal_again(it.queue, 0, &it, VAHEPITO_FULL, moment);
-    if (code == VAHEPITO_ACCEPTED) vahepito_internal_notify_items(it.queue);
+    if (code == VAHEPITO_ACCEPTED) vahepito_internal_notify_items(it.queue, false);
     if (place) *place = it.place;
     return code;
 }
@@ -938,7 +956,7 @@ static inline __attribute__((always_inline)) uint32_t vahepito_internal_send(vah
             if (__builtin_expect(code == VAHEPITO_ACCEPTED, 1)) {
                 number += part->base;
                 vahepito_internal_give_back(queue, seat);
-                vahepito_internal_notify_items(queue);
+                vahepito_internal_notify_items(queue, false);
                 if (place) *place = number;
                 return VAHEPITO_ACCEPTED;
             }
@@ -992,9 +1010,10 @@ static size_t vahepito_internal_send_some(vahepito_queue *queue, const uint64_t 
         vahepito_internal_send_request request = {queue, &words[at], 1, 0, 0};
         if ((__atomic_load_n(&queue->special, __ATOMIC_SEQ_CST) & NARROW) != 0) break;
         if (vahepito_internal_send_by(&request, own, part) != VAHEPITO_ACCEPTED) break;
-        vahepito_internal_notify_items(queue);
+        vahepito_internal_notify_items(queue, true);
     }
     vahepito_internal_give_back(queue, seat);
+    if (at > 0 && __atomic_load_n(&queue->has_bells, __ATOMIC_SEQ_CST)) vahepito_internal_ring_and_skip(queue);
     return at;
 }
 
@@ -1008,7 +1027,7 @@ uint32_t vahepito_send_many(vahepito_queue *queue, const uint64_t *words, size_t
         vahepito_internal_send_request request = {queue, &words[at], 1, 0, 0};
         code = vahepito_internal_attempt_send(&request);
         if (code == VAHEPITO_FULL) code = vahepito_internal_again(queue, 0, &request, VAHEPITO_FULL, moment);
-        if (code == VAHEPITO_ACCEPTED) at++, vahepito_internal_notify_items(queue);
+        if (code == VAHEPITO_ACCEPTED) at++, vahepito_internal_notify_items(queue, false);
     }
     if (sent) *sent = at;
     return code;
@@ -1125,6 +1144,20 @@ uint32_t vahepito_close(vahepito_queue *queue, uint64_t *total) {
     vahepito_internal_notify_all(queue);
     if (total) *total = number;
     return code;
+}
+
+/* A send that doesn't find the mark has linked its item before, so that it is found here. */
+uint32_t vahepito_leave(vahepito_queue *queue, uint32_t group) {
+    bool is_last = true;
+    if (group - 1 >= queue->groups) return VAHEPITO_BAD_GROUPS;
+    vahepito_internal_lock(queue);
+    __atomic_store_n(&queue->has_left[group - 1], true, __ATOMIC_SEQ_CST);
+    __atomic_store_n(&queue->has_bells, true, __ATOMIC_SEQ_CST);
+    for (uint32_t other = 0; other < queue->groups; other++) is_last = is_last && queue->has_left[other];
+    vahepito_internal_unlock(queue);
+    if (is_last) (void)vahepito_close(queue, NULL);
+    else vahepito_internal_skip(queue, group);
+    return VAHEPITO_DONE;
 }
 
 bool vahepito_is_closed(vahepito_queue *queue) {
