@@ -67,6 +67,51 @@ void defaults_and_moments() {
     check(!receivers[0].take_until(vahepito::moment::min()) && !receivers[0].ended(), "the first moment of all has come");
 }
 
+struct counted {
+    explicit counted(int &its) : count(&its) { ++*count; }
+    ~counted() { --*count; }
+    int *count;
+};
+
+void receivers_go() {
+    vahepito::config config;
+    config.capacity = 1, config.groups = 2;
+    auto [sender, receivers] = vahepito::open<int>(config);
+    check(sender.send(1) && sender.try_send(2) == vahepito::sent::full && sender.length() == 1, "there is room for one");
+    receivers.pop_back();
+    check(sender.length() == 1 && receivers[0].take() == 1 && sender.send(2), "a group that leaves holds no room");
+    vahepito::receiver<int> other = receivers[0];
+    receivers.clear();
+    check(other.take() == 2 && sender.send(3), "a group has its copies");
+    { auto last = std::move(other); }
+    check(!sender.send(4) && sender.try_send(5) == vahepito::sent::closed, "the last receiver of all closes the queue");
+}
+
+void batches_and_pointers() {
+    auto [sender, receivers] = vahepito::open<int>({});
+    std::vector<int> numbers{1, 2, 3};
+    check(sender.send_many(numbers) == 3 && receivers[0].take_many(2) == std::vector<int>{1, 2}, "up to as many as there are");
+    check(receivers[0].take_many(5) == std::vector<int>{3} && sender.descriptor() >= 0 && receivers[0].descriptor() >= 0, "and the rest");
+    check(sender.close() && receivers[0].take_many(5).empty() && receivers[0].ended(), "and none at the end");
+    int alive = 0, left = 0;
+    {
+        vahepito::config config;
+        config.capacity = 2;
+        auto [owner, takers] = vahepito::open<std::unique_ptr<counted>>(config);
+        auto refused = std::make_unique<counted>(alive);
+        check(owner.send(std::make_unique<counted>(alive)) && owner.send(std::make_unique<counted>(alive)), "there is room for two");
+        check(owner.try_send(std::move(refused)) == vahepito::sent::full && refused, "what isn't accepted stays");
+        const auto taken = takers[0].take();
+        check(taken && (*taken)->count == &alive && alive == 3, "what is taken is the taker's");
+    }
+    check(alive == 0, "and what is left is freed");
+    {
+        auto [first, second] = vahepito::open<int>({}, [&left](std::uint32_t group, int item) { left += static_cast<int>(group) * item; });
+        check(first.send(7) && first.send(8) && second[0].take() == 7, "one is taken");
+    }
+    check(left == 8, "and the other one given at the end");
+}
+
 std::uint64_t many_threads() {
     constexpr std::uint32_t each = 4, items = 2000;
     vahepito::config config;
@@ -99,5 +144,7 @@ std::uint64_t many_threads() {
 int main() {
     one_thread();
     defaults_and_moments();
+    receivers_go();
+    batches_and_pointers();
     std::printf("%llu items\n", static_cast<unsigned long long>(many_threads()));
 }

@@ -255,9 +255,9 @@ uint32_t vahepito_take_many(vahepito_queue *queue, uint32_t group, vahepito_item
  * wait are woken. SHUT, ALREADY with the total. */
 uint32_t vahepito_close(vahepito_queue *queue, uint64_t *total) VAHEPITO_INTERNAL_NO_NULL(1);
 
-/* The group takes no more: no call of the group is under way or follows, but of vahepito_destroy. What the group has not taken,
- * and what is sent later, takes up no room for it; each send takes its item for the group. If no other group is left, this
- * closes the queue. Nothing is given to a function: what the words of a group of its own point to is to be taken before.
+/* The group takes no more: no call of the group is under way or follows, but of vahepito_destroy. Items that
+ * the group has not taken, and items that are sent later, take up no room for it: each send takes its item for the group. If
+ * no other group is left, this closes the queue, and vahepito_destroy passes on what is left.
  * DONE, BAD_GROUPS. */
 uint32_t vahepito_leave(vahepito_queue *queue, uint32_t group) VAHEPITO_INTERNAL_NO_NULL(1);
 
