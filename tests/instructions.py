@@ -68,8 +68,8 @@ FUTURES = {
 # which it takes a seat.
 IN_C = {
     "vahepito_try_send and vahepito_try_take": ("handles", 555, 4),
-    "vahepito_send and vahepito_take": ("waits", 690, 6),
-    "the same by the twentieth thread, with 8 places": ("few", 690, 6),
+    "vahepito_send and vahepito_take": ("waits", 695, 6),
+    "the same by the twentieth thread, with 8 places": ("few", 695, 6),
 }
 RUST = """#![allow(unused_imports)]
 use vahepito::{after, channel, groups, never, select, unbounded};
