@@ -371,11 +371,9 @@ impl Own {
                 vec![reserved, (start, clock.now(), channel, outcome)]
             }
             (_, _, Some(sender)) => {
-                // With capacity 0 the take may have given the pair up.
                 let outcome = match operation.send(sender, item) {
                     Ok(()) => Outcome::Sent(item),
-                    Err(_) if sender.is_closed() => Outcome::SendClosed,
-                    Err(_) => Outcome::Full,
+                    Err(_) => Outcome::SendClosed,
                 };
                 vec![(begin, clock.now(), channel, outcome)]
             }

@@ -101,10 +101,10 @@ fn handles<T>(core: Arc<Core<T>>) -> (Sender<T>, Vec<Receiver<T>>) {
 /// seat at first. A call that finds it taken by another thread lets the side have more seats, which takes memory once; without memory
 /// the call waits for the seat. With more than 4,096 items the channel has a row of queues, as [`unbounded`] says, and counts what it holds.
 ///
-/// With capacity 0 a send is over when a receiver has the item. If its time is over before, nobody has
-/// it, and it is handed back. `try_send` succeeds if a take or a select waits, of a thread or a task, and `try_recv`
-/// if a send waits; for the item of a select it waits up to a millisecond. Such a channel has no queue: it uses locks,
-/// and rests on nothing that is proved.
+/// With capacity 0 a send is over when a receiver has the item. If its time is over before, nobody has it, and it is
+/// handed back. `try_send` succeeds if a take or a select waits, of a thread or a task, and `try_recv` if a send waits.
+/// A take that has met a selected send waits for the item, even if the take's time is over. Such a channel has no
+/// queue: it uses locks, and rests on nothing that is proved.
 ///
 /// The channel is closed by [`Sender::close`] or [`Receiver::close`], by the drop of the last sender,
 /// or by that of the last receiver, which also drops what is left in the channel.

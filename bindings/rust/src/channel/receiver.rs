@@ -53,8 +53,8 @@ impl<T> Receiver<T> {
     }
 
     /// Takes an item, if there is one. It doesn't wait for an item; but if another thread serves the
-    /// calls of its group at this moment, it waits for its answer. With capacity 0 it waits up to a millisecond for the
-    /// item of a select that it has met, and so do the other takes at the end of their time.
+    /// calls of its group at this moment, it waits for its answer. With capacity 0 a take that has met a
+    /// selected send waits until that is completed, also one whose time is over.
     ///
     /// # Errors
     ///

@@ -16,18 +16,18 @@
 //! **None is met twice.** A waiter notes who met it first, under a lock ([`Waiter::try_meet`]); it may be posted
 //! in several channels. The item of an offer is taken out of the one list in which it is.
 //!
-//! **A pair may be given up, by either side.** A pair is in the list of pairs until it is given up, or its item is
-//! taken. So each step of a pair, under one lock, sees whether the other side is still there. A take, and a select of
-//! one, returns only once the pair has its item. If the send gives the pair up, the take is woken, and goes on: with
-//! the other operations of its select, and until its time is over. A take whose time is over takes the item if it is
-//! there; if not, it waits for the other side for [`GRACE`] and gives the pair up. The selected send then finds no
-//! pair when it is completed: its item goes to another take, for which it waits as long as its select would have.
+//! **Only the send may give a pair up.** A pair is in the list of pairs until its send gives it up, or its item is
+//! taken. So each step of a pair, under one lock, sees whether it is still there. A take, and a select of one, returns
+//! only once the pair has its item, also if its time is over before: so a selected send that is completed has a take.
+//! If the send gives the pair up, the take is woken, and goes on: with the other operations of its select, and until
+//! its time is over. The take of a task may be dropped: its pair stays without a taker, and its item goes to the next
+//! take.
 //!
 //! **A time that is over** hands the item back exactly if nobody took it: a send takes it off itself then.
 //!
 //! **A poll waits for nothing.** The take of a task is a waiter too. A waker is noted before the look at what it is
-//! to report, first in the waiter and then in the pair, so that whoever changes that finds the waker. A task that is
-//! dropped gives the item of its pair to the next take, or the channel keeps it for one, also after a close.
+//! to report, first in the waiter and then in the pair, so that whoever changes that finds the waker. If a task is
+//! dropped, the item of its pair goes to the next take, or the channel keeps it for one, also after a close.
 //!
 //! **Those that only look** ([`Select::ready`](crate::Select::ready)) aren't posted. They wait in the lines of their sides, for which each
 //! post notifies: see [`event`](crate::event).
@@ -42,7 +42,7 @@ use std::ptr;
 use std::sync::atomic::{AtomicBool, Ordering};
 use std::sync::{Arc, Mutex, MutexGuard};
 use std::task::{Poll, Waker, ready};
-use std::time::{Duration, Instant};
+use std::time::Instant;
 
 /// The part of an operation when it meets another one, which has the other part.
 #[derive(Clone, Copy, PartialEq)]
@@ -62,9 +62,6 @@ impl Role {
 
 /// Why a call here finds a rendezvous.
 const MEETS: &str = "the channel has capacity 0";
-
-/// How long a take whose time is over waits for the item of a send that it has met.
-const GRACE: Duration = Duration::from_millis(1);
 
 /// A select of a thread, or a take of a task, that waits until another call meets it.
 pub struct Waiter(Mutex<Waits>);
@@ -175,9 +172,8 @@ pub trait Meets {
     fn begin(&self, lines: &mut Lines, role: Role) -> Option<Met>;
     /// Whether there seems to be one to meet, or nobody will be.
     fn look(&self, role: Role) -> Try<()>;
-    /// Whether a pair is for good: whether a send still has it; and whether that of a take has its item, for which it waits
-    /// until this moment, or [`GRACE`].
-    fn wait_for_pair(&self, pair: u64, role: Role, until: Option<Instant>) -> bool;
+    /// Waits until this pair of a take has its item, and returns whether it has. If not, its send has given it up.
+    fn wait_for_item(&self, pair: u64) -> bool;
 }
 
 /// An operation of a select that may meet another.
@@ -210,11 +206,13 @@ pub fn meet_or_post(operations: &[Operation], waiter: &Arc<Waiter>) -> Option<(u
     None
 }
 
-/// A send and a take that have met, until the item is taken or one of them gives the pair up.
+/// A send and a take that have met, until the item is taken or the send gives the pair up.
 struct Pair<T> {
     /// The waker of the take, unless it is awake.
     taker: Option<Waker>,
     item: Option<T>,
+    /// Whether the take was dropped before there was an item.
+    is_left: bool,
 }
 
 /// A send that is posted with its item.
@@ -243,7 +241,12 @@ impl<T> Pairs<T> {
     /// Makes a pair with this item and the waker of its take. The other waker is called.
     fn push(&mut self, taker: Option<Waker>, item: Option<T>, woken: Option<Waker>) -> Met {
         let number = self.next();
-        self.pairs.insert(number, Pair { taker, item });
+        let pair = Pair {
+            taker,
+            item,
+            is_left: false,
+        };
+        self.pairs.insert(number, pair);
         let begun = Begun::Met(number);
         Met { begun, woken }
     }
@@ -322,10 +325,8 @@ impl<T> Rendezvous<T> {
 
     /// Takes an item of one that is posted. Gives None if the channel is closed.
     pub fn try_take(&self) -> Try<Option<T>> {
-        let mut until = None;
         while let Begun::Met(pair) = try_meet(self, Role::Take)? {
-            let until = *until.get_or_insert_with(|| Instant::now() + GRACE);
-            if self.wait_for_item(pair, Some(until)) {
+            if self.wait_for_item(pair) {
                 return Ok(self.take(pair));
             }
         }
@@ -355,31 +356,32 @@ impl<T> Rendezvous<T> {
         })
     }
 
-    /// Waits until this pair has its item, and returns whether it has. If not, the pair is given up: by the send, or
-    /// since the time is over.
-    fn wait_for_item(&self, number: u64, until: Option<Instant>) -> bool {
-        let poll = |waker: &Waker| self.poll_pair(number, waker, &mut Panics::default());
-        poll_until(until, poll).unwrap_or_else(|| {
-            let pairs = &mut lock(&self.pairs).pairs;
-            let has_item = pairs.get(&number).is_some_and(|it| it.item.is_some());
-            if !has_item {
-                pairs.remove(&number);
-            }
-            has_item
-        })
-    }
-
     /// The item of a pair that has it.
     pub fn take(&self, pair: u64) -> Option<T> {
         lock(&self.pairs).pairs.remove(&pair)?.item
     }
 
-    /// Gives a pair its item. Hands it back if the take gave the pair up.
-    pub fn send(&self, pair: u64, item: T) -> Result<(), T> {
+    /// Gives an item whose take was dropped to the next take, or keeps it for one. Hands it back if it isn't sent yet,
+    /// and the channel is closed.
+    fn hand_on(&self, item: T, is_sent: bool) -> Result<(), T> {
+        match self.give(item) {
+            Err((item, lines)) if lines.is_closed && !is_sent => return Err(item),
+            Err((item, _lines)) => lock(&self.pairs).returned.push_back(item),
+            Ok(()) => {}
+        }
+        Ok(())
+    }
+
+    /// Gives a pair its item. Hands it back if its take was dropped, and the channel is closed.
+    pub fn send(&self, number: u64, item: T) -> Result<(), T> {
         let mut pairs = lock(&self.pairs);
-        let Some(pair) = pairs.pairs.get_mut(&pair) else {
-            return Err(item);
-        };
+        let pair = pairs.pairs.get_mut(&number);
+        let pair = pair.expect("a pair is there until its send is completed");
+        if pair.is_left {
+            pairs.pairs.remove(&number);
+            drop(pairs);
+            return self.hand_on(item, false);
+        }
         pair.item = Some(item);
         let taker = pair.taker.take();
         drop(pairs);
@@ -389,7 +391,7 @@ impl<T> Rendezvous<T> {
 
     /// A selected operation gives its pair up. Gives the item that it has already.
     pub fn give_up(&self, pair: u64) -> Option<T> {
-        let Pair { item, taker } = lock(&self.pairs).pairs.remove(&pair)?;
+        let Pair { item, taker, .. } = lock(&self.pairs).pairs.remove(&pair)?;
         ignore_panics(taker, Waker::wake);
         item
     }
@@ -458,10 +460,18 @@ impl<T> Rendezvous<T> {
         }
     }
 
-    /// A task's take is no more. Gives the item that it has already.
-    pub fn leave(&self, taker: TakerState, panics: &mut Panics) -> Option<T> {
-        let pair = self.withdraw_taker(taker, panics)?;
-        let Pair { taker, item } = lock(&self.pairs).pairs.remove(&pair)?;
+    /// A task's take is no more. Gives the item that it has already. If it has none, its pair stays until the send is
+    /// completed.
+    fn leave(&self, taker: TakerState, panics: &mut Panics) -> Option<T> {
+        let number = self.withdraw_taker(taker, panics)?;
+        let mut pairs = lock(&self.pairs);
+        let pair = pairs.pairs.get_mut(&number)?;
+        let (taker, item) = (pair.taker.take(), pair.item.take());
+        pair.is_left = true;
+        if item.is_some() {
+            pairs.pairs.remove(&number);
+        }
+        drop(pairs);
         panics.run_each(taker, drop);
         item
     }
@@ -500,14 +510,9 @@ impl<T> Meets for Rendezvous<T> {
         Again::unless(has_item || has_waiter || lines.is_closed)
     }
 
-    fn wait_for_pair(&self, pair: u64, role: Role, until: Option<Instant>) -> bool {
-        match role {
-            Role::Send => lock(&self.pairs).pairs.contains_key(&pair),
-            Role::Take => {
-                let until = until.map(|until| until.max(Instant::now() + GRACE));
-                self.wait_for_item(pair, until)
-            }
-        }
+    fn wait_for_item(&self, pair: u64) -> bool {
+        let poll = |waker: &Waker| self.poll_pair(pair, waker, &mut Panics::default());
+        poll_until(None, poll).expect("it waits without end")
     }
 }
 
@@ -546,8 +551,7 @@ impl<T> Receiver<T> {
             return item.ok_or(RecvTimeoutError::Disconnected);
         }
         let pair = rendezvous.withdraw_taker(taker, &mut panics);
-        let grace = Some(Instant::now() + GRACE);
-        let pair = pair.filter(|pair| rendezvous.wait_for_item(*pair, grace));
+        let pair = pair.filter(|pair| rendezvous.wait_for_item(*pair));
         let item = pair.and_then(|pair| rendezvous.take(pair));
         item.ok_or(RecvTimeoutError::Timeout)
     }
@@ -567,9 +571,9 @@ impl<T> Receiver<T> {
                 TakerState::Posted(waiter) => match waiter.poll(waker, panics) {
                     Poll::Ready(pair) => pair,
                     Poll::Pending if !self.is_closed() => return Poll::Pending,
-                    Poll::Pending => match rendezvous.leave(mem::take(taker), panics) {
+                    Poll::Pending => match rendezvous.withdraw_taker(mem::take(taker), panics) {
                         None => continue,
-                        taken => return Poll::Ready(taken),
+                        Some(pair) => pair,
                     },
                 },
                 TakerState::Idle => {
@@ -599,9 +603,7 @@ impl<T> Receiver<T> {
     pub(super) fn leave_met(&self, taker: TakerState, panics: &mut Panics) {
         let rendezvous = self.rendezvous().expect(MEETS);
         if let Some(item) = rendezvous.leave(taker, panics) {
-            if let Err((item, _lines)) = rendezvous.give(item) {
-                lock(&rendezvous.pairs).returned.push_back(item);
-            }
+            drop(rendezvous.hand_on(item, true));
             self.line().notify_one();
         }
     }

@@ -174,13 +174,14 @@ impl<T> Case for Sender<T> {
 
 impl<T> Sender<T> {
     /// Sends by a selected send.
-    fn complete(&self, begun: Begun, item: T, until: Option<Instant>) -> Result<(), SendError<T>> {
+    fn complete(&self, begun: Begun, item: T) -> Result<(), SendError<T>> {
         match (begun, &self.core().rendezvous) {
-            (Begun::Met(pair), Some(rendezvous)) => rendezvous.send(pair, item).or_else(|item| {
-                // The take gave the pair up: the send waits for another one, as long as its select would have.
-                let sent = self.meet_until(item, until);
-                sent.map_err(|error| SendError(error.into_inner()))
-            }),
+            (Begun::Met(pair), Some(rendezvous)) => {
+                let sent = rendezvous.send(pair, item);
+                // If its take was dropped, the item may be kept for another one.
+                self.core().notify_item();
+                sent.map_err(SendError)
+            }
             (Begun::Room, _) => {
                 let mut item = self.pack(item);
                 if self.core().send_to_room(&mut item) {
@@ -312,14 +313,17 @@ impl<R: Deref<Target: Case>> Entry<R> {
         }
     }
 
-    /// Whether what has begun is for good, with capacity 0: see [`Meets::wait_for_pair`].
+    /// Whether what has begun is for good. A take that has met a send waits here for its item; if the send gives their
+    /// pair up, it isn't.
     #[inline]
-    fn wait_for_pair(&self, begun: &Begun, until: Option<Instant>) -> bool {
+    fn has_its_pair(&self, begun: &Begun) -> bool {
         let Begun::Met(pair) = *begun else {
             return true;
         };
-        let rendezvous = self.case.rendezvous();
-        rendezvous.is_none_or(|(channel, role)| channel.wait_for_pair(pair, role, until))
+        match self.case.rendezvous() {
+            Some((channel, Role::Take)) => channel.wait_for_item(pair),
+            _ => true,
+        }
     }
 }
 
@@ -584,8 +588,7 @@ impl<'s, R: Copy + Deref<Target: Case>> Turn<'s, R> {
     fn try_once(&self) -> Option<(Entry<R>, Begun)> {
         self.entries.iter().find_map(|entry| {
             let begun = entry.attempt(self.aim).ok()?;
-            let is_done = entry.wait_for_pair(&begun, self.until);
-            is_done.then_some((*entry, begun))
+            entry.has_its_pair(&begun).then_some((*entry, begun))
         })
     }
 
@@ -629,7 +632,7 @@ impl<'s, R: Copy + Deref<Target: Case>> Turn<'s, R> {
                     match self.stand_and_park(parker) {
                         Waited::Done(at, begun) => {
                             let entry = self.entries[at];
-                            if entry.wait_for_pair(&begun, self.until) {
+                            if entry.has_its_pair(&begun) {
                                 return Some((entry, begun));
                             }
                             // It goes on with the others, and until its time is over.
@@ -727,7 +730,7 @@ impl<'a> Select<'a> {
 
     fn select_until(&mut self, until: Option<Instant>) -> Option<SelectedOperation<'a>> {
         let (Entry { index, case }, begun) = self.wait(Aim::Begin, until)?;
-        Some(SelectedOperation::new(Entry { index, case }, begun, until))
+        Some(SelectedOperation::new(Entry { index, case }, begun))
     }
 
     /// Begins an operation, if one is ready.
@@ -934,7 +937,7 @@ pub fn select_arms<'a, const N: usize>(
     // A moment beyond the clock's range never comes.
     let until = time.and_then(|time| Instant::now().checked_add(time));
     let (entry, begun) = Turn::new(&mut entries, is_biased, Aim::Begin, until).wait()?;
-    Some(SelectedOperation::new(entry, begun, until))
+    Some(SelectedOperation::new(entry, begun))
 }
 
 fmt_by_text! { impl Debug for Select<'_>: _ => "Select { .. }" }
@@ -947,28 +950,22 @@ impl Default for Select<'_> {
 
 /// An operation that a [`Select`] has begun: a take that has its item, or a send that has its room.
 ///
-/// Complete it by [`recv`](SelectedOperation::recv) or [`send`](SelectedOperation::send). If it is dropped
-/// instead, the item that was taken is dropped too, and the room is given back. If it is forgotten, both
-/// stay where they are as long as the channel is there. With capacity 0 a send has met a take, which waits, until
-/// its time is over, for the send to be completed; if the send is dropped, the take continues with its other
-/// operations.
+/// Complete it by [`recv`](SelectedOperation::recv) or [`send`](SelectedOperation::send). If it is dropped instead, the
+/// item that was taken is dropped too, and the room is given back. If it is forgotten, both stay where they are as long
+/// as the channel is there. With capacity 0 a send has met a receiver, which waits until the send is completed, even if
+/// its timeout is over: so complete the send soon, and forget no operation. If the send is dropped, the receiver
+/// continues with its other operations.
 #[must_use = "complete it by `recv` or `send`"]
 pub struct SelectedOperation<'a> {
     entry: Entry<&'a dyn Case>,
     /// Until it is completed.
     pub(super) begun: Option<Begun>,
-    /// How long the select would have waited.
-    until: Option<Instant>,
 }
 
 impl<'a> SelectedOperation<'a> {
-    fn new(entry: Entry<&'a dyn Case>, begun: Begun, until: Option<Instant>) -> Self {
+    fn new(entry: Entry<&'a dyn Case>, begun: Begun) -> Self {
         let begun = Some(begun);
-        SelectedOperation {
-            entry,
-            begun,
-            until,
-        }
+        SelectedOperation { entry, begun }
     }
 
     /// The index of the operation, as it was given when the operation was added.
@@ -1028,12 +1025,13 @@ impl<'a> SelectedOperation<'a> {
         receiver.completed(self.begun_of(receiver))
     }
 
-    /// Completes a send. It doesn't wait, unless memory is wanting for a further queue, or, with capacity 0, the
-    /// receiver that it met has given up meanwhile: it then waits for another one, as long as its select would have.
+    /// Completes a send. It doesn't wait, unless memory is wanting for a further queue. With capacity 0 its receiver
+    /// waits for the item. If that receiver is a future that was dropped meanwhile, the item goes to the next take.
     ///
     /// # Errors
     ///
-    /// The channel is closed; or, with capacity 0, no other receiver came in that time. The item is handed back.
+    /// The channel is closed. The item is handed back. With capacity 0 a receiver that the send has met gets the item
+    /// also after a close.
     ///
     /// # Panics
     ///
@@ -1051,7 +1049,7 @@ impl<'a> SelectedOperation<'a> {
     /// # Ok::<(), vahepito::OpenError>(())
     /// ```
     pub fn send<T>(mut self, sender: &Sender<T>, item: T) -> Result<(), SendError<T>> {
-        sender.complete(self.begun_of(sender), item, self.until)
+        sender.complete(self.begun_of(sender), item)
     }
 }
 

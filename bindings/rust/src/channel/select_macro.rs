@@ -5,8 +5,8 @@
 /// An arm is one of these:
 ///
 /// - `recv(receiver) -> item => expression`, with a pattern `item` for the result of [`recv`];
-/// - `send(sender, item) -> sent => expression`, with a pattern `sent` for the result of [`send`], and `item`
-///   is evaluated if this operation is selected;
+/// - `send(sender, item) -> sent => expression`, with a pattern `sent` for the result of [`send`], and `item` is
+///   evaluated if this operation is selected; with capacity 0 a receiver waits meanwhile, even if its timeout is over;
 /// - `default => expression`, once at most, if no operation is ready;
 /// - `default(time) => expression`, if none is ready in that time.
 ///

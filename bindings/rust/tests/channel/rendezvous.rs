@@ -1,4 +1,4 @@
-//! Channels of capacity 0: pairs that are given up, calls whose time is over, and tasks.
+//! Channels of capacity 0: pairs that are given up or outlast the time of a take, and tasks.
 use crate::ends::ends;
 use crate::polling::{Woken, poll};
 use crate::rounds::rounds;
@@ -10,8 +10,7 @@ use std::task::Poll;
 use std::thread;
 use std::time::{Duration, Instant};
 use vahepito::{
-    Receiver, RecvError, RecvTimeoutError, Select, SendError, Sender, TryRecvError, TrySendError,
-    channel, select,
+    Receiver, RecvError, Select, SendError, Sender, TryRecvError, TrySendError, channel, select,
 };
 
 const SOON: Duration = Duration::from_millis(30);
@@ -82,67 +81,153 @@ fn a_select_goes_on_with_its_time() {
     });
 }
 
-/// A call whose time is over returns, though its partner has no item yet; and the partner meets another one.
+/// Waits until this moment is over, and some time more.
+fn outwait(moment: Instant) {
+    thread::sleep(moment.saturating_duration_since(Instant::now()) + SOON);
+}
+
+/// A take that has met a selected send gets its item, though that is made once the time of the take is over.
 #[test]
-fn a_time_is_over_though_there_is_a_pair() {
+fn a_take_that_has_met_a_send_waits_for_its_item() {
     ends(|| {
         let (sender, receiver) = open(0);
         for call in 0..4 {
             let (selects, gives) = selects_a_send(&sender);
-            match call {
-                0 => assert_eq!(receiver.recv_timeout(SOON), Err(RecvTimeoutError::Timeout)),
-                1 => assert_eq!(receiver.try_recv(), Err(TryRecvError::Empty)),
-                2 => select! {
-                    recv(receiver) -> _ => unreachable!("it has no item"),
-                    default(SOON) => {}
-                },
-                _ => {
-                    select! { recv(receiver) -> _ => unreachable!("it has no item"), default => {} }
-                }
-            }
-            gives.send(Some(call)).unwrap();
-            assert_eq!(receiver.recv(), Ok(call));
+            let mut posted = Select::new();
+            posted.recv(&receiver);
+            posted.ready();
+            let over = Instant::now() + SOON;
+            let item = thread::spawn(move || {
+                outwait(over);
+                gives.send(Some(call)).unwrap();
+            });
+            let taken = match call {
+                0 => receiver.recv_deadline(over).ok(),
+                1 => receiver.try_recv().ok(),
+                2 => select! { recv(receiver) -> item => item.ok(), default(SOON) => None },
+                _ => select! { recv(receiver) -> item => item.ok(), default => None },
+            };
+            assert_eq!(taken, Some(call));
             assert!(selects.join().unwrap());
+            item.join().unwrap();
         }
     });
 }
 
-/// A selected send whose take has given up waits no longer than its select would have.
+/// A select that has met a take ends, though the time of the take is over while the item is made. If it has met none,
+/// another of its operations ends it.
 #[test]
-fn a_selected_send_has_its_time() {
+fn a_select_with_a_stop_can_be_stopped() {
+    ends(|| {
+        for _ in 0..rounds(20) {
+            let ((sender, receiver), (stop, stopped)) = (open(0), open(1));
+            let _stays = stopped.clone();
+            let over = Instant::now() + SOON;
+            let item = move || {
+                outwait(over);
+                7
+            };
+            let selects = thread::spawn(move || {
+                select! { send(sender, item()) -> sent => sent == Ok(()), recv(stopped) -> _ => false }
+            });
+            let taken = receiver.recv_deadline(over);
+            stop.send(()).unwrap();
+            assert_eq!(selects.join().unwrap(), taken == Ok(7));
+        }
+    });
+}
+
+/// Items that take longer to make than takes have time: no selected send is refused, and none is lost.
+#[test]
+fn no_selected_send_is_refused_by_an_open_channel() {
+    const TIME: Duration = Duration::from_millis(1);
     ends(|| {
         let (sender, receiver) = open(0);
-        let is_selected = Arc::new(AtomicBool::new(false));
-        let takes = thread::spawn({
-            let receiver = receiver.clone();
-            let is_selected = is_selected.clone();
-            move || {
-                while !is_selected.load(Ordering::SeqCst) {
-                    assert_eq!(receiver.recv_timeout(SOON), Err(RecvTimeoutError::Timeout));
+        let is_over = AtomicBool::new(false);
+        let (mut sent, mut refused) = ([0, 0], [0, 0]);
+        let taken: u32 = thread::scope(|scope| {
+            let takes = || {
+                let mut taken = 0;
+                while !is_over.load(Ordering::SeqCst) {
+                    taken += u32::from(receiver.recv_timeout(TIME).is_ok());
+                    thread::sleep(4 * TIME);
                 }
+                taken
+            };
+            let takes = [(); 2].map(|()| scope.spawn(takes));
+            let item = |item| {
+                thread::sleep(3 * TIME);
+                item
+            };
+            for number in 0..rounds(300) {
+                let told = select! {
+                    send(sender, item(number)) -> sent => Some(sent.is_ok()),
+                    default(20 * TIME) => None,
+                };
+                sent[0] += u32::from(told == Some(true));
+                refused[0] += u32::from(told == Some(false));
+                let mut select = Select::new();
+                select.send(&sender);
+                let operation = loop {
+                    match select.try_select() {
+                        Ok(operation) => break operation,
+                        Err(_) => thread::yield_now(),
+                    }
+                };
+                let told = operation.send(&sender, item(number));
+                sent[1] += u32::from(told.is_ok());
+                refused[1] += u32::from(told.is_err());
             }
+            is_over.store(true, Ordering::SeqCst);
+            takes.into_iter().map(|it| it.join().unwrap()).sum()
         });
+        assert_eq!(refused, [0, 0], "by `select!`, and by `Select`");
+        assert_eq!(taken, sent[0] + sent[1]);
+    });
+}
+
+/// The take of a task that is dropped before its selected send has an item: the item goes to the take that waits, or to
+/// the next one; or it is handed back, if the channel is closed by then.
+#[test]
+fn the_pair_of_a_dropped_task_is_for_the_next_take() {
+    let woken = Arc::new(Woken::default());
+    let (sender, receiver) = open(0);
+    let mut select = Select::new();
+    select.send(&sender);
+    let mut met = || {
+        let mut take = receiver.recv_async();
+        assert!(poll(&mut take, &woken).is_pending());
+        select.try_select().unwrap()
+    };
+    let operation = met();
+    let mut waits = receiver.recv_async();
+    assert!(poll(&mut waits, &woken).is_pending());
+    assert_eq!(operation.send(&sender, 1), Ok(()));
+    assert_eq!(poll(&mut waits, &woken), Poll::Ready(Ok(1)));
+    let operation = met();
+    assert_eq!(receiver.try_recv(), Err(TryRecvError::Empty));
+    assert_eq!(operation.send(&sender, 2), Ok(()));
+    assert_eq!(receiver.try_recv(), Ok(2));
+    drop(met());
+    assert_eq!(receiver.try_recv(), Err(TryRecvError::Empty));
+    let operation = met();
+    assert!(sender.close());
+    assert_eq!(operation.send(&sender, 3), Err(SendError(3)));
+    assert_eq!(receiver.recv(), Err(RecvError));
+}
+
+/// A pair that was made before a close is completed after it.
+#[test]
+fn a_close_leaves_a_pair() {
+    ends(|| {
+        let (sender, receiver) = open(0);
+        let takes = thread::spawn(move || receiver.recv());
         let mut select = Select::new();
         select.send(&sender);
-        let operation = loop {
-            match select.try_select() {
-                Ok(operation) => break operation,
-                Err(_) => thread::yield_now(),
-            }
-        };
-        is_selected.store(true, Ordering::SeqCst);
-        takes.join().unwrap();
-        assert_eq!(operation.send(&sender, 1), Err(SendError(1)));
-        assert!(!sender.is_closed());
-        let mut take = receiver.recv_async();
-        let woken = Arc::new(Woken::default());
-        assert!(poll(&mut take, &woken).is_pending());
-        let operation = select.try_select().unwrap();
-        drop(take);
-        let mut take = receiver.recv_async();
-        assert!(poll(&mut take, &woken).is_pending());
-        assert_eq!(operation.send(&sender, 2), Ok(()));
-        assert_eq!(poll(&mut take, &woken), Poll::Ready(Ok(2)));
+        let operation = select.select();
+        assert!(sender.close());
+        assert_eq!(operation.send(&sender, 1), Ok(()));
+        assert_eq!(takes.join().unwrap(), Ok(1));
     });
 }
 

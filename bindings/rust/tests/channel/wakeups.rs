@@ -609,7 +609,7 @@ fn the_search_finds_the_ring_for_a_seat_that_is_missed() {
 
 /// Threads that meet in two channels of capacity 0: each looks for others and posts itself, parks, takes itself
 /// off, and looks whether another thread met it. Then the send gives the pair its item, or gives the pair up; and the
-/// take waits for the item, or gives the pair up since its time is over.
+/// take waits for that, also once its time is over.
 mod rendezvous {
     use std::collections::HashSet;
 
@@ -633,8 +633,8 @@ mod rendezvous {
         EndsWithThePair,
         /// A take whose time is over gives its pair up, though that has the item.
         LeavesTheItem,
-        /// A send gives its item to a pair that is given up.
-        GivesToNone,
+        /// A take whose time is over gives its pair up before there is an item.
+        TakeGivesUp,
     }
 
     #[derive(Clone, Copy, PartialEq, Eq, Hash, Debug)]
@@ -764,7 +764,7 @@ mod rendezvous {
                     }
                     _ if process.over && fault == Fault::GoesOnUnmet => At::Done,
                     (_, Some((pair, false))) => At::Await(pair),
-                    (_, Some((pair, true))) if self.pairs[pair].is_there => At::Complete(pair),
+                    (_, Some((pair, true))) => At::Complete(pair),
                     _ => again,
                 },
                 At::Complete(pair) => {
@@ -777,32 +777,29 @@ mod rendezvous {
                         other.processes[taker].woken |= fault != Fault::GivesUpSilently;
                         others.push(other);
                     }
-                    let is_there = self.pairs[pair].is_there;
-                    if is_there || fault == Fault::GivesToNone {
-                        next.pairs[pair].has_item = true;
-                        next.processes[taker].woken = true;
-                        next.processes[who].sent = true;
-                        At::Done
-                    } else {
-                        again
-                    }
+                    next.pairs[pair].has_item = true;
+                    next.processes[taker].woken = true;
+                    next.processes[who].sent = true;
+                    At::Done
                 }
                 At::Await(pair) => {
                     let Pair {
                         has_item, is_there, ..
                     } = self.pairs[pair];
+                    let leaves = match fault {
+                        Fault::LeavesTheItem => process.over && has_item,
+                        Fault::TakeGivesUp => process.over && !has_item,
+                        _ => false,
+                    };
                     if !is_there {
                         if fault == Fault::EndsWithThePair {
                             At::Done
                         } else {
                             again
                         }
-                    } else if has_item && !(process.over && fault == Fault::LeavesTheItem) {
+                    } else if has_item || leaves {
                         next.pairs[pair].is_there = false;
-                        next.processes[who].took = true;
-                        At::Done
-                    } else if process.over {
-                        next.pairs[pair].is_there = false;
+                        next.processes[who].took = !leaves;
                         At::Done
                     } else {
                         next.processes[who].woken = false;
@@ -958,7 +955,7 @@ fn the_search_finds_each_fault_of_a_meeting() {
         rendezvous::Fault::GivesUpSilently,
         rendezvous::Fault::EndsWithThePair,
         rendezvous::Fault::LeavesTheItem,
-        rendezvous::Fault::GivesToNone,
+        rendezvous::Fault::TakeGivesUp,
     ] {
         let found = MEETINGS
             .iter()
