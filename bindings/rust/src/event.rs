@@ -114,13 +114,10 @@ struct Line {
     wakers: Option<BTreeMap<Ticket, Waker>>,
     /// The number of the last ticket: each has one of its own.
     last: u64,
-    /// The same number at the last notification.
-    last_notified: u64,
 }
 
 impl Line {
     fn pop(&mut self) -> Option<Waker> {
-        self.last_notified = self.last;
         Some(self.wakers.as_mut()?.pop_first()?.1)
     }
 
@@ -167,14 +164,6 @@ pub struct Ticket(NonZeroU64);
 pub struct Served<'a> {
     pub line: &'a Event,
     pub contention: &'a Contention,
-}
-
-/// Whom notifications took out of a line while a waiter was in it.
-#[derive(PartialEq)]
-pub enum Notified {
-    None,
-    Others,
-    This,
 }
 
 /// A line in which callers wait.
@@ -227,24 +216,17 @@ impl Event {
         is_there
     }
 
-    /// Leaves the line. Returns whom notifications took out since this one entered it.
-    pub fn leave(&self, ticket: Ticket, panics: &mut Panics) -> Notified {
-        let (waker, last_notified) = self.with_line(|line| {
-            let waker = line.wakers.as_mut().and_then(|it| it.remove(&ticket));
-            (waker, line.last_notified)
-        });
-        let notified = match waker {
-            None => Notified::This,
-            Some(_) if ticket.0.get() <= last_notified => Notified::Others,
-            Some(_) => Notified::None,
-        };
+    /// Leaves the line. Returns whether a notification took this one out.
+    pub fn leave(&self, ticket: Ticket, panics: &mut Panics) -> bool {
+        let waker = self.with_line(|line| line.wakers.as_mut()?.remove(&ticket));
+        let notified = waker.is_none();
         panics.run_each(waker, drop);
         notified
     }
 
     /// Leaves the line without a further try: a notification that took this one out is passed on.
     pub fn pass_on(&self, ticket: Ticket, panics: &mut Panics) {
-        if self.leave(ticket, panics) == Notified::This {
+        if self.leave(ticket, panics) {
             self.notify_one();
         }
     }

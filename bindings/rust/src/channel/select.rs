@@ -1,15 +1,15 @@
 //! One of several operations, over channels of any types: [`Select`] and [`select!`](crate::select!).
 //!
-//! A select tries each operation, in a random order. If none is ready, its thread stands in the line of
-//! each, and goes on as [`event`](crate::event) says of a waiter in several lines: it looks, parks until one
-//! of the lines is notified, leaves all, and tries again. It passes on the notification of each line from which it takes
-//! nothing. So no wake-up is lost, and while it is blocked it costs nothing.
+//! A select tries each operation, in a random order. If none is ready and its time is over, it returns. Else its thread
+//! stands in the line of each, and goes on as [`event`](crate::event) says of a waiter in several lines: it looks,
+//! parks until one of the lines is notified, leaves all, and tries again. It passes on the notification of each line
+//! from which it takes nothing. So no wake-up is lost, and while it is blocked it costs nothing.
 //!
-//! **None is ready**, it says after its time if each operation wasn't ready at a moment of this call, after which
-//! nobody notified it. These moments may differ: a send that is on its way notifies after its item is in.
+//! **None is ready**, it says after its time if each operation wasn't ready at a moment of this call. These moments may
+//! differ.
 //!
-//! **A selected take has its item.** The try is the take itself, so there is one, and no other receiver gets
-//! the item. The channel keeps it until [`SelectedOperation::recv`] hands it over; in a macro the arm does, since nobody can
+//! **A selected take has its item.** The try is the take itself, so there is one, and no other receiver gets the item.
+//! The channel keeps it until [`SelectedOperation::recv`] hands it over; in a macro the arm does, since nobody can
 //! forget that.
 //!
 //! **A selected send has its room**, since its item may come after the selection. `Core::reserve` counts a place
@@ -31,10 +31,10 @@ use super::{
     TrySelectError,
 };
 use crate::backoff::FOR_OTHERS;
-use crate::event::{Again, Event, Notified, Panics, Parker, Ticket, Try, is_over};
+use crate::event::{Again, Event, Panics, Parker, Ticket, Try, is_over};
 use std::cell::Cell;
 use std::hash::{BuildHasher, Hasher, RandomState};
-use std::ops::{Deref, DerefMut, Range};
+use std::ops::{Deref, DerefMut};
 use std::ptr::addr_eq;
 use std::sync::Arc;
 use std::time::{Duration, Instant};
@@ -214,16 +214,12 @@ impl<'a> Standing<'a> {
         }
     }
 
-    /// Leaves the line. A try has to follow, since a notification may have taken this one out. Returns whether nobody was
-    /// notified since it entered the line.
-    fn leave(&mut self) -> bool {
-        let Some(ticket) = self.ticket.take() else {
-            return true;
-        };
-        // It is a parker's, whose drop doesn't panic.
-        let notified = self.event.leave(ticket, &mut Panics::default());
-        self.notified = notified == Notified::This;
-        notified == Notified::None
+    /// Leaves the line. A try has to follow, since a notification may have taken this one out.
+    fn leave(&mut self) {
+        if let Some(ticket) = self.ticket.take() {
+            // It is a parker's, whose drop doesn't panic.
+            self.notified = self.event.leave(ticket, &mut Panics::default());
+        }
     }
 }
 
@@ -545,15 +541,6 @@ struct Turn<'s, R> {
     until: Option<Instant>,
 }
 
-/// The end of a wait in all lines.
-enum Waited {
-    /// The operation at this index has begun.
-    Done(usize, Begun),
-    /// There was no notification: each operation wasn't ready when it was looked at.
-    Quietly,
-    Notified,
-}
-
 impl<'s, R: Copy + Deref<Target: Case>> Turn<'s, R> {
     /// In the order of their indices if it is biased, and else in a random one.
     #[inline]
@@ -592,20 +579,16 @@ impl<'s, R: Copy + Deref<Target: Case>> Turn<'s, R> {
         })
     }
 
-    /// Tries each of these once. Gives the index of the first that is begun.
-    fn try_each(&self, range: Range<usize>) -> Try<(usize, Begun)> {
+    /// Tries each once. Gives the index of the first that is begun.
+    fn try_each(&self) -> Try<(usize, Begun)> {
         let mut earliest = Again::WhenNotified;
-        for at in range {
-            match self.entries[at].attempt(self.aim) {
+        for (at, entry) in self.entries.iter().enumerate() {
+            match entry.attempt(self.aim) {
                 Ok(begun) => return Ok((at, begun)),
                 Err(again) => earliest = again.min(earliest),
             }
         }
         Err(earliest)
-    }
-
-    fn is_over(&self) -> bool {
-        is_over(self.until)
     }
 
     /// Whether it is posted for others to meet: then it isn't in a line.
@@ -617,8 +600,7 @@ impl<'s, R: Copy + Deref<Target: Case>> Turn<'s, R> {
     #[cold]
     #[inline(never)]
     fn park(&self) -> Option<(Entry<R>, Begun)> {
-        // A try of a single operation says itself that it wasn't ready at some moment.
-        if self.entries.len() == 1 && self.is_over() {
+        if is_over(self.until) {
             return None;
         }
         let mut done = None;
@@ -629,71 +611,51 @@ impl<'s, R: Copy + Deref<Target: Case>> Turn<'s, R> {
         done.or_else(|| {
             Parker::with(|parker| {
                 loop {
-                    match self.stand_and_park(parker) {
-                        Waited::Done(at, begun) => {
-                            let entry = self.entries[at];
-                            if entry.has_its_pair(&begun) {
-                                return Some((entry, begun));
-                            }
-                            // It goes on with the others, and until its time is over.
-                            if self.is_over() {
-                                return self.try_once();
-                            }
+                    if let Some((at, begun)) = self.stand_and_park(parker) {
+                        let entry = self.entries[at];
+                        if entry.has_its_pair(&begun) {
+                            return Some((entry, begun));
                         }
-                        Waited::Quietly if self.is_over() => return None,
-                        Waited::Quietly | Waited::Notified => {}
+                    }
+                    if is_over(self.until) {
+                        return self.try_once();
                     }
                 }
             })
         })
     }
 
-    /// Stands in all lines, looks, and parks; leaves all, and tries again. The notification of a line is passed on if its
-    /// operation wasn't tried after it, or was only looked at and is ready.
-    fn stand_and_park(&self, parker: &Arc<Parker>) -> Waited {
-        let is_over = self.is_over();
+    /// Stands in all lines, looks, and parks; leaves all, and tries again: the one that was notified comes first. The
+    /// notification of a line is passed on if its operation wasn't tried after it, or was only looked at and is ready.
+    fn stand_and_park(&self, parker: &Arc<Parker>) -> Option<(usize, Begun)> {
         let stand = |it: &'s Entry<R>| {
             let stands = !self.is_posted(it);
             stands.then(|| Standing::stand(it.case.line(), parker))
         };
         let mut lines: Vec<_> = self.entries.iter().map(stand).collect();
-        let all = 0..lines.len();
-        let until = match self.try_each(all.clone()) {
-            Ok((at, begun)) => return Waited::Done(at, begun),
+        let until = match self.try_each() {
+            Ok(done) => return Some(done),
             Err(again) => again.before(self.until),
         };
-        let posts = lines.iter().any(Option::is_none);
-        if posts && !is_over {
-            if let Some((at, begun)) = self.meet(until, parker) {
-                return Waited::Done(at, begun);
+        if lines.iter().any(Option::is_none) {
+            let met = self.meet(until, parker);
+            if met.is_some() {
+                return met;
             }
-        } else if !is_over {
+        } else {
             parker.park(until);
         }
-        let mut is_quiet = true;
-        for line in lines.iter_mut().flatten() {
-            is_quiet &= line.leave();
-        }
-        if is_quiet && is_over {
-            return Waited::Quietly;
-        }
-        // The one that was notified comes first.
+        lines.iter_mut().flatten().for_each(Standing::leave);
         let is_notified = |it: &Option<Standing>| it.as_ref().is_some_and(|it| it.notified);
-        let first = lines.iter().position(is_notified);
-        let notified = first.and_then(|at| self.try_each(at..at + 1).ok());
-        let done = notified.or_else(|| self.try_each(all.clone()).ok());
-        let tried = match (&done, self.aim) {
-            (&Some((at, _)), Aim::Begin) => at..at + 1,
-            (Some(_), Aim::Look) => 0..0,
-            (None, _) => all,
-        };
-        let tried = lines[tried].iter_mut().flatten();
-        tried.for_each(|line| line.notified = false);
-        match done {
-            Some((at, begun)) => Waited::Done(at, begun),
-            None if is_quiet => Waited::Quietly,
-            None => Waited::Notified,
+        let first = lines.iter().position(is_notified).into_iter();
+        let attempt = |at: usize| Some((at, self.entries[at].attempt(self.aim).ok()?));
+        let done = first.chain(0..lines.len()).find_map(attempt);
+        for (at, line) in lines.iter_mut().enumerate() {
+            let is_this = |&(made, _): &(usize, _)| self.aim == Aim::Begin && made == at;
+            let used = done.as_ref().is_none_or(is_this);
+            line.iter_mut().for_each(|it| it.notified &= !used);
         }
+        done
     }
 
     /// Posts the operations of channels of capacity 0, parks, and takes them off. Gives the one that has met
@@ -920,8 +882,8 @@ impl<'a> Select<'a> {
     }
 }
 
-/// The select of the macros: waits until one of these operations is ready, but not longer than this, and begins it. It stays on
-/// its thread, so it takes items of any type.
+/// The select of the macros: waits until one of these operations is ready, but not longer than this, and begins it. It
+/// stays on its thread, so it takes items of any type.
 #[doc(hidden)]
 #[inline]
 pub fn select_arms<'a, const N: usize>(
