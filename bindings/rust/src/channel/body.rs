@@ -53,14 +53,21 @@ impl<T> ItemWords<T> {
     pub fn pack(item: T, copies: Option<Copies<T>>) -> ItemWords<T> {
         if is_boxed(copies) {
             let left = AtomicUsize::new(1);
-            ItemWords::of(Box::into_raw(Box::new(Boxed { left, item })), copies)
+            let at = Box::into_raw(Box::new(Boxed { left, item }));
+            // SAFETY: it is a box of its own.
+            unsafe { ItemWords::of(at, copies) }
         } else {
-            ItemWords::of(item, None)
+            // SAFETY: it is the item, which lies in no box.
+            unsafe { ItemWords::of(item, None) }
         }
     }
 
     /// With this value in the words: the item, or a pointer to its box.
-    fn of<V>(value: V, copies: Option<Copies<T>>) -> ItemWords<T> {
+    ///
+    /// # Safety
+    ///
+    /// It is a pointer to a `Boxed<T>` that nobody else has, if such items lie in boxes; and else a `T`.
+    unsafe fn of<V>(value: V, copies: Option<Copies<T>>) -> ItemWords<T> {
         assert!(size_of::<V>() <= INLINE);
         let mut words = [MaybeUninit::uninit(); 4];
         // SAFETY: the words have room for the value, and may be less aligned than it. They are those of a
