@@ -1,8 +1,7 @@
 -- Runs of threads that keep the rules of a row and of its bound: their orders let items in by the rules.
 use Rattle.std.proofs.Common.{◌≡◌, ◌⊎◌, ℕ, zero, suc, ◌+◌, ◌<◌, ◌≤◌, Bool, true, false, ◌||◌, List, [], ◌∷◌, ◌++◌, map, length, Some, inl, inr, refl, sym, ap, subst, ◌∙◌, arith, append-nil, append_assoc, length-append}
 use Rattle.std.proofs.lemmas.Bool.{cases_eq, cases_lt}
-use Rattle.std.proofs.lemmas.List.{length-map}
-use Rattle.std.specs.List.{list_any}
+use Rattle.std.specs.List.{AllByRecursion, list_any}
 use Rattle.cc_model.specs.Record.{Record}
 use Rattle.cc_model.specs.Items.{IsPrefix, accepted, accepted_by, accepted_item, is_shut, shuts, handed}
 use Rattle.cc_model.specs.Sequential.{Exactly}
@@ -17,7 +16,7 @@ use Rattle.cc_row.specs.CountedOrders.{FollowsCounts, HasCountedOrder}
 use Rattle.cc_row.proofs.Exact as exact
 use Rattle.cc_row.proofs.Exact.{send_accepted}
 use Rattle.cc_row.proofs.Use.{any_prefix, exact_tail, found, ended_same, exacts_cut, merged_exact, merged_in_order}
-use Rattle.cc_row.proofs.BoundLooks.{Sound, sound_before, sound_of, near, kept, beyond, there, accepted_grow}
+use Rattle.cc_row.proofs.BoundLooks.{Sound, sound_before, sound_then, sound_of, near, kept, beyond, there, accepted_grow}
 use Rattle.cc_row.proofs.BoundQueue.{item_few}
 use Rattle.cc_row.proofs.BoundThreads.{all_come, elsewhere, waiting_sends_have_room}
 use Rattle.cc_row.proofs.CountedOrders.{true_false, orders_follow_counts}
@@ -27,12 +26,13 @@ use Rattle.cc_row.specs.OneQueue.{own_name}
 use Rattle.cc_row.specs.Queues.{AtQueue, AreApart, InOrder, only, seen}
 use Rattle.cc_row.specs.Runs.{RowMove, FoundEnded, moves_at, flat}
 use Rattle.cc_row.specs.Threads.{RowEvent, RowSetting, IsKept, moves_of, moves_there, last_of, queue_of, final_of}
-use Rattle.cc_row.specs.Bound.{AreTogether, HasRoom, IsLetIn, taken_before}
-use Rattle.cc_row.specs.BoundThreads.{queue_at, accepted_below, counted_below, HasBound, HaveCome, KeepBound}
-use Rattle.cc_row.proofs.Threads.{within, good, final_last}
+use Rattle.cc_row.specs.Bound.{AreTogether, HasRoom, IsCrowded, IsFullRow, IsLetIn, taken_before}
+use Rattle.cc_row.specs.BoundThreads.{queue_at, accepted_below, counted_below, HasBound, HaveCome, FindsFull, KeepBound}
+use Rattle.cc_row.proofs.Threads.{within, good, last_grows, final_last}
 use Rattle.cc_row.proofs.BoundQueues.{bounded_queues}
 use Rattle.cc_row.specs.BoundQueues.{RowEffect, effects_in, AreLetIn}
-use Rattle.cc_row.specs.BoundedRuns.{IsBoundedLinearization, BoundedThreadsAreOne}
+use Rattle.cc_row.specs.BoundedRuns.{Sent, GetsFull, GetFull, refused, with_looks, IsOneQueue, effects_before, LooksFindCrowds, IsBoundedLinearization, BoundedThreadsAreOne}
+use Rattle.cc_row.proofs.FullLooks.{is_crowded, is_full}
 use Rattle.cc_model.proofs.Grows.{any-append}
 
 -- ---- one queue: what an order has accepted
@@ -165,7 +165,7 @@ follows_now : (c : Setting) (moves : List Move) (l : List (List Effect)) → Fol
     → counted_for (reached c moves) g ≤ length (handed (replay c.config.groups (in_order l)) g)
 follows_now c [] l f shut g inside = absurd (true_false (sym shut))
 follows_now c (m ∷ moves) [] f shut g inside = absurd f
-follows_now c (m ∷ moves) (now ∷ before) f shut g inside = f.1 shut g inside
+follows_now c (m ∷ moves) (now ∷ before) f shut g inside = f.2 shut g inside
 
 stays_shut : (n : ℕ) (front l : List Effect) → is_shut (replay n l) ≡ true → is_shut (replay n (front ++ l)) ≡ true
 stays_shut n [] l is = is
@@ -175,9 +175,38 @@ stays_shut n (x ∷ front) l is = by x.chain x.entry x.answer (stays_shut n fron
     by (Chain.Take g) e a is = is
     by Chain.Send e a is = any-append shuts (replay n (front ++ l)).sends.answers (a ∷ []) ∙ ap (λ (b : Bool). b || (shuts a || false)) is
 
-effects_map : (l : List AtQueue) → effects_in (map RowEffect.At l) ≡ l
-effects_map [] = refl
-effects_map (e ∷ l) = ap (λ (z : List AtQueue). e ∷ z) (effects_map l)
+effects_front : (l : List AtQueue) (more : List RowEffect) → effects_in (map RowEffect.At l ++ more) ≡ l ++ effects_in more
+effects_front [] more = refl
+effects_front (e ∷ l) more = ap (λ (z : List AtQueue). e ∷ z) (effects_front l more)
+
+effects_refused : (l : List Sent) (more : List RowEffect) → effects_in (refused l ++ more) ≡ effects_in more
+effects_refused [] more = refl
+effects_refused (x ∷ l) more = effects_refused l more
+
+at_append : (a b : List AtQueue) → map RowEffect.At (a ++ b) ≡ map RowEffect.At a ++ map RowEffect.At b
+at_append [] b = refl
+at_append (e ∷ a) b = ap (λ (z : List RowEffect). RowEffect.At e ∷ z) (at_append a b)
+
+-- looks change nothing at the queues
+looks_none : (looks : List RowEvent → List Sent) (events : List RowEvent) (f : ℕ → List (List Effect)) → effects_in (with_looks looks events (merge (moves_of events) f)) ≡ flat (merge (moves_of events) f)
+looks_none looks [] f = ap effects_in (sym (append-nil (refused (looks [])))) ∙ effects_refused (looks []) []
+looks_none looks (RowEvent.Moves m ∷ earlier) f =
+    effects_refused (looks (RowEvent.Moves m ∷ earlier)) _ ∙ effects_front (put m.at (head (f m.at))) (with_looks looks earlier (merge (moves_of earlier) (cut m.at f))) ∙ ap (λ (z : List AtQueue). put m.at (head (f m.at)) ++ z) (looks_none looks earlier (cut m.at f))
+looks_none looks (RowEvent.Looks seat role ∷ earlier) f = effects_refused (looks (RowEvent.Looks seat role ∷ earlier)) _ ∙ looks_none looks earlier f
+looks_none looks (RowEvent.Leaves seat ∷ earlier) f = effects_refused (looks (RowEvent.Leaves seat ∷ earlier)) _ ∙ looks_none looks earlier f
+looks_none looks (RowEvent.Appends ∷ earlier) f = effects_refused (looks (RowEvent.Appends ∷ earlier)) _ ∙ looks_none looks earlier f
+looks_none looks (RowEvent.GoesOn name ∷ earlier) f = effects_refused (looks (RowEvent.GoesOn name ∷ earlier)) _ ∙ looks_none looks earlier f
+looks_none looks (RowEvent.Closes ∷ earlier) f = effects_refused (looks (RowEvent.Closes ∷ earlier)) _ ∙ looks_none looks earlier f
+
+without_looks : (events : List RowEvent) (f : ℕ → List (List Effect)) → with_looks (λ (s : List RowEvent). []) events (merge (moves_of events) f) ≡ map RowEffect.At (flat (merge (moves_of events) f))
+without_looks [] f = refl
+without_looks (RowEvent.Moves m ∷ earlier) f =
+    ap (λ (z : List RowEffect). map RowEffect.At (put m.at (head (f m.at))) ++ z) (without_looks earlier (cut m.at f)) ∙ sym (at_append (put m.at (head (f m.at))) (flat (merge (moves_of earlier) (cut m.at f))))
+without_looks (RowEvent.Looks seat role ∷ earlier) f = without_looks earlier f
+without_looks (RowEvent.Leaves seat ∷ earlier) f = without_looks earlier f
+without_looks (RowEvent.Appends ∷ earlier) f = without_looks earlier f
+without_looks (RowEvent.GoesOn name ∷ earlier) f = without_looks earlier f
+without_looks (RowEvent.Closes ∷ earlier) f = without_looks earlier f
 
 -- ---- the row at one move
 
@@ -413,14 +442,19 @@ module _ (r : RowSetting) (count bound : ℕ) (has : HasBound r count bound) (m 
     let_in front l e is (Answer.Send (SendAnswer.Accepted place)) told = accepts front l e is place told
     let_in front l e is _ told = tt
 
-    let_now : AreLetIn count bound to (map RowEffect.At rest) → (l front : List Effect) → front ++ l ≡ head (f m.at) → AreLetIn count bound to (map RowEffect.At (put m.at l ++ rest))
-    let_now before [] front is = before
-    let_now before (e ∷ l) front is = (
-      let_now before l (front ++ e ∷ []) (append_assoc front (e ∷ []) l ∙ is),
-      subst (λ (z : List AtQueue). IsLetIn count bound to m.at e.answer (map (seen own_name) z)) (sym (effects_map (put m.at l ++ rest))) (let_in front l e is e.answer refl),
+    let_now : (base : List RowEffect) → effects_in base ≡ flat (merge (moves_of events) (cut m.at f)) → AreLetIn count bound to base → (l front : List Effect) → front ++ l ≡ head (f m.at)
+        → AreLetIn count bound to (map RowEffect.At (put m.at l) ++ base)
+    let_now base same before [] front is = before
+    let_now base same before (e ∷ l) front is = (
+      let_now base same before l (front ++ e ∷ []) (append_assoc front (e ∷ []) l ∙ is),
+      subst (λ (z : List AtQueue). IsLetIn count bound to m.at e.answer (map (seen own_name) z)) (sym (effects_front (put m.at l) base ∙ ap (λ (z : List AtQueue). put m.at l ++ z) same)) (let_in front l e is e.answer refl),
     )
 
 -- ---- the run
+
+last_stays : (r : RowSetting) (later events : List RowEvent) → last_of events ≤ last_of (later ++ events)
+last_stays r [] events = omega arith
+last_stays r (e ∷ later) events = omega (arith, last_stays r later events, last_grows r e (later ++ events))
 
 follows_tail : (c : Setting) (m : Move) (moves : List Move) (l : List (List Effect)) → FollowsCounts c (m ∷ moves) l → FollowsCounts c moves (tail l)
 follows_tail c m moves [] t = absurd t
@@ -437,18 +471,63 @@ module _ (r : RowSetting) (count bound : ℕ) (has : HasBound r count bound) (to
     | inr differ ↦ subst (λ (l : List (List Effect)). FollowsCounts (r.of q) (moves_at q earlier) l) (sym (cut_else f m.at q differ)) (subst (λ (l : List Move). FollowsCounts (r.of q) l (f q)) (moves_else m earlier q differ) (each q))
   ]
 
-  all_let : (events : List RowEvent) → Sound r events → KeepBound r count bound events → last_of events ≤ to → (f : ℕ → List (List Effect)) → Each r.of (moves_of events) f → ((q : ℕ) → IsExact (r.of q).config (in_order (f q)))
-      → Follows (moves_of events) f → AreLetIn count bound to (map RowEffect.At (flat (merge (moves_of events) f)))
-  all_let [] s keep up f each ok follows = tt
-  all_let (RowEvent.Moves m ∷ events) s keep up f each ok follows =
-      let_now r count bound has m events s f each ok follows keep to up
-      (all_let events (sound_before r (RowEvent.Moves m) events s) keep.0 up (cut m.at f) (each_before r.of m (moves_of events) f each) (exacts_cut r.of m.at f ok) (follows_before m (moves_of events) f follows))
-      (head (f m.at)) [] refl
-  all_let (RowEvent.Looks seat role ∷ events) s keep up f each ok follows = all_let events (sound_before r (RowEvent.Looks seat role) events s) keep up f each ok follows
-  all_let (RowEvent.Leaves seat ∷ events) s keep up f each ok follows = all_let events (sound_before r (RowEvent.Leaves seat) events s) keep up f each ok follows
-  all_let (RowEvent.Appends ∷ events) s keep up f each ok follows = all_let events (sound_before r RowEvent.Appends events s) keep (omega (arith, up)) f each ok follows
-  all_let (RowEvent.GoesOn name ∷ events) s keep up f each ok follows = all_let events (sound_before r (RowEvent.GoesOn name) events s) keep up f each ok follows
-  all_let (RowEvent.Closes ∷ events) s keep up f each ok follows = all_let events (sound_before r RowEvent.Closes events s) keep up f each ok follows
+  crowd_at : (later start : List RowEvent) → Sound r start → (f : ℕ → List (List Effect)) → Each r.of (moves_of (later ++ start)) f → ((q : ℕ) → IsExact (r.of q).config (in_order (f q))) → Follows (moves_of (later ++ start)) f
+      → (between : List RowEvent) → Sound r (between ++ start) → FindsFull r count bound between start → last_of start ≤ to → IsCrowded count bound to (map (seen own_name) (flat (effects_before later (merge (moves_of (later ++ start)) f))))
+  crowd_at [] start s f each ok follows between then finds up = is_crowded r count bound has start s f each ok follows between then finds to up
+  crowd_at (RowEvent.Moves m ∷ later) start s f each ok follows between then finds up =
+      crowd_at later start s (cut m.at f) (each_before r.of m (moves_of (later ++ start)) f each) (exacts_cut r.of m.at f ok) (follows_before m (moves_of (later ++ start)) f follows) between then finds up
+  crowd_at (RowEvent.Looks seat role ∷ later) start s f each ok follows between then finds up = crowd_at later start s f each ok follows between then finds up
+  crowd_at (RowEvent.Leaves seat ∷ later) start s f each ok follows between then finds up = crowd_at later start s f each ok follows between then finds up
+  crowd_at (RowEvent.Appends ∷ later) start s f each ok follows between then finds up = crowd_at later start s f each ok follows between then finds up
+  crowd_at (RowEvent.GoesOn name ∷ later) start s f each ok follows between then finds up = crowd_at later start s f each ok follows between then finds up
+  crowd_at (RowEvent.Closes ∷ later) start s f each ok follows between then finds up = crowd_at later start s f each ok follows between then finds up
+
+  module _ (whole : List RowEvent) (all_sound : Sound r whole) (up : last_of whole ≤ to) (looks : List RowEvent → List Sent)
+      (full : (later seen : List RowEvent) → later ++ seen ≡ whole → AllByRecursion (λ (s : Sent). GetsFull r count bound to later seen) (looks seen)) where
+    -- the looks of one moment
+    let_looks : (later events : List RowEvent) → later ++ events ≡ whole → Sound r events → (f : ℕ → List (List Effect)) → Each r.of (moves_of events) f → ((q : ℕ) → IsExact (r.of q).config (in_order (f q)))
+        → Follows (moves_of events) f → (base : List RowEffect) → effects_in base ≡ flat (merge (moves_of events) f) → AreLetIn count bound to base → AreLetIn count bound to (refused (looks events) ++ base)
+    let_looks later events is s f each ok follows base same before = by (looks events) (full later events is)
+      where
+        by : (l : List Sent) → AllByRecursion (λ (s : Sent). GetsFull r count bound to later events) l → AreLetIn count bound to (refused l ++ base)
+        by [] none = before
+        by (x ∷ l) some = (
+          by l some.1,
+          subst (λ (z : List AtQueue). IsFullRow count bound to (map (seen own_name) z)) (sym (effects_refused l base ∙ same))
+              (is_full r count bound has events s f each ok follows some.0.between (now some.0) some.0.finds to (last_less later is) some.0.no_close),
+        )
+          where
+            now : (g : GetsFull r count bound to later events) → Sound r (g.between ++ events)
+            now g = sound_then r g.after (g.between ++ events) (subst (λ (z : List RowEvent). Sound r z) (sym is ∙ ap (λ (z : List RowEvent). z ++ events) g.split ∙ append_assoc g.after g.between events) all_sound)
+
+            last_less : (later : List RowEvent) → later ++ events ≡ whole → last_of events ≤ to
+            last_less later is = omega (arith, up, last_stays r later events, ap last_of is)
+
+    all_let : (later events : List RowEvent) → later ++ events ≡ whole → Sound r events → KeepBound r count bound events → last_of events ≤ to → (f : ℕ → List (List Effect)) → Each r.of (moves_of events) f → ((q : ℕ) → IsExact (r.of q).config (in_order (f q)))
+        → Follows (moves_of events) f → AreLetIn count bound to (with_looks looks events (merge (moves_of events) f))
+    all_let later [] is s keep up f each ok follows = subst (λ (z : List RowEffect). AreLetIn count bound to z) (append-nil (refused (looks []))) (let_looks later [] is s f each ok follows [] refl tt)
+    all_let later (RowEvent.Moves m ∷ events) is s keep up f each ok follows =
+        let_looks later (RowEvent.Moves m ∷ events) is s f each ok follows (map RowEffect.At (put m.at (head (f m.at))) ++ with_looks looks events (merge (moves_of events) (cut m.at f)))
+        (effects_front (put m.at (head (f m.at))) (with_looks looks events (merge (moves_of events) (cut m.at f))) ∙ ap (λ (z : List AtQueue). put m.at (head (f m.at)) ++ z) (looks_none looks events (cut m.at f)))
+        (let_now r count bound has m events s f each ok follows keep to up (with_looks looks events (merge (moves_of events) (cut m.at f))) (looks_none looks events (cut m.at f))
+        (all_let (later ++ RowEvent.Moves m ∷ []) events (append_assoc later (RowEvent.Moves m ∷ []) events ∙ is) (sound_before r (RowEvent.Moves m) events s) keep.0 up (cut m.at f) (each_before r.of m (moves_of events) f each) (exacts_cut r.of m.at f ok)
+        (follows_before m (moves_of events) f follows))
+        (head (f m.at)) [] refl)
+    all_let later (RowEvent.Looks seat role ∷ events) is s keep up f each ok follows =
+        let_looks later (RowEvent.Looks seat role ∷ events) is s f each ok follows (with_looks looks events (merge (moves_of events) f)) (looks_none looks events f)
+        (all_let (later ++ RowEvent.Looks seat role ∷ []) events (append_assoc later (RowEvent.Looks seat role ∷ []) events ∙ is) (sound_before r (RowEvent.Looks seat role) events s) keep up f each ok follows)
+    all_let later (RowEvent.Leaves seat ∷ events) is s keep up f each ok follows =
+        let_looks later (RowEvent.Leaves seat ∷ events) is s f each ok follows (with_looks looks events (merge (moves_of events) f)) (looks_none looks events f)
+        (all_let (later ++ RowEvent.Leaves seat ∷ []) events (append_assoc later (RowEvent.Leaves seat ∷ []) events ∙ is) (sound_before r (RowEvent.Leaves seat) events s) keep up f each ok follows)
+    all_let later (RowEvent.Appends ∷ events) is s keep up f each ok follows =
+        let_looks later (RowEvent.Appends ∷ events) is s f each ok follows (with_looks looks events (merge (moves_of events) f)) (looks_none looks events f)
+        (all_let (later ++ RowEvent.Appends ∷ []) events (append_assoc later (RowEvent.Appends ∷ []) events ∙ is) (sound_before r RowEvent.Appends events s) keep (omega (arith, up)) f each ok follows)
+    all_let later (RowEvent.GoesOn name ∷ events) is s keep up f each ok follows =
+        let_looks later (RowEvent.GoesOn name ∷ events) is s f each ok follows (with_looks looks events (merge (moves_of events) f)) (looks_none looks events f)
+        (all_let (later ++ RowEvent.GoesOn name ∷ []) events (append_assoc later (RowEvent.GoesOn name ∷ []) events ∙ is) (sound_before r (RowEvent.GoesOn name) events s) keep up f each ok follows)
+    all_let later (RowEvent.Closes ∷ events) is s keep up f each ok follows =
+        let_looks later (RowEvent.Closes ∷ events) is s f each ok follows (with_looks looks events (merge (moves_of events) f)) (looks_none looks events f)
+        (all_let (later ++ RowEvent.Closes ∷ []) events (append_assoc later (RowEvent.Closes ∷ []) events ∙ is) (sound_before r RowEvent.Closes events s) keep up f each ok follows)
 
 pub bounded_threads : BoundedThreadsAreOne
 bounded_threads r one events has is_kept keep =
@@ -457,23 +536,36 @@ bounded_threads r one events has is_kept keep =
   where
     by_order : (f : ℕ → List (List Effect)) → Each r.of (moves_of events) f → ((q : ℕ) → IsExact (r.of q).config (in_order (f q))) → ((q : ℕ) → FollowsCounts (r.of q) (moves_there q events) (f q))
         → (effects : List (List AtQueue)) × IsBoundedLinearization r one events effects
-    by_order f each ok follows =
-        let orders : (q : ℕ) → IsExact (r.of q).config (only q (flat (merge (moves_of events) f))) = merged_exact r.of (moves_of events) f each ok in
-        let orderly : InOrder r.names (final_of events) (flat (merge (moves_of events) f)) =
-        merged_in_order r.of r.names is_kept.apart (final_of events) (moves_of events) f each ok ((good r events is_kept.runs is_kept.rules).used (final_of events) (final_last events)) in
-        let own : InOrder own_name (final_of events) (flat (merge (moves_of events) f)) =
-        subst (λ (z : ℕ → ℕ → ℕ). InOrder z (final_of events) (flat (merge (moves_of events) f))) (λ i q g. has.names_are q g i) orderly in
-        let lets : AreLetIn one.groups one.capacity (final_of events) (map RowEffect.At (flat (merge (moves_of events) f))) =
-        all_let r one.groups one.capacity has (final_of events) events (sound_of r events is_kept) keep (final_last events) f each ok follows in
-        let same : effects_in (map RowEffect.At (flat (merge (moves_of events) f))) ≡ flat (merge (moves_of events) f) = effects_map (flat (merge (moves_of events) f)) in (
-          merge (moves_of events) f,
-          record {
-            timely = row_timely r.of (moves_of events) f each;
-            exact = orders;
-            is_one = λ life. bounded_queues (λ q. (r.of q).config) one (final_of events) (map RowEffect.At (flat (merge (moves_of events) f)))
-                record { some = has.some; groups = has.groups_are; capacity = has.capacity_is }
-                (λ q. subst (λ (z : List AtQueue). IsExact (r.of q).config (only q z)) (sym same) (orders q))
-                (subst (λ (z : List AtQueue). InOrder own_name (final_of events) z) (sym same) own) lets
-                (omega (arith, life, length-map (flat (merge (moves_of events) f)) RowEffect.At));
-          },
-        )
+    by_order f each ok follows = (
+      merge (moves_of events) f,
+      record {
+        timely = row_timely r.of (moves_of events) f each;
+        exact = merged_exact r.of (moves_of events) f each ok;
+        is_one = subst (λ (z : List RowEffect). IsOneQueue one (final_of events) z) (without_looks events f) (one_of (λ s. []) (λ later seen is. tt));
+        has_looks = one_of;
+        finds_crowds = crowds;
+      },
+    )
+      where
+        orderly : InOrder r.names (final_of events) (flat (merge (moves_of events) f))
+        orderly = merged_in_order r.of r.names is_kept.apart (final_of events) (moves_of events) f each ok ((good r events is_kept.runs is_kept.rules).used (final_of events) (final_last events))
+
+        own : InOrder own_name (final_of events) (flat (merge (moves_of events) f))
+        own = subst (λ (z : ℕ → ℕ → ℕ). InOrder z (final_of events) (flat (merge (moves_of events) f))) (λ i q g. has.names_are q g i) orderly
+
+        one_of : (looks : List RowEvent → List Sent) → GetFull r one.groups one.capacity looks events → IsOneQueue one (final_of events) (with_looks looks events (merge (moves_of events) f))
+        one_of looks full =
+            bounded_queues (λ q. (r.of q).config) one (final_of events) (with_looks looks events (merge (moves_of events) f))
+            record { some = has.some; groups = has.groups_are; capacity = has.capacity_is }
+            (λ q. subst (λ (z : List AtQueue). IsExact (r.of q).config (only q z)) (sym (looks_none looks events f)) (merged_exact r.of (moves_of events) f each ok q))
+            (subst (λ (z : List AtQueue). InOrder own_name (final_of events) z) (sym (looks_none looks events f)) own)
+            (all_let r one.groups one.capacity has (final_of events) events (sound_of r events is_kept) (final_last events) looks full [] events refl (sound_of r events is_kept) keep (final_last events) f each ok follows)
+
+        crowds : LooksFindCrowds r one.groups one.capacity events (merge (moves_of events) f)
+        crowds after between start is finds =
+            let whole : Sound r ((after ++ between) ++ start) = subst (λ (z : List RowEvent). Sound r z) (sym is) (sound_of r events is_kept) in
+            let now : Sound r (between ++ start) = sound_then r after (between ++ start) (subst (λ (z : List RowEvent). Sound r z) (append_assoc after between start) whole) in
+            subst (λ (z : List RowEvent). IsCrowded one.groups one.capacity (final_of events) (map (seen own_name) (flat (effects_before (after ++ between) (merge (moves_of z) f))))) is
+            (crowd_at r one.groups one.capacity has (final_of events) (after ++ between) start (sound_then r between start now) f (subst (λ (z : List RowEvent). Each r.of (moves_of z) f) (sym is) each) ok
+            (subst (λ (z : List RowEvent). (q : ℕ) → FollowsCounts (r.of q) (moves_there q z) (f q)) (sym is) follows) between now finds
+            (omega (arith, final_last events, last_stays r (after ++ between) start, ap last_of is)))

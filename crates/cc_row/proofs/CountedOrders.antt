@@ -10,7 +10,7 @@ use Rattle.cc_model.specs.Sequential.{Exactly}
 use Rattle.cc_model.proofs.Grows.{get_front, get_last, any-append, handed_by-append}
 use Rattle.cc_runs.specs.State.{noted}
 use Rattle.cc_runs.specs.Run.{IsRun, reached, history_of}
-use Rattle.cc_runs.specs.Counts.{counted_for, CountsOf}
+use Rattle.cc_runs.specs.Counts.{counted_for, CountsOf, CountsNoLess}
 use Rattle.cc_runs.specs.OnChain.{IsThere, calls_on, answers_on}
 use Rattle.cc_runs.specs.Linearizable.{Effect, replay, AnswersAfter, IsExact, IsOfChain, in_order, IsOnTime, IsTimely}
 use Rattle.cc_runs.proofs.RunPrefixes.{prefixes_begin, prefix_more, prefix_self}
@@ -20,7 +20,7 @@ use Rattle.cc_runs.proofs.ListRuns.Facts.{lists}
 use Rattle.cc_runs.proofs.ListRuns.FromChains.{of_setting}
 use Rattle.cc_runs.proofs.ListRuns.Laws.{history_is_legal}
 use Rattle.cc_runs.proofs.ListRuns.Posts.{all_get}
-use Rattle.cc_runs.proofs.Counts.Laws.{counts_are_near}
+use Rattle.cc_runs.proofs.Counts.Laws.{counts_are_near, counts_grow}
 use Rattle.cc_runs.proofs.Linear.Insert.{AreTimed}
 use Rattle.cc_runs.proofs.Linear.Orders.{Lin, lin}
 use Rattle.cc_runs.proofs.Linear.Replay.{front_next, prefix_length, replay_groups, replay_even, same_least, Timed}
@@ -47,7 +47,7 @@ get_in {X} (x ∷ xs) zero less = (x, refl)
 get_in {X} (x ∷ xs) (suc k) less = get_in xs k (omega (arith, less))
 
 -- more answers accept no less
-few : (calls rest : List Entry) (answers later : List Answer) → length answers ≤ length calls → length (accepted_by (calls ++ rest) answers) ≤ length (accepted_by calls (answers ++ later))
+pub few : (calls rest : List Entry) (answers later : List Answer) → length answers ≤ length calls → length (accepted_by (calls ++ rest) answers) ≤ length (accepted_by calls (answers ++ later))
 few [] [] [] later less = omega arith
 few [] (d ∷ rest) [] later less = omega arith
 few [] rest (a ∷ answers) later less = absurd (omega (arith, less))
@@ -104,7 +104,7 @@ abbrev with_take : Side → Entry → Answer → Side
 with_take s e a = record { calls = s.calls ++ e ∷ []; answers = s.answers ++ a ∷ [] }
 
 -- of the group it has one take more
-record OneMore (n : ℕ) (h r later : Record) (g : ℕ) : Type 0 where
+record OneMore (n : ℕ) (h : Record) (count : ℕ → ℕ) (r later : Record) (g : ℕ) : Type 0 where
   entry : Entry
   item : Item
   inside : g < n
@@ -112,17 +112,18 @@ record OneMore (n : ℕ) (h r later : Record) (g : ℕ) : Type 0 where
   got : slice_get (accepted r) (length (handed r g)) ≡ Some item
   call : slice_get (of_group h g).calls (length (of_group r g).calls) ≡ Some entry
   is : of_group later g ≡ with_take (of_group r g) entry (Answer.Take (TakeAnswer.Got item))
+  counted : length (handed later g) ≤ count g
 
-abbrev Each : (n : ℕ) (h r later : Record) (g : ℕ) → Type 0
-Each n h r later g = (of_group later g ≡ of_group r g) ⊎ OneMore n h r later g
+abbrev Each : (n : ℕ) (h : Record) (count : ℕ → ℕ) (r later : Record) (g : ℕ) → Type 0
+Each n h count r later g = (of_group later g ≡ of_group r g) ⊎ OneMore n h count r later g
 
-record Ahead (n : ℕ) (h r later : Record) : Type 0 where
+record Ahead (n : ℕ) (h : Record) (count : ℕ → ℕ) (r later : Record) : Type 0 where
   sends : later.sends ≡ r.sends
-  each : (g : ℕ) → Each n h r later g
+  each : (g : ℕ) → Each n h count r later g
 
-each_then : (n : ℕ) (h t r later : Record) (g : ℕ) → IsPrefix (of_group h g).calls (of_group t g).calls → Each n h r later g → Each n t r later g
-each_then n h t r later g p (inl is) = inl is
-each_then n h t r later g p (inr one) = inr (record {
+each_then : (n : ℕ) (h t : Record) (count more : ℕ → ℕ) (r later : Record) (g : ℕ) → IsPrefix (of_group h g).calls (of_group t g).calls → (g < n → count g ≤ more g) → Each n h count r later g → Each n t more r later g
+each_then n h t count more r later g p up (inl is) = inl is
+each_then n h t count more r later g p up (inr one) = inr (record {
   entry = one.entry;
   item = one.item;
   inside = one.inside;
@@ -130,12 +131,13 @@ each_then n h t r later g p (inr one) = inr (record {
   got = one.got;
   call = ap (λ (l : List Entry). slice_get l (length (of_group r g).calls)) p.1 ∙ get_front (of_group h g).calls p.0 (length (of_group r g).calls) one.entry one.call;
   is = one.is;
+  counted = omega (arith, one.counted, up one.inside);
 })
 
 -- a group whose side is as before, in both
-each_other : (n : ℕ) (h r later r2 later2 : Record) (g : ℕ) → of_group r2 g ≡ of_group r g → of_group later2 g ≡ of_group later g → r2.sends ≡ r.sends → Each n h r later g → Each n h r2 later2 g
-each_other n h r later r2 later2 g p q s (inl is) = inl (q ∙ is ∙ sym p)
-each_other n h r later r2 later2 g p q s (inr one) = inr (record {
+each_other : (n : ℕ) (h : Record) (count : ℕ → ℕ) (r later r2 later2 : Record) (g : ℕ) → of_group r2 g ≡ of_group r g → of_group later2 g ≡ of_group later g → r2.sends ≡ r.sends → Each n h count r later g → Each n h count r2 later2 g
+each_other n h count r later r2 later2 g p q s (inl is) = inl (q ∙ is ∙ sym p)
+each_other n h count r later r2 later2 g p q s (inr one) = inr (record {
   entry = one.entry;
   item = one.item;
   inside = one.inside;
@@ -143,11 +145,12 @@ each_other n h r later r2 later2 g p q s (inr one) = inr (record {
   got = (λ i. slice_get (accepted_by (s i).calls (s i).answers) (length (handed_by (p i).answers))) ∙ one.got;
   call = ap (λ (z : Side). slice_get (of_group h g).calls (length z.calls)) p ∙ one.call;
   is = q ∙ one.is ∙ ap (λ (z : Side). with_take z one.entry (Answer.Take (TakeAnswer.Got one.item))) (sym p);
+  counted = omega (arith, one.counted, ap (λ (z : Side). length (handed_by z.answers)) q);
 })
 
 -- ---- one move
 
-module _ (cfg : Config) (m : ℕ) (some : cfg.groups ≡ m + 1) (h : Record) (old : List Effect) where
+module _ (cfg : Config) (m : ℕ) (some : cfg.groups ≡ m + 1) (h : Record) (count : ℕ → ℕ) (old : List Effect) where
   abbrev n : ℕ
   n = cfg.groups
 
@@ -155,7 +158,7 @@ module _ (cfg : Config) (m : ℕ) (some : cfg.groups ≡ m + 1) (h : Record) (ol
   record Next (l : List Effect) : Type 0 where
     effects : List Effect
     exact : IsExact cfg (effects ++ old)
-    ahead : Ahead n h (replay n l) (replay n (effects ++ old))
+    ahead : Ahead n h count (replay n l) (replay n (effects ++ old))
 
   abbrev Fits : List Effect → Type 0
   Fits l = (g : ℕ) → IsPrefix (of_group (replay n l) g).calls (of_group h g).calls
@@ -197,7 +200,7 @@ module _ (cfg : Config) (m : ℕ) (some : cfg.groups ≡ m + 1) (h : Record) (ol
             (any_all cfg (accepted r) (is_shut r) 0 (handed_to_all r) (handed_to_all later) e.call a is fits)
         by_shut false is = subst (λ (z : Type 0). z) (λ i. Exactly cfg (accepted_by (back i).calls (back i).answers) (list_any shuts (back i).answers) 0 (same_all is i) e.call a) fits
 
-        by_each : (g : ℕ) → Each n h r later g → Each n h (noted Chain.Send r (Some e) (Some a)) (noted Chain.Send later (Some e) (Some a)) g
+        by_each : (g : ℕ) → Each n h count r later g → Each n h count (noted Chain.Send r (Some e) (Some a)) (noted Chain.Send later (Some e) (Some a)) g
         by_each g (inl is) = inl is
         by_each g (inr one) = inr (record {
           entry = one.entry;
@@ -207,6 +210,7 @@ module _ (cfg : Config) (m : ℕ) (some : cfg.groups ≡ m + 1) (h : Record) (ol
           got = ap (λ (z : List Item). slice_get z (length (handed r g))) (send_accepted r e a (replay_even n l).0) ∙ get_left (accepted r) (accepted_item e a) (length (handed r g)) one.item one.got;
           call = one.call;
           is = one.is;
+          counted = one.counted;
         })
 
     step_take : (y : ℕ) (e : Entry) (a : Answer) → y < n → IsReceivers cfg y e.pass e.call → AnswersAfter cfg r (Chain.Take y) e.call a → Fits (record { chain = Chain.Take y; entry = e; answer = a } ∷ l)
@@ -229,25 +233,25 @@ module _ (cfg : Config) (m : ℕ) (some : cfg.groups ≡ m + 1) (h : Record) (ol
         mine_is : of_group (noted (Chain.Take y) r (Some e) (Some a)) y ≡ with_take (of_group r y) e a
         mine_is = group_mine r y (with_take (of_group r y) e a) (r_in y inside)
 
-        by_same : of_group later y ≡ of_group r y → (g : ℕ) → Each n h (noted (Chain.Take y) r (Some e) (Some a)) (noted (Chain.Take y) later (Some e) (Some a)) g
+        by_same : of_group later y ≡ of_group r y → (g : ℕ) → Each n h count (noted (Chain.Take y) r (Some e) (Some a)) (noted (Chain.Take y) later (Some e) (Some a)) g
         by_same same g = elim (cases_eq g y) [
-          | inl is ↦ subst (λ (z : ℕ). Each n h (noted (Chain.Take y) r (Some e) (Some a)) (noted (Chain.Take y) later (Some e) (Some a)) z) (sym is)
+          | inl is ↦ subst (λ (z : ℕ). Each n h count (noted (Chain.Take y) r (Some e) (Some a)) (noted (Chain.Take y) later (Some e) (Some a)) z) (sym is)
               (inl (group_mine later y (with_take (of_group later y) e a) (later_in y inside) ∙ ap (λ (z : Side). with_take z e a) same ∙ sym mine_is))
-          | inr ne ↦ each_other n h r later (noted (Chain.Take y) r (Some e) (Some a)) (noted (Chain.Take y) later (Some e) (Some a)) g (group_other r y g (with_take (of_group r y) e a) ne) (group_other later y g (with_take (of_group later y) e a) ne) refl (k.ahead.each g)
+          | inr ne ↦ each_other n h count r later (noted (Chain.Take y) r (Some e) (Some a)) (noted (Chain.Take y) later (Some e) (Some a)) g (group_other r y g (with_take (of_group r y) e a) ne) (group_other later y g (with_take (of_group later y) e a) ne) refl (k.ahead.each g)
         ]
 
-        entry_is : OneMore n h r later y → slice_get (of_group h y).calls (length (of_group r y).calls) ≡ Some e
+        entry_is : OneMore n h count r later y → slice_get (of_group h y).calls (length (of_group r y).calls) ≡ Some e
         entry_is one =
             let p : IsPrefix ((of_group r y).calls ++ e ∷ []) (of_group h y).calls = subst (λ (z : Side). IsPrefix z.calls (of_group h y).calls) mine_is (calls y) in
             ap (λ (z : List Entry). slice_get z (length (of_group r y).calls)) p.1 ∙ get_front ((of_group r y).calls ++ e ∷ []) p.0 (length (of_group r y).calls) e (get_last (of_group r y).calls e)
 
-        by_one : OneMore n h r later y → (g : ℕ) → Each n h (noted (Chain.Take y) r (Some e) (Some a)) later g
+        by_one : OneMore n h count r later y → (g : ℕ) → Each n h count (noted (Chain.Take y) r (Some e) (Some a)) later g
         by_one one g = elim (cases_eq g y) [
           | inl is ↦
               let same_entry : one.entry ≡ e = some_same (sym one.call ∙ entry_is one) in
               let same_answer : Answer.Take (TakeAnswer.Got one.item) ≡ a = gets_next cfg y e.pass e.call (accepted r) (is_shut r) (length (handed r y)) (handed_to_all r) a one.item mine fits one.shut one.got in
-              subst (λ (z : ℕ). Each n h (noted (Chain.Take y) r (Some e) (Some a)) later z) (sym is) (inl (one.is ∙ (λ i. with_take (of_group r y) (same_entry i) (same_answer i)) ∙ sym mine_is))
-          | inr ne ↦ each_other n h r later (noted (Chain.Take y) r (Some e) (Some a)) later g (group_other r y g (with_take (of_group r y) e a) ne) refl refl (k.ahead.each g)
+              subst (λ (z : ℕ). Each n h count (noted (Chain.Take y) r (Some e) (Some a)) later z) (sym is) (inl (one.is ∙ (λ i. with_take (of_group r y) (same_entry i) (same_answer i)) ∙ sym mine_is))
+          | inr ne ↦ each_other n h count r later (noted (Chain.Take y) r (Some e) (Some a)) later g (group_other r y g (with_take (of_group r y) e a) ne) refl refl (k.ahead.each g)
         ]
 
     step : (x : Chain) (e : Entry) (a : Answer) → IsThere cfg x → IsOfChain cfg x e → AnswersAfter cfg r x e.call a → Fits (record { chain = x; entry = e; answer = a } ∷ l) → Next (record { chain = x; entry = e; answer = a } ∷ l)
@@ -270,7 +274,7 @@ module _ (cfg : Config) (m : ℕ) (some : cfg.groups ≡ m + 1) (h : Record) (ol
 
   -- ---- takes that are counted and not decided
 
-  module _ (l : List Effect) (t : Timed h (replay n l)) (count : ℕ → ℕ) (near : (g : ℕ) → g < n → count g ≤ length (handed h g) + 1)
+  module _ (l : List Effect) (t : Timed h (replay n l)) (near : (g : ℕ) → g < n → count g ≤ length (handed h g) + 1)
       (pending : (g : ℕ) → g < n → length (handed h g) < count g → length (of_group h g).answers < length (of_group h g).calls) (most : (g : ℕ) → g < n → count g ≤ length (accepted h))
       (receivers : (g : ℕ) → g < n → AllByRecursion (λ e. IsReceivers cfg g e.pass e.call) (of_group h g).calls) where
     abbrev got_by : Next l → ℕ → ℕ
@@ -325,22 +329,26 @@ module _ (cfg : Config) (m : ℕ) (some : cfg.groups ≡ m + 1) (h : Record) (ol
               others = λ g ne. ap length (take_other later e (Answer.Take (TakeAnswer.Got x)) j g ne);
             }
           where
-            by_each : j < length (replay n (k.effects ++ old)).takes → (g : ℕ) → Each n h (replay n l) (noted (Chain.Take j) (replay n (k.effects ++ old)) (Some e) (Some (Answer.Take (TakeAnswer.Got x)))) g
+            most_now : length (handed (noted (Chain.Take j) (replay n (k.effects ++ old)) (Some e) (Some (Answer.Take (TakeAnswer.Got x)))) j) ≤ count j
+            most_now = omega (arith, behind, take_mine (replay n (k.effects ++ old)) e (Answer.Take (TakeAnswer.Got x)) j (omega (arith, inside, replay_groups n (k.effects ++ old))))
+
+            by_each : j < length (replay n (k.effects ++ old)).takes → (g : ℕ) → Each n h count (replay n l) (noted (Chain.Take j) (replay n (k.effects ++ old)) (Some e) (Some (Answer.Take (TakeAnswer.Got x)))) g
             by_each there g = elim (cases_eq g j) [
-              | inl is ↦ subst (λ (z : ℕ). Each n h (replay n l) (noted (Chain.Take j) (replay n (k.effects ++ old)) (Some e) (Some (Answer.Take (TakeAnswer.Got x)))) z) (sym is) (inr (record {
+              | inl is ↦ subst (λ (z : ℕ). Each n h count (replay n l) (noted (Chain.Take j) (replay n (k.effects ++ old)) (Some e) (Some (Answer.Take (TakeAnswer.Got x)))) z) (sym is) (inr (record {
                 entry = e;
                 item = x;
                 inside = inside;
                 shut = shut;
                 got = got;
                 call = call;
+                counted = most_now;
                 is = group_mine (replay n (k.effects ++ old)) j (with_take (of_group (replay n (k.effects ++ old)) j) e (Answer.Take (TakeAnswer.Got x))) there ∙ ap (λ (z : Side). with_take z e (Answer.Take (TakeAnswer.Got x))) same;
               }))
-              | inr ne ↦ each_other n h (replay n l) (replay n (k.effects ++ old)) (replay n l) (noted (Chain.Take j) (replay n (k.effects ++ old)) (Some e) (Some (Answer.Take (TakeAnswer.Got x)))) g refl
+              | inr ne ↦ each_other n h count (replay n l) (replay n (k.effects ++ old)) (replay n l) (noted (Chain.Take j) (replay n (k.effects ++ old)) (Some e) (Some (Answer.Take (TakeAnswer.Got x)))) g refl
                   (group_other (replay n (k.effects ++ old)) j g (with_take (of_group (replay n (k.effects ++ old)) j) e (Answer.Take (TakeAnswer.Got x))) ne) refl (k.ahead.each g)
             ]
 
-    one_more : (k : Next l) (j : ℕ) → j < n → OneMore n h (replay n l) (replay n (k.effects ++ old)) j → count j ≤ got_by k j
+    one_more : (k : Next l) (j : ℕ) → j < n → OneMore n h count (replay n l) (replay n (k.effects ++ old)) j → count j ≤ got_by k j
     one_more k j inside one = omega (
       arith,
       near j inside,
@@ -382,8 +390,8 @@ module _ (cfg : Config) (m : ℕ) (some : cfg.groups ≡ m + 1) (h : Record) (ol
 
 -- ---- a run
 
-on_time : (n : ℕ) (h r later : Record) → Timed h r → Ahead n h r later → IsOnTime h later
-on_time n h r later t ahead = record { calls = calls; answers = answers }
+on_time : (n : ℕ) (h : Record) (count : ℕ → ℕ) (r later : Record) → Timed h r → Ahead n h count r later → IsOnTime h later
+on_time n h count r later t ahead = record { calls = calls; answers = answers }
   where
     calls : (x : Chain) → IsPrefix (calls_on x later) (calls_on x h)
     calls Chain.Send = subst (λ (z : Side). IsPrefix z.calls h.sends.calls) (sym ahead.sends) t.send_calls
@@ -404,7 +412,7 @@ module _ (c : Setting) (m : ℕ) (some : c.config.groups ≡ m + 1) (serves : c.
     later : List (List Effect)
     timely : IsTimely c moves later
     exact : IsExact c.config (in_order later)
-    ahead : Ahead c.config.groups (history_of c moves) (replay c.config.groups (in_order effects)) (replay c.config.groups (in_order later))
+    ahead : Ahead c.config.groups (history_of c moves) (counted_for (reached c moves)) (replay c.config.groups (in_order effects)) (replay c.config.groups (in_order later))
     follows : FollowsCounts c moves later
 
   followed : (moves : List Move) → IsRun c moves → (effects : List (List Effect)) → AreTimed c moves effects → IsExact c.config (in_order effects) → Followed moves effects
@@ -413,39 +421,53 @@ module _ (c : Setting) (m : ℕ) (some : c.config.groups ≡ m + 1) (serves : c.
   followed (mv ∷ earlier) run [] t exact = absurd t
   followed (mv ∷ earlier) run (now ∷ before) t exact =
       let p : Followed earlier before = followed earlier run.0 before t.0 (exact_tail c.config now (in_order before) exact) in
-      let base : Next c.config m some (history_of c (mv ∷ earlier)) (in_order p.later) (in_order before) = record {
+      let grow : CountsNoLess c (reached c earlier) (reached c (mv ∷ earlier)) = counts_grow c (mv ∷ []) earlier serves checked run in
+      let base : Next c.config m some (history_of c (mv ∷ earlier)) (counted_for (reached c (mv ∷ earlier))) (in_order p.later) (in_order before) = record {
         effects = [];
         exact = p.exact;
         ahead = record {
           sends = p.ahead.sends;
-          each = λ g. each_then c.config.groups (history_of c earlier) (history_of c (mv ∷ earlier)) (replay c.config.groups (in_order before)) (replay c.config.groups (in_order p.later)) g
-              ((prefixes_begin c (mv ∷ []) earlier run).1.takes g).calls (p.ahead.each g);
+          each = λ g. each_then c.config.groups (history_of c earlier) (history_of c (mv ∷ earlier)) (counted_for (reached c earlier)) (counted_for (reached c (mv ∷ earlier))) (replay c.config.groups (in_order before)) (replay c.config.groups (in_order p.later)) g
+              ((prefixes_begin c (mv ∷ []) earlier run).1.takes g).calls (grow.taken g) (p.ahead.each g);
         };
       } in
-      by_shut p (follow c.config m some (history_of c (mv ∷ earlier)) (in_order p.later) (in_order before) now base exact t.1.take_calls) (is_shut (history_of c (mv ∷ earlier))) refl
+      by_shut p (follow c.config m some (history_of c (mv ∷ earlier)) (counted_for (reached c (mv ∷ earlier))) (in_order p.later) (in_order before) now base exact t.1.take_calls) (is_shut (history_of c (mv ∷ earlier))) refl
     where
-      by_shut : (p : Followed earlier before) → Next c.config m some (history_of c (mv ∷ earlier)) (in_order p.later) (now ++ in_order before) → (b : Bool) → is_shut (history_of c (mv ∷ earlier)) ≡ b → Followed (mv ∷ earlier) (now ∷ before)
+      -- no take is in the order before it is counted
+      few_taken : (l : List Effect) → Ahead c.config.groups (history_of c (mv ∷ earlier)) (counted_for (reached c (mv ∷ earlier))) (replay c.config.groups (now ++ in_order before)) (replay c.config.groups l) → (g : ℕ) → g < c.config.groups
+          → length (handed (replay c.config.groups l) g) ≤ counted_for (reached c (mv ∷ earlier)) g
+      few_taken l ahead g inside = elim (ahead.each g) [
+        | inl is ↦ omega (
+          arith,
+          ap (λ (z : Side). length (handed_by z.answers)) is,
+          ap (λ (z : List Answer). length (handed_by z)) (t.1.take_answers g),
+          (counts_are_near c (mv ∷ earlier) serves checked run).taken_least g inside,
+        )
+        | inr one ↦ one.counted
+      ]
+
+      by_shut : (p : Followed earlier before) → Next c.config m some (history_of c (mv ∷ earlier)) (counted_for (reached c (mv ∷ earlier))) (in_order p.later) (now ++ in_order before) → (b : Bool) → is_shut (history_of c (mv ∷ earlier)) ≡ b → Followed (mv ∷ earlier) (now ∷ before)
       by_shut p k false is = record {
         later = k.effects ∷ p.later;
-        timely = (p.timely, on_time c.config.groups (history_of c (mv ∷ earlier)) (replay c.config.groups (now ++ in_order before)) (replay c.config.groups (k.effects ++ in_order p.later)) t.1 k.ahead);
+        timely = (p.timely, on_time c.config.groups (history_of c (mv ∷ earlier)) (counted_for (reached c (mv ∷ earlier))) (replay c.config.groups (now ++ in_order before)) (replay c.config.groups (k.effects ++ in_order p.later)) t.1 k.ahead);
         exact = k.exact;
         ahead = k.ahead;
-        follows = (p.follows, λ shut. absurd (true_false (sym shut ∙ is)));
+        follows = (p.follows, few_taken (k.effects ++ in_order p.later) k.ahead, λ shut. absurd (true_false (sym shut ∙ is)));
       }
       by_shut p k true is =
           let near : CountsOf c (reached c (mv ∷ earlier)) = counts_are_near c (mv ∷ earlier) serves checked run in
           let legal : Legal c.config (history_of c (mv ∷ earlier)) = history_is_legal c (mv ∷ earlier) serves checked run in
-          let q : Pulled c.config m some (history_of c (mv ∷ earlier)) (in_order p.later) (now ++ in_order before) t.1 (counted_for (reached c (mv ∷ earlier))) near.taken_near near.taken_pending near.taken_most
+          let q : Pulled c.config m some (history_of c (mv ∷ earlier)) (counted_for (reached c (mv ∷ earlier))) (in_order p.later) (now ++ in_order before) t.1 near.taken_near near.taken_pending near.taken_most
           (λ g inside. (legal.takes g inside).receivers) c.config.groups =
-          pull c.config m some (history_of c (mv ∷ earlier)) (in_order p.later) (now ++ in_order before) t.1 (counted_for (reached c (mv ∷ earlier))) near.taken_near near.taken_pending near.taken_most
+          pull c.config m some (history_of c (mv ∷ earlier)) (counted_for (reached c (mv ∷ earlier))) (in_order p.later) (now ++ in_order before) t.1 near.taken_near near.taken_pending near.taken_most
           (λ g inside. (legal.takes g inside).receivers) c.config.groups (omega arith)
           (any_prefix shuts (history_of c (mv ∷ earlier)).sends.answers (replay c.config.groups (now ++ in_order before)).sends.answers t.1.send_answers is) k in
           record {
             later = q.next.effects ∷ p.later;
-            timely = (p.timely, on_time c.config.groups (history_of c (mv ∷ earlier)) (replay c.config.groups (now ++ in_order before)) (replay c.config.groups (q.next.effects ++ in_order p.later)) t.1 q.next.ahead);
+            timely = (p.timely, on_time c.config.groups (history_of c (mv ∷ earlier)) (counted_for (reached c (mv ∷ earlier))) (replay c.config.groups (now ++ in_order before)) (replay c.config.groups (q.next.effects ++ in_order p.later)) t.1 q.next.ahead);
             exact = q.next.exact;
             ahead = q.next.ahead;
-            follows = (p.follows, λ shut g inside. q.counted g inside);
+            follows = (p.follows, few_taken (q.next.effects ++ in_order p.later) q.next.ahead, λ shut g inside. q.counted g inside);
           }
 
 of_list : (cfg : Config) (checked : config_fault cfg ≡ Ok tt) (moves : List Move) → IsRun (lists cfg) moves → HasCountedOrder (lists cfg) moves

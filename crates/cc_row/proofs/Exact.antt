@@ -119,7 +119,7 @@ module _ (cfg : ℕ → Config) where
   abbrev pub after : ℕ → List AtQueue → Record
   after q order = replay (cfg q).groups (only q order)
 
-  none_handed : (n g : ℕ) → length (handed (empty n) g) ≡ 0
+  pub none_handed : (n g : ℕ) → length (handed (empty n) g) ≡ 0
   none_handed n g = ap (λ (s : Side). length (handed_by s.answers)) (no_calls n (Chain.Take g))
 
   pub only_here : (e : AtQueue) (order : List AtQueue) (q : ℕ) → e.at ≡ q → only q (e ∷ order) ≡ e.effect ∷ only q order

@@ -20,5 +20,6 @@ pub mod BoundQueue
 pub mod BoundThreads
 pub mod SmallThreads
 pub mod CountedOrders
+pub mod FullLooks
 pub mod BoundedRuns
 pub mod SmallBoundRun

@@ -1,11 +1,11 @@
 -- The small row of one item, by threads that keep the rules of the bound.
-use Rattle.std.proofs.Common.{◌≡◌, ℕ, zero, suc, ◌<◌, List, [], ◌∷◌, Some, inl, inr, refl, arith}
+use Rattle.std.proofs.Common.{◌≡◌, ℕ, zero, suc, ◌<◌, List, [], ◌∷◌, Some, inl, inr, refl, sym, arith, append-nil}
 use Rattle.cc_row.specs.Names.{Call, Move}
 use Rattle.cc_row.specs.Runs.{RowMove}
 use Rattle.cc_row.specs.SmallRun.{steps, makes, sends, takes}
 use Rattle.cc_row.specs.SmallThreads.{small_row, with_moves, fills_first}
 use Rattle.cc_row.specs.Threads.{Role, RowEvent, HasFound, moves_of, look_of}
-use Rattle.cc_row.specs.BoundThreads.{HaveCome, FindsRoom, HasLooked, BeginsLetIn, KeepBound}
+use Rattle.cc_row.specs.BoundThreads.{FindsFull, HaveCome, FindsRoom, HasLooked, BeginsLetIn, KeepBound}
 use Rattle.cc_row.specs.SmallBoundRun.{takes_item, at_look, sends_narrow, small_bound_run, SmallBoundRun}
 use Rattle.cc_row.proofs.SmallRun.{onto, walked, runs_of, Good}
 use Rattle.cc_row.proofs.SmallThreads.{Fine, one_more, looks, leaves, filled, seven}
@@ -102,6 +102,9 @@ all_let =
     one_let 1 2 Call.Take 22 [] (looks_taker went_on) tt (one_let 0 2 Call.Take 14 [] sends_narrow tt
     (one_let 1 0 seven 27 [] at_look (inr has_looked) (one_let 0 2 Call.Take 22 [] (looks_taker fills_first) tt first_let)))
 
+finds_full : FindsFull small_row 1 1 [] fills_first
+finds_full = record { queue = 0; there = omega arith; group = 0; inside = omega arith; from = 0; which = inl refl; finds = omega arith }
+
 pub small_bound_run_is : SmallBoundRun
 small_bound_run_is = record {
   has = record { some = omega arith; room = omega arith; groups_are = λ q. refl; capacity_is = λ q. refl; names_are = λ q g. refl };
@@ -115,4 +118,5 @@ small_bound_run_is = record {
   bound = all_let;
   is_narrow = λ come. omega (arith, come 0 (omega arith));
   accepts = refl;
+  gets_full = λ later is. record { after = later; between = []; split = sym (append-nil later); finds = finds_full; no_close = refl };
 }

@@ -1,9 +1,10 @@
--- Each wrong rule of the bound lets two items into a row of one place.
-use Rattle.std.proofs.Common.{◌≡◌, ℕ, zero, suc, ◌<◌, Bool, true, inr, refl, arith}
-use Rattle.cc_row.specs.SmallRows.{narrow}
-use Rattle.cc_row.specs.Bound.{IsSlowest, IsQueue, told}
-use Rattle.cc_row.specs.WrongBounds.{crowded, WrongBounds}
+-- Each wrong rule of the bound lets two items into a row of one place; and Full isn't an answer of a queue that is closed.
+use Rattle.std.proofs.Common.{◌≡◌, ℕ, zero, suc, ◌<◌, Bool, true, ◌∷◌, inr, refl, arith}
+use Rattle.cc_row.specs.SmallRows.{body, narrow}
+use Rattle.cc_row.specs.Bound.{RowCall, IsSlowest, IsQueue, told}
+use Rattle.cc_row.specs.WrongBounds.{crowded, closed, WrongBounds}
 use Rattle.cc_row.proofs.Bound.{bounded_rows}
+use Rattle.cc_row.proofs.CountedOrders.{true_false}
 
 none : {X : Type 0} (k : ℕ) → k < 0 → X
 none {X} k less = absurd (omega (arith, less))
@@ -17,6 +18,9 @@ nothing f is = record { least = λ g inside. omega arith; group = 0; inside = om
 
 too_many : IsQueue narrow 1 (told 1 crowded) → ⊥
 too_many q = omega (arith, q.2.2.2, q.2.1.least 0 (omega arith))
+
+late_full : IsQueue narrow 1 (told 0 (RowCall.Refused 1 2 body ∷ closed)) → ⊥
+late_full q = true_false q.2.2.0
 
 pub wrong_bounds : WrongBounds
 wrong_bounds = record {
@@ -49,4 +53,13 @@ wrong_bounds = record {
         inr (λ g inside. omega arith),
         (0, nothing _ refl, (refl, (λ is. omega (arith, is)), omega arith, refl)),
       ) (omega arith));
+  looks_fit = λ cfg one groups last order sender number body even row full life. (bounded_rows cfg one groups last (RowCall.Refused sender number body ∷ order) even (row, full) life).0;
+  closed_is_none = λ law.
+      late_full (law (λ q. narrow) narrow 1 0 closed 1 2 body (λ q. refl) (
+        (tt, omega arith, (λ k less. none k less), inr (λ g inside. omega arith), (0, nothing _ refl, (refl, (λ is. omega (arith, is)), omega arith, refl))),
+        omega arith,
+        (λ k less. none k less),
+        tt,
+        (0, nothing _ refl, (refl, refl)),
+      ) record { group = 0; inside = omega arith; waits = omega arith } (omega arith));
 }

@@ -41,6 +41,12 @@ AreTogether groups q order = (g : ℕ) → g < groups → (k : ℕ) → k < q �
 abbrev pub HasRoom : (groups bound last : ℕ) → List At → Type 0
 HasRoom groups bound last order = (g : ℕ) → g < groups → before (suc last) order < taken_before (suc last) g order + bound
 
+-- as many items as the bound are in the row for some group
+pub record IsCrowded (groups bound last : ℕ) (order : List At) : Type 0 where
+  pub group : ℕ
+  pub inside : group < groups
+  pub waits : taken_before (suc last) group order + bound ≤ before (suc last) order
+
 -- as many items as the bound are in the row for some group, and the row isn't closed
 pub record IsFullRow (groups bound last : ℕ) (order : List At) : Type 0 where
   pub group : ℕ

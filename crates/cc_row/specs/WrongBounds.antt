@@ -1,9 +1,10 @@
--- Wrong rules of the bound: items that are let in though the row is narrow, or by the count of the last queue alone. From outside neither is one queue.
-use Rattle.std.specs.Prelude.{◌≡◌, ◌⊎◌, ℕ, ◌+◌, ◌<◌, ◌≤◌, List, [], ◌∷◌, length}
-use Rattle.cc_row.specs.Names.{Config, Answer, SendAnswer, CloseAnswer}
+-- Wrong rules of the bound: items that are let in though the row is narrow, or by the count of the last queue alone;
+-- and a look that returns Full though the row is closed. From outside none is one queue.
+use Rattle.std.specs.Prelude.{◌≡◌, ◌⊎◌, ℕ, suc, ◌+◌, ◌<◌, ◌≤◌, List, [], ◌∷◌, length}
+use Rattle.cc_row.specs.Names.{Config, Body, Answer, SendAnswer, CloseAnswer}
 use Rattle.cc_row.specs.Row.{At, items_at, taken_at}
 use Rattle.cc_row.specs.SmallRows.{send, close}
-use Rattle.cc_row.specs.Bound.{RowCall, AreTogether, IsBoundedRowBy, IsLetIn, told, IsQueue}
+use Rattle.cc_row.specs.Bound.{RowCall, at_queues, AreTogether, IsCrowded, IsFullRow, IsBoundedRow, IsBoundedRowBy, IsLetIn, told, IsQueue}
 
 -- an item is let in at any time
 abbrev pub LetsAll : (groups bound last q : ℕ) → Answer → List At → Type 0
@@ -23,7 +24,20 @@ IsOneBoundedQueueBy LetsIn = (cfg : ℕ → Config) (one : Config) (groups last 
 abbrev pub crowded : List RowCall
 crowded = RowCall.IsAt (send 1 2 (SendAnswer.Accepted 0)) ∷ RowCall.IsAt (close 0 (CloseAnswer.Shut 1)) ∷ RowCall.IsAt (send 0 1 (SendAnswer.Accepted 0)) ∷ []
 
+-- with one look more that returns Full by this rule, a row is one queue with the bound
+abbrev pub LooksFitBy : (IsFull : (groups bound last : ℕ) → List At → Type 0) → Type 0
+LooksFitBy IsFull = (cfg : ℕ → Config) (one : Config) (groups last : ℕ) (order : List RowCall) (sender number : ℕ)
+    (body : Body) → ((q : ℕ) → (cfg q).capacity ≡ one.capacity) → IsBoundedRow cfg groups one.capacity last order
+    → IsFull groups one.capacity last (at_queues order) → suc (length order) ≤ one.life
+    → IsQueue one groups (told last (RowCall.Refused sender number body ∷ order))
+
+-- the newest call first: a row of one place, full and closed
+abbrev pub closed : List RowCall
+closed = RowCall.IsAt (close 0 (CloseAnswer.Shut 1)) ∷ RowCall.IsAt (send 0 1 (SendAnswer.Accepted 0)) ∷ []
+
 pub record WrongBounds : Type 0 where
   pub right : IsOneBoundedQueueBy IsLetIn
   pub all_is_none : IsOneBoundedQueueBy LetsAll → ⊥
   pub last_is_none : IsOneBoundedQueueBy LetsByLast → ⊥
+  pub looks_fit : LooksFitBy IsFullRow
+  pub closed_is_none : LooksFitBy IsCrowded → ⊥

@@ -70,7 +70,8 @@ pub fn small_bound()
     ensures { SmallBound }
 {}
 
-/// Two wrong rules of the bound: items that are let in though the row is narrow, or by the count of the last queue alone.
+/// Two wrong rules of the bound: items that are let in though the row is narrow, or by the count of the last queue
+/// alone. And a wrong look, which returns Full though the row is closed.
 #[tactic(auto, using(crate::proofs::WrongBounds::wrong_bounds))]
 pub fn wrong_bounds_are_refused()
     ensures { WrongBounds }
@@ -125,13 +126,17 @@ pub fn counted_takes_are_open()
     ensures { CountedTakesAreOpen }
 {}
 
-/// Each run of a queue has an order that keeps real time, in which a take of a queue that is shut takes effect as soon as it is counted.
+/// Each run of a queue has an order that keeps real time, in which no take has an item before it is counted, and a
+/// take of a queue that is shut takes effect as soon as it is counted.
 pub fn orders_follow_counts()
     ensures { OrdersFollowCounts }
 {}
 
-/// Threads that keep the rules of a row and of its bound make one queue with this capacity, in every interleaving: the run has an order that
-/// keeps real time, of which each answer is that of a sequential queue, also Full of a queue. Looks that return Full aren't in this order.
+/// Threads that keep the rules of a row and of its bound make one queue with this capacity, in every interleaving: the
+/// run has an order that keeps real time, of which each answer is that of a sequential queue, also Full of a queue. A
+/// Full of a look is in this order at the moment at which the look loads the number of accepted items, if no close of
+/// the row has exchanged by then. Else as many items as the bound are in the row at that place of the order, but it
+/// may be shut there.
 pub fn bounded_threads_are_one()
     ensures { BoundedThreadsAreOne }
 {}
@@ -142,7 +147,8 @@ pub fn small_threads()
     ensures { SmallThreads }
 {}
 
-/// Threads of a small row keep the rules of the bound. One of their sends is let in by a look while the row is narrow.
+/// Threads of a small row keep the rules of the bound. One of their sends is let in by a look while the row is narrow,
+/// and another send gets Full by a look.
 #[tactic(auto, using(crate::proofs::SmallBoundRun::small_bound_run_is))]
 pub fn small_bound_run()
     ensures { SmallBoundRun }
