@@ -10,6 +10,7 @@ must say that it ran out: so the limit holds the program. Exit status 0 if all d
 """
 
 import json
+import os
 import re
 import sys
 from pathlib import Path
@@ -92,6 +93,8 @@ def others():
 
 
 def main():
+    if not os.access(TOP / PROGRAM, os.X_OK):
+        sys.exit(f"memory: there is no {PROGRAM}: run `rt ci` first, or `rt run` in crates/ccq")
     says = re.search(SAYS, (TOP / "docs/FORMATS.md").read_text())
     if not says:
         sys.exit("memory: docs/FORMATS.md doesn't say how much memory ccq takes")
