@@ -28,7 +28,7 @@ have_program() {
     if ! command -v rt >/dev/null; then
         [ -x "$program" ] && say 'sources are newer than the program, and rt is not on the path: this runs the old one' && return
         say "the command rt isn't on the path. It is the toolchain that proves and builds this program, and"
-        say 'nothing else does: README.md, "Build and check it", says what there is without it.'
+        say 'nothing else does: ./test --quick checks what needs no proof.'
         exit 69
     fi
     if [ -x "$program" ]; then
