@@ -78,8 +78,9 @@ run_plan() {
     -h | --help) printf '%s\n' "$help" && exit ;;
     --prove | --try) how=$1 && shift ;;
     esac
-    if [ "$name" = show ] && [ "${1-}" = --trace ]; then
-        words+=(--trace) && shift
+    if [ "$name" = show ] && { [ "${1-}" = --trace ] || [ "${2-}" = --trace ]; }; then
+        words+=(--trace)
+        [ "$1" = --trace ] && shift || set -- "$1" "${@:3}"
     fi
     if [ "$#" -gt 1 ]; then
         echo "usage: ./$name [--prove | --try] [PLAN], or with the plan on standard input; ./$name --help says more" >&2
