@@ -10,7 +10,7 @@ use Rattle.cc_row.proofs.Order.{Did, adds, closes, takes, finds_end, leaves, did
 use Rattle.cc_row.proofs.Sums.{row_taken, length_row, rest_row, rest_taken, all_taken}
 use Rattle.cc_row.proofs.Law.{Agrees, agrees, agrees_more, new_few, items_few, outside_few, rows_are_queues}
 
-abbrev full : Answer
+abbrev pub full : Answer
 full = Answer.Send SendAnswer.Full
 
 is_full : (a : Answer) → (a ≡ full) ⊎ (a ≡ full → ⊥)
@@ -73,7 +73,7 @@ few_before : (cfg : ℕ → Config) (last : ℕ) (o : List At) → IsRow cfg las
 few_before cfg last o row zero g = omega arith
 few_before cfg last o row (suc q) g = omega (arith, few_before cfg last o row q g, few_taken cfg last o row q g)
 
-slowest : (groups : ℕ) (f : ℕ → ℕ) → 0 < groups → (all : ℕ) × IsSlowest groups f all
+pub slowest : (groups : ℕ) (f : ℕ → ℕ) → 0 < groups → (all : ℕ) × IsSlowest groups f all
 slowest zero f some = absurd (omega (arith, some))
 slowest (suc zero) f some = (f 0, record { least = λ g inside. let z : g ≡ 0 = omega (arith, inside) in omega (arith, ap f z); group = 0; inside = omega arith; is = refl })
 slowest (suc (suc n)) f some =
@@ -113,7 +113,7 @@ added cfg items shut taken all s n (Call.Send body) _ h = inl refl
 added cfg items shut taken all s n Call.Close _ h = inl refl
 added cfg items shut taken all s n Call.Take _ h = inl refl
 
-queue_bound : (one : Config) (groups : ℕ) (o : List At) → IsQueue one groups o → (g : ℕ) → g < groups → length (items_at 0 o) ≤ taken_at 0 g o + one.capacity
+pub queue_bound : (one : Config) (groups : ℕ) (o : List At) → IsQueue one groups o → (g : ℕ) → g < groups → length (items_at 0 o) ≤ taken_at 0 g o + one.capacity
 queue_bound one groups [] row g inside = omega arith
 queue_bound one groups (e ∷ o) row g inside = elim (added one (items_at 0 o) (shut_at 0 o) (taken_at 0 e.group o) row.2.0 e.sender e.number e.call e.answer row.2.2) [
   | inl none ↦ omega (arith, ap length (items_none e o 0 none), queue_bound one groups o row.0 g inside, taken_grow e o 0 g)
@@ -193,14 +193,14 @@ fits one capacity items shut taken any all Call.Take (Answer.Take TakeAnswer.Emp
 fits one capacity items shut taken any all Call.Take (Answer.Take (TakeAnswer.Ended total)) few h room = h
 fits one capacity items shut taken any all _ _ few h room = absurd h
 
-moved_to : (one : Config) (items more : List Item) (shut b : Bool) (taken t all : ℕ) (call : Call) (a : Answer) → items ≡ more → shut ≡ b → taken ≡ t → Exactly one items shut taken all call a → Exactly one more b t all call a
+pub moved_to : (one : Config) (items more : List Item) (shut b : Bool) (taken t all : ℕ) (call : Call) (a : Answer) → items ≡ more → shut ≡ b → taken ≡ t → Exactly one items shut taken all call a → Exactly one more b t all call a
 moved_to one items more shut b taken t all call a p r s e = subst (λ (z : Type 0). z) (λ i. Exactly one (p i) (r i) (s i) all call a) e
 
 module _ (cfg : ℕ → Config) (one : Config) (groups last : ℕ) where
   abbrev Bounded : List RowCall → Type 0
   Bounded order = IsBoundedRow cfg groups one.capacity last order
 
-  plain : (order : List RowCall) → Bounded order → IsRow cfg last (at_queues order)
+  pub plain : (order : List RowCall) → Bounded order → IsRow cfg last (at_queues order)
   plain [] row = tt
   plain (RowCall.IsAt e ∷ earlier) row = (plain earlier row.0, row.1, row.2, (row.4.0, row.4.2))
   plain (RowCall.Refused s n body ∷ earlier) row = plain earlier row.0
@@ -214,12 +214,12 @@ module _ (cfg : ℕ → Config) (one : Config) (groups last : ℕ) where
   add_few e None rest = omega arith
   add_few e (Some a) rest = omega arith
 
-  told_few : (order : List RowCall) → length (told last order) ≤ length order
+  pub told_few : (order : List RowCall) → length (told last order) ≤ length order
   told_few [] = omega arith
   told_few (RowCall.IsAt e ∷ earlier) = omega (arith, add_few e (told_by (before e.queue (at_queues earlier)) (e.queue == last) e.answer) (told last earlier), told_few earlier)
   told_few (RowCall.Refused s n body ∷ earlier) = omega (arith, told_few earlier)
 
-  told_agrees : (order : List RowCall) → Bounded order → Agrees last (at_queues order) (told last order)
+  pub told_agrees : (order : List RowCall) → Bounded order → Agrees last (at_queues order) (told last order)
   told_agrees [] row = agrees cfg last [] tt
   told_agrees (RowCall.Refused s n body ∷ earlier) row = with_full last (at_queues earlier) (told last earlier) 0 s n (Call.Send body) (told_agrees earlier row.0)
   told_agrees (RowCall.IsAt e ∷ earlier) row =
@@ -237,10 +237,10 @@ module _ (cfg : ℕ → Config) (one : Config) (groups last : ℕ) where
   -- ---- the counts of the row, as one queue
 
   module _ (o outer : List At) (row : IsRow cfg last o) (same : Agrees last o outer) where
-    accepted_is : length (items_at 0 outer) ≡ before (suc last) o
+    pub accepted_is : length (items_at 0 outer) ≡ before (suc last) o
     accepted_is = omega (arith, ap length same.items, length_row (suc last) o)
 
-    taken_is : (g : ℕ) → taken_at 0 g outer ≡ taken_before (suc last) g o
+    pub taken_is : (g : ℕ) → taken_at 0 g outer ≡ taken_before (suc last) g o
     taken_is g = omega (arith, same.taken g, taken_row (suc last) g o)
 
     module _ (q : ℕ) (within : q ≤ last) (is_open : shut_at q o ≡ false) where
@@ -290,7 +290,7 @@ module _ (cfg : ℕ → Config) (one : Config) (groups last : ℕ) where
   )
 
   module _ (even : (q : ℕ) → (cfg q).capacity ≡ one.capacity) where
-    rows : (order : List RowCall) → Bounded order → length order ≤ one.life → IsQueue one groups (told last order)
+    pub rows : (order : List RowCall) → Bounded order → length order ≤ one.life → IsQueue one groups (told last order)
     rows [] row life = tt
     rows (RowCall.Refused s n body ∷ earlier) row life =
         let o : List At = at_queues earlier in

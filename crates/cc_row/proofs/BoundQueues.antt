@@ -16,6 +16,16 @@ use Rattle.cc_row.proofs.Exact.{Same, Exact, after, exact_before, exact_now, sam
 use Rattle.cc_row.proofs.Chains.{chains_are_rows}
 use Rattle.cc_row.proofs.Bound.{bounded_rows}
 
+pub shown_is : (order : List RowEffect) → at_queues (calls_in order) ≡ map (seen own_name) (effects_in order)
+shown_is [] = refl
+shown_is (RowEffect.At e ∷ earlier) = ap (λ (l : List At). seen own_name e ∷ l) (shown_is earlier)
+shown_is (RowEffect.Refused s n body ∷ earlier) = shown_is earlier
+
+pub long : (l : List RowEffect) → length (calls_in l) ≡ length l
+long [] = refl
+long (RowEffect.At e ∷ l) = omega (arith, long l)
+long (RowEffect.Refused s n body ∷ l) = omega (arith, long l)
+
 module _ (cfg : ℕ → Config) (one : Config) (alike : AreAlike cfg one) where
   apart : AreApart cfg own_name
   apart q g h in_g in_h is = is
@@ -34,12 +44,7 @@ module _ (cfg : ℕ → Config) (one : Config) (alike : AreAlike cfg one) where
         is = omega (arith, least, is.2, state.taken is.0 (omega (arith, is.1, alike.groups q, alike.some)));
       }
 
-  shown_is : (order : List RowEffect) → at_queues (calls_in order) ≡ map (seen own_name) (effects_in order)
-  shown_is [] = refl
-  shown_is (RowEffect.At e ∷ earlier) = ap (λ (l : List At). seen own_name e ∷ l) (shown_is earlier)
-  shown_is (RowEffect.Refused s n body ∷ earlier) = shown_is earlier
-
-  bounded : (last : ℕ) (order : List RowEffect) → Exact cfg (effects_in order) → InOrder own_name last (effects_in order) → AreLetIn one.groups one.capacity last order → IsBoundedRow cfg one.groups one.capacity last (calls_in order)
+  pub bounded : (last : ℕ) (order : List RowEffect) → Exact cfg (effects_in order) → InOrder own_name last (effects_in order) → AreLetIn one.groups one.capacity last order → IsBoundedRow cfg one.groups one.capacity last (calls_in order)
   bounded last [] exact orderly lets = tt
   bounded last (RowEffect.Refused s n body ∷ earlier) exact orderly lets = (bounded last earlier exact orderly lets.0, subst (λ (l : List At). IsFullRow one.groups one.capacity last l) (sym (shown_is earlier)) lets.1)
   bounded last (RowEffect.At e ∷ earlier) exact orderly lets =
@@ -65,8 +70,3 @@ module _ (cfg : ℕ → Config) (one : Config) (alike : AreAlike cfg one) where
 pub bounded_queues : BoundedQueuesAreOne
 bounded_queues cfg one last order alike exact orderly lets life =
     bounded_rows cfg one one.groups last (calls_in order) alike.capacity (bounded cfg one alike last order exact orderly lets) (omega (arith, long order, life))
-  where
-    long : (l : List RowEffect) → length (calls_in l) ≡ length l
-    long [] = refl
-    long (RowEffect.At e ∷ l) = omega (arith, long l)
-    long (RowEffect.Refused s n body ∷ l) = omega (arith, long l)

@@ -29,10 +29,11 @@ use Rattle.cc_row.specs.Threads.{RowEvent, RowSetting, IsKept, moves_of, moves_t
 use Rattle.cc_row.specs.Bound.{AreTogether, HasRoom, IsCrowded, IsFullRow, IsLetIn, taken_before}
 use Rattle.cc_row.specs.BoundThreads.{queue_at, accepted_below, counted_below, HasBound, HaveCome, FindsFull, KeepBound}
 use Rattle.cc_row.proofs.Threads.{within, good, last_grows, final_last}
-use Rattle.cc_row.proofs.BoundQueues.{bounded_queues}
+use Rattle.cc_row.proofs.BoundQueues.{bounded, bounded_queues}
 use Rattle.cc_row.specs.BoundQueues.{RowEffect, effects_in, AreLetIn}
-use Rattle.cc_row.specs.BoundedRuns.{Sent, GetsFull, GetFull, refused, with_looks, IsOneQueue, effects_before, LooksFindCrowds, IsBoundedLinearization, BoundedThreadsAreOne}
+use Rattle.cc_row.specs.BoundedRuns.{Sent, GetsFull, GetFull, refused, with_looks, IsOneQueue, effects_before, LooksFindCrowds, ClosesLate, IsBoundedLinearization, BoundedThreadsAreOne}
 use Rattle.cc_row.proofs.FullLooks.{is_crowded, is_full}
+use Rattle.cc_row.proofs.CloseRuns.{effects_at, effects_front, effects_refused, looks_none, closes_late}
 use Rattle.cc_model.proofs.Grows.{any-append}
 
 -- ---- one queue: what an order has accepted
@@ -175,28 +176,9 @@ stays_shut n (x ∷ front) l is = by x.chain x.entry x.answer (stays_shut n fron
     by (Chain.Take g) e a is = is
     by Chain.Send e a is = any-append shuts (replay n (front ++ l)).sends.answers (a ∷ []) ∙ ap (λ (b : Bool). b || (shuts a || false)) is
 
-effects_front : (l : List AtQueue) (more : List RowEffect) → effects_in (map RowEffect.At l ++ more) ≡ l ++ effects_in more
-effects_front [] more = refl
-effects_front (e ∷ l) more = ap (λ (z : List AtQueue). e ∷ z) (effects_front l more)
-
-effects_refused : (l : List Sent) (more : List RowEffect) → effects_in (refused l ++ more) ≡ effects_in more
-effects_refused [] more = refl
-effects_refused (x ∷ l) more = effects_refused l more
-
 at_append : (a b : List AtQueue) → map RowEffect.At (a ++ b) ≡ map RowEffect.At a ++ map RowEffect.At b
 at_append [] b = refl
 at_append (e ∷ a) b = ap (λ (z : List RowEffect). RowEffect.At e ∷ z) (at_append a b)
-
--- looks change nothing at the queues
-looks_none : (looks : List RowEvent → List Sent) (events : List RowEvent) (f : ℕ → List (List Effect)) → effects_in (with_looks looks events (merge (moves_of events) f)) ≡ flat (merge (moves_of events) f)
-looks_none looks [] f = ap effects_in (sym (append-nil (refused (looks [])))) ∙ effects_refused (looks []) []
-looks_none looks (RowEvent.Moves m ∷ earlier) f =
-    effects_refused (looks (RowEvent.Moves m ∷ earlier)) _ ∙ effects_front (put m.at (head (f m.at))) (with_looks looks earlier (merge (moves_of earlier) (cut m.at f))) ∙ ap (λ (z : List AtQueue). put m.at (head (f m.at)) ++ z) (looks_none looks earlier (cut m.at f))
-looks_none looks (RowEvent.Looks seat role ∷ earlier) f = effects_refused (looks (RowEvent.Looks seat role ∷ earlier)) _ ∙ looks_none looks earlier f
-looks_none looks (RowEvent.Leaves seat ∷ earlier) f = effects_refused (looks (RowEvent.Leaves seat ∷ earlier)) _ ∙ looks_none looks earlier f
-looks_none looks (RowEvent.Appends ∷ earlier) f = effects_refused (looks (RowEvent.Appends ∷ earlier)) _ ∙ looks_none looks earlier f
-looks_none looks (RowEvent.GoesOn name ∷ earlier) f = effects_refused (looks (RowEvent.GoesOn name ∷ earlier)) _ ∙ looks_none looks earlier f
-looks_none looks (RowEvent.Closes ∷ earlier) f = effects_refused (looks (RowEvent.Closes ∷ earlier)) _ ∙ looks_none looks earlier f
 
 without_looks : (events : List RowEvent) (f : ℕ → List (List Effect)) → with_looks (λ (s : List RowEvent). []) events (merge (moves_of events) f) ≡ map RowEffect.At (flat (merge (moves_of events) f))
 without_looks [] f = refl
@@ -544,6 +526,7 @@ bounded_threads r one events has is_kept keep =
         is_one = subst (λ (z : List RowEffect). IsOneQueue one (final_of events) z) (without_looks events f) (one_of (λ s. []) (λ later seen is. tt));
         has_looks = one_of;
         finds_crowds = crowds;
+        closes_late = late;
       },
     )
       where
@@ -569,3 +552,20 @@ bounded_threads r one events has is_kept keep =
             (crowd_at r one.groups one.capacity has (final_of events) (after ++ between) start (sound_then r between start now) f (subst (λ (z : List RowEvent). Each r.of (moves_of z) f) (sym is) each) ok
             (subst (λ (z : List RowEvent). (q : ℕ) → FollowsCounts (r.of q) (moves_there q z) (f q)) (sym is) follows) between now finds
             (omega (arith, final_last events, last_stays r (after ++ between) start, ap last_of is)))
+
+        late : ClosesLate r one (final_of events) events (merge (moves_of events) f)
+        late = closes_late r one (final_of events) events (λ q. has.capacity_is q) has.some f refl crowds
+            (bounded (λ q. (r.of q).config) one record {
+              some = has.some;
+              groups = has.groups_are;
+              capacity = has.capacity_is;
+            } (final_of events) (map RowEffect.At (flat (merge (moves_of events) f)))
+            (λ q. subst (λ (z : List AtQueue). IsExact (r.of q).config (only q z))
+            (sym (effects_at (flat (merge (moves_of events) f)))) (merged_exact r.of (moves_of events) f each ok q))
+            (subst (λ (z : List AtQueue). InOrder own_name (final_of events) z)
+            (sym (effects_at (flat (merge (moves_of events) f)))) own)
+            (subst (λ (z : List RowEffect). AreLetIn one.groups one.capacity (final_of events) z)
+            (without_looks events f)
+            (all_let r one.groups one.capacity has (final_of events) events (sound_of r events is_kept)
+            (final_last events) (λ s. []) (λ later seen is. tt) [] events refl (sound_of r events is_kept) keep
+            (final_last events) f each ok follows)))

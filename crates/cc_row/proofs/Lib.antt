@@ -21,5 +21,7 @@ pub mod BoundThreads
 pub mod SmallThreads
 pub mod CountedOrders
 pub mod FullLooks
+pub mod LateCloses
+pub mod CloseRuns
 pub mod BoundedRuns
 pub mod SmallBoundRun

@@ -1,9 +1,10 @@
 -- Runs of threads that keep the rules of a row and of its bound. From outside, each such run is one queue with this
 -- capacity, also with the looks that return Full.
-use Rattle.std.specs.Prelude.{◌≡◌, ℕ, ◌≤◌, Bool, true, false, List, [], ◌∷◌, ◌++◌, map, length}
+use Rattle.std.specs.Prelude.{◌≡◌, ℕ, ◌≤◌, Bool, true, false, List, [], ◌∷◌, ◌++◌, map, length, if◌then◌else◌}
 use Rattle.std.specs.List.{AllByRecursion, list_any}
 use Rattle.cc_runs.specs.Linearizable.{IsExact}
-use Rattle.cc_row.specs.Names.{Config, Body, Call, Entry}
+use Rattle.cc_row.specs.Names.{Config, Body, Call, Entry, Answer, SendAnswer, TakeAnswer}
+use Rattle.cc_row.specs.Row.{At}
 use Rattle.cc_row.specs.OneQueue.{own_name}
 use Rattle.cc_row.specs.Queues.{AtQueue, only, seen}
 use Rattle.cc_row.specs.Runs.{flat, IsRowTimely}
@@ -86,6 +87,56 @@ IsOneQueue one last order = length order ≤ one.life
     → IsQueue one one.groups (told last (calls_in order))
     × IsWithin one.groups one.capacity last (at_queues (calls_in order))
 
+-- ---- a close that takes effect later
+
+-- the answer says that the queue is shut
+abbrev pub says_shut : Answer → Bool
+says_shut (Answer.Close answer) = true
+says_shut (Answer.Send SendAnswer.Closed) = true
+says_shut (Answer.Take (TakeAnswer.Ended total)) = true
+says_shut _ = false
+
+-- the calls whose answers say so
+abbrev pub shut_calls : List At → List At
+shut_calls [] = []
+shut_calls (e ∷ earlier) = if says_shut e.answer then e ∷ shut_calls earlier else shut_calls earlier
+
+abbrev pub other_calls : List At → List At
+other_calls [] = []
+other_calls (e ∷ earlier) = if says_shut e.answer then other_calls earlier else e ∷ other_calls earlier
+
+-- the same calls, of which those that say so take effect after all others
+abbrev pub shut_last : List At → List At
+shut_last calls = shut_calls calls ++ other_calls calls
+
+-- When the events were `seen`, a send's look loaded how many items a queue had accepted; later it found that the row
+-- was full. A close of the row may have exchanged.
+pub record LooksFull (r : RowSetting) (groups bound : ℕ) (later seen : List RowEvent) : Type 0 where
+  pub after : List RowEvent
+  pub between : List RowEvent
+  pub split : later ≡ after ++ between
+  pub finds : FindsFull r groups bound between seen
+
+-- Sends, by the moment of their look's first load, when the events were `marked` or earlier: each finds the row full.
+abbrev pub LookFull : (r : RowSetting) (groups bound : ℕ) (looks : List RowEvent → List Sent)
+    → (after marked : List RowEvent) → Type 0
+LookFull r groups bound looks after marked = (later seen : List RowEvent) → later ++ seen ≡ marked
+    → AllByRecursion (λ (s : Sent). LooksFull r groups bound (after ++ later) seen) (looks seen)
+
+-- what the callers get, by an order without looks
+abbrev pub told_of : (last : ℕ) → List (List AtQueue) → List At
+told_of last effects = told last (calls_in (map RowEffect.At (flat effects)))
+
+-- When the events were `marked`, looks had loaded that each get Full. Then the run is one queue of this capacity too if
+-- those calls by then that say that the row is shut take effect at this moment, and all others as before.
+abbrev pub ClosesLate : RowSetting → (one : Config) (last : ℕ) → List RowEvent → List (List AtQueue) → Type 0
+ClosesLate r one last events effects = (after marked : List RowEvent) (looks : List RowEvent → List Sent)
+    → after ++ marked ≡ events → LookFull r one.groups one.capacity looks after marked
+    → length (flat effects) ≤ one.life → length (with_looks looks marked (effects_before after effects)) ≤ one.life
+    → (later : List At) × (told_of last effects ≡ later ++ told_of last (effects_before after effects))
+    × IsQueue one one.groups (later
+    ++ shut_last (told last (calls_in (with_looks looks marked (effects_before after effects)))))
+
 -- an order of the calls at the queues that keeps real time
 pub record IsBoundedLinearization (r : RowSetting) (one : Config) (events : List RowEvent) (effects : List (List AtQueue)) : Type 0 where
   pub timely : IsRowTimely r.of (moves_of events) effects
@@ -97,6 +148,8 @@ pub record IsBoundedLinearization (r : RowSetting) (one : Config) (events : List
       → IsOneQueue one (final_of events) (with_looks looks events effects)
   -- as many items are in the row at each look that finds it full
   pub finds_crowds : LooksFindCrowds r one.groups one.capacity events effects
+  -- so each look gets Full in an order in which a close of the row takes effect later
+  pub closes_late : ClosesLate r one (final_of events) events effects
 
 -- each run of such threads has such an order
 abbrev pub BoundedThreadsAreOne : Type 0

@@ -136,7 +136,7 @@ pub fn orders_follow_counts()
 /// run has an order that keeps real time, of which each answer is that of a sequential queue, also Full of a queue. A
 /// Full of a look is in this order at the moment at which the look loads the number of accepted items, if no close of
 /// the row has exchanged by then. Else as many items as the bound are in the row at that place of the order, but it
-/// may be shut there.
+/// may be shut there. Then the calls that say that the row is shut take effect later, in another order of the run.
 pub fn bounded_threads_are_one()
     ensures { BoundedThreadsAreOne }
 {}
