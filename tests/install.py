@@ -49,6 +49,8 @@ ROWS = [
     ("ccq drive --senders 4 --b", "ound "),
     ("ccq drive --senders ", ""),
     ("ccq play examples/one", "_item.json "),
+    ("ccq play examples/one_item.json ", ""),
+    ("ccq judge examples/one_item.json --sk", "ew "),
 ]
 # How each shell is started, without files of its user, and the line that loads the completions from the folder {of} and
 # lets control-X control-R write the line that is typed into the file {said}, empty that line, and print SAID.

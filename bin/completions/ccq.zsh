@@ -1,6 +1,7 @@
 #compdef ccq
 # Completions of `ccq` for zsh.
 _ccq() {
+  local file
   local -a commands help helped
   commands=(
     'play:play a plan and write the report of its whole history'
@@ -13,14 +14,16 @@ _ccq() {
   # An array, since braces are expanded in no text that `local` takes
   help=('(- *)'{-h,--help}'[print help]')
   helped=('help:print the help of a command')
+  # Behind its file a command's options are offered only once a dash is typed
+  [[ $PREFIX == -* ]] || file='(-)'
   _arguments -C $help '(- *)'{-V,--version}'[print the version]' '1: :->command' '*:: :->words'
   case $state in
     command) _describe command commands -- helped ;;
     words)
       case $words[1] in
         help) _describe command commands ;;
-        play) _arguments $help '1:plan:_files' ;;
-        audit) _arguments $help '1:receipts:_files' ;;
+        play) _arguments $help "${file}1:plan:_files" ;;
+        audit) _arguments $help "${file}1:receipts:_files" ;;
         judge)
           _arguments $help \
             '--page[write a page that draws the calls]' \
@@ -28,10 +31,10 @@ _ccq() {
             '--skew[by how much clocks may differ]:a number:' \
             '--from[the time from which on the log is judged]:a number:' \
             '--until[the time until which the log is judged]:a number:' \
-            '1:log:_files'
+            "${file}1:log:_files"
           ;;
-        why) _arguments $help '1:plan or receipts:_files' ;;
-        show) _arguments $help '--trace[write a line of JSON for each event]' '1:plan:_files' ;;
+        why) _arguments $help "${file}1:plan or receipts:_files" ;;
+        show) _arguments $help '--trace[write a line of JSON for each event]' "${file}1:plan:_files" ;;
         drive)
           _arguments $help \
             '--senders[threads that send]:1 to 63:' \
