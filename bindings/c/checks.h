@@ -1,13 +1,19 @@
-/* What the programs here share: a check that ends them, rolled numbers, and what a sender's thread and a receiver's do. */
+/* What the programs here share: checks that end them, rolled numbers, and what threads that send or take do. */
 #ifndef CHECKS_H
 #define CHECKS_H
+#ifndef _POSIX_C_SOURCE
+#define _POSIX_C_SOURCE 200809L
+#endif
 
 #include "vahepito.h"
 
+#include <pthread.h>
 #include <sched.h>
 #include <stdio.h>
 #include <stdlib.h>
 #include <string.h>
+#include <sys/resource.h>
+#include <time.h>
 #include <unistd.h>
 
 static inline void check(int holds, const char *what) {
@@ -15,6 +21,33 @@ static inline void check(int holds, const char *what) {
         fprintf(stderr, "not so: %s\n", what);
         exit(1);
     }
+}
+
+static inline uint64_t processor_time(clockid_t clock) {
+    struct timespec time;
+    check(clock_gettime(clock, &time) == 0, "there is a clock");
+    return (uint64_t)time.tv_sec * 1000000000u + (uint64_t)time.tv_nsec;
+}
+
+static inline void *watches(void *unused) {
+    for (uint64_t before = 0;;) {
+        const uint64_t mine = processor_time(CLOCK_THREAD_CPUTIME_ID);
+        const uint64_t others = processor_time(CLOCK_PROCESS_CPUTIME_ID) - mine;
+        if (before && others - before < 100000) abort();
+        before = others;
+        sleep(120);
+    }
+    return unused;
+}
+
+/* Ends the program by a signal if none of its threads makes progress. After a lost wake-up either all wait, and use
+ * less than a tenth of a millisecond of processor time in two minutes, or some poll, and use 600 seconds. On a busy
+ * machine a test that goes on takes as long as it takes. */
+static inline void end_if_still(void) {
+    const struct rlimit limit = {600, 600};
+    pthread_t thread;
+    check(setrlimit(RLIMIT_CPU, &limit) == 0, "the processor time has a limit");
+    check(!pthread_create(&thread, NULL, watches, NULL) && !pthread_detach(thread), "a thread watches");
 }
 
 /* Opens a queue of this capacity for items of one word, with this number of groups. */

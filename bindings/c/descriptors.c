@@ -5,7 +5,7 @@
  *
  * First each of two senders sends ITEMS (10000) items, with pauses at random. Half of the threads take levels, and half
  * edges. Then queues are closed at a random moment, while threads of both sides sleep. It ends with status 0 if each
- * call returned what it has to; if a thread misses something it ends by a signal after two minutes. */
+ * call returned what it has to; if a thread misses something it ends by a signal. */
 #ifndef _DEFAULT_SOURCE
 #define _DEFAULT_SOURCE
 #endif
@@ -145,7 +145,7 @@ static void close_beside_sleepers(uint64_t rounds) {
 
 int main(int count, char **words) {
     if (count > 1) items = strtoull(words[1], NULL, 10);
-    alarm(120);
+    end_if_still();
     pass_items(false, 3);
     pass_items(true, 1);
     close_beside_sleepers(items / 2);

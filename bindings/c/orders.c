@@ -107,7 +107,7 @@ static void lends_buffers(void) {
 }
 
 int main(void) {
-    alarm(120);
+    end_if_still();
     closes(is_refused, 0);
     closes(closes_too, 0);
     open_for(1);

@@ -318,7 +318,7 @@ int main(int count, char **words) {
     size_t at = 0;
     if (count > 1) items = strtoull(words[1], NULL, 10);
     check(items <= 4096, "so many items");
-    alarm(120);
+    end_if_still();
     for (uint32_t groups = 1; groups <= 3; groups++) {
         bound_over_queues(1, 5, 7, groups);
         bound_over_queues(3, 5, 7, groups);

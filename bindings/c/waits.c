@@ -3,7 +3,7 @@
  *     waits [ITEMS]
  *
  * It ends with status 0 if each item was taken once, each receiver saw each sender's items in order, all calls that waited
- * returned at the close, and each call returned what it has to. If a wake-up is lost it ends by a signal after two minutes.
+ * returned at the close, and each call returned what it has to. If a wake-up is lost it ends by a signal.
  * ITEMS (250) is how many items each sender sends. */
 #ifndef _POSIX_C_SOURCE
 #define _POSIX_C_SOURCE 200809L
@@ -403,7 +403,7 @@ static void many_threads(void) {
 
 int main(int count, char **words) {
     if (count > 1) items = strtoull(words[1], NULL, 10);
-    alarm(120);
+    end_if_still();
     refusals();
     tries_are_few();
     waiting_is_parking();
