@@ -21,7 +21,7 @@ static void meet(long time) {
         if (spins % SPINS == SPINS - 1) sched_yield();
 }
 
-/* Waits for fewer than so many loops. */
+/* Waits for a number of loops below the given number. */
 static void wait_below(unsigned loops, unsigned *state) {
     *state = *state * 1103515245u + 12345u;
     for (volatile unsigned left = (*state >> 16) % loops; left > 0; left--) {}
