@@ -4,7 +4,7 @@
     tests/derive.py FOLDER                        writes the corpus into a folder: NAME.in, and NAME.due with what is due
     tests/derive.py play|audit|trace|why < INPUT  derives what is due of one input
 
-The program is written from docs/FORMATS.md and docs/ALGORITHM.md alone: a strict reader of JSON, the checks of plans and
+The program is written from docs/FORMATS.md and docs/ARCHITECTURE.md alone: a strict reader of JSON, the checks of plans and
 receipts, the machine one step at a time, the audit by its seven kinds, and the place of a fault. It never runs the program
 that is tested. Of each row that is to be refused or audited the fault is also written here by hand, and of some that are
 played the report; if the two differ, it ends with status 1. `tests/rows.py` gives these rows to `ccq`, and compares their

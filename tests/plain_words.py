@@ -14,11 +14,11 @@ Five checks, in about two seconds:
 - Figures: the pictures that bench/pictures.py draws, and README's table of speed, are those of the tables that docs/BENCH.md has.
 
 Blocks of code, words between backquotes, headings and comments hold no patterns, and neither does the table of steps in
-docs/ALGORITHM.md, which tools/steps_table.py writes. The exit status is 0 if all checks pass.
+docs/ARCHITECTURE.md, which tools/steps_table.py writes. The exit status is 0 if all checks pass.
 
 A pattern finds words, and can't judge a sentence. A reader has to look for: an "it", "that" or "one" whose noun is far away;
 a list whose parts have different subjects; a chain of "of"; a clause hung on by "as" or "since"; "where" in the sense of "if";
-a noun that the glossary of docs/MAP.md lacks. Good English that a pattern would forbid is no fault: mend the pattern.
+a noun that the glossary of docs/ARCHITECTURE.md lacks. Good English that a pattern would forbid is no fault: mend the pattern.
 """
 import glob
 import os

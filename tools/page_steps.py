@@ -389,7 +389,7 @@ def changed(names):
 
 
 def shown(text):
-    """A text of the definitions as docs/ALGORITHM.md shows it: without the enums of its variants."""
+    """A text of the definitions as docs/ARCHITECTURE.md shows it: without the enums of its variants."""
     return re.sub(r"\b(?:Phase|Kind|Word|NodeField|ItemField|Object|Answer|SendAnswer|TakeAnswer)\.", "", text)
 
 

@@ -1,5 +1,5 @@
 #!/usr/bin/env python3
-"""The table of steps of docs/ALGORITHM.md, written from the definitions in crates/cc_runs/specs: a row for each line of
+"""The table of steps of docs/ARCHITECTURE.md, written from the definitions in crates/cc_runs/specs: a row for each line of
 Lines, SendLines, TakeLines and CountLines that makes a step, and behind the rows of a file the functions that they name.
 
     tools/steps_table.py            compares the document with the definitions; exit status 0 if it has their table
@@ -12,7 +12,7 @@ sys.dont_write_bytecode = True
 from sources import TOP, Unreadable
 from written import Part
 
-DOCUMENT = Part(TOP / "docs/ALGORITHM.md", "<!-- steps -->\n", "<!-- end of steps -->\n")
+DOCUMENT = Part(TOP / "docs/ARCHITECTURE.md", "<!-- steps -->\n", "<!-- end of steps -->\n")
 SECTIONS = {
     "Lines": "A call on its chain",
     "SendLines": "The service of a send or a close",

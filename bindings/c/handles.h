@@ -19,7 +19,7 @@
  * Each call takes effect at one moment between its begin and its return: this is proved of the order of the queue's atomic steps. It is
  * proved too that the calls of one pass come in the order in which they are made.
  * Of memory no clause says this. It holds because of these steps, of which each stores on the left what is loaded on the right
- * (docs/ALGORITHM.md has them):
+ * (docs/ARCHITECTURE.md has them):
  *     the caller stores the link to its request           the call that serves it loads the link
  *     a send links its item, a close its mark             a take loads the link: it gets the item, or ENDED
  *     a close stores `shut`                               a send or a close loads it: CLOSED, ALREADY

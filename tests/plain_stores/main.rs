@@ -1,6 +1,6 @@
 //! Every x86-TSO interleaving of a few passes of the queue, in which a chosen set of stores is plain.
 //!
-//! The steps are those of the table in docs/ALGORITHM.md, for one group of receivers and bodies of one word. A plain store goes
+//! The steps are those of the table in docs/ARCHITECTURE.md, for one group of receivers and bodies of one word. A plain store goes
 //! into the FIFO buffer of its thread, and reaches the words at any later moment. A load sees the newest store to its word in
 //! the thread's own buffer, or else the word. A locked instruction waits until the buffer is empty. A return does not, nor does
 //! the next call. A thread may drive several passes by one buffer: it changes the pass between turns.

@@ -46,7 +46,7 @@ const FIRST: &str =
     r#"{"capacity":2,"bound":2,"life":10,"senders":[[7]],"receivers":[1],"schedule":[["s1",100],["r1",100]]}"#;
 
 /// Its configuration and calls, and its events: the steps of a lone send and of a lone take, in the order of
-/// docs/ALGORITHM.md.
+/// docs/ARCHITECTURE.md.
 const RUN: &str = " 1 2 2 10 1 1 1\n s 7\n 1\n \
     0 7 0 1 0 2 0 8 0 8 0 9 0 3 0 10 0 11 0 11 0 5 0 5 0 5 0 15 0 16 0 16 0 17 0 17 0 5 0 18 0 6 0 6 0 6 0 12 0 13 0 10 0 4 0 14 \
     1 7 1 1 1 2 1 9 1 3 1 10 1 5 1 5 1 19 1 20 1 20 1 6 1 6 1 21 1 12 1 12 1 12 1 13 1 10 1 4 1 14 1 14 1 14\n";
