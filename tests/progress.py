@@ -14,7 +14,7 @@ chains may stop for ever, and so may one pass of a running chain, in the middle 
 - it has its answer after as many rounds as the calls without an answer allow that it found at its exchange;
 - both hold of the calls that exchanged before that of a pass that stopped.
 
-The numbers of rounds are those of docs/MODEL.md, written here a second time. The controls are machines with one step changed: a combiner that
+The numbers of rounds are those of docs/PROVED.md, written here a second time. The controls are machines with one step changed: a combiner that
 waits for a link in place of a hand-over, a send that scans a full list again, and three that lose the hand-over, the mark or a link.
 Each of them has to be found. The run with the number N is always the same. Without words it makes 400 runs, from number 0 on.
 """

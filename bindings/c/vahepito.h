@@ -41,7 +41,7 @@
  * follows, which takes memory, and for which other sends wait. If memory is refused, the send returns NO_MEMORY, and may be repeated.
  *
  * Each call takes effect at one moment between its begin and its return. This is proved of the order of the atomic steps of the queues
- * of the row, and of rows that keep the rules of docs/MODEL.md, "A row of queues". Of a FULL by two counts it is
+ * of the row, and of rows that keep the rules of docs/PROVED.md, "A row of queues". Of a FULL by two counts it is
  * proved that the row was full when the first count was read. That this code keeps the rules is tested. That the steps
  * have the order of the clock isn't proved, nor what they do to other memory. Tests look for the following:
  * - A take that begins after a send has returned finds the item, unless another take of its group took it; and a send that
