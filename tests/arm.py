@@ -5,7 +5,7 @@ and the crate in bindings/rust by plain cargo: its tests, its examples, the prog
     tests/arm.py [--quick]
 
 With --quick it does eight of the programs in C, in half a minute. Without, all parts of `make check` by gcc and by clang, the library
-from an installed copy, and the crate. docs/GATE.md has the time.
+from an installed copy, and the crate.
 
 What runs so shows that the code is right, and nothing of a weak memory: the processor below orders more than aarch64 does. qemu keeps
 memory for each thread that was. A program without a queue shows how much; if that is more than a test of the crate allows for its

@@ -1,11 +1,11 @@
 #!/usr/bin/env python3
-"""Whether the gate stays within its price: the processor seconds of its parts, and the limit of docs/GATE.md.
+"""Whether the gate stays within its price: the processor seconds of its parts, and the limit of CONTRIBUTING.md.
 
 Usage: tests/budget.py --yard           prints the time, and the processor seconds of a fixed piece of work on this machine, now
        tests/budget.py --yards          prints them now, and again every ten minutes until it is killed
        tests/budget.py PARTS YARDS      compares: PARTS has a line `SECONDS END NAME` for each part, one after another, YARDS the lines of --yards
 
-The piece of work is the proof of the toolchain's own template of a library, from nothing. docs/GATE.md has the limit, in
+The piece of work is the proof of the toolchain's own template of a library, from nothing. CONTRIBUTING.md has the limit, in
 processor minutes, and the seconds that this work takes on the host of its table. A part counts less on a slower host, by as much as
 the work took longer while the part ran: by the mean of what was measured then, or else by what was measured nearest to it. For a
 host's speed changes with its load, and four proofs at once are another load than one test. The exit status is 0 if the sum of all
@@ -72,14 +72,14 @@ def verdict(parts: list[tuple[float, float, str]], yards: list[tuple[float, floa
     """What is said of these parts, each with its seconds, its end and its name, and whether they are within the limit that this text has."""
     found = LIMIT.search(text)
     if not found or not yards or not parts:
-        return ["budget: docs/GATE.md has no limit, or nothing was measured"], False
+        return ["budget: CONTRIBUTING.md has no limit, or nothing was measured"], False
     minutes, there = int(found[1]), float(found[2])
     starts = [parts[0][1], *(end for _, end, _ in parts)]
     counted = [seconds * there / yard_between(yards, start, end) for start, (seconds, end, _) in zip(starts, parts)]
     spent, price = sum(seconds for seconds, _, _ in parts) / 60, sum(counted) / 60
     said = [f"budget: {seconds:8.1f} s, counted as {as_there:8.1f} s  {name}" for as_there, (seconds, _, name) in sorted(zip(counted, parts), reverse=True)[:SHOWN]]
     seen = ", ".join(f"{seconds:.1f}" for _, seconds in yards)
-    said.append(f"budget: the yardstick took {seen} s, and {there} s on the host of docs/GATE.md")
+    said.append(f"budget: the yardstick took {seen} s, and {there} s on the host of CONTRIBUTING.md")
     said.append(f"budget: {spent:.1f} processor minutes, which are {price:.1f} there; the limit is {minutes}")
     return said, price <= minutes
 
@@ -97,7 +97,7 @@ def main() -> int:
     lines = [line.split(" ", 2) for line in Path(words[0]).read_text().splitlines()]
     yards = [line.split() for line in Path(words[1]).read_text().splitlines()]
     parts = [(float(seconds), float(end), name) for seconds, end, name in lines]
-    said, within = verdict(parts, [(float(at), float(seconds)) for at, seconds in yards], (TOP / "docs/GATE.md").read_text())
+    said, within = verdict(parts, [(float(at), float(seconds)) for at, seconds in yards], (TOP / "CONTRIBUTING.md").read_text())
     print("\n".join(said))
     return int(not within)
 

@@ -10,7 +10,7 @@
 #        tools/release.sh --write FOLDER     writes them into a folder, which has to be empty or not there
 #
 # It builds nothing but the shared library and the queue for C: the archives and the program are those in bindings/rust/lib and bin. It needs
-# make, cc and cargo, and no network. The exit status is 77 without one of these. docs/RELEASE.md says how a release is made.
+# make, cc and cargo, and no network. The exit status is 77 without one of these. CONTRIBUTING.md says how a release is made.
 set -u
 cd "$(dirname "$0")/.." || exit 1
 target=x86_64-unknown-linux-gnu
