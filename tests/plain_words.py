@@ -3,7 +3,7 @@
 
     tests/plain_words.py
 
-- Words: README.md has at most 900, as `wc -w` counts them, without its table of speed, which a script writes.
+- Words: README.md has at most 900, as `wc -w` counts them.
 - Patterns: none of PATTERNS is found in a document, or in a comment that has its lines for itself, without code,
   headings and words in backquotes. Each has the words to use, and a sentence in which it is found.
 - Names: none of the words of NAMES is a part of a name in the code, in definitions or in the bindings.
@@ -82,9 +82,9 @@ def prose(path, text):
 
 
 def check_words():
-    text = re.sub(r"<!-- speed -->.*?<!-- end of speed -->", "", (TOP / "README.md").read_text(), flags=re.S)
-    if len(text.split()) > LIMIT_OF_README:
-        yield f"README.md: {len(text.split())} words, and {LIMIT_OF_README} are the limit"
+    words = len((TOP / "README.md").read_text().split())
+    if words > LIMIT_OF_README:
+        yield f"README.md: {words} words, and {LIMIT_OF_README} are the limit"
 
 
 def check_patterns():
