@@ -454,19 +454,32 @@ def about(results):
     return textwrap.fill(text, 116, break_long_words=False, break_on_hyphens=False)
 
 
+def titled(results):
+    """The results with their titles, which have the name of the queue above in place of `the same`, and their versions."""
+    for result in results:
+        title, package = result.queue.title, result.queue.package
+        if not title.startswith("the same"):
+            above = title.partition(",")[0]
+        yield result, title.replace("the same", above, 1), version(package) if package else ""
+
+
 def table(head, results):
-    """The text between the marks of docs/JUDGE.md."""
+    """The text between the marks of docs/JUDGE.md: of each language the faults, and the names of the clean queues."""
     lines = [head, ""]
     for program in PROGRAMS:
-        of_program = [result for result in results if result.language == program.language]
-        if not of_program:
-            continue
-        lines += [f"| {program.language} | version | runs (with stops) | calls | verdicts | what the fault is |", "|---|---|---|---|---|---|"]
-        for result in of_program:
-            known = version(result.queue.package) if result.queue.package else ""
+        faults, clean = [], []
+        for result, title, known in titled(result for result in results if result.language == program.language):
             counts = f"{result.runs} ({result.stopped})" if program.stops else str(result.runs)
-            lines.append(f"| {result.queue.title} | {known} | {counts} | {result.calls:,} | {verdict_text(result)} | {why(result)} |")
-        lines.append("")
+            if result.faults():
+                faults.append(f"| {title} | {known} | {counts} | {result.calls:,} | {verdict_text(result)} | {why(result)} |")
+            else:
+                clean.append(f"{title} ({known})" if known else title)
+        if faults:
+            columns = f"| {program.language} | version | runs (with stops) | calls | verdicts | what the fault is |"
+            lines += [columns, "|---|---|---|---|---|---|", *faults, ""]
+        if clean:
+            names = f"Clean in {program.language}: {'; '.join(clean)}."
+            lines += [*textwrap.wrap(names, 116, break_long_words=False, break_on_hyphens=False), ""]
     return "\n".join(lines)
 
 
