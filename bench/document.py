@@ -16,7 +16,7 @@ def row(cells):
 
 
 def write(name, rows):
-    """Writes a table between the marks of this name, its head first. bench/pictures.py then draws it."""
+    """Writes a table between the marks of this name, its head first."""
     begin, end = f"<!-- {name} -->\n", f"<!-- end of {name} -->\n"
     with open(BENCH, encoding="utf-8") as file:
         before, rest = file.read().split(begin)
@@ -24,4 +24,4 @@ def write(name, rows):
     lines = [row(head), "|---" * len(head) + "|", *map(row, others)]
     with open(BENCH, "w", encoding="utf-8") as file:
         file.write(before + begin + "\n".join(lines) + "\n" + end + rest.split(end)[1])
-    print(f"wrote the table {name} of docs/BENCH.md; bench/pictures.py draws it")
+    print(f"wrote the table {name} of docs/BENCH.md")

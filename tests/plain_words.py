@@ -8,12 +8,12 @@
   headings and words in backquotes. Each has the words to use, and a sentence in which it is found.
 - Names: none of the words of NAMES is a part of a name in the code, in definitions or in the bindings.
 - Quotes: after a line `<!-- from PATH -->` the next block of code has the lines of that file, one after another.
-- Figures: the pictures that bench/pictures.py draws, and README's table of speed, are those of docs/BENCH.md.
+- Figures: README's table of speed is that of docs/BENCH.md.
 
 The exit status is 0 if all checks pass. A pattern finds words, and can't judge a sentence. A reader has to look for: an
 "it", "that" or "one" whose noun is far away; a list whose parts have different subjects; a chain of "of"; a clause hung
-on by "as" or "since"; "where" in the sense of "if"; a noun that the glossary of docs/ARCHITECTURE.md lacks. Mend a pattern
-that forbids good English.
+on by "as" or "since"; "where" in the sense of "if"; a noun that the glossary of docs/ARCHITECTURE.md lacks. Mend a
+pattern that forbids good English.
 """
 import pathlib
 import re
@@ -129,9 +129,8 @@ def check_quotes():
 
 
 def check_figures():
-    for script, *words in (["pictures.py", "--check"], ["readme.py"]):
-        command = [sys.executable, TOP / "bench" / script, *words]
-        yield from subprocess.run(command, capture_output=True, text=True).stdout.splitlines()
+    command = [sys.executable, TOP / "bench/readme.py"]
+    yield from subprocess.run(command, capture_output=True, text=True).stdout.splitlines()
 
 
 def main():

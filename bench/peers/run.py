@@ -15,7 +15,7 @@ the slowest calls are measured, and the table `tail` is written; with --busy-tai
 and the table `busy_tail`. With --steps the exports are timed with the same atomic steps by hand, and the table `steps` is written.
 With --unbounded queues without a bound are timed, and the table `unbounded` is written. With --pinned short bursts of pinned threads
 are timed, of which those count in which no thread lost its processor, and the table `pinned` is written: also on a busy machine.
---all measures all but the steps and the queues without a bound, in some N + 300 seconds, then draws the pictures and writes README's table (bench/readme.py).
+--all measures all but the steps and the queues without a bound, in some N + 300 seconds, then writes README's table (bench/readme.py).
 """
 import argparse
 import glob
@@ -319,8 +319,6 @@ BUSY_TAIL = """
 `bench/peers/run.py --busy-tail`: the same with a busy process on each processor, ns. ArrayQueue's receivers don't block: they try, spin and
 yield.
 
-![The slowest calls on a busy machine: ns](pictures/bench-busy_tail.svg)
-
 <!-- busy_tail -->
 <!-- end of busy_tail -->
 """
@@ -494,8 +492,7 @@ def main():
         write_tail(programs, there, 100)
         write("busy", beside_busy(programs, 100))
         write_busy_tail(programs, there, 100)
-        for script in (["pictures.py"], ["readme.py", "--write"]):
-            subprocess.run([sys.executable, os.path.join(TOP, "bench", script[0]), *script[1:]], check=True)
+        subprocess.run([sys.executable, os.path.join(TOP, "bench", "readme.py"), "--write"], check=True)
 
 
 if __name__ == "__main__":
