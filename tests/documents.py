@@ -44,7 +44,7 @@ POINTER = re.compile(
 HEADS = {"rt": "//! ", "rs": r"//! |#!\[doc = include_str!", "antt": "-- ", "py": '"""', "sh": "# ", "js": "// "}
 HEADS |= {"": "# "} | dict.fromkeys(["c", "cpp", "h", "hpp"], r"/\*\s|// ")
 SOURCES = re.compile(r"crates/\w+/(src|specs)/(?!Lib.antt).*|(tools|tests|bench|bindings)/.*|[^./]+")
-WITHOUT_HEADS = re.compile(r"HANDLES|.*/PROOF")
+WITHOUT_HEADS = re.compile(r"HANDLES|.*/(PROOF|debian/.*)")
 WITHOUT_WORDS = re.compile(r".*\.(md|txt|svg|png|a|xz)|bin/.*|docs/statements/.*|tests/documents\.py")
 
 
