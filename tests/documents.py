@@ -141,7 +141,7 @@ def wrong_programs(tree, path, text):
         name = begun[1].removeprefix("./") if begun else ""
         # What the reader's own compiler leaves, by the lines before, is there.
         own = f" -o {name}\n" in text or name.startswith("build/") and "cmake --build build\n" in text
-        if re.search(r"\bout/\w", line) or name and not own and not {name, f"{folder}/{name}"} & tree.files:
+        if re.search(r"crates/\S*\bout/\w", line) or name and not own and not {name, f"{folder}/{name}"} & tree.files:
             yield at, f"a clone doesn't have this program: {line.strip()}"
 
 
