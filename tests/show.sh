@@ -1,7 +1,7 @@
 #!/bin/bash
 # Tests `ccq show`: its traces are what tests/derive.py derives; the page in docs/pages is what the program writes of the plan
-# beside it; the page reads plans as `ccq play` does; each sentence that it says of a state is decided by a second program, and so
-# is what is ahead of a pass that waits; its exercises have the shortest solutions; random steps by hand lead to the plan and the
+# beside it; the page reads plans as `ccq play` does; what it says of a state, and each field of a
+# sentence, is decided by a second program; what is ahead of a pass that waits obeys the laws of progress; its exercises have the shortest solutions; random steps by hand lead to the plan and the
 # report of the page; and in a browser without a window, Chromium, each page is stepped through, driven and looked at, each screen
 # of its lectures too (tests/show/pages.py says how). So are pages of `ccq judge --page`.
 #
@@ -22,8 +22,8 @@ tests=show
 step 'the pages are the texts of the program' tools/page_text.py
 if has node; then
     step 'the plans of tests/rows.py, read by the page' tests/show/pages.py plans
-    step 'each sentence of each state of the lessons and exercises' tests/show/reads.py
-    step 'what is ahead of passes that wait, and whose turn it is' tests/show/progress.py
+    step 'each state of the lessons and exercises, and each field of a sentence' tests/show/reads.py
+    step 'what is ahead of passes that wait, by the laws of progress' tests/show/progress.py
     step 'shortest solutions of the exercises' tests/show/pages.py shortest
 fi
 if [ ! -x crates/ccq/out/ccq ]; then

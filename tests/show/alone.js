@@ -6,8 +6,7 @@
 //                                                               isn't the event that it names, or a broken table breaks no law or another
 //     node tests/show/alone.js plans PAGE FILE ..               whether the page reads each file as a plan, and the report of its run
 //     node tests/show/alone.js tells PAGE                       of each lesson and exercise, and of some random runs, by each table, all
-//                                                               texts of each state; and at each moment all texts with one word of
-//                                                               the state taken away
+//                                                               texts of each state; and where a broken queue parts from the right one
 //     node tests/show/alone.js waits PAGE SEED RUNS             of random runs the schedule, and at each event of each pass that waits how
 //                                                               many steps are ahead of it, and whose turn it is
 //     node tests/show/alone.js shortest PAGE                    of each exercise the least number of steps that reaches its goal, and of
@@ -36,20 +35,14 @@ function holds(machine, run, name) {
   assert(again.events.length === run.now && again.reportText() === run.reportText(), name + ': the plan that is exported has another run');
 }
 
-// A word by the name that traces give it.
-function nameOf(w) {
-  const chain = w.x < 0 ? 'e.' : 'd' + (w.x + 1) + '.', field = w.field === 'body' ? 'body' + w.n : w.field;
-  if (w.at === 'tail') return chain + 'tail';
-  if (w.at === 'node') return chain + field + '[' + w.i + ']';
-  if (w.at === 'item') return 'list.' + field + '[' + w.i + ']';
-  return w.g === undefined ? 'list.' + field : 'd' + (w.g + 1) + '.' + field;
-}
-
-// All texts of a state.
+// The texts of a state that tests/show/reads.py decides; of a box the names over it, its lines and the text of its arrow.
 function textsOf(telling, run) {
-  const chains = [...Array(run.groups + 1).keys()].map(k => telling.chain(run, k - 1));
-  const passes = [...Array(run.rows).keys()].map(row => ({ name: run.passName(row), text: telling.pass(run, row).text }));
-  return { now: run.now, event: telling.event(run), chains, list: telling.list(run), passes, waits: telling.waits(run).map(one => one.text), program: telling.program(run), broken: telling.broken(run), banner: telling.banner(telling.broken(run)), order: telling.order(run), report: run.reportText() };
+  const texts = list => list.map(one => one.text), box = one => [texts(one.ends), one.lines, one.arrow ? one.arrow.text : ''];
+  const chains = [...Array(run.groups + 1).keys()].map(k => telling.chain(run, k - 1)), list = telling.list(run), order = telling.order(run);
+  return [telling.event(run), chains.map(one => [one.head, one.boxes.map(box), one.done.map(box), texts(one.spare)]),
+    [list.rows.map(row => row.map(box)), list.free.map(box), list.words.map(one => [one.name, one.text])],
+    [...Array(run.rows).keys()].map(row => [run.passName(row), telling.pass(run, row).text]),
+    [order.said, order.rows.map(Object.values)], run.reportText()];
 }
 
 // Random numbers by Park and Miller, and a random plan: small, so that its passes meet.
@@ -74,22 +67,6 @@ function stepAtRandom(run, random, most, each) {
   return steps;
 }
 
-// The words of a state that aren't 0, with the texts of the state without each of them.
-function withoutWords(machine, telling, run) {
-  const seen = new Map();
-  for (const e of run.events.slice(0, run.now)) seen.set(machine.keyOf(e.w), e.w);
-  for (let x = -1; x < run.groups; x++) seen.set(machine.keyOf(machine.tail(x)), machine.tail(x));
-  for (const w of [machine.object('last'), machine.object('cursor'), ...run.got.map((_, g) => machine.object('head', g)), ...[...Array(run.capacity + 1).keys()].map(i => machine.item(i, 'passed'))]) seen.set(machine.keyOf(w), w);
-  return [...seen].filter(([, w]) => run.read(w) !== 0n).map(([key, w]) => {
-    const less = Object.create(run, { read: { value: other => machine.keyOf(other) === key ? 0n : run.read(other) } });
-    try {
-      return { word: nameOf(w), texts: textsOf(telling, less) };
-    } catch (fault) {
-      return { word: nameOf(w), texts: null };
-    }
-  });
-}
-
 const TASKS = {
   steps(words) {
     for (let at = 0; at + 3 < words.length; at += 4) {
@@ -112,8 +89,8 @@ const TASKS = {
   },
 
   lessons([name]) {
-    const page = fs.readFileSync(name, 'utf8'), machine = machineOf(page);
-    const lessons = JSON.parse(element(page, 'lessons'));
+    const page = fs.readFileSync(name, 'utf8'), [machine, telling] = partsOf(page);
+    const lessons = telling.lessons(element(page, 'lessons'));
     assert(new Set(lessons.map(lesson => lesson.id)).size === lessons.length, 'two lessons have one name');
     for (const lesson of lessons) {
       const plan = () => machine.planOfText(JSON.stringify(lesson.plan));
@@ -149,28 +126,24 @@ const TASKS = {
 
   tells([name]) {
     const page = fs.readFileSync(name, 'utf8'), [machine, telling] = partsOf(page);
-    const lanesOf = run => { const laid = telling.layOut(run.events, null); return { turns: laid.turns.map(turn => telling.turnTitle(run, turn)), reads: [...laid.waits.values()].flat().map(wait => telling.waitText(run, wait)) }; };
-    const statesOf = run => [...Array(run.events.length + 1).keys()].map(n => { run.goTo(n); return textsOf(telling, run); });
-    for (const lesson of JSON.parse(element(page, 'lessons'))) for (const table of TABLES(machine)) {
-      const run = machine.open(machine.planOfText(JSON.stringify(lesson.plan)), table);
-      const is_own = table === '' || table === lesson.table, { title, text, moments } = is_own ? telling.lessonPart(lesson, table) : { title: '', text: '', moments: [] };
-      const pair = is_own && lesson.table ? machine.beside(run, table ? '' : lesson.table) : null;
-      const states = statesOf(run);
-      const less = moments.map(([event]) => { run.goTo(event); return { event, words: withoutWords(machine, telling, run) }; });
-      say({ id: lesson.id, table, plan: JSON.stringify(lesson.plan), title, text, moments, lost: (table && is_own && lesson.lost) || '', states, less, lanes: lanesOf(run),
-        parting: pair ? telling.parting(pair) : '', other: pair ? pair.run.variant : '', beside: pair ? pair.upTo : [], screens: is_own && (table || !lesson.table) && moments.length ? telling.screens(lesson, pair) : [] });
+    const opened = (plan, table) => machine.open(machine.planOfText(JSON.stringify(plan)), table);
+    const tell = (run, of) => {
+      const states = [...Array(run.events.length + 1).keys()].map(n => { run.goTo(n); return textsOf(telling, run); });
+      say({ ...of, table: run.variant, plan: run.planText(), states });
+    };
+    for (const { id, plan, table: own } of telling.lessons(element(page, 'lessons'))) for (const table of TABLES(machine)) {
+      const run = opened(plan, table);
+      tell(run, { id, parting: table && table === own ? telling.parting(machine.beside(run, '')) : '' });
     }
     TABLES(machine).forEach((table, k) => [1, 2, 3, 4].forEach(seed => {
-      const random = dice(100 * k + seed), plan = JSON.stringify(randomPlan(random)), run = machine.open(machine.planOfText(plan), table);
-      const states = [textsOf(telling, run)], steps = stepAtRandom(run, random, 200, () => states.push(textsOf(telling, run)));
-      say({ id: 'random ' + seed, table, plan, steps, states, lanes: lanesOf(run) });
+      const random = dice(100 * k + seed), run = opened(randomPlan(random), table);
+      stepAtRandom(run, random, 200, () => {});
+      tell(run, { id: 'random ' + seed });
     }));
-    for (const exercise of JSON.parse(element(page, 'exercises'))) {
-      const run = machine.open(machine.planOfText(JSON.stringify(exercise.plan)), exercise.table || ''), from = run.now;
-      telling.makeSteps(run, exercise.solution);
-      const tasks = [...Array(run.events.length + 1 - from).keys()].map(n => { run.goTo(from + n); return telling.task(run, exercise).text; });
-      say({ id: exercise.id, table: exercise.table || '', plan: JSON.stringify(exercise.plan), from, solution: exercise.solution, goal: exercise.goal, laws: (exercise.goal.breaks || []).map(law => machine.LAWS[law][0]), tasks,
-        again: telling.stepsOf(run, from), states: statesOf(run), lanes: lanesOf(run) });
+    for (const { id, plan, table, solution } of JSON.parse(element(page, 'exercises'))) {
+      const run = opened(plan, table || '');
+      telling.makeSteps(run, solution);
+      tell(run, { id: 'exercise ' + id });
     }
   },
 

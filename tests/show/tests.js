@@ -255,7 +255,7 @@ const tests = {
   // queue breaks a law, and the right one beside it doesn't.
   lessons({ $, page, view }) {
     const parts = partsOf(page, view), { Machine, Telling } = parts;
-    for (const lesson of JSON.parse($('lessons').textContent)) {
+    for (const lesson of Telling.lessons($('lessons').textContent)) {
       const link = page.querySelector('#choose a[data-of=lesson][data-id=' + lesson.id + ']');
       link.click();
       assert(link.classList.contains('here') && page.querySelectorAll('#choose .here').length === 1, 'the link isn\'t marked as the one that is open');
@@ -298,14 +298,14 @@ const tests = {
   },
 
   // Side by side: on and off by its button, for a branch by hand too.
-  beside({ $, page }) {
+  beside({ $, page, view }) {
     page.querySelector('#choose a[data-id=handed_past]').click();
     assert($('pair').getAttribute('aria-pressed') === 'true' && visible($('other')), 'the other queue is not beside');
     const [left, right] = [$('sides').children[0], $('other')].map(side => side.getBoundingClientRect());
     assert(left.right <= right.left && Math.abs(left.top - right.top) < 2, 'the two queues are not side by side');
     same(['side-title', 'other-title'].map(id => textOf($(id))), ['The broken queue', 'The right queue'], 'the titles of the two');
     // both chains are whole and in view, and so is the first node of each list, at each moment
-    for (const lesson of JSON.parse($('lessons').textContent).filter(one => one.table)) {
+    for (const lesson of partsOf(page, view).Telling.lessons($('lessons').textContent).filter(one => one.table)) {
       page.querySelector('#choose a[data-of=lesson][data-id=' + lesson.id + ']').click();
       $('stage').scrollIntoView();
       while (key(page.body, 'm') && Number(textOf($('moments').querySelector('.here'))) < $('moments').children.length) {
@@ -341,7 +341,7 @@ const tests = {
   // letters, in view without scrolling, with at most ten controls; and the keys of a presenter's clicker lead through all of them.
   async lecture({ $, page, view, wait }) {
     const parts = partsOf(page, view), { Machine, Telling } = parts, root = page.documentElement;
-    const lessons = JSON.parse($('lessons').textContent).filter(lesson => lesson.moments.length);
+    const lessons = Telling.lessons($('lessons').textContent).filter(lesson => lesson.moments.length);
     const size = element => parseFloat(view.getComputedStyle(element).fontSize);
     page.querySelector('#choose a[data-id=lone]').click();
     assert(key(page.body, 'l') && visible($('lecture')) && !visible($('stage')), 'l does not begin the lecture');

@@ -351,201 +351,225 @@ queue frees the node that is the dummy from then on. Make r1 get one item twice.
 ode 1 is the dummy and counts as free. A send that uses node 1 links it to itself.\",\n \"plan\":{\"capacity\":1,\"bou\
 nd\":2,\"life\":10,\"senders\":[[5,6]],\"receivers\":[3],\"schedule\":[[\"s1\",28]]},\n \"table\":\"freed_dummy\",\n \
 \"goal\":{\"breaks\":[\"fifo\"]},\n \"solution\":[[\"r1\",14],[\"s1\",21],[\"r1\",46]]}\n]\n</script>\n<script type=\"\
-application/json\" id=\"lessons\">\n[\n{\"kind\":\"tour\",\"id\":\"lone\",\"title\":\"A lone send\",\n \"text\":\"s1 s\
-ends 7, and no other [[pass]] moves. s1 swaps its [[node]] into the [[tail]] of the send [[chain]], finds that no pas\
-s combines, and serves its own request.\",\n \"plan\":{\"capacity\":2,\"bound\":2,\"life\":10,\"senders\":[[7]],\"rece\
-ivers\":[1],\"schedule\":[[\"s1\",28]]},\n \"moments\":[\n  [3,\"Exchange\",\"s1 swaps node 1 into the tail and gets n\
-ode 0: its call enters the [[history]] as the 1st send.\"],\n  [6,\"Link\",\"s1 links node 0 to node 1, the node in th\
-e tail: only now can a [[combiner]] serve the request.\"],\n  [7,\"ReadState\",\"s1 reads state 0: no pass combines, s\
-o s1 is the combiner.\"],\n  [20,\"LinkLast\",\"s1 links list node 1, which has the item 7, to node 0: this step is th\
-e [[decision]], accepted as item 0.\"],\n  [27,\"HandOver\",\"No further request is linked, so s1 hands over to node 1\
-, the node in the tail.\"],\n  [28,\"ReadAnswer\",\"s1 reads its answer: its call returns accepted as item 0.\"]]},\n{\
-\"kind\":\"tour\",\"id\":\"three\",\"title\":\"Three sends that one serves\",\n \"text\":\"Three senders link their re\
-quests before any is served. s1 is the [[combiner]]: it serves all three in one [[turn]], in the order of their swaps\
-, while s2 and s3 only read their own states.\",\n \"plan\":{\"capacity\":4,\"bound\":4,\"life\":10,\"senders\":[[1],[\
-2],[3]],\"receivers\":[0],\"schedule\":[[\"s1\",6],[\"s2\",6],[\"s3\",6],[\"s2\",2],[\"s3\",2],[\"s1\",58],[\"s2\",2],\
-[\"s3\",2]]},\n \"moments\":[\n  [18,\"Link\",\"Three requests are linked now: node 0 of s1, node 1 of s2 and node 2 o\
-f s3. The tail names node 3, which no call has.\"],\n  [19,\"ReadState\",\"s2 reads state 1 and begins to wait: it rea\
-ds its own node alone, and changes no word.\"],\n  [42,\"ReadNext\",\"s1 reads the next link of node 1 before it serve\
-s s2: it names node 2, so the request of s2 is whole.\"],\n  [59,\"MarkDone\",\"s1 has written the answer of s2 and ma\
-rks node 1 done: from now on s2 may return.\"],\n  [79,\"HandOver\",\"s1 has served three requests, and hands over to \
-node 3, the node in the tail.\"],\n  [84,\"ReadAnswer\",\"s3 reads its answer: its call returns accepted as item 2. s\
-3 has not touched the list.\"]]},\n{\"kind\":\"tour\",\"id\":\"bound\",\"title\":\"The hand-over at the bound\",\n \"t\
-ext\":\"The [[bound]] is 2: a [[combiner]] serves at most two requests in one [[turn]]. s1 serves s1 and s2, and hand\
-s over to s3.\",\n \"plan\":{\"capacity\":4,\"bound\":2,\"life\":10,\"senders\":[[1],[2],[3]],\"receivers\":[0],\"sche\
-dule\":[[\"s1\",6],[\"s2\",6],[\"s3\",8],[\"s1\",39],[\"s3\",22],[\"s2\",2]]},\n \"moments\":[\n  [57,\"MarkDone\",\"s\
-1 marks node 1 done: it has served two requests, as many as the bound.\"],\n  [58,\"HandOver\",\"s1 hands over to nod\
-e 2 of s3, the first call without an answer.\"],\n  [60,\"ReadState\",\"s3 reads state 0: no pass combines, so s3 is t\
-he combiner. At no moment did two passes combine.\"],\n  [73,\"LinkLast\",\"s3 serves its own request: this step is th\
-e decision, accepted as item 2.\"]]},\n{\"kind\":\"tour\",\"id\":\"take\",\"title\":\"A take\",\n \"text\":\"s1 has se\
-nt 7, and r1 takes it. The receivers have a [[chain]] of their own. The list begins with its [[dummy]], a node with n\
-o item to take.\",\n \"plan\":{\"capacity\":2,\"bound\":2,\"life\":10,\"senders\":[[7]],\"receivers\":[1],\"schedule\"\
-:[[\"s1\",28],[\"r1\",23]]},\n \"moments\":[\n  [35,\"ReadObject\",\"r1 combines in the take chain and reads the [[hea\
-d]]: node 0 is the dummy.\"],\n  [37,\"ReadDummyNext\",\"r1 reads the next link of the dummy: it names node 1, so the \
-list has an item.\"],\n  [39,\"ReadItem\",\"r1 reads the word of the item, 7, in node 1, which is still in the list.\"\
-],\n  [40,\"WriteObject\",\"r1 moves the head to node 1: this is the dummy from now on.\"],\n  [42,\"AddPassed\",\"r1 \
-adds 1 to the [[passed]] count of node 0: this step is the [[decision]], got 7 as item 0. Node 0 is free from now on.\
-\"]]},\n{\"kind\":\"tour\",\"id\":\"empty\",\"title\":\"Empty, and a send in between\",\n \"text\":\"s1 has prepared \
-a list node and stops one step before the link. A take that runs now returns Empty, and rightly: the send has not take\
-n effect yet.\",\n \"plan\":{\"capacity\":2,\"bound\":2,\"life\":10,\"senders\":[[7]],\"receivers\":[2],\"schedule\":[\
-[\"s1\",19],[\"r1\",14],[\"s1\",9],[\"r1\",23]]},\n \"moments\":[\n  [19,\"ReadObject\",\"s1 stops before the link: no\
-de 1 has the item 7, and no link of the list names it.\"],\n  [28,\"ReadDummyNext\",\"r1 reads null in the next link o\
-f the dummy: this step is the decision, empty.\"],\n  [34,\"LinkLast\",\"s1 links list node 1, which has the item 7, t\
-o node 0: the send takes effect now, after the take.\"],\n  [56,\"AddPassed\",\"r1 takes the item 7: it is the second \
-take of r1.\"]]},\n{\"kind\":\"tour\",\"id\":\"scan\",\"title\":\"Full, and when it takes effect\",\n \"text\":\"The [\
-[capacity]] is 1, and the item 5 waits. The send of 6 scans all list nodes for a free one. During the scan r1 takes th\
-e item, and the send still returns Full: it takes effect when its scan begins.\",\n \"plan\":{\"capacity\":1,\"bound\"\
-:2,\"life\":10,\"senders\":[[5],[6]],\"receivers\":[1],\"schedule\":[[\"s1\",28],[\"s2\",14],[\"r1\",23],[\"s2\",6]]},\
-\n \"moments\":[\n  [41,\"ReadObject\",\"s2 reads the [[cursor]], and its scan begins at node 0: both list nodes are b\
-usy at this moment, and the Full of this send takes effect here.\"],\n  [42,\"ReadPassed\",\"s2 reads that no group ha\
-s gone past node 0, which is the dummy: it is busy.\"],\n  [56,\"AddPassed\",\"r1 takes the item 5: node 0 is free fro\
-m now on, but s2 has read it already.\"],\n  [66,\"ReadPassed\",\"s2 reads that no group has gone past node 1, which i\
-s the dummy now: this step is the decision, full.\"]],\n \"opens\":\"order\"},\n{\"kind\":\"tour\",\"id\":\"again\",\"\
-title\":\"A node that is used again\",\n \"text\":\"The [[capacity]] is 1, so the list has two ordinary nodes. r1 take\
-s the item 5, which frees node 0. The send of 7 uses node 0 again, and no item is lost.\",\n \"plan\":{\"capacity\":1,\
-\"bound\":2,\"life\":10,\"senders\":[[5],[7]],\"receivers\":[2],\"schedule\":[[\"s1\",28],[\"r1\",23],[\"s2\",28],[\"r\
-1\",23]]},\n \"moments\":[\n  [42,\"AddPassed\",\"r1 takes the item 5: every group has gone past node 0, and it is fre\
-e from now on.\"],\n  [65,\"ReadPassed\",\"s2 begins its scan at the cursor, and finds node 0 free.\"],\n  [67,\"Reset\
-ListNode\",\"s2 clears the next link of node 0, as it did the passed count: node 0 is not in the list, so no take can \
-read it.\"],\n  [71,\"LinkLast\",\"s2 links list node 0, which has the item 7, to node 1: this step is the decision, a\
-ccepted as item 1.\"],\n  [93,\"AddPassed\",\"r1 takes the item 7: node 1 is free from now on.\"]]},\n{\"kind\":\"tour\
-\",\"id\":\"close\",\"title\":\"A close\",\n \"text\":\"s1 sends 5, closes the queue, and tries to send 6. The [[closi\
-ng mark]] is a list node of its own, so a close is never Full. r1 takes what is left, and then gets Ended.\",\n \"plan\
-\":{\"capacity\":2,\"bound\":2,\"life\":10,\"senders\":[[5,\"close\",6]],\"receivers\":[2],\"schedule\":[[\"s1\",65],[\
-\"r1\",38]]},\n \"moments\":[\n  [42,\"LinkLast\",\"s1 links the closing mark to node 1: this step is the [[decision]]\
-, shut after 1 item.\"],\n  [44,\"WriteObject\",\"s1 sets the shut word: the later send reads it, and returns Closed.\
-\"],\n  [60,\"ReadObject\",\"s1 serves the send of 6 and reads that the queue is shut: this step is the decision, clos\
-ed.\"],\n  [79,\"AddPassed\",\"r1 takes the item 5, which was accepted before the close.\"],\n  [98,\"ReadItem\",\"r1 \
-reads the tag of the node after the dummy: it is 0, so this node is the mark, and this step is the decision, ended aft\
-er 1 item.\"]]},\n{\"kind\":\"tour\",\"id\":\"groups\",\"title\":\"Two groups\",\n \"text\":\"Two [[group]]s of receiv\
-ers read one list: r1 is group 1, and r2 is group 2. Each group has its own [[head]] and gets every item. A node is fr\
-ee when both groups have gone past it.\",\n \"plan\":{\"version\":2,\"groups\":2,\"capacity\":1,\"bound\":2,\"life\":1\
-0,\"senders\":[[[5],[6],[6]]],\"receivers\":[2,2],\"schedule\":[[\"s1\",28],[\"r1\",23],[\"s1\",20],[\"r2\",23],[\"s1\
-\",28],[\"r1\",23],[\"r2\",23]]},\n \"moments\":[\n  [42,\"AddPassed\",\"Group 1 takes the item 5: one of two groups h\
-as gone past node 0, and it is not free.\"],\n  [66,\"ReadPassed\",\"The send of 6 finds no free node: this step is th\
-e decision, full. Group 2 has not taken the item 5, and holds the sender back.\"],\n  [85,\"AddPassed\",\"Group 2 take\
-s the item 5 too: every group has gone past node 0, and it is free from now on.\"],\n  [114,\"LinkLast\",\"The next se\
-nd of 6 uses node 0: this step is the decision, accepted as item 1.\"],\n  [159,\"AddPassed\",\"Group 2 takes the ite\
-m 6: each group got 5 and then 6.\"]]},\n{\"kind\":\"tour\",\"id\":\"order\",\"title\":\"An order of all calls\",\n \"\
-text\":\"Calls overlap, and yet there is one order of all calls in which each answer is that of a queue that does one \
-call after another. Each call takes effect between its swap and its [[decision]]. Every run of the algorithm is linear\
-izable in this sense, and that is proved: the law is RunsAreLinearizable in crates/cc_runs. The card \\\"An order of a\
-ll calls\\\" shows this order for the run on the page.\",\n \"plan\":{\"capacity\":1,\"bound\":2,\"life\":10,\"senders\
-\":[[5],[6]],\"receivers\":[2],\"schedule\":[[\"s1\",19],[\"r1\",14],[\"s1\",9],[\"s2\",14],[\"r1\",23],[\"s2\",6]]},\
-\n \"moments\":[\n  [28,\"ReadDummyNext\",\"r1 reads null in the next link of the dummy: the take is Empty while the s\
-end of 5 is under way, and is 1st in the order.\"],\n  [34,\"LinkLast\",\"s1 links list node 1, which has the item 5, \
-to node 0: the send takes effect now, and is 2nd in the order.\"],\n  [55,\"ReadObject\",\"s2 reads the cursor, and it\
-s scan begins at node 0: the Full of this send takes effect here, and is 3rd in the order.\"],\n  [70,\"AddPassed\",\"\
-r1 takes the item 5: the take is 4th in the order.\"],\n  [80,\"ReadPassed\",\"s2 reads that no group has gone past no\
-de 1, which is the dummy now: this step is the decision, full. In the order it comes before the take of 5.\"]],\n \"op\
-ens\":\"order\"},\n{\"kind\":\"example\",\"id\":\"bodies_of_words\",\"title\":\"Items of one to four words\",\n \"text\
-\":\"Three senders send items of one to four words. s3 serves the first send of each.\",\n \"plan\":{\"version\":2,\"g\
-roups\":1,\"capacity\":4,\"bound\":4,\"life\":10,\"senders\":[[[1],[2,20]],[[3,30,300]],[[4,40,400,4000]]],\"receivers\
-\":[4],\"schedule\":[[\"s3\",9],[\"s2\",8],[\"s1\",6],[\"s3\",200],[\"s1\",200],[\"r1\",200]]},\n \"moments\":[]},\n{\
-\"kind\":\"example\",\"id\":\"full\",\"title\":\"A full queue\",\n \"text\":\"A send finds no free node, and a node th\
-at a take freed is used again.\",\n \"plan\":{\"capacity\":1,\"bound\":2,\"life\":10,\"senders\":[[5,6],[7]],\"receive\
-rs\":[1],\"schedule\":[[\"s1\",500],[\"r1\",500],[\"s2\",500]]},\n \"moments\":[]},\n{\"kind\":\"example\",\"id\":\"cl\
-ose_and_drain\",\"title\":\"Close and drain\",\n \"text\":\"s1 closes the queue. A later send returns Closed, and a la\
-ter close Already. r1 takes what is left, and then gets Ended.\",\n \"plan\":{\"capacity\":2,\"bound\":2,\"life\":10,\
-\"senders\":[[5,\"close\",6,\"close\"]],\"receivers\":[3],\"schedule\":[[\"s1\",500],[\"r1\",500]]},\n \"moments\":[]}\
-,\n{\"kind\":\"example\",\"id\":\"two_groups\",\"title\":\"Two groups, one slow\",\n \"text\":\"Two groups take every \
-item, and the slower group holds the sender back.\",\n \"plan\":{\"version\":2,\"groups\":2,\"capacity\":1,\"bound\":2\
-,\"life\":10,\"senders\":[[[5],[6],[6],[6],\"close\"]],\"receivers\":[3,3],\"schedule\":[[\"s1\",48],[\"r1\",23],[\"s1\
-\",20],[\"r2\",23],[\"s1\",28],[\"r1\",23],[\"s1\",100],[\"r2\",100],[\"r1\",100]]},\n \"moments\":[]},\n{\"kind\":\"e\
-xample\",\"id\":\"two_sends_combined\",\"title\":\"Two sends, one combiner\",\n \"text\":\"Two sends swap, and the pas\
-s of the first send serves both.\",\n \"plan\":{\"capacity\":2,\"bound\":2,\"life\":10,\"senders\":[[7],[9]],\"receive\
-rs\":[0],\"schedule\":[[\"s1\",3],[\"s2\",100],[\"s1\",100]]},\n \"moments\":[]},\n{\"kind\":\"example\",\"id\":\"boun\
-d_one\",\"title\":\"Bound 1\",\n \"text\":\"The combiner hands over after one request, and the second send is pending \
-at the end.\",\n \"plan\":{\"capacity\":2,\"bound\":1,\"life\":10,\"senders\":[[7],[9]],\"receivers\":[0],\"schedule\"\
-:[[\"s1\",3],[\"s2\",100],[\"s1\",100]]},\n \"moments\":[]},\n{\"kind\":\"example\",\"id\":\"cut_before_the_link\",\"t\
-itle\":\"Cut before the link\",\n \"text\":\"A send that stops one step before its decision is pending at the end.\",\
-\n \"plan\":{\"capacity\":2,\"bound\":2,\"life\":10,\"senders\":[[7]],\"receivers\":[1],\"schedule\":[[\"s1\",19]]},\
-\n \"moments\":[]},\n{\"kind\":\"example\",\"id\":\"one_item\",\"title\":\"One item\",\n \"text\":\"One item is sent a\
-nd taken.\",\n \"plan\":{\"capacity\":2,\"bound\":2,\"life\":10,\"senders\":[[7]],\"receivers\":[1],\"schedule\":[[\"s\
-1\",100],[\"r1\",100]]},\n \"moments\":[]},\n{\"kind\":\"broken\",\"id\":\"marked_early\",\"title\":\"Marked done befo\
-re the link is followed\",\n \"text\":\"This [[combiner]] follows the next link of a node only after it has marked th\
-e node done. In between, the owner of the node returns, begins another send, and clears the link.\",\n \"plan\":{\"cap\
-acity\":4,\"bound\":4,\"life\":10,\"senders\":[[1,5],[2,4],[3]],\"receivers\":[3],\"schedule\":[[\"s1\",6],[\"s2\",6],\
-[\"s3\",6],[\"s1\",38],[\"s2\",5],[\"s1\",3],[\"s2\",5],[\"s3\",4],[\"s1\",29],[\"r1\",72],[\"s3\",2]]},\n \"moments\"\
-:[\n  [56,\"MarkDone\",\"s1 marks node 1 of s2 done: only its next step reads the link by which it goes on.\"],\n  [59\
-,\"ResetNext\",\"s2 has returned and begins its next send: it clears the next link of node 1, which led to node 2 of s\
-3.\"],\n  [63,\"HandOver\",\"s1 found null in that link, and hands over to node 1, the node in the tail: the call of s\
-3 is the first without an answer, and is skipped.\"],\n  [70,\"ReadState\",\"s3 reads state 1 and begins to wait: no l\
-ink leads to its node any more.\"],\n  [81,\"ReadNext\",\"s1 sends again and got node 1 with state 0: it serves its ow\
-n request, past those of s3 and s2.\"],\n  [164,\"AddPassed\",\"r1 gets 5 as item 2: by the history item 2 is that of \
-s3, whose send still waits.\"]],\n \"table\":\"marked_early\",\"breaks\":\"hand\",\n \"lost\":\"Lost: the items 3 and \
-4. At the end of this run their sends wait for ever: no pass has a next step that changes a word.\",\n \"right\":{\"ti\
-tle\":\"The link is read before the request is served\",\n  \"text\":\"The right [[combiner]] reads the next link of \
-a node before it serves the request. s2 returns and clears its link as before, and s1 already knows that node 2 is nex\
-t.\",\n  \"moments\":[\n  [38,\"ReadNext\",\"s1 reads the next link of node 1 before it serves s2: it names node 2, s\
-o the request of s2 is whole.\"],\n  [55,\"MarkDone\",\"s1 has written the answer of s2 and marks node 1 done: from no\
-w on s2 may return.\"],\n  [56,\"ReadNext\",\"s1 goes on to node 2 of s3, the first call without an answer.\"],\n  [59\
-,\"ResetNext\",\"s2 has returned and begins its next send: it clears the next link of node 1, and s1 is at node 2 alre\
-ady.\"],\n  [82,\"LinkLast\",\"s1 serves the request of s3: this step is the decision, accepted as item 2.\"],\n  [162\
-,\"AddPassed\",\"r1 gets 3 as item 2: no accepted item is lost.\"],\n  [173,\"ReadAnswer\",\"s3 reads its answer: its \
-call returns accepted as item 2.\"]]}},\n{\"kind\":\"broken\",\"id\":\"handed_past\",\"title\":\"Handed over past a re\
-quest\",\n \"text\":\"At the [[bound]] this [[combiner]] reads one link too many, and hands over to the node after th\
-e one where it has to stop.\",\n \"plan\":{\"capacity\":4,\"bound\":1,\"life\":10,\"senders\":[[1],[2],[3]],\"receiver\
-s\":[3],\"schedule\":[[\"s1\",6],[\"s2\",6],[\"s3\",6],[\"s1\",22],[\"s3\",22],[\"s2\",21],[\"s3\",21],[\"r1\",69],[\"\
-s2\",2]]},\n \"moments\":[\n  [37,\"MarkDone\",\"s1 marks node 0 done: it has served one request, as many as the bound\
-. The next request is that of s2, in node 1.\"],\n  [39,\"HandOver\",\"s1 hands over to node 2 of s3, past the reques\
-t of s2.\"],\n  [42,\"ReadNext\",\"s3 serves its own request, and the first call without an answer is that of s2.\"],\
-\n  [62,\"ReadAnswer\",\"s3 reads its answer: its call returns accepted as item 1. By the history this is the answer o\
-f s2.\"],\n  [120,\"AddPassed\",\"r1 gets 3 as item 1: by the history item 1 is that of s2, whose send still waits.\"]\
-],\n \"table\":\"handed_past\",\"breaks\":\"hand\",\n \"lost\":\"Lost: the item 2. At the end of this run its send wai\
-ts for ever: no pass has a next step that changes a word.\",\n \"right\":{\"title\":\"Handed over to the next request\
-\",\n  \"text\":\"The right [[combiner]] hands over to the node where it stops. At the [[bound]] that is the node of t\
-he next request.\",\n  \"moments\":[\n  [37,\"MarkDone\",\"s1 marks node 0 done: it has served one request, as many a\
-s the bound. The next request is that of s2, in node 1.\"],\n  [38,\"HandOver\",\"s1 hands over to node 1 of s2, the f\
-irst call without an answer.\"],\n  [40,\"ReadState\",\"s3 reads state 1 and begins to wait: it reads its own node alo\
-ne, and changes no word.\"],\n  [62,\"ReadState\",\"s2 reads state 0: no pass combines, so s2 is the combiner.\"],\n  \
-[75,\"LinkLast\",\"s2 serves its own request: this step is the decision, accepted as item 1.\"],\n  [139,\"AddPassed\"\
-,\"r1 gets 2 as item 1: no accepted item is lost.\"]]}},\n{\"kind\":\"broken\",\"id\":\"freed_dummy\",\"title\":\"Free\
-d while the node is the dummy\",\n \"text\":\"This take adds to the [[passed]] count of the node that it took the ite\
-m from. But this node is the [[dummy]] from now on, and a send may use it.\",\n \"plan\":{\"capacity\":1,\"bound\":2,\
-\"life\":10,\"senders\":[[5,6]],\"receivers\":[3],\"schedule\":[[\"s1\",28],[\"r1\",23],[\"s1\",29],[\"r1\",46]]},\n \
-\"moments\":[\n  [42,\"AddPassed\",\"r1 takes the item 5 out of node 1, and adds 1 to the passed count of node 1, whic\
-h is the dummy now.\"],\n  [67,\"ResetListNode\",\"The next send finds node 1 free and clears its passed count, while \
-the head names it.\"],\n  [72,\"LinkLast\",\"s1 links node 1 to itself.\"],\n  [94,\"AddPassed\",\"r1 gets 6 as item 1\
-: the head names node 1, and so does its next link.\"],\n  [117,\"AddPassed\",\"r1 gets 6 as item 2: the same item aga\
-in.\"]],\n \"table\":\"freed_dummy\",\"breaks\":\"reset\",\n \"lost\":\"Got twice: the item 6.\",\n \"right\":{\"title\
-\":\"The old dummy is freed\",\n  \"text\":\"The right take adds to the [[passed]] count of the old [[dummy]]. The ne\
-w dummy stays busy, so no send uses it.\",\n  \"moments\":[\n  [42,\"AddPassed\",\"r1 takes the item 5 out of node 1, \
-and adds 1 to the passed count of node 0, the old dummy.\"],\n  [66,\"ResetListNode\",\"The next send finds node 0 fre\
-e and clears its passed count: node 0 is not in the list, so no take can read it.\"],\n  [71,\"LinkLast\",\"s1 links l\
-ist node 0, which has the item 6, to node 1: this step is the decision, accepted as item 1.\"],\n  [93,\"AddPassed\",\
-\"r1 gets 6 as item 1: no accepted item is lost.\"],\n  [111,\"ReadDummyNext\",\"r1 reads null in the next link of th\
-e dummy: this step is the decision, empty.\"]]}},\n{\"kind\":\"broken\",\"id\":\"one_group\",\"title\":\"Freed after o\
-ne group\",\n \"text\":\"This send uses a node as soon as one [[group]] has gone past it. Another group may still nee\
-d the node.\",\n \"plan\":{\"version\":2,\"groups\":2,\"capacity\":2,\"bound\":2,\"life\":10,\"senders\":[[[5],[6],[7]\
-]],\"receivers\":[1,3],\"schedule\":[[\"s1\",56],[\"r1\",23],[\"s1\",28],[\"r2\",60]]},\n \"moments\":[\n  [70,\"AddPa\
-ssed\",\"Group 1 takes the item 5: one of two groups has gone past node 0, which is still the dummy of group 2.\"],\
-\n  [94,\"ResetListNode\",\"The next send finds node 0 free and clears its passed count, while the head of group 2 nam\
-es it.\"],\n  [95,\"ResetListNode\",\"s1 clears the next link of node 0: group 2 has lost its way to the items 5 and 6\
-.\"],\n  [116,\"ReadDummyNext\",\"r2 reads null in the next link of the dummy: this step is the decision, empty, whil\
-e 3 items wait for group 2.\"]],\n \"table\":\"one_group\",\"breaks\":\"reset\",\n \"lost\":\"Lost for group 2: the it\
-ems 5, 6 and 7.\",\n \"right\":{\"title\":\"Freed after every group\",\n  \"text\":\"The right send uses a node only a\
-fter every [[group]] has gone past it. So the send of 7 returns Full, and group 2 gets its items.\",\n  \"moments\":[\
-\n  [70,\"AddPassed\",\"Group 1 takes the item 5: one of two groups has gone past node 0, which is still the dummy of \
-group 2.\"],\n  [95,\"ReadPassed\",\"The send of 7 finds no free node: this step is the decision, full. Group 2 has no\
-t taken the item 5, and holds the sender back.\"],\n  [114,\"AddPassed\",\"Group 2 takes the item 5 too: every group h\
-as gone past node 0, and it is free from now on.\"],\n  [137,\"AddPassed\",\"Group 2 takes the item 6: no accepted ite\
-m is lost.\"]]}},\n{\"kind\":\"broken\",\"id\":\"full_early\",\"title\":\"Full two nodes early\",\n \"text\":\"This sc\
-an ends two nodes early. One node early would change no answer: the last node of a scan is the one that was linked las\
-t, and it is busy.\",\n \"plan\":{\"capacity\":3,\"bound\":2,\"life\":10,\"senders\":[[5,6,7,8,9]],\"receivers\":[5],\
+application/json\" id=\"lessons\">\n[\n{\"kind\":\"tour\",\"id\":\"lone\",\"title\":\"A lone send\",\n \"text\":\"{pas\
+s:s1} sends {sent:7}, and no other [[pass]] moves. {combiner:s1} swaps its [[node]] into the [[tail]] of the send [[ch\
+ain]], finds that no pass combines, and serves its own request.\",\n \"plan\":{\"capacity\":2,\"bound\":2,\"life\":10,\
+\"senders\":[[7]],\"receivers\":[1],\"schedule\":[[\"s1\",28]]},\n \"moments\":[\n  [3,\"Exchange\",\"{pass:s1} swaps \
+{to:node 1} into the tail and gets {was:node 0}: its call enters the [[history]] as the {place:1st} send.\"],\n  [6,\"\
+Link\",\"{pass:s1} links {node:node 0} to {to:node 1}, the node in the tail: only now can a [[combiner]] serve the req\
+uest.\"],\n  [7,\"ReadState\",\"{pass:s1} reads state {value:0}: no pass combines, so {pass:s1} is the combiner.\"],\
+\n  [20,\"LinkLast\",\"{pass:s1} links list {to:node 1}, which has the item {item:7}, to {node:node 0}: this step is t\
+he [[decision]], {decided:accepted as item 0}.\"],\n  [27,\"HandOver\",\"No further request is linked, so {pass:s1} ha\
+nds over to {node:node 1}, the node in the tail.\"],\n  [28,\"ReadAnswer\",\"{pass:s1} reads its answer: its call retu\
+rns {returned:accepted as item 0}.\"]]},\n{\"kind\":\"tour\",\"id\":\"three\",\"title\":\"Three sends that one serves\
+\",\n \"text\":\"Three senders link their requests before any is served. {combiner:s1} is the [[combiner]]: it serves \
+all three in one [[turn]], in the order of their swaps, while the others only read their own states.\",\n \"plan\":{\"\
+capacity\":4,\"bound\":4,\"life\":10,\"senders\":[[1],[2],[3]],\"receivers\":[0],\"schedule\":[[\"s1\",6],[\"s2\",6],[\
+\"s3\",6],[\"s2\",2],[\"s3\",2],[\"s1\",58],[\"s2\",2],[\"s3\",2]]},\n \"moments\":[\n  [18,\"Link\",\"Three requests \
+are linked now: {linked:node 0 of s1, node 1 of s2 and node 2 of s3}. The tail names {tail:node 3}, which no call has.\
+\"],\n  [19,\"ReadState\",\"{pass:s2} reads state {waits:1} and begins to wait: it reads its own node alone, and chang\
+es no word.\"],\n  [42,\"ReadNext\",\"{pass:s1} reads the next link of {node:node 1} before it serves {owner:s2}: it n\
+ames {to:node 2}, so the request of {owner:s2} is whole.\"],\n  [59,\"MarkDone\",\"{pass:s1} has written the answer o\
+f {owner:s2} and marks {node:node 1} done: from now on {owner:s2} may return.\"],\n  [79,\"HandOver\",\"{pass:s1} has \
+served {served:three} requests, and hands over to {node:node 3}, the node in the tail.\"],\n  [84,\"ReadAnswer\",\"{pa\
+ss:s3} reads its answer: its call returns {returned:accepted as item 2}. {pass:s3} has not touched the list.\"]]},\n{\
+\"kind\":\"tour\",\"id\":\"bound\",\"title\":\"The hand-over at the bound\",\n \"text\":\"The [[bound]] is {bound:2}: \
+a [[combiner]] serves at most two requests in one [[turn]]. {combiner:s1} serves {turn:s1 and s2}, and hands over to {\
+next:s3}.\",\n \"plan\":{\"capacity\":4,\"bound\":2,\"life\":10,\"senders\":[[1],[2],[3]],\"receivers\":[0],\"schedule\
+\":[[\"s1\",6],[\"s2\",6],[\"s3\",8],[\"s1\",39],[\"s3\",22],[\"s2\",2]]},\n \"moments\":[\n  [57,\"MarkDone\",\"{pass\
+:s1} marks {node:node 1} done: it has served {served:two} requests, as many as the bound.\"],\n  [58,\"HandOver\",\"{p\
+ass:s1} hands over to {node:node 2} of {owner:s3}, the first call without an answer.\"],\n  [60,\"ReadState\",\"{pass:\
+s3} reads state {value:0}: no pass combines, so {pass:s3} is the combiner. At no moment did two passes combine.\"],\
+\n  [73,\"LinkLast\",\"{pass:s3} serves its own request: this step is the decision, {decided:accepted as item 2}.\"]]}\
+,\n{\"kind\":\"tour\",\"id\":\"take\",\"title\":\"A take\",\n \"text\":\"{pass:s1} has sent {sent:7}, and {taker:r1} t\
+akes it. The receivers have a [[chain]] of their own. The list begins with its [[dummy]], a node with no item to take.\
+\",\n \"plan\":{\"capacity\":2,\"bound\":2,\"life\":10,\"senders\":[[7]],\"receivers\":[1],\"schedule\":[[\"s1\",28],[\
+\"r1\",23]]},\n \"moments\":[\n  [35,\"ReadObject\",\"{pass:r1} combines in the take chain and reads the [[head]]: {to\
+:node 0} is the dummy.\"],\n  [37,\"ReadDummyNext\",\"{pass:r1} reads the next link of the dummy: it names {to:node 1}\
+, so the list has an item.\"],\n  [39,\"ReadItem\",\"{pass:r1} reads the word of the item, {value:7}, in {node:node 1}\
+, which is still in the list.\"],\n  [40,\"WriteObject\",\"{pass:r1} moves the head to {to:node 1}: this is the dummy \
+from now on.\"],\n  [42,\"AddPassed\",\"{pass:r1} adds one to the [[passed]] count of {node:node 0}: this step is the \
+[[decision]], {decided:got 7 as item 0}. This node is free from now on.\"]]},\n{\"kind\":\"tour\",\"id\":\"empty\",\"t\
+itle\":\"Empty, and a send in between\",\n \"text\":\"{pass:s1} has prepared a list node and stops one step before th\
+e link. A take that runs now returns Empty, and rightly: the send has not taken effect yet.\",\n \"plan\":{\"capacity\
+\":2,\"bound\":2,\"life\":10,\"senders\":[[7]],\"receivers\":[2],\"schedule\":[[\"s1\",19],[\"r1\",14],[\"s1\",9],[\"r\
+1\",23]]},\n \"moments\":[\n  [19,\"ReadObject\",\"{pass:s1} stops before the link: {prepared:node 1} has the item {it\
+em:7}, and no link of the list names it.\"],\n  [28,\"ReadDummyNext\",\"{pass:r1} reads null in the next link of the d\
+ummy: this step is the decision, {decided:empty}.\"],\n  [34,\"LinkLast\",\"{pass:s1} links list {to:node 1}, which ha\
+s the item {item:7}, to {node:node 0}: the send takes effect now, after the take.\"],\n  [56,\"AddPassed\",\"{pass:r1\
+} takes the item {got:7}: it is the second take of {pass:r1}.\"]]},\n{\"kind\":\"tour\",\"id\":\"scan\",\"title\":\"Fu\
+ll, and when it takes effect\",\n \"text\":\"The [[capacity]] is {capacity:1}, and the item {sent:5} waits. The send o\
+f {full:6} scans all list nodes for a free one. During the scan {taker:r1} takes the item, and the send still returns \
+Full: it takes effect when its scan begins.\",\n \"plan\":{\"capacity\":1,\"bound\":2,\"life\":10,\"senders\":[[5],[6]\
+],\"receivers\":[1],\"schedule\":[[\"s1\",28],[\"s2\",14],[\"r1\",23],[\"s2\",6]]},\n \"moments\":[\n  [41,\"ReadObjec\
+t\",\"{pass:s2} reads the [[cursor]], and its scan begins at {cursor:node 0}: both list nodes are busy at this moment\
+, and the Full of this send takes effect here.\"],\n  [42,\"ReadPassed\",\"{pass:s2} reads that no group has gone pas\
+t {node:node 0}, which is the dummy: it is busy.\"],\n  [56,\"AddPassed\",\"{pass:r1} takes the item {got:5}: {node:no\
+de 0} is free from now on, but the scan has read it already.\"],\n  [66,\"ReadPassed\",\"{pass:s2} reads that no grou\
+p has gone past {node:node 1}, which is the dummy now: this step is the decision, {decided:full}.\"]],\n \"opens\":\"o\
+rder\"},\n{\"kind\":\"tour\",\"id\":\"again\",\"title\":\"A node that is used again\",\n \"text\":\"The [[capacity]] i\
+s {capacity:1}, so the list has two ordinary nodes. {taker:r1} takes the item {sent:5}, which frees a list node. The s\
+end of {sent:7} uses {again:node 0} again, and no item is lost.\",\n \"plan\":{\"capacity\":1,\"bound\":2,\"life\":10,\
+\"senders\":[[5],[7]],\"receivers\":[2],\"schedule\":[[\"s1\",28],[\"r1\",23],[\"s2\",28],[\"r1\",23]]},\n \"moments\"\
+:[\n  [42,\"AddPassed\",\"{pass:r1} takes the item {got:5}: every group has gone past {node:node 0}, and it is free fr\
+om now on.\"],\n  [65,\"ReadPassed\",\"{pass:s2} begins its scan at the cursor, and finds {node:node 0} free.\"],\n  [\
+67,\"ResetListNode\",\"{pass:s2} clears the {word:next link} of {node:node 0}, as it did the passed count: {node:node \
+0} is not in the list, so no take can read it.\"],\n  [71,\"LinkLast\",\"{pass:s2} links list {to:node 0}, which has t\
+he item {item:7}, to {node:node 1}: this step is the decision, {decided:accepted as item 1}.\"],\n  [93,\"AddPassed\",\
+\"{pass:r1} takes the item {got:7}: {node:node 1} is free from now on.\"]]},\n{\"kind\":\"tour\",\"id\":\"close\",\"ti\
+tle\":\"A close\",\n \"text\":\"{pass:s1} sends {sent:5}, closes the queue, and tries to send {sent:6}. The [[closing \
+mark]] is a list node of its own, so a close is never Full. {taker:r1} takes what is left, and then gets Ended.\",\n \
+\"plan\":{\"capacity\":2,\"bound\":2,\"life\":10,\"senders\":[[5,\"close\",6]],\"receivers\":[2],\"schedule\":[[\"s1\"\
+,65],[\"r1\",38]]},\n \"moments\":[\n  [42,\"LinkLast\",\"{pass:s1} links the closing mark to {node:node 1}: this ste\
+p is the [[decision]], {decided:shut after 1 item}.\"],\n  [44,\"WriteObject\",\"{pass:s1} sets the {word:shut} word: \
+the later send reads it, and returns Closed.\"],\n  [60,\"ReadObject\",\"{pass:s1} serves the send of {asked:6} and re\
+ads that the queue is shut: this step is the decision, {decided:closed}.\"],\n  [79,\"AddPassed\",\"{pass:r1} takes th\
+e item {got:5}, which was accepted before the close.\"],\n  [98,\"ReadItem\",\"{pass:r1} reads the tag of the node aft\
+er the dummy: it is {value:0}, so this node is the mark, and this step is the decision, {decided:ended after 1 item}.\
+\"]]},\n{\"kind\":\"tour\",\"id\":\"groups\",\"title\":\"Two groups\",\n \"text\":\"Two [[group]]s of receivers read o\
+ne list: {groups:r1 is group 1, and r2 is group 2}. Each group has its own [[head]] and gets every item. A node is fre\
+e when both groups have gone past it.\",\n \"plan\":{\"version\":2,\"groups\":2,\"capacity\":1,\"bound\":2,\"life\":10\
+,\"senders\":[[[5],[6],[6]]],\"receivers\":[2,2],\"schedule\":[[\"s1\",28],[\"r1\",23],[\"s1\",20],[\"r2\",23],[\"s1\"\
+,28],[\"r1\",23],[\"r2\",23]]},\n \"moments\":[\n  [42,\"AddPassed\",\"Group {group:1} takes the item {got:5}: one of \
+two groups has gone past {node:node 0}, and it is not free.\"],\n  [66,\"ReadPassed\",\"The send of {asked:6} finds n\
+o free node: this step is the decision, {decided:full}. Group {slow:2} has not taken the item {next:5}, and holds the \
+sender back.\"],\n  [85,\"AddPassed\",\"Group {group:2} takes the item {got:5} too: every group has gone past {node:no\
+de 0}, and it is free from now on.\"],\n  [114,\"LinkLast\",\"The next send of {asked:6} uses {to:node 0}: this step i\
+s the decision, {decided:accepted as item 1}.\"],\n  [159,\"AddPassed\",\"Group {group:2} takes the item {got:6} too: \
+each group got all items, in one order.\"]]},\n{\"kind\":\"tour\",\"id\":\"order\",\"title\":\"An order of all calls\"\
+,\n \"text\":\"Calls overlap, and yet there is one order of all calls in which each answer is that of a queue that doe\
+s one call after another. Each call takes effect between its swap and its [[decision]]. Every run of the algorithm is \
+linearizable in this sense, and that is proved: the law is RunsAreLinearizable in crates/cc_runs. The card \\\"An orde\
+r of all calls\\\" shows this order for the run on the page.\",\n \"plan\":{\"capacity\":1,\"bound\":2,\"life\":10,\"s\
+enders\":[[5],[6]],\"receivers\":[2],\"schedule\":[[\"s1\",19],[\"r1\",14],[\"s1\",9],[\"s2\",14],[\"r1\",23],[\"s2\",\
+6]]},\n \"moments\":[\n  [28,\"ReadDummyNext\",\"{pass:r1} reads null in the next link of the dummy: the take is Empt\
+y while a send is under way, and is {order:1st} in the order.\"],\n  [34,\"LinkLast\",\"{pass:s1} links list {to:node \
+1}, which has the item {item:5}, to {node:node 0}: the send takes effect now, and is {order:2nd} in the order.\"],\n  \
+[55,\"ReadObject\",\"{pass:s2} reads the cursor, and its scan begins at {cursor:node 0}: the Full of this send takes e\
+ffect here, and is {order:3rd} in the order.\"],\n  [70,\"AddPassed\",\"{pass:r1} takes the item {got:5}: the take is \
+{order:4th} in the order.\"],\n  [80,\"ReadPassed\",\"{pass:s2} reads that no group has gone past {node:node 1}, whic\
+h is the dummy now: this step is the decision, {decided:full}. In the order it comes before the take.\"]],\n \"opens\"\
+:\"order\"},\n{\"kind\":\"example\",\"id\":\"bodies_of_words\",\"title\":\"Items of one to four words\",\n \"text\":\"\
+Three senders send items of one to four words. {combiner:s3} serves the first send of each.\",\n \"plan\":{\"version\"\
+:2,\"groups\":1,\"capacity\":4,\"bound\":4,\"life\":10,\"senders\":[[[1],[2,20]],[[3,30,300]],[[4,40,400,4000]]],\"rec\
+eivers\":[4],\"schedule\":[[\"s3\",9],[\"s2\",8],[\"s1\",6],[\"s3\",200],[\"s1\",200],[\"r1\",200]]},\n \"moments\":[]\
+},\n{\"kind\":\"example\",\"id\":\"full\",\"title\":\"A full queue\",\n \"text\":\"A send finds no free node, and a no\
+de that a take freed is used again.\",\n \"plan\":{\"capacity\":1,\"bound\":2,\"life\":10,\"senders\":[[5,6],[7]],\"re\
+ceivers\":[1],\"schedule\":[[\"s1\",500],[\"r1\",500],[\"s2\",500]]},\n \"moments\":[]},\n{\"kind\":\"example\",\"id\"\
+:\"close_and_drain\",\"title\":\"Close and drain\",\n \"text\":\"{pass:s1} closes the queue. A later send returns Clos\
+ed, and a later close Already. {taker:r1} takes what is left, and then gets Ended.\",\n \"plan\":{\"capacity\":2,\"bou\
+nd\":2,\"life\":10,\"senders\":[[5,\"close\",6,\"close\"]],\"receivers\":[3],\"schedule\":[[\"s1\",500],[\"r1\",500]]}\
+,\n \"moments\":[]},\n{\"kind\":\"example\",\"id\":\"two_groups\",\"title\":\"Two groups, one slow\",\n \"text\":\"Tw\
+o groups take every item, and the slower group holds the sender back.\",\n \"plan\":{\"version\":2,\"groups\":2,\"capa\
+city\":1,\"bound\":2,\"life\":10,\"senders\":[[[5],[6],[6],[6],\"close\"]],\"receivers\":[3,3],\"schedule\":[[\"s1\",4\
+8],[\"r1\",23],[\"s1\",20],[\"r2\",23],[\"s1\",28],[\"r1\",23],[\"s1\",100],[\"r2\",100],[\"r1\",100]]},\n \"moments\"\
+:[]},\n{\"kind\":\"example\",\"id\":\"two_sends_combined\",\"title\":\"Two sends, one combiner\",\n \"text\":\"Two sen\
+ds swap, and the pass of the first send serves both.\",\n \"plan\":{\"capacity\":2,\"bound\":2,\"life\":10,\"senders\"\
+:[[7],[9]],\"receivers\":[0],\"schedule\":[[\"s1\",3],[\"s2\",100],[\"s1\",100]]},\n \"moments\":[]},\n{\"kind\":\"exa\
+mple\",\"id\":\"bound_one\",\"title\":\"Bound 1\",\n \"text\":\"The combiner hands over after one request, and the sec\
+ond send is pending at the end.\",\n \"plan\":{\"capacity\":2,\"bound\":1,\"life\":10,\"senders\":[[7],[9]],\"receiver\
+s\":[0],\"schedule\":[[\"s1\",3],[\"s2\",100],[\"s1\",100]]},\n \"moments\":[]},\n{\"kind\":\"example\",\"id\":\"cut_b\
+efore_the_link\",\"title\":\"Cut before the link\",\n \"text\":\"A send that stops one step before its decision is pen\
+ding at the end.\",\n \"plan\":{\"capacity\":2,\"bound\":2,\"life\":10,\"senders\":[[7]],\"receivers\":[1],\"schedule\
+\":[[\"s1\",19]]},\n \"moments\":[]},\n{\"kind\":\"example\",\"id\":\"one_item\",\"title\":\"One item\",\n \"text\":\"\
+One item is sent and taken.\",\n \"plan\":{\"capacity\":2,\"bound\":2,\"life\":10,\"senders\":[[7]],\"receivers\":[1],\
+\"schedule\":[[\"s1\",100],[\"r1\",100]]},\n \"moments\":[]},\n{\"kind\":\"broken\",\"id\":\"marked_early\",\"title\":\
+\"Marked done before the link is followed\",\n \"text\":\"This [[combiner]] follows the next link of a node only afte\
+r it has marked the node done. In between, the owner of the node returns, begins another send, and clears the link.\",\
+\n \"plan\":{\"capacity\":4,\"bound\":4,\"life\":10,\"senders\":[[1,5],[2,4],[3]],\"receivers\":[3],\"schedule\":[[\"s\
+1\",6],[\"s2\",6],[\"s3\",6],[\"s1\",38],[\"s2\",5],[\"s1\",3],[\"s2\",5],[\"s3\",4],[\"s1\",29],[\"r1\",72],[\"s3\",2\
+]]},\n \"moments\":[\n  [56,\"MarkDone\",\"{pass:s1} marks {node:node 1} of {owner:s2} done: only its next step reads \
+the link by which it goes on.\"],\n  [59,\"ResetNext\",\"{pass:s2} has returned and begins its next send: it clears th\
+e {word:next link} of {node:node 1}, which led to {was:node 2} of {led:s3}.\"],\n  [63,\"HandOver\",\"{pass:s1} found \
+null in that link, and hands over to {node:node 1}, the node in the tail: the call of {first:s3} is the first without \
+an answer, and is skipped.\"],\n  [70,\"ReadState\",\"{pass:s3} reads state {waits:1} and begins to wait: no link lead\
+s to its node any more.\"],\n  [81,\"ReadNext\",\"{pass:s1} sends again and got {node:node 1} with state {state:0}: i\
+t serves its own request, past that of {first:s3}.\"],\n  [164,\"AddPassed\",\"{pass:r1} gets {got:5} as item {number:\
+2}: by the history item {number:2} is that of {whose:s3}, whose send still waits.\"]],\n \"table\":\"marked_early\",\"\
+breaks\":\"hand\",\n \"lost\":\"Lost: the items {pending:3 and 4}. At the end of this run their sends wait for ever: n\
+o pass has a next step that changes a word.\",\n \"right\":{\"title\":\"The link is read before the request is served\
+\",\n  \"text\":\"The right [[combiner]] reads the next link of a node before it serves the request. {pass:s2} return\
+s and clears its link as before, and {combiner:s1} already knows the next node.\",\n  \"moments\":[\n  [38,\"ReadNext\
+\",\"{pass:s1} reads the next link of {node:node 1} before it serves {owner:s2}: it names {to:node 2}, so the request \
+of {owner:s2} is whole.\"],\n  [55,\"MarkDone\",\"{pass:s1} has written the answer of {owner:s2} and marks {node:node \
+1} done: from now on {owner:s2} may return.\"],\n  [56,\"ReadNext\",\"{pass:s1} goes on to {node:node 2} of {owner:s3}\
+, the first call without an answer.\"],\n  [59,\"ResetNext\",\"{pass:s2} has returned and begins its next send: it cle\
+ars the {word:next link} of {node:node 1}, and {combiner:s1} is at {at:node 2} already.\"],\n  [82,\"LinkLast\",\"{pas\
+s:s1} serves the request of {client:s3}: this step is the decision, {decided:accepted as item 2}.\"],\n  [162,\"AddPas\
+sed\",\"{pass:r1} gets {got:3} as item {number:2}: no accepted item is lost.\"],\n  [173,\"ReadAnswer\",\"{pass:s3} re\
+ads its answer: its call returns {returned:accepted as item 2}.\"]]}},\n{\"kind\":\"broken\",\"id\":\"handed_past\",\"\
+title\":\"Handed over past a request\",\n \"text\":\"At the [[bound]] this [[combiner]] reads one link too many, and h\
+ands over to the node after the one where it has to stop.\",\n \"plan\":{\"capacity\":4,\"bound\":1,\"life\":10,\"send\
+ers\":[[1],[2],[3]],\"receivers\":[3],\"schedule\":[[\"s1\",6],[\"s2\",6],[\"s3\",6],[\"s1\",22],[\"s3\",22],[\"s2\",2\
+1],[\"s3\",21],[\"r1\",69],[\"s2\",2]]},\n \"moments\":[\n  [37,\"MarkDone\",\"{pass:s1} marks {node:node 0} done: it \
+has served {served:one} request, as many as the bound. The next request is that of {first:s2}, in {open_node:node 1}.\
+\"],\n  [39,\"HandOver\",\"{pass:s1} hands over to {node:node 2} of {owner:s3}, past the request of {first:s2}.\"],\
+\n  [42,\"ReadNext\",\"{pass:s3} serves its own request, and the first call without an answer is that of {first:s2}.\"\
+],\n  [62,\"ReadAnswer\",\"{pass:s3} reads its answer: its call returns {returned:accepted as item 1}. By the history \
+this is the answer of {answered:s2}.\"],\n  [120,\"AddPassed\",\"{pass:r1} gets {got:3} as item {number:1}: by the his\
+tory item {number:1} is that of {whose:s2}, whose send still waits.\"]],\n \"table\":\"handed_past\",\"breaks\":\"hand\
+\",\n \"lost\":\"Lost: the item {pending:2}. At the end of this run its send waits for ever: no pass has a next step t\
+hat changes a word.\",\n \"right\":{\"title\":\"Handed over to the next request\",\n  \"text\":\"The right [[combiner]\
+] hands over to the node where it stops. At the [[bound]] that is the node of the next request.\",\n  \"moments\":[\
+\n  [37,\"MarkDone\",\"{pass:s1} marks {node:node 0} done: it has served {served:one} request, as many as the bound. T\
+he next request is that of {first:s2}, in {open_node:node 1}.\"],\n  [38,\"HandOver\",\"{pass:s1} hands over to {node:\
+node 1} of {owner:s2}, the first call without an answer.\"],\n  [40,\"ReadState\",\"{pass:s3} reads state {waits:1} an\
+d begins to wait: it reads its own node alone, and changes no word.\"],\n  [62,\"ReadState\",\"{pass:s2} reads state {\
+value:0}: no pass combines, so {pass:s2} is the combiner.\"],\n  [75,\"LinkLast\",\"{pass:s2} serves its own request: \
+this step is the decision, {decided:accepted as item 1}.\"],\n  [139,\"AddPassed\",\"{pass:r1} gets {got:2} as item {n\
+umber:1}: no accepted item is lost.\"]]}},\n{\"kind\":\"broken\",\"id\":\"freed_dummy\",\"title\":\"Freed while the no\
+de is the dummy\",\n \"text\":\"This take adds to the [[passed]] count of the node that it took the item from. But thi\
+s node is the [[dummy]] from now on, and a send may use it.\",\n \"plan\":{\"capacity\":1,\"bound\":2,\"life\":10,\"se\
+nders\":[[5,6]],\"receivers\":[3],\"schedule\":[[\"s1\",28],[\"r1\",23],[\"s1\",29],[\"r1\",46]]},\n \"moments\":[\n  \
+[42,\"AddPassed\",\"{pass:r1} takes the item {got:5} out of {dummy:node 1}, and adds one to the passed count of {node:\
+node 1}, which is the dummy now.\"],\n  [67,\"ResetListNode\",\"The next send finds {node:node 1} free and clears its \
+{word:passed count}, while the head names it.\"],\n  [72,\"LinkLast\",\"{pass:s1} links {to:node 1} to itself.\"],\n  \
+[94,\"AddPassed\",\"{pass:r1} gets {got:6} as item {number:1}: the head names {dummy:node 1}, and so does its next lin\
+k.\"],\n  [117,\"AddPassed\",\"{pass:r1} gets {got:6} as item {number:2}: the same item again.\"]],\n \"table\":\"free\
+d_dummy\",\"breaks\":\"reset\",\n \"lost\":\"Got twice: the item {twice:6}.\",\n \"right\":{\"title\":\"The old dummy \
+is freed\",\n  \"text\":\"The right take adds to the [[passed]] count of the old [[dummy]]. The new dummy stays busy, \
+so no send uses it.\",\n  \"moments\":[\n  [42,\"AddPassed\",\"{pass:r1} takes the item {got:5} out of {dummy:node 1}\
+, and adds one to the passed count of {node:node 0}, the old dummy.\"],\n  [66,\"ResetListNode\",\"The next send find\
+s {node:node 0} free and clears its {word:passed count}: {node:node 0} is not in the list, so no take can read it.\"],\
+\n  [71,\"LinkLast\",\"{pass:s1} links list {to:node 0}, which has the item {item:6}, to {node:node 1}: this step is t\
+he decision, {decided:accepted as item 1}.\"],\n  [93,\"AddPassed\",\"{pass:r1} gets {got:6} as item {number:1}: no ac\
+cepted item is lost.\"],\n  [111,\"ReadDummyNext\",\"{pass:r1} reads null in the next link of the dummy: this step is \
+the decision, {decided:empty}.\"]]}},\n{\"kind\":\"broken\",\"id\":\"one_group\",\"title\":\"Freed after one group\",\
+\n \"text\":\"This send uses a node as soon as one [[group]] has gone past it. Another group may still need the node.\
+\",\n \"plan\":{\"version\":2,\"groups\":2,\"capacity\":2,\"bound\":2,\"life\":10,\"senders\":[[[5],[6],[7]]],\"receiv\
+ers\":[1,3],\"schedule\":[[\"s1\",56],[\"r1\",23],[\"s1\",28],[\"r2\",60]]},\n \"moments\":[\n  [70,\"AddPassed\",\"Gr\
+oup {group:1} takes the item {got:5}: one of two groups has gone past {node:node 0}, which is still the dummy of grou\
+p {behind:2}.\"],\n  [94,\"ResetListNode\",\"The next send finds {node:node 0} free and clears its {word:passed count}\
+, while the head of group {behind:2} names it.\"],\n  [95,\"ResetListNode\",\"{pass:s1} clears the {word:next link} o\
+f {node:node 0}: group {behind:2} has lost its way to the items {cut:5 and 6}.\"],\n  [116,\"ReadDummyNext\",\"{pass:r\
+2} reads null in the next link of the dummy: this step is the decision, {decided:empty}, while {waiting:3} items wait \
+for group {group:2}.\"]],\n \"table\":\"one_group\",\"breaks\":\"reset\",\n \"lost\":\"Lost for group {behind:2}: the \
+items {untaken:5, 6 and 7}.\",\n \"right\":{\"title\":\"Freed after every group\",\n  \"text\":\"The right send uses \
+a node only after every [[group]] has gone past it. So the send of {full:7} returns Full, and each group gets its item\
+s.\",\n  \"moments\":[\n  [70,\"AddPassed\",\"Group {group:1} takes the item {got:5}: one of two groups has gone past \
+{node:node 0}, which is still the dummy of group {behind:2}.\"],\n  [95,\"ReadPassed\",\"The send of {asked:7} finds n\
+o free node: this step is the decision, {decided:full}. Group {slow:2} has not taken the item {next:5}, and holds the \
+sender back.\"],\n  [114,\"AddPassed\",\"Group {group:2} takes the item {got:5} too: every group has gone past {node:n\
+ode 0}, and it is free from now on.\"],\n  [137,\"AddPassed\",\"Group {group:2} takes the item {got:6}: no accepted it\
+em is lost.\"]]}},\n{\"kind\":\"broken\",\"id\":\"full_early\",\"title\":\"Full two nodes early\",\n \"text\":\"This s\
+can ends two nodes early. One node early would change no answer: the last node of a scan is the one that was linked la\
+st, and it is busy.\",\n \"plan\":{\"capacity\":3,\"bound\":2,\"life\":10,\"senders\":[[5,6,7,8,9]],\"receivers\":[5],\
 \"schedule\":[[\"s1\",98],[\"r1\",46],[\"s1\",51],[\"r1\",78]]},\n \"moments\":[\n  [98,\"ReadPassed\",\"The scan of t\
-he send of 8 reads node 0, which is busy: 3 items wait, so the queue is full.\"],\n  [135,\"AddPassed\",\"r1 takes th\
-e item 6: the nodes 0 and 1 are free now.\"],\n  [145,\"ReadPassed\",\"The scan of the send of 8 goes on and finds nod\
-e 1 free: node 0 is free too.\"],\n  [174,\"ReadPassed\",\"The scan of the send of 9 has read two busy nodes: this ste\
-p is the decision, full, while only 2 of 3 items wait and node 0 is free.\"]],\n \"table\":\"full_early\",\"breaks\":\
-\"full\",\n \"lost\":\"Refused: the item 9, while only 2 of 3 items wait.\",\n \"right\":{\"title\":\"Full after a who\
-le scan\",\n  \"text\":\"The right scan reads every node once before it returns Full. So the send of 9 finds node 0.\"\
-,\n  \"moments\":[\n  [98,\"ReadPassed\",\"The scan of the send of 8 reads node 0, which is busy: 3 items wait, so th\
-e queue is full.\"],\n  [135,\"AddPassed\",\"r1 takes the item 6: the nodes 0 and 1 are free now.\"],\n  [145,\"ReadPa\
-ssed\",\"The scan of the send of 8 goes on and finds node 1 free: node 0 is free too.\"],\n  [175,\"ReadPassed\",\"Th\
-e scan of the send of 9 has read two busy nodes, and finds node 0 free.\"],\n  [181,\"LinkLast\",\"s1 links list node \
-0, which has the item 9, to node 1: this step is the decision, accepted as item 4.\"],\n  [249,\"AddPassed\",\"r1 get\
-s 9 as item 4: no accepted item is lost.\"]]}}\n]\n</script>\n<script type=\"text/plain\" id=\"run\">";
+he send of {asked:8} reads {node:node 0}, which is busy: {waiting:3} items wait, so the queue is full.\"],\n  [135,\"A\
+ddPassed\",\"{pass:r1} takes the item {got:6}: the nodes {free:0 and 1} are free now.\"],\n  [145,\"ReadPassed\",\"Th\
+e scan of the send of {asked:8} goes on and finds {node:node 1} free, of the free nodes {free:0 and 1}.\"],\n  [174,\"\
+ReadPassed\",\"The scan of the send of {asked:9} has read two busy nodes: this step is the decision, {decided:full}, w\
+hile only {waiting:2} of {capacity:3} items wait and node {free:0} is free.\"]],\n \"table\":\"full_early\",\"breaks\"\
+:\"full\",\n \"lost\":\"Refused: the item {full:9}, while only {waiting:2} of {capacity:3} items wait.\",\n \"right\":\
+{\"title\":\"Full after a whole scan\",\n  \"text\":\"The right scan reads every node once before it returns Full. So \
+the send of {sent:9} finds {again:node 0}.\",\n  \"moments\":[\n  [98,\"ReadPassed\",\"The scan of the send of {asked:\
+8} reads {node:node 0}, which is busy: {waiting:3} items wait, so the queue is full.\"],\n  [135,\"AddPassed\",\"{pass\
+:r1} takes the item {got:6}: the nodes {free:0 and 1} are free now.\"],\n  [145,\"ReadPassed\",\"The scan of the send \
+of {asked:8} goes on and finds {node:node 1} free, of the free nodes {free:0 and 1}.\"],\n  [175,\"ReadPassed\",\"The \
+scan of the send of {asked:9} has read two busy nodes, and finds {node:node 0} free.\"],\n  [181,\"LinkLast\",\"{pass:\
+s1} links list {to:node 0}, which has the item {item:9}, to {node:node 1}: this step is the decision, {decided:accepte\
+d as item 4}.\"],\n  [249,\"AddPassed\",\"{pass:r1} gets {got:9} as item {number:4}: no accepted item is lost.\"]]}}\n\
+]\n</script>\n<script type=\"text/plain\" id=\"run\">";
 
 /// The text between the run and the report.
 pub const MIDDLE: &[u8] = b"\
@@ -1186,9 +1210,8 @@ const further = tag => Number(Codes_further_words(tag));\nconst codeOf = ret => 
 open, beside, reached, shortest, broken, planOfRun, planOfText, CHANGES, LAWS, KINDS, EVENT_LIMIT, OUTSIDE, number, ta\
 il, node, item, object, keyOf, callText, answerText, further, codeOf,\n  senderOf: Codes_tag_sender, numberOf: Codes_t\
 ag_number, valueOf: Codes_value_of, listReads: Codes_list_reads };\n})();\n</script>\n<script id=\"telling\">\n// The \
-texts of a state, without their pictures: each is a claim about the words, the places of the passes and the history, a\
-nd\n// tests/show/reads.py decides each by a second program. In a text *..* is bold, `..` a word of the table, [[..]] \
-one of the glossary.\nconst Telling = (() => {\n'use strict';\n\n\
+texts of a state, without their pictures; tests/show/reads.py decides their values by a second program. In a text *..\
+* is\n// bold, `..` a word of the table, [[..]] one of the glossary.\nconst Telling = (() => {\n'use strict';\n\n\
 const { LAWS, OUTSIDE, tail, node, item, object, callText, answerText, further, codeOf, senderOf, numberOf, valueOf, l\
 istReads } = Machine;\nconst plural = (n, word) => n + ' ' + word + (n === 1 ? '' : /s$/.test(word) ? 'es' : 's');\nco\
 nst inWords = list => list.length < 2 ? list.join('') : list.slice(0, -1).join(', ') + ' and ' + list[list.length - 1]\
@@ -1436,6 +1459,8 @@ call), answer: answerOf(one.answer) })) };\n}\n\n\
 h queues do the same.' : 'The two queues do the same up to event ' + pair.parts + ', and part at event ' + (pair.part\
 s + 1) + '.';\n}\n\n\
 // ---- Lessons and exercises.\n\n\
+// The lessons of their text. A field of a sentence, {pass:s1}, is shown as its value, which tests/show/reads.py decid\
+es.\nconst lessons = text => JSON.parse(text.replace(/\\{\\w+:([^{}\"]*)\\}/g, '$1'));\n\n\
 // The title, the text and the moments of a lesson: of a broken queue by its own table, or by the right one.\nfunctio\
 n lessonPart(lesson, variant) {\n  if (!lesson.table) return lesson;\n  return variant ? { ...lesson, title: 'Broken: \
 ' + lesson.title } : { ...lesson.right, title: 'Right: ' + lesson.right.title };\n}\n\n\
@@ -1460,17 +1485,17 @@ eaks || []).find(one => (goal.breaks || []).includes(one));\n  return { solved: 
 e take of ' + run.passName(e.row) + ' returns empty, and an accepted item is in the queue.' : 'the send of '\n      + \
 run.passName(e.row) + ' returns full, and a list node is free.') };\n}\n\n\
 return { answerOf, chainName, requestText, valueText, wordText, event, pass, waits, chain, list, PROGRAM, BROKEN_LINES\
-, WORDS_OF, program, placeOf, layOut,\n  turnTitle, waitText, broken, banner, order, parting, lessonPart, screens, ste\
-psOf, makeSteps, task, plural };\n})();\n</script>\n<script type=\"text/plain\" id=\"report\">";
+, WORDS_OF, program, placeOf, layOut,\n  turnTitle, waitText, broken, banner, order, parting, lessons, lessonPart, scr\
+eens, stepsOf, makeSteps, task, plural };\n})();\n</script>\n<script type=\"text/plain\" id=\"report\">";
 
 /// The text after the report.
 pub const BACK: &[u8] = b"\
 </script>\n<script>\n(() => {\n'use strict';\n\n\
 const { CHANGES, KINDS, EVENT_LIMIT, number, callText } = Machine;\nconst { plural, chainName } = Telling;\nconst GROU\
 PS_OF_KINDS = { enter: 'enters its chain', wait: 'reads its state', serve: 'serves', hand: 'marks done, hands over', a\
-nswer: 'reads its answer' };\nconst $ = id => document.getElementById(id);\nconst LESSONS = JSON.parse($('lessons').te\
-xtContent);\nconst EXERCISES = JSON.parse($('exercises').textContent);\nconst TOUR = LESSONS.filter(lesson => lesson.k\
-ind === 'tour');\n\n\
+nswer: 'reads its answer' };\nconst $ = id => document.getElementById(id);\nconst LESSONS = Telling.lessons($('lessons\
+').textContent);\nconst EXERCISES = JSON.parse($('exercises').textContent);\nconst TOUR = LESSONS.filter(lesson => les\
+son.kind === 'tour');\n\n\
 // The run that is shown, and what of it doesn't change.\nlet run, groups, senders, receivers, rows, passName, stands;\
 \nlet source = {};              // the lesson, the exercise, the plan or the program's text that the run is of\nfuncti\
 on use(opened) {\n  run = opened;\n  ({ groups, senders, receivers, rows, passName, stands } = run);\n}\n\n\
