@@ -608,7 +608,8 @@ const tests = {
     exported();
     $('import').value = '';
     $('open-plan').click();
-    assert($('import-hint').textContent === '' && /1 sender, 1 receiver; 51 events/.test($('config').textContent), 'the example of a plan is refused: ' + $('import-hint').textContent);
+    assert($('import-hint').textContent === '' && /1 sender, 1 receiver\./.test($('config').textContent) && / of 51$/.test($('where').textContent),
+      'the example of a plan is refused: ' + $('import-hint').textContent + ', ' + $('config').textContent + ', ' + $('where').textContent);
     $('import').value = found[0].plan;
     $('open-plan').click();
     assert($('import-hint').textContent === '', 'a plan that was exported is refused: ' + $('import-hint').textContent);
