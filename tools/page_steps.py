@@ -1,13 +1,14 @@
 #!/usr/bin/env python3
-"""The machine in the page of `ccq show`, as JavaScript, written from the definitions in crates/cc_runs/specs: the table of
-steps (`line` of Lines, which names SendLines, TakeLines and CountLines), what the laws of progress count (PROGRESS), and all
-definitions that these name; and the broken tables of VARIANTS, each of which is that table with some lines changed.
+"""The machine in the page of `ccq show`, as JavaScript, written from the definitions in crates/cc_runs/specs: the table
+of steps (`line` of Lines, which names SendLines, TakeLines and CountLines), what the laws of progress count (PROGRESS),
+and all definitions that these name; and the broken tables of VARIANTS, each of which is that table with some lines
+changed.
 
     tools/page_steps.py            compares the page with the definitions; exit status 0 if it has their machine
     tools/page_steps.py --write    writes the machine into the page
 
-A number is a BigInt, a list an array, a record an object, and a value of an enum an object with its variant's name in `is`
-and what the variant holds by the names of its fields, or by 0, 1 and so on. A statement is whether it holds.
+A number is a BigInt, a list an array, a record an object, and a value of an enum an object with its variant's name in
+`is` and what the variant holds by the names of its fields, or by 0, 1 and so on. A statement is whether it holds.
 """
 import copy
 import difflib
@@ -22,11 +23,12 @@ from written import Part
 
 PAGE = Part(TOP / "docs/pages/index.html", "// <steps>\n", "// </steps>\n")
 HEAD = """\
-// The machine, by tools/page_steps.py: the table of steps of crates/cc_runs/specs, what is ahead of a call, and the definitions
-// that these name. Each of CHANGES makes a broken table, by its name.
+// The machine, by tools/page_steps.py: the table of steps of crates/cc_runs/specs, what is ahead of a call, and the
+// definitions that these name. Each of CHANGES makes a broken table, by its name.
 const minus = (a, b) => a > b ? a - b : 0n;
 """
-# What the laws of progress count, by its crate, its file and its name: the steps that are ahead of a call, and whose turn it is.
+# What the laws of progress count, by its crate, its file and its name: the steps that are ahead of a call, and whose
+# turn it is.
 PROGRESS = [("cc_runs", "Ahead", "ahead"), ("cc_runs", "Turns", "IsTurn")]
 # What the page calls.
 WANTED = [
@@ -41,18 +43,22 @@ WANTED = [
     ("cc_model", "Body", "words_of"),
     *PROGRESS,
 ]
-# Broken tables: a name, and each changed definition with the text that is in one of its lines and the text in its place.
+# Broken tables: a name, and each changed definition with the text that is in one of its lines and the text in its
+# place.
 VARIANTS = {
     "marked_early": [
         ("Lines", "line", "(after_done c.config.bound job)", "(Phase.FollowNext job)"),
         ("Lines", "line", "line (Phase.HandOver at) _ =",
-         "line (Phase.FollowNext was) next = load Kind.ReadNext (Word.Node x was.round.at NodeField.Next) (if next == 0 then Phase.HandOver "
+         "line (Phase.FollowNext was) next = load Kind.ReadNext (Word.Node x was.round.at NodeField.Next) (if next == "
+         "0 then Phase.HandOver "
          "was.round.at else after_done c.config.bound (record was { next = next - 1 }))\nline (Phase.HandOver at) _ ="),
     ],
     "handed_past": [
-        ("Lines", "after_done", "if job.round.served + 1 == bound then Phase.HandOver job.next else Phase.ReadNext", "Phase.ReadNext"),
+        ("Lines", "after_done", "if job.round.served + 1 == bound then Phase.HandOver job.next else Phase.ReadNext",
+         "Phase.ReadNext"),
         ("Lines", "line", "(after_next c.served x round next)",
-         "(if round.served == c.config.bound then (if next == 0 then Phase.HandOver round.at else Phase.HandOver (next - 1)) else "
+         "(if round.served == c.config.bound then (if next == 0 then Phase.HandOver round.at else Phase.HandOver "
+         "(next - 1)) else "
          "after_next c.served x round next)"),
     ],
     "freed_dummy": [("TakeLines", "line", "(On (WriteTaken dummy parcel))", "(On (WriteTaken at parcel))")],
@@ -319,8 +325,8 @@ def parameters(lines):
 
 
 def function(names, place, definition=None):
-    """A definition, or one that is changed: its parameters, its cases, each with the tests that lead to its value, and the
-    definitions that it names."""
+    """A definition, or one that is changed: its parameters, its cases, each with the tests that lead to its value, and
+    the definitions that it names."""
     definition = definition or names.reach.crates[place[0]].specs[place[1]].definitions[place[2]]
     given, lines = given_by(definition), equations(definition)
     if not lines:
@@ -344,21 +350,26 @@ def javascript(parameters, cases):
     """A function of JavaScript with these cases, each of all tables or of the broken one that it names."""
     head = f"({', '.join(parameters)}) =>"
     if cases[0][1]:
-        tests = [[f"variant === '{variant}'" for variant in [variant] if variant] + list(tests) for variant, tests, _ in cases]
-        returns = [(f"if ({' && '.join(test)}) " if test else "") + f"return {value};" for test, (_, _, value) in zip(tests, cases)]
+        tests = [[f"variant === '{variant}'" for variant in [variant] if variant] + list(tests)
+                 for variant, tests, _ in cases]
+        returns = [(f"if ({' && '.join(test)}) " if test else "") + f"return {value};"
+                   for test, (_, _, value) in zip(tests, cases)]
         return head + " {\n  " + "\n  ".join(returns) + "\n}"
     *broken, (_, _, value) = cases
     if broken:
-        return head + "\n  " + "".join(f"variant === '{variant}' ? {other}\n  : " for variant, _, other in broken) + value
+        return head + "\n  " + "".join(f"variant === '{variant}' ? {other}\n  : "
+                                       for variant, _, other in broken) + value
     return head + (f" ({value})" if value.startswith("{") else f" {value}")
 
 
 def merged(place, cases, broken):
-    """The cases of a definition with those of its broken tables: the cases of a broken table come before the one that they replace."""
+    """The cases of a definition with those of its broken tables: the cases of a broken table come before the one that
+    they replace."""
     all_cases = [(None, *case) for case in cases]
     for variant, others in broken:
         mine = [(tests, value) for other, tests, value in all_cases if not other]
-        for kind, begin, end, first, last in reversed(difflib.SequenceMatcher(None, mine, others, autojunk=False).get_opcodes()):
+        for kind, begin, end, first, last in reversed(
+                difflib.SequenceMatcher(None, mine, others, autojunk=False).get_opcodes()):
             if kind == "equal":
                 continue
             added = [(variant, *case) for case in others[first:last]]
@@ -370,7 +381,8 @@ def merged(place, cases, broken):
 
 
 def changed(names):
-    """The changed definitions, by the place of each and the name of its broken table; and of each table its lines before and after."""
+    """The changed definitions, by the place of each and the name of its broken table; and of each table its lines
+    before and after."""
     found, shows = {}, {}
     for variant, edits in VARIANTS.items():
         for module, name, old, new in edits:
@@ -384,7 +396,9 @@ def changed(names):
             was, now = definition.lines[at[0]], definition.lines[at[0]].replace(old, new)
             definition.lines = [*definition.lines[:at[0]], *now.split("\n"), *definition.lines[at[0] + 1:]]
             further = [line for line in now.split("\n") if line != was]
-            shows.setdefault(variant, []).append({"in": f"{module}.{name}", "was": "" if was in now.split("\n") else shown(was), "is": shown("\n".join(further))})
+            shows.setdefault(variant,
+                             []).append({"in": f"{module}.{name}", "was": "" if was in now.split("\n") else shown(was),
+                                         "is": shown("\n".join(further))})
     return found, shows
 
 
@@ -394,15 +408,16 @@ def shown(text):
 
 
 def wrapped(line):
-    """A line of JavaScript of more than 160 columns as several: each goes on before an operator or after a comma, outside of all texts
-    and inside as few brackets as possible."""
+    """A line of JavaScript of more than 160 columns as several: each goes on before an operator or after a comma,
+    outside of all texts and inside as few brackets as possible."""
     lines, indent = [], re.match(" *", line)[0]
     while len(line) > 160:
         quoted, depth, places = False, 0, []
         for k, sign in enumerate(line):
             quoted ^= sign == "'"
             depth += 0 if quoted else (sign in "([{") - (sign in ")]}")
-            if k > len(indent) + 40 and not quoted and (line[k - 1: k + 1] == ", " or re.match(r" (\?|:|&&) ", line[k:])):
+            if k > len(indent) + 40 and not quoted and (line[k - 1: k + 1] == ", "
+                                                        or re.match(r" (\?|:|&&) ", line[k:])):
                 places.append((k > 160, depth, -k))
         if not places or min(places)[0]:
             break
@@ -426,7 +441,8 @@ def machine():
         if given != found[place][0] or any(other not in found for other in named):
             raise Unreadable(f"{variant} has other parameters, or names a definition that the table doesn't")
         broken.setdefault(place, []).append((variant, cases))
-    texts = {place: javascript(given, merged(place, cases, broken.get(place, []))) for place, (given, cases, _) in found.items()}
+    texts = {place: javascript(given, merged(place, cases, broken.get(place, [])))
+             for place, (given, cases, _) in found.items()}
     table = "".join(f"const {place[1]}_{place[2]} = {text};\n" for place, text in sorted(texts.items()))
     table = "".join(wrapped(line) + "\n" for line in table.splitlines())
     wanted = ", ".join(f"{module}_{name}" for _, module, name in WANTED)

@@ -603,7 +603,7 @@ m = (i, field, n) => ({ at: 'item', i, field, n });\nconst object = (field, g) =
 t keyOf = w => [w.at, w.x, w.i, w.field, w.n, w.g].join(' ');\nconst callText = call => call.take ? 'take' : call.clos\
 e ? 'close' : 'send ' + call.send.join(' ');\n\n\
 // <steps>\n// The machine, by tools/page_steps.py: the table of steps of crates/cc_runs/specs, what is ahead of a cal\
-l, and the definitions\n// that these name. Each of CHANGES makes a broken table, by its name.\nconst minus = (a, b) =\
+l, and the\n// definitions that these name. Each of CHANGES makes a broken table, by its name.\nconst minus = (a, b) =\
 > a > b ? a - b : 0n;\nconst CHANGES = {\n \"marked_early\": [\n  {\n   \"in\": \"Lines.line\",\n   \"was\": \"line (M\
 arkDone job) _ = store MarkDone (Node x job.round.at State) 2 (after_done c.config.bound job)\",\n   \"is\": \"line (M\
 arkDone job) _ = store MarkDone (Node x job.round.at State) 2 (FollowNext job)\"\n  },\n  {\n   \"in\": \"Lines.line\"\
