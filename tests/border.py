@@ -1,6 +1,7 @@
 #!/usr/bin/env python3
 """Compares what crosses the border of the static library, which is written down four times: in crates/cc_capi and
-crates/cc_passes; in the headers bindings/c/vahepito.h and handles.h; in the crate bindings/rust; and in bench/peers/src/exports.rs.
+crates/cc_passes; in the headers bindings/c/vahepito.h and handles.h; in the crate bindings/rust; and in
+bench/peers/src/exports.rs.
 
     tests/border.py
 
@@ -29,8 +30,10 @@ STRUCTS = [
 ]
 # Those of the bench, which has items of one word as the library has them.
 OF_THE_BENCH = [("vahepito_config", "Settings", "Config"), ("vahepito_word_item", "TakenItem", "Item")]
-# Types as C has them. The crate lends a pass as a Pass or as a Handle, which has nothing beside it, and its words may be unwritten.
-IN_C = {"u32": "uint32_t", "u64": "uint64_t", "usize": "size_t", "Word": "uint64_t", "Handle": "vahepito_handle", "RawHandle": "vahepito_handle"}
+# Types as C has them. The crate lends a pass as a Pass or as a Handle, which has nothing beside it, and its words may
+# be unwritten.
+IN_C = {"u32": "uint32_t", "u64": "uint64_t", "usize": "size_t", "Word": "uint64_t", "Handle": "vahepito_handle",
+        "RawHandle": "vahepito_handle"}
 IN_C.update({name: in_c for in_c, *names in STRUCTS + OF_THE_BENCH for name in names if name})
 # What has no bytes.
 NOTHING = {"Global"}
@@ -87,23 +90,27 @@ def of_the_library():
 
 
 def of_the_headers():
-    """The same of the headers; and the codes of vahepito.h by their numbers, with the names in vahepito_name, and those that vahepito_text
-    has. The functions of vahepito.h itself, which are in vahepito_queue.c, are no exports of the proved library."""
+    """The same of the headers; and the codes of vahepito.h by their numbers, with the names in vahepito_name, and those
+    that vahepito_text has. The functions of vahepito.h itself, which are in vahepito_queue.c, are no exports of the
+    proved library."""
     own, handles, code = [
-        re.sub(r"/\*.*?\*/", "", (TOP / "bindings/c" / name).read_text(), flags=re.S) for name in ("vahepito.h", "handles.h", "vahepito_queue.c")
+        re.sub(r"/\*.*?\*/", "", (TOP / "bindings/c" / name).read_text(), flags=re.S)
+        for name in ("vahepito.h", "handles.h", "vahepito_queue.c")
     ]
     text, whole = re.search(r"^uint32_t vahepito_version\(.*$", own, re.M)[0] + "\n" + handles, own + "\n" + handles
     defined = dict(re.findall(r"^#define VAHEPITO_(\w+) (\d+)$", whole, re.M))
     codes = {name: int(number) for name, number in re.findall(r"^ *VAHEPITO_(\w+) = (\d+)", whole, re.M)}
     exports = {
         name: [result] + counted(listed(parameters) if parameters != "void" else [])
-        for result, name, parameters in re.findall(r"^(uint32_t|uint64_t|size_t|void) (vahepito_\w+)\(([^)]*)\);", text, re.M)
+        for result, name, parameters in re.findall(r"^(uint32_t|uint64_t|size_t|void) (vahepito_\w+)\(([^)]*)\);", text,
+                                                   re.M)
     }
     structs = {}
     for fields, name in re.findall(r"typedef struct \{(.*?)\} (\w+);", whole, re.S):
         fields = re.sub(r"\[VAHEPITO_(\w+)\]", lambda found: f"[{defined[found[1]]}]", fields)
         structs[name] = [" ".join(field.split()) for field in fields.split(";") if field.strip()]
-    said = [re.findall(r'case VAHEPITO_(\w+): return "(.*)";', code.split(f"*vahepito_{name}(")[1].split("default:")[0]) for name in ("name", "text")]
+    said = [re.findall(r'case VAHEPITO_(\w+): return "(.*)";', code.split(f"*vahepito_{name}(")[1].split("default:")[0])
+            for name in ("name", "text")]
     of_calls = sorted(re.findall(r"^ *VAHEPITO_(\w+) = \d+", own, re.M), key=codes.get)
     codes = {RENAMED.get(name, name): number for name, number in codes.items()}
     return codes, int(defined["VERSION"]), exports, {name: structs[name] for name, _, _ in STRUCTS}, of_calls, *said
@@ -131,7 +138,8 @@ def of_rust(paths, names):
 
 
 def kinds(parameters):
-    """The types of parameters or fields, whatever their names. The crate gives room for an item of words for each item."""
+    """The types of parameters or fields, whatever their names. The crate gives room for an item of words for each
+    item."""
     return [re.sub(r"\w+(?=\[|$)", "", part).replace("word_item", "item") for part in parameters[1:]]
 
 
@@ -146,7 +154,9 @@ def differences():
         "the bench": of_rust([TOP / "bench/peers/src/exports.rs"], OF_THE_BENCH),
     }
     _, _, _, _, codes_of_calls, names, texts = header
-    if names != [(name, name) for name in codes_of_calls] or set(header[0].values()) | FREE != set(range(len(header[0]) + len(FREE))):
+    if names != [(name, name)
+                 for name in codes_of_calls] or set(header[0].values()) | FREE != set(
+                         range(len(header[0]) + len(FREE))):
         yield "the names in vahepito_name aren't those of the codes of vahepito.h"
     if [name for name, _ in texts] != codes_of_calls or len({text for _, text in texts}) != len(texts):
         yield "vahepito_text doesn't have a sentence of its own for each code of vahepito.h"
@@ -170,8 +180,10 @@ def differences():
                     yield f"{kind} {name}: the library has {in_library}, {user} {own}"
     crate = number_of(r'^version = "(\d+)\.(\d+)\.(\d+)"', "bindings/rust/Cargo.toml")
     versions = {"cc_capi/src/version.rt": library[1], "vahepito.h": header[1], "bindings/rust/Cargo.toml": crate}
-    versions["cc_cli/src/command_line.rt"] = number_of(r'^const VERSION: &str = "(\d+)\.(\d+)\.(\d+)";', "crates/cc_cli/src/command_line.rt")
-    versions["bindings/rust/record/Cargo.toml"] = number_of(r'^version = "(\d+)\.(\d+)\.(\d+)"', "bindings/rust/record/Cargo.toml")
+    versions["cc_cli/src/command_line.rt"] = number_of(r'^const VERSION: &str = "(\d+)\.(\d+)\.(\d+)";',
+                                                       "crates/cc_cli/src/command_line.rt")
+    versions["bindings/rust/record/Cargo.toml"] = number_of(r'^version = "(\d+)\.(\d+)\.(\d+)"',
+                                                            "bindings/rust/record/Cargo.toml")
     versions["the first heading of CHANGELOG.md"] = number_of(r"^## (\d+)\.(\d+)\.(\d+) ", "CHANGELOG.md")
     if len(set(versions.values())) > 1:
         yield "these versions disagree: " + ", ".join(f"{number} of {place}" for place, number in versions.items())
@@ -182,7 +194,8 @@ def main():
     for line in found:
         print(f"border: {line}")
     if not found:
-        print("border: the library, its headers, the Rust crate and the bench have the same codes, version, exports and structs")
+        print("border: the library, its headers, the Rust crate and the bench have the same codes, version, exports "
+              "and structs")
     return 1 if found else 0
 
 

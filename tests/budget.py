@@ -1,15 +1,16 @@
 #!/usr/bin/env python3
 """Whether the gate stays within its price: the processor seconds of its parts, and the limit of CONTRIBUTING.md.
 
-Usage: tests/budget.py --yard           prints the time, and the processor seconds of a fixed piece of work on this machine, now
+Usage: tests/budget.py --yard           prints the time, and the processor seconds of a fixed piece of work, now
        tests/budget.py --yards          prints them now, and again every ten minutes until it is killed
-       tests/budget.py PARTS YARDS      compares: PARTS has a line `SECONDS END NAME` for each part, one after another, YARDS the lines of --yards
+       tests/budget.py PARTS YARDS      compares: PARTS has a line `SECONDS END NAME` for each part, one after another,
+                                        YARDS the lines of --yards
 
-The piece of work is the proof of the toolchain's own template of a library, from nothing. CONTRIBUTING.md has the limit, in
-processor minutes, and the seconds that this work takes on the host of its table. A part counts less on a slower host, by as much as
-the work took longer while the part ran: by the mean of what was measured then, or else by what was measured nearest to it. For a
-host's speed changes with its load, and four proofs at once are another load than one test. The exit status is 0 if the sum of all
-parts is within the limit.
+The piece of work is the proof of the toolchain's own template of a library, from nothing. CONTRIBUTING.md has the limit,
+in processor minutes, and the seconds that this work takes on the host of its table. A part counts less on a slower
+host, by as much as the work took longer while the part ran: by the mean of what was measured then, or else by what was
+measured nearest to it. For a host's speed changes with its load, and four proofs at once are another load than one
+test. The exit status is 0 if the sum of all parts is within the limit.
 """
 
 import os
@@ -24,7 +25,8 @@ from pathlib import Path
 
 sys.dont_write_bytecode = True
 TOP = Path(__file__).resolve().parent.parent
-LIMIT = re.compile(r"\*\*The limit is (\d+) processor minutes\*\*, on a host on which `tests/budget\.py --yard` prints (\d+\.\d)")
+LIMIT = re.compile(r"\*\*The limit is (\d+) processor minutes\*\*, on a host on which `tests/budget\.py --yard` "
+                   r"prints (\d+\.\d)")
 SHOWN = 12  # the costliest parts, each on a line of its own
 PAUSE = 600  # seconds between two measurements of --yards
 
@@ -33,7 +35,8 @@ def yard() -> float:
     """The processor seconds of the fixed piece of work."""
 
     def run(*words: str, cwd: str) -> None:
-        subprocess.run(words, cwd=cwd, check=True, stdin=subprocess.DEVNULL, stdout=subprocess.DEVNULL, stderr=subprocess.DEVNULL)
+        subprocess.run(words, cwd=cwd, check=True, stdin=subprocess.DEVNULL, stdout=subprocess.DEVNULL,
+                       stderr=subprocess.DEVNULL)
 
     with tempfile.TemporaryDirectory() as top:
         run("git", "init", "-q", cwd=top)
@@ -68,8 +71,10 @@ def yard_between(yards: list[tuple[float, float]], start: float, end: float) -> 
     return min(yards, key=lambda it: abs(it[0] - (start + end) / 2))[1]
 
 
-def verdict(parts: list[tuple[float, float, str]], yards: list[tuple[float, float]], text: str) -> tuple[list[str], bool]:
-    """What is said of these parts, each with its seconds, its end and its name, and whether they are within the limit that this text has."""
+def verdict(parts: list[tuple[float, float, str]], yards: list[tuple[float, float]], text: str) -> tuple[list[str],
+    bool]:
+    """What is said of these parts, each with its seconds, its end and its name, and whether they are within the limit
+    that this text has."""
     found = LIMIT.search(text)
     if not found or not yards or not parts:
         return ["budget: CONTRIBUTING.md has no limit, or nothing was measured"], False
@@ -77,7 +82,8 @@ def verdict(parts: list[tuple[float, float, str]], yards: list[tuple[float, floa
     starts = [parts[0][1], *(end for _, end, _ in parts)]
     counted = [seconds * there / yard_between(yards, start, end) for start, (seconds, end, _) in zip(starts, parts)]
     spent, price = sum(seconds for seconds, _, _ in parts) / 60, sum(counted) / 60
-    said = [f"budget: {seconds:8.1f} s, counted as {as_there:8.1f} s  {name}" for as_there, (seconds, _, name) in sorted(zip(counted, parts), reverse=True)[:SHOWN]]
+    said = [f"budget: {seconds:8.1f} s, counted as {as_there:8.1f} s  {name}"
+            for as_there, (seconds, _, name) in sorted(zip(counted, parts), reverse=True)[:SHOWN]]
     seen = ", ".join(f"{seconds:.1f}" for _, seconds in yards)
     said.append(f"budget: the yardstick took {seen} s, and {there} s on the host of CONTRIBUTING.md")
     said.append(f"budget: {spent:.1f} processor minutes, which are {price:.1f} there; the limit is {minutes}")
@@ -97,7 +103,8 @@ def main() -> int:
     lines = [line.split(" ", 2) for line in Path(words[0]).read_text().splitlines()]
     yards = [line.split() for line in Path(words[1]).read_text().splitlines()]
     parts = [(float(seconds), float(end), name) for seconds, end, name in lines]
-    said, within = verdict(parts, [(float(at), float(seconds)) for at, seconds in yards], (TOP / "CONTRIBUTING.md").read_text())
+    said, within = verdict(parts, [(float(at), float(seconds)) for at, seconds in yards],
+                           (TOP / "CONTRIBUTING.md").read_text())
     print("\n".join(said))
     return int(not within)
 

@@ -1,14 +1,14 @@
 #!/usr/bin/env python3
 """A second program for the texts of `ccq`, and 900 inputs with what has to come of each: the corpus.
 
-    tests/derive.py FOLDER                        writes the corpus into a folder: NAME.in, and NAME.due with what is due
+    tests/derive.py FOLDER                        writes the corpus into a folder: NAME.in, and NAME.due
     tests/derive.py play|audit|trace|why < INPUT  derives what is due of one input
 
-The program is written from docs/FORMATS.md and docs/ARCHITECTURE.md alone: a strict reader of JSON, the checks of plans and
-receipts, the machine one step at a time, the audit by its seven kinds, and the place of a fault. It never runs the program
-that is tested. Of each row that is to be refused or audited the fault is also written here by hand, and of some that are
-played the report; if the two differ, it ends with status 1. `tests/rows.py` gives these rows to `ccq`, and compares their
-sums with tests/derived.sums.
+The program is written from docs/FORMATS.md and docs/ARCHITECTURE.md alone: a strict reader of JSON, the checks of plans
+and receipts, the machine one step at a time, the audit by its seven kinds, and the place of a fault. It never runs the
+program that is tested. Of each row that is to be refused or audited the fault is also written here by hand, and of some
+that are played the report; if the two differ, it ends with status 1. `tests/rows.py` gives these rows to `ccq`, and
+compares their sums with tests/derived.sums.
 
 NAME.due: line 1 has the task and the exit status, line 2 the standard error, and the others the standard output.
 """
@@ -40,8 +40,8 @@ class Number(str):
 
 
 class Text:
-    """One JSON text, read by its grammar. Of each value `spans` has where it begins and ends, by its path, and `names` the
-    same of the keys; `token` is where the text, number or word begins that is being read."""
+    """One JSON text, read by its grammar. Of each value `spans` has where it begins and ends, by its path, and `names`
+    the same of the keys; `token` is where the text, number or word begins that is being read."""
 
     def __init__(self, data):
         if data.startswith(b"\xef\xbb\xbf"):
@@ -354,7 +354,8 @@ def receipts_of(data):
 
 # ----------------------------------------------------------- where it is refused
 
-# What a part has to be: a test of its shape and one of its range, the words for what doesn't pass, and what its elements are.
+# What a part has to be: a test of its shape and one of its range, the words for what doesn't pass, and what its
+# elements are.
 Want = collections.namedtuple("Want", "shape shape_text range range_text inside")
 
 
@@ -365,7 +366,8 @@ def wanted_number(least, most):
 
 def wanted_array(inside, least=0, most=LIMIT, text="%d to %d"):
     return Want(
-        is_list, "is no array", lambda x: least <= len(x) <= most, "is no array of " + text % (least, most) + " elements", inside
+        is_list, "is no array", lambda x: least <= len(x) <= most,
+        "is no array of " + text % (least, most) + " elements", inside
     )
 
 
@@ -386,7 +388,8 @@ def wanted_call(version):
     body = wanted_body(version)
     kind = "a number" if version == 1 else "an array"
     text = 'is neither %s nor "close"' % kind
-    return Want(lambda x: is_close(x) or body.shape(x), text, lambda x: is_close(x) or body.range(x), body.range_text, body.inside)
+    return Want(lambda x: is_close(x) or body.shape(x), text, lambda x: is_close(x) or body.range(x), body.range_text,
+                body.inside)
 
 
 def is_pass_name(value):
@@ -527,7 +530,8 @@ def why_of(data):
     counts = {"s": len(tree["senders"]), "r": len(tree["receivers"])}
     for place, (name, _) in enumerate(tree["schedule"]):
         if int(name[1:]) > counts[name[0]]:
-            there = ["%s1" % side if count == 1 else "%s1 to %s%d" % (side, side, count) for side, count in counts.items()]
+            there = ["%s1" % side if count == 1 else "%s1 to %s%d" % (side, side, count)
+                     for side, count in counts.items()]
             return told(("schedule", place, 0), name, "names no pass (%s)" % ", ".join(there))
     return "no fault: this plan isn't refused"
 
@@ -577,8 +581,8 @@ class Pass:
 
 
 class Machine:
-    """The queue, one atomic step at each `next` of a call: a load, a store, a swap or an add on one of the words, which a trace
-    names. `step` has the last one: its kind, its word, and the values before and after."""
+    """The queue, one atomic step at each `next` of a call: a load, a store, a swap or an add on one of the words, which
+    a trace names. `step` has the last one: its kind, its word, and the values before and after."""
 
     def __init__(self, plan):
         self.capacity, self.bound, self.life = plan["capacity"], plan["bound"], plan["life"]
@@ -775,8 +779,8 @@ class Machine:
         yield from self.write_words("WriteAnswer", node(group, "body%d", at), body)
 
     def event(self, pass_):
-        """One event of a pass, which begins its next call where it is idle: its line of a trace, without its number. None where
-        it has no call left."""
+        """One event of a pass, which begins its next call where it is idle: its line of a trace, without its number.
+        None where it has no call left."""
         while True:
             if pass_.steps is None:
                 if not pass_.calls:
@@ -1147,7 +1151,8 @@ REFUSED_PLANS = {
         "close_in_capitals_among_bodies": words(senders='[["Close"]]'),
         "body_of_one_word_in_a_body": words(senders="[[[[7]]]]"),
         "body_is_an_empty_object": words(senders="[[{}]]"),
-        "body_is_a_number_before_all_ranges": words(groups="9", capacity="0", bound="0", senders="[[7]]", receivers="[]"),
+        "body_is_a_number_before_all_ranges": words(groups="9", capacity="0", bound="0", senders="[[7]]",
+                                                    receivers="[]"),
         "pass_name_of_a_group_with_a_leading_zero": words(schedule='[["r02",1]]'),
     },
     "P3 version": {
@@ -1430,7 +1435,8 @@ AUDITED = {
     },
     "audit fault 1 place 0": {
         "accepted_twice_and_more": '{"total":0,"accepted":[[1,1,0,5],[1,1,0,5]],"taken":[[1,0,1,1,5],[1,0,1,1,5]]}',
-        "accepted_twice_with_other_words": '{"version":2,"accepted":[[1,1,0,[5]],[1,2,0,[5,6]]],"taken":[[1,0,1,1,[5]]]}',
+        "accepted_twice_with_other_words":
+            '{"version":2,"accepted":[[1,1,0,[5]],[1,2,0,[5,6]]],"taken":[[1,0,1,1,[5]]]}',
         "accepted_twice_alike": '{"accepted":[[1,1,0,5],[1,1,0,5]],"taken":[]}',
     },
     "audit fault 2 place 0": {
@@ -1463,7 +1469,8 @@ AUDITED = {
         "altered_in_the_sender": '{"accepted":[[1,1,0,5]],"taken":[[1,0,2,1,5]]}',
         "altered_in_the_number": '{"accepted":[[1,1,0,5]],"taken":[[1,0,1,2,5]]}',
         "altered_by_a_word_of_zero_more": '{"version":2,"accepted":[[1,1,0,[0,0,0]]],"taken":[[1,0,1,1,[0,0,0,0]]]}',
-        "altered_in_the_last_of_four_words": '{"version":2,"accepted":[[1,1,0,[5,6,7,8]]],"taken":[[512,0,1,1,[5,6,7,9]]]}',
+        "altered_in_the_last_of_four_words":
+            '{"version":2,"accepted":[[1,1,0,[5,6,7,8]]],"taken":[[512,0,1,1,[5,6,7,9]]]}',
     },
     "audit fault 4 place 1": {
         "altered_by_a_word_behind_an_item": example("receipts_altered"),
@@ -1471,7 +1478,8 @@ AUDITED = {
         '"taken":[[1,0,1,1,[5]],[2,1,1,2,[5,6]]]}',
     },
     "audit fault 5 place 0": {
-        "gap_below_the_last_place": '{"accepted":[[64,4294967295,%s,0]],"taken":[[64,%s,64,4294967295,0]]}' % (GREATEST, GREATEST),
+        "gap_below_the_last_place": '{"accepted":[[64,4294967295,%s,0]],"taken":[[64,%s,64,4294967295,0]]}' % (GREATEST,
+            GREATEST),
         "gap_of_words": '{"version":2,"accepted":[[1,1,0,[5,6]],[1,2,1,[7]]],"taken":[[1,1,1,2,[7,0]]]}',
         "gap_below_what_was_never_sent": '{"accepted":[],"taken":[[1,1,1,1,5]]}',
         "gap_of_two_senders": '{"accepted":[[1,1,0,5],[2,1,1,6]],"taken":[[1,1,2,1,6]]}',
@@ -1504,7 +1512,8 @@ AUDITED = {
     "audit fault 7 place 0": {
         "total_of_zero": '{"total":0,"accepted":[[1,1,0,5]],"taken":[]}',
         "total_of_zero_and_all_taken": '{"total":0,"accepted":[[1,1,0,5]],"taken":[[1,0,1,1,5]]}',
-        "total_of_zero_before_a_place_accepted_twice": '{"total":0,"accepted":[[1,1,0,5],[1,2,1,6],[2,1,1,7]],"taken":[]}',
+        "total_of_zero_before_a_place_accepted_twice":
+            '{"total":0,"accepted":[[1,1,0,5],[1,2,1,6],[2,1,1,7]],"taken":[]}',
     },
 }
 
@@ -1524,7 +1533,8 @@ PLAYED = {
         bound="64",
         senders="[" + ",".join("[%d]" % n for n in range(64)) + "]",
         receivers="[" + ",".join(["1"] * 64) + "]",
-        schedule="[" + ",".join('["s%d",6],["r%d",4]' % (n, n) for n in range(64, 0, -1)) + ',["s64",9999],["r64",9999]]',
+        schedule="[" + ",".join('["s%d",6],["r%d",4]' % (n, n) for n in range(64, 0, -1))
+        + ',["s64",9999],["r64",9999]]',
     ),
     "no_calls": plan(senders="[[]]", receivers="[0]", schedule='[["s1",100000],["r1",100000]]'),
     "empty_schedule": plan(schedule="[]"),
@@ -1536,9 +1546,12 @@ PLAYED = {
     "taker_stops_before_it_frees": plan(
         capacity="1", senders="[[1,2,3]]", receivers="[1,1]", schedule='[["s1",100],["r1",13],["r2",100],["s1",100]]'
     ),
-    "waits_for_a_link": plan(bound="1", senders="[[1],[2],[3]]", schedule='[["s1",5],["s2",100],["s3",6],["s1",30],["s3",9],["s2",30]]'),
-    "close_in_every_place": plan(senders='[["close",1],[2,"close"],["close"]]', receivers="[2]", schedule='[["s2",3],["s1",3],["s3",6],["r1",4],["s1",9],["s2",200],["r1",90],["s1",200],["s3",90]]'),
-    "life_of_one": plan(life="1", senders="[[1,2],[3]]", receivers="[2]", schedule='[["s2",3],["s1",200],["s2",200],["s1",200],["r1",99]]'),
+    "waits_for_a_link": plan(bound="1", senders="[[1],[2],[3]]",
+                             schedule='[["s1",5],["s2",100],["s3",6],["s1",30],["s3",9],["s2",30]]'),
+    "close_in_every_place": plan(senders='[["close",1],[2,"close"],["close"]]', receivers="[2]",
+                                 schedule=entries("s2 3, s1 3, s3 6, r1 4, s1 9, s2 200, r1 90, s1 200, s3 90")),
+    "life_of_one": plan(life="1", senders="[[1,2],[3]]", receivers="[2]",
+                        schedule='[["s2",3],["s1",200],["s2",200],["s1",200],["r1",99]]'),
     "escaped_groups": WORDS.replace('"groups"', '"gro\\u0075ps"'),
     "much_space_in_bodies": "\n" + WORDS.replace(",", " ,\n\t").replace("[", "[ ").replace("]", "\r\n]") + " ",
     "keys_of_words_in_another_order": "{" + ",".join(reversed(WORDS[1:-1].replace(',"', '\n"').split("\n"))) + "}",
@@ -1674,7 +1687,8 @@ PLAYED = {
     "no_takes": plan(receivers="[0]"),
     "most_takes": plan(receivers="[65536]"),
     "most_events": plan(schedule='[["s1",100000]]'),
-    "much_escaped": ' {"capacit\\u0079":2 , "bound":2,"life":10,"senders":[[7]], "receivers":[1],"schedule":[["\\u0073\\u0031",1]]} ',
+    "much_escaped": ' {"capacit\\u0079":2 , "bound":2,"life":10,"senders":[[7]], '
+                    '"receivers":[1],"schedule":[["\\u0073\\u0031",1]]} ',
     "widest_plan": '{"version":1,"schedule":[["s2",100000],["r1",1],["s1",7]],"receivers":[0,65536],'
     '"senders":[[5,"close",%s],[]],"life":281474976710656,"bound":1024,"capacity":4096}' % GREATEST,
     "widest_plan_played": '{"schedule":[["s2",100000],["r2",3],["s1",100000],["r2",100000]],"receivers":[0,65536],'
@@ -1689,10 +1703,11 @@ PLAYED = {
     "most_takes_of_a_second_group": words(receivers="[0,65536]"),
     "two_receivers_in_each_group": words(receivers="[1,1,1,1]"),
     "one_event_of_each_group": words(schedule=entries("r1 1, r2 1")),
-    "version_two_stands_last": '{"version":1,"groups":2,"capacity":1,"bound":1,"life":1,"senders":[[[7]]],"receivers":[0,0],'
-    '"schedule":[],"version":2}',
+    "version_two_stands_last": '{"version":1,"groups":2,"capacity":1,"bound":1,"life":1,"senders":[[[7]]],'
+    '"receivers":[0,0],"schedule":[],"version":2}',
     "three_groups_of_two_receivers": '{"schedule":[["r6",1]],"receivers":[0,1,2,3,4,65536],'
-    '"senders":[[[5],"close",[1,2,3]],[[1,2,3,%s],[7,8]]],"life":9,"bound":8,"capacity":7,"groups":3,"version":2}' % GREATEST,
+    '"senders":[[[5],"close",[1,2,3]],[[1,2,3,%s],[7,8]]],'
+    '"life":9,"bound":8,"capacity":7,"groups":3,"version":2}' % GREATEST,
     "three_groups_of_two_receivers_played": words(
         groups="3",
         senders='[[[5],"close",[1,2,3]],[[1,2,3,%s],[7,8]]]' % GREATEST,
@@ -1873,8 +1888,8 @@ def lone_sends():
         yield "lone_send_cut_at_%03d" % events, plan(schedule=entries("s1 %d" % events)), lines + [CLEAN]
 
 
-# The run in which a node is freed between two sends, of 90 events, and its calls: where each exchanges, where it is decided,
-# what is called, and the answer.
+# The run in which a node is freed between two sends, of 90 events, and its calls: where each exchanges, where it is
+# decided, what is called, and the answer.
 FREED = [("s1", 28), ("r1", 13), ("s2", 20), ("r1", 1), ("s2", 28)]
 FREED_CALLS = [
     (3, 20, "E 0 s1 send 5", "accepted 0"),
@@ -1974,8 +1989,8 @@ def check(name, task, outcome, wanted):
 
 
 def derived():
-    """Of each row its name, its task, its bytes and its outcome, if all rows are as they have to be; and the same of `ccq why`
-    for its bytes."""
+    """Of each row its name, its task, its bytes and its outcome, if all rows are as they have to be; and the same of
+    `ccq why` for its bytes."""
     names = {}
     for name, task, data, wanted in rows():
         for key, what in ((name, "name"), ((task, data), "input")):

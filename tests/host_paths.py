@@ -3,11 +3,12 @@
 
     tests/host_paths.py FOLDER..
 
-No archive (.a) of a folder, and no text that is packed there (.xz), has an absolute path or a section for debuggers. `readelf` shows
-such a path in the names of files, in texts and in what a compiler writes for debuggers, which may be packed; so the section is refused by its name.
+No archive (.a) of a folder, and no text that is packed there (.xz), has an absolute path or a section for debuggers.
+`readelf` shows such a path in the names of files, in texts and in what a compiler writes for debuggers, which may be
+packed; so the section is refused by its name.
 
-Before it looks, it shows that it finds each of PLANTED, and what a compiler of C leaves in an archive with `-g`, packed or not, and by
-the name of a source. The last needs cc and ar. Exit status 0 if nothing is found.
+Before it looks, it shows that it finds each of PLANTED, and what a compiler of C leaves in an archive with `-g`, packed
+or not, and by the name of a source. The last needs cc and ar. Exit status 0 if nothing is found.
 """
 import lzma
 import os
@@ -18,11 +19,14 @@ import subprocess
 import sys
 import tempfile
 
-# Folders that a machine has wherever they are, any absolute path of two names (and no address of a site), and the sections of debuggers.
+# Folders that a machine has wherever they are, any absolute path of two names (and no address of a site), and the
+# sections of debuggers.
 FOUND = re.compile(
-    rb"/(?:home|root|tmp|work|opt|build|mnt|srv|usr|var)/[\x21-\x7e]*|(?<![\w./])/[\w.+-]{3,}/[\w.+-]{3,}[\x21-\x7e]*|\.z?debug_\w+"
+    rb"/(?:home|root|tmp|work|opt|build|mnt|srv|usr|var)/[\x21-\x7e]*|(?<![\w./])/[\w.+-]{3,}/[\w.+-]{3,}[\x21-\x7e]*"
+    rb"|\.z?debug_\w+"
 )
-PLANTED = [b"\0/root/a.c\0", b"-I/home/somebody\0", b"\n/work/vahepito/crates/cc_capi/src/lib.rt/\n", b"\0/data/builds/x.o", b"\0.zdebug_info\0"]
+PLANTED = [b"\0/root/a.c\0", b"-I/home/somebody\0", b"\n/work/vahepito/crates/cc_capi/src/lib.rt/\n",
+           b"\0/data/builds/x.o", b"\0.zdebug_info\0"]
 # Words of a compiler, each of which leaves a path in an object, or a packed one.
 LEAVING = ["-g", "-g -gz=zlib", "-DTHEIRS=__FILE__"]
 SOURCE = "#ifdef THEIRS\nconst char *name = THEIRS;\n#endif\nint number;\n"
@@ -31,7 +35,8 @@ SOURCE = "#ifdef THEIRS\nconst char *name = THEIRS;\n#endif\nint number;\n"
 def found_in(path: pathlib.Path) -> list:
     """The paths in a file, each once, and the sections for debuggers."""
     whole = path.read_bytes()
-    return sorted({found.decode() for found in FOUND.findall(lzma.decompress(whole) if path.suffix == ".xz" else whole)})
+    return sorted({found.decode()
+                   for found in FOUND.findall(lzma.decompress(whole) if path.suffix == ".xz" else whole)})
 
 
 def misses() -> list:

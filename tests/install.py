@@ -6,11 +6,13 @@
 - `make install` into an empty folder leaves the program, its manual page and three files of completions, and no other
   file; the program plays a plan; `make uninstall` removes them all.
 - The commands, and the options of each command, that the help of `ccq` names are those in each of the completions.
-- The page for man has its sections, in their order, and no line of more than 80 columns on a terminal of that width, as groff sets
+- The page for man has its sections, in their order, and no line of more than 80 columns on a terminal of that width, as
+groff sets
   it, if groff is installed. groff warns of nothing there.
-- bash, and zsh and fish if they are installed, complete the lines of ROWS: each shell runs at a terminal, where the script
-  types a line, presses the tab key, and reads the line that the shell then has. A shell lists all commands for a line that
-  has none.
+- bash, and zsh and fish if they are installed, complete the lines of ROWS: each shell runs at a terminal, where the
+script
+  types a line, presses the tab key, and reads the line that the shell then has. A shell lists all commands for a line
+  that has none.
 
 The program is the one in bin/, or the one that the variable CCQ names. The exit status is 0 if all holds.
 """
@@ -57,8 +59,10 @@ ROWS = [
 SHELLS = {
     "bash": (
         ["bash", "--norc", "--noprofile", "-i"],
-        "bind 'set enable-bracketed-paste off'; bind 'set show-all-if-ambiguous on'; source {of}/bash-completion/completions/ccq; "
-        "said() {{ printf %s \"$READLINE_LINE\" >{said}; READLINE_LINE=; printf SAID; }}; bind -x '\"\\C-x\\C-r\": said'",
+        "bind 'set enable-bracketed-paste off'; bind 'set show-all-if-ambiguous on'; source "
+        "{of}/bash-completion/completions/ccq; "
+        "said() {{ printf %s \"$READLINE_LINE\" >{said}; READLINE_LINE=; printf SAID; }}; bind -x '\"\\C-x\\C-r\": "
+        "said'",
     ),
     "zsh": (
         ["zsh", "-f", "-i"],
@@ -68,7 +72,8 @@ SHELLS = {
     "fish": (
         ["fish", "--no-config", "-i"],
         "source {of}/fish/vendor_completions.d/ccq.fish; "
-        "function said; printf %s (commandline | string collect) >{said}; commandline ''; printf SAID; end; bind \\cx\\cr said",
+        "function said; printf %s (commandline | string collect) >{said}; commandline ''; printf SAID; end; bind "
+        "\\cx\\cr said",
     ),
 }
 failed = []
@@ -110,7 +115,8 @@ def installs():
 
 def is_set():
     """Sets the page for man on a terminal of 80 columns."""
-    ran = subprocess.run(["groff", "-man", "-Tutf8", "-ww", "-rLL=80n", "docs/ccq.1"], capture_output=True, text=True, cwd=TOP)
+    ran = subprocess.run(["groff", "-man", "-Tutf8", "-ww", "-rLL=80n", "docs/ccq.1"], capture_output=True, text=True,
+                         cwd=TOP)
     shown = re.sub(r"\x1b\[[0-9;]*m|.\x08", "", ran.stdout)
     check(ran.returncode == 0 and not ran.stderr, f"groff says of docs/ccq.1: {ran.stderr}")
     sections = re.findall(r"^[A-Z][A-Z ]+$", shown, re.M)
@@ -123,7 +129,8 @@ def helps():
     """The commands of the help, each with its long options but for --help, and --version for the program."""
     commands = re.search(r"^Commands:\n((?:  .*\n)+)", output(CCQ, "--help"), re.M)[1]
     named = re.findall(r"^  (\w+)", commands, re.M)
-    return {name: set(re.findall(r"^ +(?:-\w, )?--([a-z-]+)", output(CCQ, name, "--help"), re.M)) - {"help"} for name in named}
+    return {name: set(re.findall(r"^ +(?:-\w, )?--([a-z-]+)", output(CCQ, name, "--help"), re.M)) - {"help"}
+            for name in named}
 
 
 def in_bash(text):
@@ -217,5 +224,6 @@ for shell, reader in (("bash", in_bash), ("zsh", in_zsh), ("fish", in_fish)):
         completes(shell, due)
     else:
         print(f"install: completions pressed in {shell}: SKIPPED: {shell} is not on this machine")
-print(f"install: {len(failed)} of the checks failed" if failed else "install: the program, its manual and its completions fit")
+print(f"install: {len(failed)} of the checks failed" if failed
+      else "install: the program, its manual and its completions fit")
 sys.exit(bool(failed))

@@ -1,11 +1,12 @@
 #!/usr/bin/env python3
-"""Judges the calls of threads over rows of tiny queues, which bindings/rust/src/channel/judged.rs recorded, by `ccq judge` in bin/.
+"""Judges the calls of threads over rows of tiny queues, which bindings/rust/src/channel/judged.rs recorded, by `ccq
+judge` in bin/.
 
 Usage: tests/judged_rows.py FOLDER
 
-Each log in the folder has to be clean, with its limit as the capacity if it has one. Then a fault is planted in each, which has to be
-found: the line of a take that returned an item goes (the item is lost), or stands a second time under another thread. The exit status
-is 0 if all that holds, and 77 if the program doesn't run here.
+Each log in the folder has to be clean, with its limit as the capacity if it has one. Then a fault is planted in each,
+which has to be found: the line of a take that returned an item goes (the item is lost), or stands a second time under
+another thread. The exit status is 0 if all that holds, and 77 if the program doesn't run here.
 """
 
 import random
@@ -59,7 +60,8 @@ def main() -> int:
                 status, said = judge(path, limit)
                 if status != due:
                     wrong.append(f"{path.name}: status {status} in place of {due}: {said}")
-    print("\n".join([f"judged rows: {len(logs)} logs of {calls} calls are clean, and {2 * len(logs)} planted faults are found"] if not wrong else wrong))
+    print("\n".join([f"judged rows: {len(logs)} logs of {calls} calls are clean, and {2 * len(logs)} planted faults "
+                     f"are found"] if not wrong else wrong))
     return 1 if wrong or not logs else 0
 
 

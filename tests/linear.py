@@ -1,23 +1,25 @@
 #!/usr/bin/env python3
-"""Looks in random runs for one that isn't linearizable. It is proved that there is none (crates/cc_runs/src/linear_laws.rt);
-this is a second look, by a second program.
+"""Looks in random runs for one that isn't linearizable. It is proved that there is none
+(crates/cc_runs/src/linear_laws.rt); this is a second look, by a second program.
 
 Usage: tests/linear.py [RUNS [FIRST]]
 
-The machine is that of tests/derive.py, which knows the algorithm from the documents alone. Passes of one to three groups send,
-close and take in a random order of their steps, and some stop for ever in the middle of a call. Each answered call takes
-effect at one step, which is not before its exchange and not after the step that decides its answer:
+The machine is that of tests/derive.py, which knows the algorithm from the documents alone. Passes of one to three
+groups send, close and take in a random order of their steps, and some stop for ever in the middle of a call. Each
+answered call takes effect at one step, which is not before its exchange and not after the step that decides its answer:
 
-- Full at the load of the cursor, with which its scan begins: all list nodes were busy then, and while a scan lasts only takes
+- Full at the load of the cursor, with which its scan begins: all list nodes were busy then, and while a scan lasts only
+takes
   change that;
 - any other answer at the step that decides it.
 
-In the order of these steps a sequential queue has to give the same answers, and each chain's calls have to come in the order
-of their exchanges.
+In the order of these steps a sequential queue has to give the same answers, and each chain's calls have to come in the
+order of their exchanges.
 
-The control lets Full take effect at the step that decides it, the last load of the scan. A take may have freed a node by then
-that the scan had read, so a sequential queue would have room. Some of the runs have to show that, else the search sees too
-little. The run with the number N is always the same. Without words it makes 1,000 runs, from number 0 on, in a few seconds.
+The control lets Full take effect at the step that decides it, the last load of the scan. A take may have freed a node
+by then that the scan had read, so a sequential queue would have room. Some of the runs have to show that, else the
+search sees too little. The run with the number N is always the same. Without words it makes 1,000 runs, from number 0
+on, in a few seconds.
 """
 
 import random
@@ -73,7 +75,8 @@ class Sequential:
 
 @dataclass
 class Effect:
-    """An answered call: its chain, its place there, and the steps of its exchange, of its effect and of its decision."""
+    """An answered call: its chain, its place there, and the steps of its exchange, of its effect and of its
+    decision."""
 
     chain: int
     place: int
@@ -101,8 +104,8 @@ def plan_of(rng: random.Random) -> dict:
 
 
 def run(plan: dict, rng: random.Random) -> tuple[derive.Machine, list[Effect], list[Effect]]:
-    """A machine after some steps of its passes, and its answered calls in the order of their effects, as claimed; and as in the
-    control."""
+    """A machine after some steps of its passes, and its answered calls in the order of their effects, as claimed; and
+    as in the control."""
     machine = derive.Machine(plan)
     passes = list(derive.passes_of(plan).values())
     stay, stop = rng.choice([0, 0.5, 0.9]), rng.choice([0, 0, 0.001])
@@ -165,7 +168,8 @@ def main() -> int:
             bad += 1
             print(f"linear: run {number}: {fault}")
         calls += len(order)
-        moved += [(effect.chain, effect.place) for effect in order] != [(effect.chain, effect.place) for effect in control]
+        moved += [(effect.chain, effect.place) for effect in order] != [(effect.chain, effect.place)
+            for effect in control]
         found += fault_of(machine, control) is not None
     print(f"linear: {runs} runs, {calls} answered calls; {bad} runs aren't linearizable")
     print(f"linear: the control has another order in {moved} runs, and is found in {found}")

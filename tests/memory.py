@@ -1,12 +1,14 @@
 #!/usr/bin/env python3
-"""Gives `ccq play`, `ccq audit` and `ccq why` inputs near the limits in the memory that docs/FORMATS.md says they take at most, and no more.
+"""Gives `ccq play`, `ccq audit` and `ccq why` inputs near the limits in the memory that docs/FORMATS.md says they take
+at most, and no more.
 
 Usage: tests/memory.py
 
-The two factors, for plans and receipts and for any other input, and the base are read from the sentence in docs/FORMATS.md. Each plan
-and all receipts have as many short parts as fit into the limit, or just more than a power of two of them, where a list that doubles has
-the most room to spare; the other inputs have a quarter of the limit. Last, one of each kind is given in a quarter of that memory, where `ccq`
-must say that it ran out: so the limit holds the program. Exit status 0 if all did so.
+The two factors, for plans and receipts and for any other input, and the base are read from the sentence in
+docs/FORMATS.md. Each plan and all receipts have as many short parts as fit into the limit, or just more than a power of
+two of them, where a list that doubles has the most room to spare; the other inputs have a quarter of the limit. Last,
+one of each kind is given in a quarter of that memory, where `ccq` must say that it ran out: so the limit holds the
+program. Exit status 0 if all did so.
 """
 
 import json
@@ -20,7 +22,8 @@ sys.dont_write_bytecode = True
 from rows import Row, does, refused
 
 PROGRAM = "crates/ccq/out/ccq"
-SAYS = r"at most (\d+) bytes of memory for each byte of a plan or of\s+receipts, (\d+) for each byte of any other input, and (\d+) MB"
+SAYS = (r"at most (\d+) bytes of memory for each byte of a plan or of\s+receipts, "
+        r"(\d+) for each byte of any other input, and (\d+) MB")
 QUARTER = 4 << 20
 
 
@@ -28,8 +31,8 @@ def plan(calls, number, senders, version=1, schedule="", receivers="1"):
     """The text of a plan in which each sender has the same call that often."""
     head = '"version":2,"groups":1,' if version == 2 else ""
     lists = ",".join(["[" + ",".join([calls] * number) + "]"] * senders)
-    text = f'{{{head}"capacity":2,"bound":2,"life":10,"senders":[{lists}],"receivers":[{receivers}],"schedule":[{schedule}]}}'
-    return text.encode()
+    passes = f'"senders":[{lists}],"receivers":[{receivers}],"schedule":[{schedule}]'
+    return f'{{{head}"capacity":2,"bound":2,"life":10,{passes}}}'.encode()
 
 
 def clean(text):
@@ -114,7 +117,8 @@ def main():
         right.append(within(row, bytes_a_byte))
         if not right[-1]:
             print(f"memory: so it was with {name}")
-    print(f"memory: {sum(right)} of {len(right)} inputs in {factor} bytes a byte of plans and receipts and {other} of others, and {base >> 20} MB, two of them in a quarter")
+    print(f"memory: {sum(right)} of {len(right)} inputs in {factor} bytes a byte of plans and receipts and {other} of "
+          f"others, and {base >> 20} MB, two of them in a quarter")
     sys.exit(not all(right))
 
 

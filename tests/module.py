@@ -1,18 +1,20 @@
 #!/usr/bin/env python3
-"""Compiles the compiler's modules beside the archives once more, by another binary, and compares the objects, byte for byte.
+"""Compiles the compiler's modules beside the archives once more, by another binary, and compares the objects, byte for
+byte.
 
     tests/module.py
 
-`bindings/rust/lib/TARGET/module.ll.xz` is what the toolchain's compiler read when the library was built, and the line `compiler:` of
-PROOF says which version of clang it is and by which words it was called. Debian's clang of that version, which was built by
-others, has to make the object of `libvahepito_strict.a` of that text, and that of `libvahepito.a` of the text that tools/release_stores.py makes of
-it. So the toolchain's own binary isn't trusted alone.
+`bindings/rust/lib/TARGET/module.ll.xz` is what the toolchain's compiler read when the library was built, and the line
+`compiler:` of PROOF says which version of clang it is and by which words it was called. Debian's clang of that version,
+which was built by others, has to make the object of `libvahepito_strict.a` of that text, and that of `libvahepito.a` of
+the text that tools/release_stores.py makes of it. So the toolchain's own binary isn't trusted alone.
 
 It also shows that the comparison can fail: of a module with one weaker access of a shared word comes another object.
 
-What the optimizer leaves of the second text is compared with the machine code: each function has as many exchanges as the text has swaps and
-seq_cst stores there, and as many fences; the other stores are plain. And in each function all marks (stores of 2) are of one kind: so the
-choice between both kinds of mark is made when the library is compiled, and not at each mark.
+What the optimizer leaves of the second text is compared with the machine code: each function has as many exchanges as
+the text has swaps and seq_cst stores there, and as many fences; the other stores are plain. And in each function all
+marks (stores of 2) are of one kind: so the choice between both kinds of mark is made when the library is compiled, and
+not at each mark.
 
 Without that clang it does nothing, says so in a line, and the exit status is 77. Exit status 0 if all is so.
 """
@@ -31,7 +33,8 @@ sys.path.insert(0, str(TOP / "tools"))
 from release_stores import Refused, released
 
 # The toolchain's names for memory, and the library's: tools/build_library.sh renames them in what was built.
-RENAMED = [(b"rattle_alloc", b"vahepito_mem"), (b"rattle_realloc", b"vahepito_renew"), (b"rattle_dealloc", b"vahepito_freed")]
+RENAMED = [(b"rattle_alloc", b"vahepito_mem"), (b"rattle_realloc", b"vahepito_renew"),
+           (b"rattle_dealloc", b"vahepito_freed")]
 # What is an exchange in the machine code, and a fence: in its text, and there.
 KINDS = {
     "exchanges": (r"^  (?:%\S+ = )?(?:atomicrmw xchg|store atomic [^\n]* seq_cst,)", r"\txchg .*\(%"),
@@ -57,13 +60,15 @@ def object_in(archive: pathlib.Path) -> bytes:
 
 def codes_of(archive: pathlib.Path) -> dict:
     """The machine code of each function, as text."""
-    text = subprocess.run(["objdump", "-d", "--no-show-raw-insn", archive], capture_output=True, text=True, check=True).stdout
+    text = subprocess.run(["objdump", "-d", "--no-show-raw-insn", archive], capture_output=True, text=True,
+                          check=True).stdout
     parts = re.split(r"^[0-9a-f]+ <(.*)>:$", text, flags=re.M)
     return dict(zip(parts[1::2], parts[2::2]))
 
 
 def wrong_stores(archive: pathlib.Path, optimized: str) -> list:
-    """The functions whose machine code has other exchanges or fences than their text, or which have marks of two kinds."""
+    """The functions whose machine code has other exchanges or fences than their text, or which have marks of two
+    kinds."""
     found, orders, codes = [], collections.Counter(), codes_of(archive)
     for name, body in re.findall(r'^define [^\n]*@"?([^"(\n]+)"?\([^\n]*\n(.*?)^}$', optimized, re.M | re.S):
         for kind, (in_text, in_code) in KINDS.items():
@@ -86,7 +91,8 @@ def faults_of(folder: pathlib.Path, clang: str, words: list) -> list:
         found += wrong_stores(default, optimized)
         if not wrong_stores(folder / "libvahepito_strict.a", optimized):
             found.append("the strict archive has the same exchanges")
-    found += [f"{name} is another object" for name, text in texts.items() if compiled(clang, words, text) != object_in(folder / name)]
+    found += [f"{name} is another object"
+              for name, text in texts.items() if compiled(clang, words, text) != object_in(folder / name)]
     weaker = strict.replace(" seq_cst, align 8", " monotonic, align 8", 1)
     if compiled(clang, words, weaker) == object_in(folder / "libvahepito_strict.a"):
         found.append("a weaker access makes no other object")
@@ -94,8 +100,10 @@ def faults_of(folder: pathlib.Path, clang: str, words: list) -> list:
 
 
 def compiler_of(folder: pathlib.Path) -> tuple:
-    """Debian's compiler of the version that PROOF names, what it says of itself, and the words; if this machine has none, the version."""
-    version, words = re.search(r"^compiler: clang version (\S+?),? (.*)$", (folder / "PROOF").read_text(), re.M).groups()
+    """Debian's compiler of the version that PROOF names, what it says of itself, and the words; if this machine has
+    none, the version."""
+    version, words = re.search(r"^compiler: clang version (\S+?),? (.*)$", (folder / "PROOF").read_text(),
+                               re.M).groups()
     clang = f"clang-{version.split('.')[0]}"
     said = subprocess.run([clang, "--version"], capture_output=True, text=True).stdout if shutil.which(clang) else ""
     return (clang, said.splitlines()[0], words.split()) if f"clang version {version} " in said else (None, version, [])
@@ -106,13 +114,15 @@ def main() -> int:
     for folder in sorted((TOP / "bindings/rust/lib").glob("*/")):
         clang, said, words = compiler_of(folder)
         if not clang or not shutil.which("objdump"):
-            print(f"module: another compiler of the same version: SKIPPED: clang {said} or objdump is not on this machine")
+            print(f"module: another compiler of the same version: SKIPPED: clang {said} or objdump is not on this "
+                  f"machine")
             return 77
         try:
             found = faults_of(folder, clang, words)
         except Refused as why:
             found = [f"the module is refused: {why}"]
-        print("\n".join(f"module: {folder.name}: {line}" for line in found or [f"{said} makes the same objects, byte for byte"]))
+        print("\n".join(f"module: {folder.name}: {line}"
+                        for line in found or [f"{said} makes the same objects, byte for byte"]))
         failed += bool(found)
     return 1 if failed else 0
 

@@ -1,14 +1,14 @@
 #!/usr/bin/env python3
-"""Runs the tests of other channels over the crate in bindings/rust: those of crossbeam-channel, flume and async-channel, as Debian
-packages them, each over a crate of its name that calls this one (tests/other_channels/*.rs).
+"""Runs the tests of other channels over the crate in bindings/rust: those of crossbeam-channel, flume and
+async-channel, as Debian packages them, each over a crate of its name that calls this one (tests/other_channels/*.rs).
 
 Usage: tests/other_channels.py [NAME..]      the names: crossbeam, flume, async_channel
 
-Each is run twice: over the crate as it is, and over a copy in which every queue of a channel without a bound has one place. It needs
-Debian's librust-NAME-dev of crossbeam-channel, flume, async-channel, async-std, easy-parallel, futures, futures-lite, num-cpus, rand, signal-hook,
-tokio and waker-fn; what is missing is skipped. The other files of flume's tests are comments, but for mpsc, whose tests are of
-crossbeam-channel. It takes some minutes, and isn't part of the gate.
-The exit status is 0 if no tests but those of `FAIL` failed, and 77 if nothing could be run.
+Each is run twice: over the crate as it is, and over a copy in which every queue of a channel without a bound has one
+place. It needs Debian's librust-NAME-dev of crossbeam-channel, flume, async-channel, async-std, easy-parallel, futures,
+futures-lite, num-cpus, rand, signal-hook, tokio and waker-fn; what is missing is skipped. The other files of flume's
+tests are comments, but for mpsc, whose tests are of crossbeam-channel. It takes some minutes, and isn't part of the
+gate. The exit status is 0 if no tests but those of `FAIL` failed, and 77 if nothing could be run.
 """
 
 import json
@@ -28,11 +28,15 @@ RESULT = re.compile(r"^test (\S+)(?: - should panic)? \.\.\. (ok|FAILED|ignored)
 
 # Of each other channel: its package, the files of its tests, what these need, each with its features, and its edition.
 CHANNELS = {
-    "crossbeam": ("crossbeam-channel", ["after", "array", "golang", "iter", "list", "mpsc", "never", "ready", "same_channel", "select",
-                  "select_macro", "thread_locals", "tick", "zero"], ["crossbeam-utils", "num_cpus", "rand", "signal-hook"], "2018"),
-    "flume": ("flume", ["array", "async", "basic", "iter", "list", "method_sharing", "stream", "zero"], ["async-std attributes unstable",
+    "crossbeam": ("crossbeam-channel",
+                  ["after", "array", "golang", "iter", "list", "mpsc", "never", "ready", "same_channel", "select",
+                  "select_macro", "thread_locals", "tick", "zero"],
+                  ["crossbeam-utils", "num_cpus", "rand", "signal-hook"], "2018"),
+    "flume": ("flume", ["array", "async", "basic", "iter", "list", "method_sharing", "stream", "zero"],
+              ["async-std attributes unstable",
               "crossbeam-utils", "futures", "rand", "tokio macros rt", "waker-fn"], "2018"),
-    "async_channel": ("async-channel", ["bounded", "unbounded"], ["easy-parallel", "futures-lite", "futures-core"], "2018"),
+    "async_channel": ("async-channel", ["bounded", "unbounded"], ["easy-parallel", "futures-lite", "futures-core"],
+                      "2018"),
 }
 
 # Tests that may fail, and why.
@@ -46,7 +50,8 @@ FAIL = {
         "basic::recv_deadline": "wants a time limit to be kept within 5 ms, which a busy machine doesn't",
         "basic::recv_timeout": "the same",
         "basic::send_timeout": "the same",
-        "async::parallel_async_receivers": "wants 100,000 items within 5 s, which queues of one place on a busy machine don't give",
+        "async::parallel_async_receivers": "wants 100,000 items within 5 s, which queues of one place on a busy "
+                                           "machine don't give",
         "stream::parallel_streams_and_async_recv": "the same",
     },
     "async_channel": {},
@@ -58,7 +63,8 @@ SINGLE = {"golang", "basic"}
 
 
 def package(room: Path, name: str, crate: Path) -> Path | None:
-    """A package of the other channel's name over this crate, with the other channel's tests; None if it isn't installed."""
+    """A package of the other channel's name over this crate, with the other channel's tests; None if it isn't
+    installed."""
     other, files, wanted, edition = CHANNELS[name]
     needs = {need: features for need, *features in map(str.split, wanted)}
     found = sorted(REGISTRY.glob(f"{other}-[0-9]*"))
@@ -75,17 +81,21 @@ def package(room: Path, name: str, crate: Path) -> Path | None:
     shutil.copy(shims / "wrapped.rs", at / "src")
     for file in files:
         shutil.copy(found[-1] / "tests" / f"{file}.rs", at / "tests")
-    lines = ["[package]", f'name = "{other}"', 'version = "0.0.0"', f'edition = "{edition}"', "[workspace]", "[dependencies]",
-             f'vahepito = {{ path = "{crate}" }}', *[f'vahepito-futures = {{ path = "{crate}/futures" }}'] * ("futures" in needs),
+    lines = ["[package]", f'name = "{other}"', 'version = "0.0.0"', f'edition = "{edition}"', "[workspace]",
+             "[dependencies]",
+             f'vahepito = {{ path = "{crate}" }}',
+             *[f'vahepito-futures = {{ path = "{crate}/futures" }}'] * ("futures" in needs),
              *(f'{need} = {{ version = "*", features = {json.dumps(features)} }}' for need, features in needs.items()),
-             "[features]", 'default = ["async", "select", "std"]', "async = []", "select = []", "std = []", "[profile.dev]", "debug = false"]
+             "[features]", 'default = ["async", "select", "std"]', "async = []", "select = []", "std = []",
+             "[profile.dev]", "debug = false"]
     (at / "Cargo.toml").write_text("\n".join(lines) + "\n")
     return at
 
 
 def run(at: Path, target: Path, name: str) -> tuple[set[str], set[str]]:
     """The tests that passed, and those that failed."""
-    config = ["--config", 'source.crates-io.replace-with = "debian"', "--config", f'source.debian.directory = "{REGISTRY}"']
+    config = ["--config", 'source.crates-io.replace-with = "debian"', "--config",
+              f'source.debian.directory = "{REGISTRY}"']
     passed, failed = set(), set()
     for file in CHANNELS[name][1]:
         waiting = {test for test in WAITING & set(FAIL[name]) if test.startswith(f"{file}::")}
@@ -133,7 +143,8 @@ def main() -> int:
                     continue
                 passed, failed = run(at, Path(folder, "target"), name)
                 ran += 1
-                print(f"other channels: {name}, {which}: {len(passed)} passed, {len(failed)} failed: {', '.join(sorted(failed)) or 'none'}")
+                print(f"other channels: {name}, {which}: {len(passed)} passed, {len(failed)} failed: "
+                      f"{', '.join(sorted(failed)) or 'none'}")
                 wrong += not failed <= set(FAIL[name])
     return 77 if not ran else 1 if wrong else 0
 

@@ -1,22 +1,25 @@
 #!/usr/bin/env python3
-"""Looks in random runs for a call that isn't answered in time. It is proved that there is none (crates/cc_runs/src/progress_laws.rt);
-this is a second look, by a second program.
+"""Looks in random runs for a call that isn't answered in time. It is proved that there is none
+(crates/cc_runs/src/progress_laws.rt); this is a second look, by a second program.
 
 Usage: tests/progress.py [RUNS [FIRST]]
 
-The machine is that of tests/derive.py, which knows the algorithm from the documents alone. Passes of one or two groups send, close
-and take in rounds. In a round each pass of a running chain that has a step moves at least once, in a random order. The passes of other
-chains may stop for ever, and so may one pass of a running chain, in the middle of a call. In each run:
+The machine is that of tests/derive.py, which knows the algorithm from the documents alone. Passes of one or two groups
+send, close and take in rounds. In a round each pass of a running chain that has a step moves at least once, in a random
+order. The passes of other chains may stop for ever, and so may one pass of a running chain, in the middle of a call. In
+each run:
 
-- while a pass of a chain is in a call, the pass itself or one whose call exchanged before has a step that isn't the read of a
+- while a pass of a chain is in a call, the pass itself or one whose call exchanged before has a step that isn't the
+read of a
   state that is still 1 (no deadlock);
 - a call of a running chain has ended after as many rounds as the configuration allows, from its begin on;
 - it has its answer after as many rounds as the calls without an answer allow that it found at its exchange;
 - both hold of the calls that exchanged before that of a pass that stopped.
 
-The numbers of rounds are those of docs/PROVED.md, written here a second time. The controls are machines with one step changed: a combiner that
-waits for a link in place of a hand-over, a send that scans a full list again, and three that lose the hand-over, the mark or a link.
-Each of them has to be found. The run with the number N is always the same. Without words it makes 400 runs, from number 0 on.
+The numbers of rounds are those of docs/PROVED.md, written here a second time. The controls are machines with one step
+changed: a combiner that waits for a link in place of a hand-over, a send that scans a full list again, and three that
+lose the hand-over, the mark or a link. Each of them has to be found. The run with the number N is always the same.
+Without words it makes 400 runs, from number 0 on.
 """
 
 import random
@@ -34,8 +37,8 @@ class Late(Exception):
 
 @dataclass
 class Call:
-    """A call that runs: its pass, and the rounds of its chain when it began and when it exchanged, its place in its chain, and the
-    rounds that it may wait for its answer from then on."""
+    """A call that runs: its pass, and the rounds of its chain when it began and when it exchanged, its place in its
+    chain, and the rounds that it may wait for its answer from then on."""
 
     begun: int
     place: int | None = None
@@ -140,7 +143,8 @@ class Run:
     def is_before_the_stop(self, pass_: derive.Pass) -> bool:
         """The call of a pass exchanged before that of the pass that stopped."""
         place = self.calls[pass_.name].place
-        return self.stopped_at is None or self.stops.chain != pass_.chain or place is not None and place < self.stopped_at
+        is_free = self.stopped_at is None or self.stops.chain != pass_.chain
+        return is_free or place is not None and place < self.stopped_at
 
     def check(self) -> None:
         """No deadlock, and no call that has waited for too long."""
@@ -149,7 +153,8 @@ class Run:
             if not self.is_in(pass_):
                 continue
             call, name = self.calls[pass_.name], f"call {self.calls[pass_.name].place} of chain {chain}"
-            before = [other for other in self.passes if other.chain == chain and self.is_in(other) and self.calls[other.name].place <= call.place]
+            before = [other for other in self.passes if other.chain == chain and self.is_in(other)
+                      and self.calls[other.name].place <= call.place]
             if all(self.waits(other) for other in before):
                 raise Late(f"{name}: a deadlock")
             if chain not in self.running or not self.is_before_the_stop(pass_):
@@ -158,7 +163,8 @@ class Run:
                 raise Late(f"{name}: no answer after {call.patience} rounds")
         for name, call in self.calls.items():
             pass_ = next(pass_ for pass_ in self.passes if pass_.name == name)
-            if pass_.chain not in self.running or self.has_ended(pass_) or self.stopped_at is not None and self.stops.chain == pass_.chain:
+            if pass_.chain not in self.running or self.has_ended(
+                    pass_) or self.stopped_at is not None and self.stops.chain == pass_.chain:
                 continue
             if self.rounds[pass_.chain] - call.begun > all_rounds(self.plan, pass_.chain):
                 raise Late(f"a call of {name}: no end after {all_rounds(self.plan, pass_.chain)} rounds")
@@ -166,7 +172,8 @@ class Run:
     def turns(self) -> Iterator[derive.Pass]:
         """The passes of a round, in their order; of those that needn't move some do."""
         others = [pass_ for pass_ in self.passes if pass_.chain not in self.running and self.rng.random() < 0.2]
-        own = [pass_ for pass_ in self.passes if pass_.chain in self.running and not (pass_ is self.stops and self.stopped_at is not None)]
+        own = [pass_ for pass_ in self.passes if pass_.chain in self.running
+               and not (pass_ is self.stops and self.stopped_at is not None)]
         row = own + others + [self.rng.choice(own)] * self.rng.choice([0, 0, 3]) if own else others
         self.rng.shuffle(row)
         return iter(row)
@@ -177,7 +184,8 @@ class Run:
         while True:
             moved = False
             for pass_ in self.turns():
-                if self.stops is pass_ and self.stopped_at is None and pass_.name in self.calls and self.is_in(pass_) and self.rng.random() < stop:
+                if self.stops is pass_ and self.stopped_at is None and pass_.name in self.calls and self.is_in(
+                        pass_) and self.rng.random() < stop:
                     self.stopped_at = self.calls[pass_.name].place
                 if pass_ is self.stops and self.stopped_at is not None:
                     continue

@@ -1,23 +1,25 @@
 #!/usr/bin/env python3
-"""Runs every command of README.md as a stranger does: in a Debian that has the packages which README installs, and no other.
+"""Runs every command of README.md as a stranger does: in a Debian that has the packages which README installs, and no
+other.
 
     tests/readme.py [--gate | --list]
 
-debootstrap makes the smallest variant of this machine's Debian, from this machine's mirror, in ~/.cache/vahepito/debian. It is
-made once: README's first commands install the packages there, and other packages in README, or another Debian, make it again. The
-tracked files of the clone are put into /root/vahepito, in a folder for temporary files that is the home of the user in there.
+debootstrap makes the smallest variant of this machine's Debian, from this machine's mirror, in
+~/.cache/vahepito/debian. It is made once: README's first commands install the packages there, and other packages in
+README, or another Debian, make it again. The tracked files of the clone are put into /root/vahepito, in a folder for
+temporary files that is the home of the user in there.
 
-In README a fenced block of the language `sh` has commands, one on each line. Each is run at the top of the clone, in a fresh shell with
-an empty environment, and has to end with status 0. If its comment ends with `prints: TEXT`, it has to print a line that begins with TEXT.
-A block of another language is a file, whose name is the last one in backticks before it. --list prints commands and files, and
-runs none.
+In README a fenced block of the language `sh` has commands, one on each line. Each is run at the top of the clone, in a
+fresh shell with an empty environment, and has to end with status 0. If its comment ends with `prints: TEXT`, it has to
+print a line that begins with TEXT. A block of another language is a file, whose name is the last one in backticks
+before it. --list prints commands and files, and runs none.
 
-The tests of the crate make a twentieth of their rounds (VAHEPITO_ROUNDS). With --gate, as ./test calls it, they make a fiftieth, and
-cargo compiles each crate once for all commands, without a debugger's lines: tests/bindings.sh makes all rounds in the same gate. The
-examples in the crate's documentation are left out then (RUSTDOC), which an old rustc compiles one by one. A line says so. Prints a line
-with the processor seconds of each command, and their sum.
-The exit status is 0 if all hold, 1 if one fails, and 77 if this machine can't make a chroot: not root, no debootstrap, no unshare, no
-mirror, or none that gives the packages.
+The tests of the crate make a twentieth of their rounds (VAHEPITO_ROUNDS). With --gate, as ./test calls it, they make a
+fiftieth, and cargo compiles each crate once for all commands, without a debugger's lines: tests/bindings.sh makes all
+rounds in the same gate. The examples in the crate's documentation are left out then (RUSTDOC), which an old rustc
+compiles one by one. A line says so. Prints a line with the processor seconds of each command, and their sum. The exit
+status is 0 if all hold, 1 if one fails, and 77 if this machine can't make a chroot: not root, no debootstrap, no
+unshare, no mirror, or none that gives the packages.
 """
 import hashlib
 import os
@@ -33,9 +35,11 @@ import time
 TOP = pathlib.Path(__file__).resolve().parent.parent
 # Outside of the tree, since `rt ci` refuses one that has links.
 KEPT = pathlib.Path(os.environ.get("XDG_CACHE_HOME") or pathlib.Path.home() / ".cache") / "vahepito" / "debian"
-ENVIRONMENT = {"HOME": "/root", "PATH": "/usr/local/sbin:/usr/local/bin:/usr/sbin:/usr/bin:/sbin:/bin", "LANG": "C.UTF-8", "VAHEPITO_ROUNDS": "5"}
+ENVIRONMENT = {"HOME": "/root", "PATH": "/usr/local/sbin:/usr/local/bin:/usr/sbin:/usr/bin:/sbin:/bin",
+               "LANG": "C.UTF-8", "VAHEPITO_ROUNDS": "5"}
 # What makes the same commands cheaper, in the gate.
-CHEAPER = {"VAHEPITO_ROUNDS": "2", "RUSTDOC": "true", "CARGO_TARGET_DIR": "/root/target", "CARGO_PROFILE_DEV_DEBUG": "none", "CARGO_INCREMENTAL": "0"}
+CHEAPER = {"VAHEPITO_ROUNDS": "2", "RUSTDOC": "true", "CARGO_TARGET_DIR": "/root/target",
+           "CARGO_PROFILE_DEV_DEBUG": "none", "CARGO_INCREMENTAL": "0"}
 # What apt-get says if the mirror, or the disk, can't give a package that exists.
 OF_THE_MIRROR = r"(?m)^E: (Failed to fetch .*|You don't have enough free space .*)|^.*No space left on device$"
 # Mounts that end with the command: the room is the home and the folder for temporary files.
@@ -104,9 +108,11 @@ def in_chroot(base, room, folder, command, limit=1800):
     """Runs a command in a fresh shell; its exit status, what it printed, and its processor seconds."""
     spent = lambda: sum(resource.getrusage(resource.RUSAGE_CHILDREN)[:2])
     before = spent()
-    line = ["unshare", "--mount", "--pid", "--fork", "--kill-child", "bash", "-c", MOUNTS, "mounts", str(base), str(room), folder, command]
+    line = ["unshare", "--mount", "--pid", "--fork", "--kill-child", "bash", "-c", MOUNTS, "mounts", str(base),
+            str(room), folder, command]
     try:
-        done = subprocess.run(line, env=ENVIRONMENT, stdin=subprocess.DEVNULL, stdout=subprocess.PIPE, stderr=subprocess.STDOUT, text=True, errors="replace", timeout=limit)
+        done = subprocess.run(line, env=ENVIRONMENT, stdin=subprocess.DEVNULL, stdout=subprocess.PIPE,
+                              stderr=subprocess.STDOUT, text=True, errors="replace", timeout=limit)
         return done.returncode, done.stdout, spent() - before
     except subprocess.TimeoutExpired as stopped:
         return "no end in time", (stopped.stdout or b"").decode(errors="replace"), spent() - before
@@ -123,7 +129,8 @@ def have_base(packages):
     KEPT.mkdir(parents=True)
     print(f"readme: makes a {codename} in {base}, this once", flush=True)
     making = KEPT / "making"
-    done = subprocess.run(["debootstrap", "--variant=minbase", codename, str(making), address], stdin=subprocess.DEVNULL, capture_output=True, text=True)
+    done = subprocess.run(["debootstrap", "--variant=minbase", codename, str(making), address],
+                          stdin=subprocess.DEVNULL, capture_output=True, text=True)
     if done.returncode != 0:
         raise Skipped(f"debootstrap from {address} failed: {(done.stdout + done.stderr).strip().splitlines()[-1]}")
     shutil.copy("/etc/resolv.conf", making / "etc/resolv.conf")
@@ -137,7 +144,8 @@ def check_machine():
     for program in ("debootstrap", "unshare", "apt-get", "git"):
         if not shutil.which(program):
             raise Skipped(f"{program} is not on this machine")
-    if subprocess.run(["unshare", "--mount", "--pid", "--fork", "mount", "-t", "proc", "proc", "/proc"], capture_output=True).returncode != 0:
+    if subprocess.run(["unshare", "--mount", "--pid", "--fork", "mount", "-t", "proc", "proc", "/proc"],
+                      capture_output=True).returncode != 0:
         raise Skipped("unshare and mount aren't allowed here")
 
 
@@ -145,7 +153,8 @@ def put_clone(folder):
     """The tracked files, as they are now."""
     folder.mkdir()
     names = subprocess.run(["git", "-C", str(TOP), "ls-files", "-z"], capture_output=True, check=True).stdout
-    packed = subprocess.run(["tar", "-C", str(TOP), "--null", "-T", "-", "-cf", "-"], input=names, capture_output=True, check=True).stdout
+    packed = subprocess.run(["tar", "-C", str(TOP), "--null", "-T", "-", "-cf", "-"], input=names, capture_output=True,
+                            check=True).stdout
     subprocess.run(["tar", "-C", str(folder), "-xf", "-"], input=packed, check=True)
 
 
@@ -176,12 +185,14 @@ def run_all(room, found):
         if not fault and part.prints and not any(line.startswith(part.prints) for line in said.splitlines()):
             fault = f"no line that it prints begins with {part.prints!r}"
         if not fault:
-            print(f"readme: {part.text}: passed ({seconds:.1f} processor seconds, {time.time() - start:.0f} s)", flush=True)
+            print(f"readme: {part.text}: passed ({seconds:.1f} processor seconds, {time.time() - start:.0f} s)",
+                  flush=True)
         else:
             failed += 1
             lines = said.splitlines()
             lines = [line for line in lines[:-40] if "FAILED" in line] + lines[-40:]
-            print(f"readme: {part.text}: FAILED ({fault}); its last lines, and each with this word:\n" + "\n".join(lines), flush=True)
+            print(f"readme: {part.text}: FAILED ({fault}); its last lines, and each with this word:\n"
+                  + "\n".join(lines), flush=True)
     print(f"readme: {spent:.1f} processor seconds of all commands")
     return failed
 
@@ -199,7 +210,8 @@ def main():
         ENVIRONMENT.update(CHEAPER)
         print("readme: left out here: the examples in the crate's documentation, and most rounds of long tests")
     commands = [part for part in found if isinstance(part, Command)]
-    if len(commands) < 2 or not any(part.text.startswith("apt-get ") for part in commands) or len(commands) == len(found):
+    if len(commands) < 2 or not any(part.text.startswith("apt-get ")
+                                    for part in commands) or len(commands) == len(found):
         print("readme: README.md has no commands, no packages or no files, so this script reads it wrongly")
         return 1
     try:

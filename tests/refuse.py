@@ -1,18 +1,23 @@
 #!/usr/bin/env python3
-"""Refuses memory and threads from outside, one in each run, on the programs that the gate left, as each compiler built them.
+"""Refuses memory and threads from outside, one in each run, on the programs that the gate left, as each compiler built
+them.
 
     tests/refuse.py
 
-- `ccq play` and `ccq audit` on every plan and on the receipts of examples/, on seven rows of tests/rows.py, for help and for a
+- `ccq play` and `ccq audit` on every plan and on the receipts of examples/, on seven rows of tests/rows.py, for help
+and for a
   command line that is refused: each allocation in turn. The program must end with status 3, say so on standard error
   and have written nothing; or it did without that memory, and leaves just what it leaves with it.
-- `ccq drive` by three threads that send 100 items each beside two that take: each allocation, until ten runs in a row have
-  asked for fewer, since their number depends on the order of the threads; then each of the five threads isn't started. The
-  run must come to its clean end, or print nothing and end with status 3 and one line: memory, or a thread. It asks for no
-  sixth thread, and with a capacity of 4096 for a larger allocation than with 64.
-- `cc_memory_rows`, which opens three topics and three machines, plays calls, audits receipts and prints each answer: each
-  allocation, and 100 runs more. Either a call fails for want of memory, with status 3 and a beginning of the answers; or a
-  begin was refused, was made again, and the answers are whole; or the program did without. Each of FAULTS must have come.
+- `ccq drive` by three threads that send 100 items each beside two that take: each allocation, until ten runs in a row
+have
+  asked for fewer, since their number depends on the order of the threads; then each of the five threads isn't started.
+  The run must come to its clean end, or print nothing and end with status 3 and one line: memory, or a thread. It asks
+  for no sixth thread, and with a capacity of 4096 for a larger allocation than with 64.
+- `cc_memory_rows`, which opens three topics and three machines, plays calls, audits receipts and prints each answer:
+each
+  allocation, and 100 runs more. Either a call fails for want of memory, with status 3 and a beginning of the answers;
+  or a begin was refused, was made again, and the answers are whole; or the program did without. Each of FAULTS must
+  have come.
 
 Before that the script shows, on a program that answers wrongly in six ways (tests/wrong_answers.c), that it finds each.
 Exit status 0 if all runs did so. It proves and builds nothing of the programs: `rt ci` does.
@@ -83,7 +88,8 @@ def refuse_each(library, words, input=os.devnull):
         if (ran.status, ran.out, ran.err) == (3, b"", NO_MEMORY):
             refused += 1
         elif ran[:3] != whole[:3]:
-            raise Wrong(f"{words} <{input}: allocation {number} of {whole.met} refused: neither status 3 with nothing written nor the whole, but {ran}")
+            raise Wrong(f"{words} <{input}: allocation {number} of {whole.met} refused: neither status 3 with nothing "
+                        f"written nor the whole, but {ran}")
     if refused == 0:
         raise Wrong(f"{words} <{input}: no run ended for want of memory, of {whole.met} allocations")
     return whole.met, refused
@@ -119,7 +125,8 @@ def refuse_plans(library, program):
     with tempfile.TemporaryDirectory() as room:
         counts = [refuse_each(library, [program, *words], input) for words, input in inputs(room)]
     runs, refused = map(sum, zip(*counts))
-    return f"each allocation on {len(counts)} inputs and lines: {runs} runs, {refused} ended with status 3 and nothing written, the others did without"
+    return (f"each allocation on {len(counts)} inputs and lines: {runs} runs, {refused} ended with status 3 "
+            "and nothing written, the others did without")
 
 
 def refuse_drive(library, program):
@@ -132,17 +139,21 @@ def refuse_drive(library, program):
         spare = spare + 1 if ran.met < number else 0
         refused += ran[:3] in ends
         if ran[:3] not in [whole, *ends]:
-            raise Wrong(f"{program}: allocation {number} refused: neither the clean end nor status 3 with its line, but {ran}")
+            raise Wrong(f"{program}: allocation {number} refused: neither the clean end nor status 3 with its line, "
+                        f"but {ran}")
     if refused == 0:
         raise Wrong(f"{program}: no run ended for want of memory")
     for thread in range(1, 7):
         ran = run(library, [program, *DRIVE], thread=thread)
         if ran[:3] != (ends[1] if thread < 6 else whole):
-            raise Wrong(f"{program}: thread {thread} of 5 refused: neither status 3 with its line nor, of a sixth, the clean end, but {ran}")
+            raise Wrong(f"{program}: thread {thread} of 5 refused: neither status 3 with its line nor, of a sixth, "
+                        f"the clean end, but {ran}")
     least, most = (run(library, [program, "drive", "--items", "5", "--capacity", it]).bits for it in ("64", "4096"))
     if least >= most:
-        raise Wrong(f"{program}: the largest allocation has {least} bits with a capacity of 64, and {most} with one of 4096")
-    return f"each allocation of a driven run: {refused} runs said so, {number - refused} came to their clean end; and each of its 5 threads"
+        raise Wrong(f"{program}: the largest allocation has {least} bits with a capacity of 64, and {most} with one "
+                    f"of 4096")
+    return (f"each allocation of a driven run: {refused} runs said so, {number - refused} came to their clean end; "
+            "and each of its 5 threads")
 
 
 def refuse_calls(library, program):
@@ -157,10 +168,12 @@ def refuse_calls(library, program):
         elif ran[:3] == (0, whole, AGAIN):
             repeated += 1
         elif ran[:3] != (0, whole, b""):
-            raise Wrong(f"{program}: allocation {number} of {most} refused: no fault of a call for memory and not the same answers, but {ran}")
+            raise Wrong(f"{program}: allocation {number} of {most} refused: no fault of a call for memory and not the "
+                        f"same answers, but {ran}")
     if seen != FAULTS or repeated == 0:
         raise Wrong(f"{program}: of {most} allocations, {repeated} refused begins, and only these faults: {seen}")
-    return f"each of {most} allocations, and 100 more: {refused} runs failed by the call that met it, {repeated} begins were made again"
+    return (f"each of {most} allocations, and 100 more: {refused} runs failed by the call that met it, "
+            f"{repeated} begins were made again")
 
 
 def main():

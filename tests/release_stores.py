@@ -5,7 +5,8 @@
 
 - Of the small module below comes the text that is due.
 - WRONG has changes of that module. Each is refused, and nothing is written.
-- The lines in which the library's own module becomes another text are these: two calls, the copy of the one atomic store, which is a release
+- The lines in which the library's own module becomes another text are these: two calls, the copy of the one atomic
+store, which is a release
   store, and the body of the fence.
 
 Exit status 0 if no case failed.
@@ -22,14 +23,16 @@ MODULE = TOP / "bindings/rust/lib/x86_64-unknown-linux-gnu/module.ll.xz"
 
 
 def function(name: str, *lines: str, parameters: str = "ptr noundef %a0") -> str:
-    return "\n".join([f'define internal void @"{name}"({parameters}) #0 {{', "start:", *(f"  {line}" for line in lines), "  ret void", "}", "", ""])
+    return "\n".join([f'define internal void @"{name}"({parameters}) #0 {{', "start:", *(f"  {line}" for line in lines),
+                      "  ret void", "}", "", ""])
 
 
 RAW, RELEASE = "core::raw_atomic::store::<#5>", "core::raw_atomic::store::<#5>.release"
 CALL, TO_RELEASE = f'call void @"{RAW}"(ptr %a0)', f'call void @"{RELEASE}"(ptr %a0)'
 BARRIER = 'call void asm sideeffect "", "~{memory}"()'
 STORE = f"{BARRIER}\n  store atomic i64 1, ptr %a0 seq_cst, align 8\n  {BARRIER}"
-KINDS = {"cc_steps::operations::store": "1", "cc_steps::operations::store_release": "2", "cc_steps::operations::begin_with::<#7>": "3"}
+KINDS = {"cc_steps::operations::store": "1", "cc_steps::operations::store_release": "2",
+         "cc_steps::operations::begin_with::<#7>": "3"}
 
 
 def instance(number: str) -> str:
@@ -46,13 +49,15 @@ FENCE = function("core::atomic::fence", parameters="i8 noundef %a0")
 PARTS = [*STEPS.values(), *STORES.values(), function(RAW, STORE), FENCE]
 SMALL = "".join(PARTS)
 DUE = "".join([*STEPS.values(), STORES["1"], *(STORES[number].replace(CALL, TO_RELEASE) for number in "23")])
-DUE += function(RAW, STORE) + function(RELEASE, STORE.replace("seq_cst", "release")) + FENCE.replace("start:\n", "start:\n  fence seq_cst\n")
+DUE += function(RAW, STORE) + function(RELEASE, STORE.replace("seq_cst", "release")) + FENCE.replace("start:\n",
+    "start:\n  fence seq_cst\n")
 
 WRONG = {
     "no function of early stores": SMALL.replace(STEPS["cc_steps::operations::store_release"], ""),
     "no function of first stores": SMALL.replace(STEPS["cc_steps::operations::begin_with::<#7>"], ""),
     "two functions of one name": SMALL + STEPS["cc_steps::operations::store_release"],
-    "two functions of one name, for two types": SMALL + STEPS["cc_steps::operations::begin_with::<#7>"].replace("#7", "#8"),
+    "two functions of one name, for two types": SMALL
+    + STEPS["cc_steps::operations::begin_with::<#7>"].replace("#7", "#8"),
     "a second atomic store in the module": SMALL + function("other", STORE),
     "a second atomic store beside the first": SMALL.replace(f"  {STORE}\n", f"  {STORE}\n  {STORE}\n"),
     "a store without a barrier before it": SMALL.replace(f"  {BARRIER}\n  store", "  store"),
@@ -96,7 +101,8 @@ def wrong_lines(text: str) -> list:
     calls_raw = [line for line in went if 'call void @"core::raw_atomic::store::<#' in line]
     head = [line for line in came if line.startswith("define ")]
     found = [] if len(went) == len(calls_raw) and sum(went.values()) == 2 else [f"these lines went: {dict(went)}"]
-    if len(head) != 1 or '.release"(' not in head[0] or sum(" release," in line for line in came) != 1 or came["  fence seq_cst"] != 1:
+    if len(head) != 1 or '.release"(' not in head[0] or sum(" release," in line
+                                                            for line in came) != 1 or came["  fence seq_cst"] != 1:
         found.append(f"these lines came: {dict(came)}")
     if sum('.release"(' in line for line in after.splitlines()) != 3 or after.count("store atomic") != 2:
         found.append("not two calls of one release store")

@@ -1,21 +1,21 @@
 #!/usr/bin/env python3
-"""Gives `ccq`, as the gate left it by each compiler, every row: those of tests/worked_rows and tests/command_lines, which are
-written by hand, and those of tests/derive.py, each also to `ccq why`.
+"""Gives `ccq`, as the gate left it by each compiler, every row: those of tests/worked_rows and tests/command_lines,
+which are written by hand, and those of tests/derive.py, each also to `ccq why`.
 
     tests/rows.py            the programs in crates/ccq/out
-    tests/rows.py --try      the program that `rt try` compiles, on the first row of each task and status and each 250th after
-                             it, since a row there costs half a second: statuses and standard outputs alone
+    tests/rows.py --try      the program that `rt try` compiles, on the first row of each task and status and each
+                             250th after it, since a row there costs half a second: statuses and standard outputs alone
     tests/rows.py --derived  no program: tests/derive.py on the rows of tests/worked_rows, and the sums of its own rows
     tests/rows.py --sums     prints these sums, which tests/derived.sums has: so a change of a row is seen in the tree
 
 The head of tests/command_lines says how the rows by hand are written.
 
-After the rows: every strict prefix of two plans; inputs of 16 MiB, at the limit and one byte past it; lists of a plan at
-their limit and one item past it; a large input in little memory; a word that is no text; outputs without room, at once or
-after a prefix of the text; inputs that can't be read; what a person at a terminal is told, and in which colours, by a terminal of the
-script's own; and the width of each text of help. Before them, the script shows that it finds a wrong status, a
-wrong text, a wrong prefix, one on the other output, a word too many, and an input that was read. Exit status 0 if all did so.
-It proves and builds nothing: `rt ci` does.
+After the rows: every strict prefix of two plans; inputs of 16 MiB, at the limit and one byte past it; lists of a plan
+at their limit and one item past it; a large input in little memory; a word that is no text; outputs without room, at
+once or after a prefix of the text; inputs that can't be read; what a person at a terminal is told, and in which
+colours, by a terminal of the script's own; and the width of each text of help. Before them, the script shows that it
+finds a wrong status, a wrong text, a wrong prefix, one on the other output, a word too many, and an input that was
+read. Exit status 0 if all did so. It proves and builds nothing: `rt ci` does.
 """
 import collections
 import dataclasses
@@ -73,7 +73,8 @@ def by_hand(name):
         more = "..." in lines
         due = due[:-1] if more else due
         out, err = (due, b"") if output == "output" else (b"", due)
-        yield re.sub(r"\W+", "_", title[1]) if title else f"line_{number}", Row(words, int(status), out, err, given or UNREAD, bool(given), more)
+        yield re.sub(r"\W+", "_", title[1]) if title else f"line_{number}", Row(words, int(status), out, err,
+            given or UNREAD, bool(given), more)
 
 
 def derived():
@@ -93,7 +94,8 @@ def sums():
 
 
 def is_derived():
-    """Whether the second program derives what tests/worked_rows has, and its own rows are those of tests/derived.sums."""
+    """Whether the second program derives what tests/worked_rows has, and its own rows are those of
+    tests/derived.sums."""
     wrong, number = 0, 0
     for number, (name, row) in enumerate(by_hand("worked_rows"), 1):
         task, *files = row.words
@@ -106,7 +108,8 @@ def is_derived():
     for line in now:
         if line not in kept:
             print(f"rows: other rows are derived than tests/derived.sums has (tests/rows.py --sums): {line}", end="")
-    print(f"rows: {number} worked rows by the second program, {wrong} of them wrong; and the sums of its own {sum(1 for _ in derived())}")
+    print(f"rows: {number} worked rows by the second program, {wrong} of them wrong; and the sums of its own "
+          f"{sum(1 for _ in derived())}")
     return wrong == 0 and now == kept
 
 
@@ -116,7 +119,8 @@ def run(program, row, seconds=120, memory=None):
     with tempfile.TemporaryFile() as given:
         given.write(row.input)
         given.seek(0)
-        ran = subprocess.run([program, *row.words], stdin=given, capture_output=True, timeout=seconds, preexec_fn=bounds, cwd=TOP)
+        ran = subprocess.run([program, *row.words], stdin=given, capture_output=True, timeout=seconds,
+                             preexec_fn=bounds, cwd=TOP)
         at = os.lseek(given.fileno(), 0, os.SEEK_CUR)
     is_read = True if at == len(row.input) else False if at == 0 else None
     return dataclasses.replace(row, status=ran.returncode, out=ran.stdout, err=ran.stderr, is_read=is_read)
@@ -130,7 +134,8 @@ def does(program, row, **how):
         compared = dataclasses.replace(compared, out=seen.out[: len(row.out)], err=seen.err[: len(row.err)])
     if compared == row and (not row.more or bool(seen.out) != bool(seen.err)):
         return True
-    told = [f"{name}: {getattr(seen, name)!r:.400} and not {getattr(row, name)!r:.400}" for name in ("status", "out", "err", "is_read")]
+    told = [f"{name}: {getattr(seen, name)!r:.400} and not {getattr(row, name)!r:.400}"
+            for name in ("status", "out", "err", "is_read")]
     print(f"{program} {row.words} <{row.input!r:.200}:", *told, sep="\n    ")
     return False
 
@@ -140,7 +145,8 @@ def refused(task, input, why):
 
 
 def others():
-    """Rows that are too many or too large for a file: fronts of plans, inputs and lists at their limits and one past them."""
+    """Rows that are too many or too large for a file: fronts of plans, inputs and lists at their limits and one past
+    them."""
     for name in ("one_item", "bodies_of_words"):
         plan = (TOP / f"examples/{name}.json").read_bytes().rstrip(b"\n")
         yield from (refused("play", plan[:length], "P1") for length in range(len(plan)))
@@ -149,7 +155,8 @@ def others():
         yield refused(task, b" " * (LIMIT + 1), "P3 input")
     yield Row(["why"], 1, b"1:16777217: the text ends too early\n", input=b" " * LIMIT)
     yield Row(["why"], 1, b"input is out of its range\n", input=b" " * (LIMIT + 1))
-    yield Row(["why"], 1, b"1:1: an array of 8388607 elements is no object\n", input=b"[" + b"0," * (LIMIT // 2 - 2) + b"0]")
+    yield Row(["why"], 1, b"1:1: an array of 8388607 elements is no object\n",
+              input=b"[" + b"0," * (LIMIT // 2 - 2) + b"0]")
     front = b'{"capacity":2,"bound":2,"life":10,"receivers":[0],"schedule":['
     for length in (65536, 65537):
         sends = front + b'["s1",28]],"senders":[[7' + b",7" * (length - 1) + b"]]}"
@@ -168,7 +175,8 @@ def is_told(program, words, status, err, **outputs):
 
 
 def fills(program, words, text):
-    """Whether a program whose output takes this text and no byte more writes it, and ends with status 4 and its line."""
+    """Whether a program whose output takes this text and no byte more writes it, and ends with status 4 and its
+    line."""
 
     def bounds():
         # A write past the limit fails, and doesn't stop the program.
@@ -176,7 +184,8 @@ def fills(program, words, text):
         resource.setrlimit(resource.RLIMIT_FSIZE, (len(text), len(text)))
 
     with tempfile.TemporaryFile() as output:
-        well = is_told(program, words, 4, b"ccq: writing failed\n", stdout=output, stderr=subprocess.PIPE, preexec_fn=bounds)
+        well = is_told(program, words, 4, b"ccq: writing failed\n", stdout=output, stderr=subprocess.PIPE,
+                       preexec_fn=bounds)
         output.seek(0)
         seen = output.read()
     if seen != text:
@@ -185,11 +194,13 @@ def fills(program, words, text):
 
 
 def without_room(program):
-    """A large input in little memory, a word that is no text, and outputs that are full, at once or after some bytes."""
+    """A large input in little memory, a word that is no text, and outputs that are full, at once or after some
+    bytes."""
     objects = b"[" + (b'{"a":0},' * (LIMIT // 8))[: LIMIT - 8] + b"0]"
     for task in ("play", "audit", "why"):
         yield does(program, Row([task], 3, err=b"ccq: out of memory\n", input=objects), memory=20000 * 1024)
-    no_text = (b"error: invalid UTF-8 was detected in one or more arguments; a file of such a name is read by `ccq TASK < FILE`\n\n"
+    no_text = (b"error: invalid UTF-8 was detected in one or more arguments; a file of such a name is read by `ccq "
+               b"TASK < FILE`\n\n"
                b"Usage: ccq <COMMAND>\n\nFor more information, try '--help'.\n")
     yield is_told(program, [b"\xff"], 64, no_text, stdout=subprocess.DEVNULL, stderr=subprocess.PIPE)
     with open("/dev/full", "wb") as full:
@@ -235,7 +246,8 @@ class Terminal:
         termios.tcsetattr(theirs, termios.TCSANOW, modes)
         streams = {"stdin": subprocess.DEVNULL, **others, **dict.fromkeys(at, theirs)}
         # A shell's background jobs ignore interrupts, and so would a program that this script starts in one.
-        self.child = subprocess.Popen([program, *words], cwd=TOP, **{"env": DUMB, **streams}, preexec_fn=lambda: signal.signal(signal.SIGINT, signal.SIG_DFL))
+        self.child = subprocess.Popen([program, *words], cwd=TOP, **{"env": DUMB, **streams},
+                                      preexec_fn=lambda: signal.signal(signal.SIGINT, signal.SIG_DFL))
         os.close(theirs)
 
     def read_up_to(self, pattern, seconds=30):
@@ -264,7 +276,8 @@ def at_terminals(program):
             print(f"{program} {what}: {seen!r} at a terminal, and not {due!r}")
         return seen == due
 
-    for task, waits in (("play", b"a plan on standard input; Ctrl-D ends it"), ("audit", b"receipts on standard input; Ctrl-D ends them")):
+    for task, waits in (("play", b"a plan on standard input; Ctrl-D ends it"),
+                        ("audit", b"receipts on standard input; Ctrl-D ends them")):
         there = Terminal(program, [task], ["stdin", "stderr"], stdout=subprocess.PIPE)
         shown = there.read_up_to(rb"\n")
         os.write(there.ours, b"\x04")
@@ -278,24 +291,31 @@ def at_terminals(program):
     # The progress of a drive ends before its answer begins.
     there = Terminal(program, "drive --items 20000 --senders 8 --capacity 1".split(), ["stdout", "stderr"])
     shown = there.read_up_to(rb"(?!)", 300)
-    well = re.fullmatch(rb"((\rccq: \d+ s, \d+ calls answered, \d+ a second  )+\r\n)?sent 160000\r\ntaken 160000\r\naudit clean\r\n", shown) is not None
+    well = re.fullmatch(
+        rb"((\rccq: \d+ s, \d+ calls answered, \d+ a second  )+\r\n)?sent 160000\r\ntaken 160000\r\naudit clean\r\n",
+        shown) is not None
     yield same("drive", (well, shown if not well else b"", there.end()[0]), (True, b"", 0))
     # It needs minutes; and writes nothing else while it runs, also if standard error is no terminal
     line = "drive --items 1000000 --senders 63 --capacity 1".split()
-    there, piped = Terminal(program, line, ["stderr"], stdout=subprocess.PIPE), Terminal(program, line, [], stdout=subprocess.PIPE, stderr=subprocess.PIPE)
+    there, piped = Terminal(program, line, ["stderr"], stdout=subprocess.PIPE), Terminal(program, line, [],
+        stdout=subprocess.PIPE, stderr=subprocess.PIPE)
     shown = there.read_up_to(rb" a second  $")
     for it in (there, piped):
         it.child.send_signal(signal.SIGINT)
     well = re.fullmatch(rb"(\rccq: \d+ s, \d+ calls answered, \d+ a second  )+", shown) is not None
-    yield same("drive", (well, shown if not well else b""), (True, b"")) and same("drive", there.end()[:2], (-signal.SIGINT, b"")) and same("drive", piped.end(), (-signal.SIGINT, b"", b""))
+    yield same("drive", (well, shown if not well else b""), (True, b"")) and same("drive", there.end()[:2],
+        (-signal.SIGINT, b"")) and same("drive", piped.end(), (-signal.SIGINT, b"", b""))
 
 
 def hints(program):
-    """At a terminal a second line after a refusal says where the input is refused, for the tasks whose inputs `ccq why` explains."""
+    """At a terminal a second line after a refusal says where the input is refused, for the tasks whose inputs `ccq why`
+    explains."""
     place = "standard input: 1:1: x is no JSON here\r\n"
     due = {"play": "ccq: plan refused: P1\r\nccq: " + place, "show": "ccq: plan refused: P1\r\nccq: " + place,
-           "audit": "ccq: plan refused: P1\r\nccq: " + place, "why": "", "judge": "ccq: log refused: line 1: no JSON object\r\n",
-           "play examples/receipts.json": "ccq: plan refused: P2\r\nccq: examples/receipts.json: no fault: these receipts aren't refused\r\n"}
+           "audit": "ccq: plan refused: P1\r\nccq: " + place, "why": "",
+           "judge": "ccq: log refused: line 1: no JSON object\r\n",
+           "play examples/receipts.json": "ccq: plan refused: P2\r\nccq: examples/receipts.json: no fault: these "
+                                          "receipts aren't refused\r\n"}
     for line, text in due.items():
         with tempfile.TemporaryFile() as given:
             given.write(b"x\n")
@@ -309,17 +329,20 @@ def hints(program):
 
 
 def colours(program):
-    """At a terminal that has colours the head of a verdict, of a place or of a fault stands between marks, and the rest is as it is
-    elsewhere. So is the whole if the environment forbids colours, or if only the other stream is a terminal."""
+    """At a terminal that has colours the head of a verdict, of a place or of a fault stands between marks, and the rest
+    is as it is elsewhere. So is the whole if the environment forbids colours, or if only the other stream is a
+    terminal."""
     red, green, bold = (b"\x1b[%sm" % it for it in (b"1;31", b"1;32", b"1"))
-    twice = b'{"thread":1,"begin":0,"end":1,"send":[5]}\n' + b"".join(b'{"thread":%d,"begin":2,"end":3,"take":[5]}\n' % it for it in (2, 3))
+    twice = b'{"thread":1,"begin":0,"end":1,"send":[5]}\n' + b"".join(
+        b'{"thread":%d,"begin":2,"end":3,"take":[5]}\n' % it for it in (2, 3))
     lines = [
         ("judge examples/calls.jsonl", b"", "stdout", green, rb"judge clean"),
         ("judge", twice, "stdout", red, rb"judge fault"),
         ("why examples/one_item.json", b"", "stdout", green, rb"no fault"),
         ("why examples/calls.jsonl", b"", "stdout", red, rb"neither a plan nor receipts"),
         ("why", b'{"version":1,\n"life":x}', "stdout", bold, rb"2:8:"),
-        ("why", b'{"capacity":2,"bound":2,"life":"x","senders":[[7]],"receivers":[1],"schedule":[]}', "stdout", bold, rb"1:32"),
+        ("why", b'{"capacity":2,"bound":2,"life":"x","senders":[[7]],"receivers":[1],"schedule":[]}', "stdout", bold,
+         rb"1:32"),
         ("play no_such_file", b"", "stderr", red, rb"ccq"),
         ("judge", b"x", "stderr", red, rb"ccq"),
         ("why no_such_file", b"", "stderr", red, rb"ccq"),
@@ -334,7 +357,8 @@ def colours(program):
         ("--version", b"", "stdout", b"", rb""),
     ]
     rest = {it: text for it, text in os.environ.items() if it not in ("TERM", "NO_COLOR")}
-    some, none = ({}, {"NO_COLOR": ""}), ({"NO_COLOR": "1"}, {"NO_COLOR": "0", "TERM": "linux"}, {"TERM": "dumb"}, {"TERM": ""}, {"TERM": None})
+    some, none = ({}, {"NO_COLOR": ""}), ({"NO_COLOR": "1"}, {"NO_COLOR": "0", "TERM": "linux"}, {"TERM": "dumb"},
+                                          {"TERM": ""}, {"TERM": None})
     for line, input, stream, mark, pattern in lines:
         other = "stdout" if stream == "stderr" else "stderr"
 
@@ -343,7 +367,8 @@ def colours(program):
             with tempfile.TemporaryFile() as file, tempfile.TemporaryFile() as out:
                 file.write(input)
                 file.seek(0)
-                there = Terminal(program, line.split(), at, stdin=file, env=env, **{it: out for it in (stream, other) if it not in at})
+                there = Terminal(program, line.split(), at, stdin=file, env=env,
+                                 **{it: out for it in (stream, other) if it not in at})
                 said = there.read_up_to(rb"(?!)")
                 there.end()
                 out.seek(0)
@@ -362,7 +387,8 @@ def colours(program):
 
 def is_narrow(program):
     """Whether no line of the texts of help has more than 100 columns."""
-    texts = [subprocess.run([program, *it.split()[1:], "--help"], capture_output=True, text=True, check=True).stdout for it in HELPS]
+    texts = [subprocess.run([program, *it.split()[1:], "--help"], capture_output=True, text=True, check=True).stdout
+             for it in HELPS]
     wide = [line for line, said in zip(HELPS, texts) if any(len(it) > 100 for it in said.split("\n"))]
     for line in wide:
         print(f"{program} {line} --help: a line of more than 100 columns")
@@ -410,20 +436,24 @@ def finds_what_is_wrong(program):
 def on_programs():
     built = programs()
     for program in built:
-        rows = [[it for _, it in part] for part in (by_hand("worked_rows"), derived(), by_hand("command_lines"))] + [list(others())]
+        rows = [[it for _, it in part]
+                for part in (by_hand("worked_rows"), derived(), by_hand("command_lines"))] + [list(others())]
         well = finds_what_is_wrong(program)
         for row in (it for part in rows for it in part):
             well &= does(program, row)
-        well &= all([*without_room(program), *unread(program), *hints(program), *at_terminals(program), *colours(program)]) and is_narrow(program)
+        well &= all([*without_room(program), *unread(program), *hints(program), *at_terminals(program),
+                     *colours(program)]) and is_narrow(program)
         if not well:
             return False
         worked, corpus, lines, large = map(len, rows)
-        print(f"{program}: {worked} worked rows, {corpus} derived ones, {lines} command lines, and {large + 14} prefixes of plans, large inputs and full outputs")
+        print(f"{program}: {worked} worked rows, {corpus} derived ones, {lines} command lines, and {large + 14} "
+              f"prefixes of plans, large inputs and full outputs")
     return bool(built)
 
 
 def on_tried():
-    """The rows as the cases of one `rt try`, whose lines tell each one's status, and whether its output is the expected one."""
+    """The rows as the cases of one `rt try`, whose lines tell each one's status, and whether its output is the expected
+    one."""
     rows = [*by_hand("worked_rows"), *derived(), *by_hand("command_lines")]
     alike = collections.defaultdict(list)
     for name, row in rows:
@@ -440,7 +470,8 @@ def on_tried():
                 case.with_suffix(".args").write_text("".join(it + "\n" for it in row.words))
             if not (row.more and row.out):
                 case.with_suffix(".stdout").write_bytes(row.out)
-        ran = subprocess.run(["rt", "try", "--cases", folder], cwd=TOP / "crates/ccq", stdin=subprocess.DEVNULL, capture_output=True, text=True)
+        ran = subprocess.run(["rt", "try", "--cases", folder], cwd=TOP / "crates/ccq", stdin=subprocess.DEVNULL,
+                             capture_output=True, text=True)
     told = dict(re.findall(r"^case=(\S+) (run=.*)$", ran.stdout + ran.stderr, flags=re.M))
     wrong = 0
     for name, row in rows.items():
@@ -450,12 +481,14 @@ def on_tried():
             print(f"rows: {name}: {said}, and status {row.status} is due")
     if len(told) != len(rows):
         print((ran.stdout + ran.stderr)[-2000:])
-    print(f"rows: {len(rows)} rows on the program that was tried, {wrong} of them wrong; what stands on standard error wasn't compared")
+    print(f"rows: {len(rows)} rows on the program that was tried, {wrong} of them wrong; what stands on standard "
+          f"error wasn't compared")
     return wrong == 0
 
 
 if __name__ == "__main__":
-    does_it = {"": on_programs, "--try": on_tried, "--derived": is_derived, "--sums": lambda: print(*sums(), sep="", end="")}.get(" ".join(sys.argv[1:]))
+    does_it = {"": on_programs, "--try": on_tried, "--derived": is_derived,
+               "--sums": lambda: print(*sums(), sep="", end="")}.get(" ".join(sys.argv[1:]))
     if does_it is None:
         print(__doc__)
         sys.exit(0 if sys.argv[1:] in (["-h"], ["--help"]) else 64)

@@ -1,9 +1,10 @@
 #!/bin/bash
-# Tests `ccq show`: its traces are what tests/derive.py derives; the page in docs/pages is what the program writes of the plan
-# beside it; the page reads plans as `ccq play` does; what it says of a state, and each field of a
-# sentence, is decided by a second program; what is ahead of a pass that waits obeys the laws of progress; its exercises have the shortest solutions; random steps by hand lead to the plan and the
-# report of the page; and in a browser without a window, Chromium, each page is stepped through, driven and looked at, each screen
-# of its lectures too (tests/show/pages.py says how). So are pages of `ccq judge --page`.
+# Tests `ccq show`: its traces are what tests/derive.py derives; the page in docs/pages is what the program writes of
+# the plan beside it; the page reads plans as `ccq play` does; what it says of a state, and each field of a sentence, is
+# decided by a second program; what is ahead of a pass that waits obeys the laws of progress; its exercises have the
+# shortest solutions; random steps by hand lead to the plan and the report of the page; and in a browser without a
+# window, Chromium, each page is stepped through, driven and looked at, each screen of its lectures too
+# (tests/show/pages.py says how). So are pages of `ccq judge --page`.
 #
 # Usage: tests/show.sh
 #

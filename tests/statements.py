@@ -1,15 +1,15 @@
 #!/usr/bin/env python3
-"""Tests tools/statements.py: what changes a statement changes the text of its crate's statements or is refused, and other layout
-and other comments change nothing. Exit status 0 if so. It writes no file.
+"""Tests tools/statements.py: what changes a statement changes the text of its crate's statements or is refused, and
+other layout and other comments change nothing. Exit status 0 if so. It writes no file.
 
     tests/statements.py                 all that follows, with some random edits
     tests/statements.py --edits N       the random edits alone, N of them
     tests/statements.py --edits N SEED  those that another run names by its seed
 
-CHANGES are of the repository's own sources, and STEPS of a small crate: each step is one that a reviewer may pass, and the
-last one changes what is proved. A random edit changes one word of a definition that docs/statements has, of an import that such
-a definition or a clause uses, or of what an item of the code says. If VAHEPITO_ROUNDS is set, as many of a hundred CHANGES and
-random edits are made.
+CHANGES are of the repository's own sources, and STEPS of a small crate: each step is one that a reviewer may pass, and
+the last one changes what is proved. A random edit changes one word of a definition that docs/statements has, of an
+import that such a definition or a clause uses, or of what an item of the code says. If VAHEPITO_ROUNDS is set, as many
+of a hundred CHANGES and random edits are made.
 """
 import hashlib
 import os
@@ -44,18 +44,23 @@ CHANGES = [
     ("a code is another number", "cc_passes", "src", r"(pub const \w+: u32 = )\d+", r"\g<1>99"),
     ("a name is from elsewhere", "cc_play", "src", r"(ghost use Rattle\.cc_play\.specs\.)Play", r"\1Other"),
     ("a function isn't public", "cc_show", "src", r"\npub fn", r"\nfn"),
-    ("a law of a function that isn't public goes", "cc_drive", "src", r"(\npub\(crate\) fn send_all.*?)\n *ensures [^\n]*", r"\1"),
+    ("a law of a function that isn't public goes", "cc_drive", "src",
+     r"(\npub\(crate\) fn send_all.*?)\n *ensures [^\n]*", r"\1"),
     ("a definition that such a law names", "cc_drive", "specs", r"(\nIsAskedInSend [^\n]* =) [^\n]*", r"\1 ⊤"),
     ("the lines of a `do` are joined otherwise", "cc_plan", "specs", r"(\no >>= f =) [^\n]*", r"\1 None"),
     ("operators of definitions change names", "cc_judge", "specs", r"◌≢◌, (.*?)◌<◌", r"◌<◌ as ◌≢◌, \1◌≢◌ as ◌<◌"),
     ("an operator of clauses has another name", "cc_queue", "src", r"(ghost use [^\n]*)◌≤◌", r"\1◌<◌ as ◌≤◌"),
-    ("a comment in a comment hides clauses", "cc_capi", "src", r"(vahepito_try_send.*?)\n( *ensures .*?)\n\{\n", r"\1\n/* /* */\n\2\n// */\n{\n"),
-    ("a path of a library in a definition", "cc_runs", "specs", r"(\nHistoryIsFifo = [^\n]*) Fifo ", r"\1 Rattle.cc_model.specs.Fifo.Fifo "),
+    ("a comment in a comment hides clauses", "cc_capi", "src", r"(vahepito_try_send.*?)\n( *ensures .*?)\n\{\n",
+     r"\1\n/* /* */\n\2\n// */\n{\n"),
+    ("a path of a library in a definition", "cc_runs", "specs", r"(\nHistoryIsFifo = [^\n]*) Fifo ",
+     r"\1 Rattle.cc_model.specs.Fifo.Fifo "),
 ]
 
 # A crate of some files, on which steps are tried.
 LIB, NUMBERS, BELOW, ECHO, BASE, OTHER, NAMES = (
-    "crates/low/" + name for name in ("src/lib.rt", "src/numbers.rt", "src/deep.rt", "specs/Echo.antt", "specs/Base.antt", "specs/Other.antt", "specs/Names.antt")
+    "crates/low/" + name
+    for name in ("src/lib.rt", "src/numbers.rt", "src/deep.rt", "specs/Echo.antt", "specs/Base.antt",
+                 "specs/Other.antt", "specs/Names.antt")
 )
 LOW = {
     "crates.txt": "low:\n",
@@ -193,27 +198,35 @@ pub fn least() -> usize
 """
 ANY = "abbrev pub IsEcho : ℕ → ℕ → Type 0\nIsEcho x y = Unit {0}\n"
 ECHOES = "IsEcho x y = ((x ≡ y) → ⊥) → ⊥"
-# What is tried, what the refusal says if it is refused, and its steps: in each, some texts of files that become others, or that a
-# new file has. If the steps aren't refused, the last one has to change the texts.
+# What is tried, what the refusal says if it is refused, and its steps: in each, some texts of files that become others,
+# or that a new file has. If the steps aren't refused, the last one has to change the texts.
 STEPS = [
     ("all names of a file below hide what each file has", "can't be followed", [
-        {ECHO: ("abbrev first", "mod Words\nuse Words.*\n\nabbrev first"), "crates/low/specs/Echo/Words.antt": ("", "abbrev pub ⊥ : Type 0\n⊥ = Unit {0}\n")}]),
+        {ECHO: ("abbrev first", "mod Words\nuse Words.*\n\nabbrev first"),
+         "crates/low/specs/Echo/Words.antt": ("", "abbrev pub ⊥ : Type 0\n⊥ = Unit {0}\n")}]),
     ("all names of a file below are passed on", "can't be followed", [
         {ECHO: (r"\A", "mod Real\npub use Real.*\n"), "crates/low/specs/Echo/Real.antt": ("", ANY)}]),
     ("a comment in braces hides a definition", "'{-", [
         {ECHO: ("first = Unit {0}", "first = Unit {0} {-"), OTHER: ("abbrev pub \\[", "abbrev -}\n\nabbrev pub [")}]),
     ("a comment in braces in a clause", "'{-", [{LIB: ("IsEcho x result }", "IsEcho x result {- not -} }")}]),
-    ("a comment in a comment hides a clause", "'/*'", [{LIB: ("    ensures { IsEcho x result }\n", "/* /* */\n    ensures { IsEcho x result }\n// */\n")}]),
-    ("a comment in a comment, with other texts between", "'/*'", [{LIB: ("    ensures { IsEcho x result }\n", "/*/*/*/ */\n    ensures { IsEcho x result }\n// */\n")}]),
+    ("a comment in a comment hides a clause", "'/*'",
+     [{LIB: ("    ensures { IsEcho x result }\n", "/* /* */\n    ensures { IsEcho x result }\n// */\n")}]),
+    ("a comment in a comment, with other texts between", "'/*'",
+     [{LIB: ("    ensures { IsEcho x result }\n", "/*/*/*/ */\n    ensures { IsEcho x result }\n// */\n")}]),
     ("a comment in a clause, and then more behind it", "a comment stands in a clause", [
-        {LIB: ("IsEcho x result }", "IsEcho x -- the argument\n        result }")}, {LIB: ("-- the argument\n *result }", "-- the argument result\n    }")}]),
-    ("an operator of two slashes, which begins a comment of the code", "a comment stands in a clause", [{LIB: ("IsEcho x result }", "IsEcho x result // Any\n    }")}]),
+        {LIB: ("IsEcho x result }", "IsEcho x -- the argument\n        result }")},
+        {LIB: ("-- the argument\n *result }", "-- the argument result\n    }")}]),
+    ("an operator of two slashes, which begins a comment of the code", "a comment stands in a clause",
+     [{LIB: ("IsEcho x result }", "IsEcho x result // Any\n    }")}]),
     ("a path that begins with the library", "begins with a library", [
-        {ECHO: (re.escape(ECHOES), "IsEcho x y = Rattle.low.specs.Base.IsSame x y")}, {BASE: ("IsSame x y = .*", "IsSame x y = Unit {0}")}]),
+        {ECHO: (re.escape(ECHOES), "IsEcho x y = Rattle.low.specs.Base.IsSame x y")},
+        {BASE: ("IsSame x y = .*", "IsSame x y = Unit {0}")}]),
     ("a path that begins with the library of all", "'package", [
-        {ECHO: (re.escape(ECHOES), "IsEcho x y = package.Rattle.low.specs.Base.IsSame x y")}, {BASE: ("IsSame x y = .*", "IsSame x y = Unit {0}")}]),
+        {ECHO: (re.escape(ECHOES), "IsEcho x y = package.Rattle.low.specs.Base.IsSame x y")},
+        {BASE: ("IsSame x y = .*", "IsSame x y = Unit {0}")}]),
     ("a path by a file below", "by a file below", [
-        {ECHO: [(r"\A", "mod Low\n"), (re.escape(ECHOES), "IsEcho x y = Low.IsMine x y")], "crates/low/specs/Echo/Low.antt": ("", ANY.replace("IsEcho", "IsMine"))},
+        {ECHO: [(r"\A", "mod Low\n"), (re.escape(ECHOES), "IsEcho x y = Low.IsMine x y")],
+         "crates/low/specs/Echo/Low.antt": ("", ANY.replace("IsEcho", "IsMine"))},
         {"crates/low/specs/Echo/Low.antt": ("Unit {0}", "⊥")}]),
     ("a path two files down", None, [
         {ECHO: [(r"\A", "use Rattle.low.specs.Names\n"), (re.escape(ECHOES), "IsEcho x y = Names.Low.IsMine x y")],
@@ -222,59 +235,86 @@ STEPS = [
     ("a path into a module that a clause names", None, [{OTHER: ("IsSame x y = .*", "IsSame x y = ⊥")}]),
     ("an import by the new name of a module", "can't be followed", [
         {ECHO: ("use Rattle.low.specs.Names.{IsSame}", "use Rattle.low.specs.Names as N\nuse N.{IsSame}")}]),
-    ("a file below with the name of the library", "may have this name", [{ECHO: (r"\A", "mod Rattle\n"), "crates/low/specs/Echo/Rattle.antt": ("", "pub mod std\n")}]),
-    ("a module with the name of the library", "can't be followed", [{ECHO: (r"\A", "use Rattle.low.specs.Other as Rattle\n")}]),
-    ("a module of the code with the name of the library", "may have the name", [{LIB: ("mod numbers;", "mod numbers;\nmod Rattle;")}]),
-    ("a definition with the name of what each file has", None, [{ECHO: ("abbrev first", "abbrev ⊥ : Type 0\n⊥ = Unit {0}\n\nabbrev first")}]),
+    ("a file below with the name of the library", "may have this name",
+     [{ECHO: (r"\A", "mod Rattle\n"), "crates/low/specs/Echo/Rattle.antt": ("", "pub mod std\n")}]),
+    ("a module with the name of the library", "can't be followed",
+     [{ECHO: (r"\A", "use Rattle.low.specs.Other as Rattle\n")}]),
+    ("a module of the code with the name of the library", "may have the name",
+     [{LIB: ("mod numbers;", "mod numbers;\nmod Rattle;")}]),
+    ("a definition with the name of what each file has", None,
+     [{ECHO: ("abbrev first", "abbrev ⊥ : Type 0\n⊥ = Unit {0}\n\nabbrev first")}]),
     ("a name with brackets, which is one", "'x[y]", [
-        {ECHO: [("Names.{IsSame}", "Names.{IsSame, x[y]}"), (re.escape(ECHOES), "IsEcho x y = x[y]")], NAMES: (r"\Z", "abbrev pub x[y] : Type 0\nx[y] = Unit {0}\n")}]),
+        {ECHO: [("Names.{IsSame}", "Names.{IsSame, x[y]}"), (re.escape(ECHOES), "IsEcho x y = x[y]")],
+         NAMES: (r"\Z", "abbrev pub x[y] : Type 0\nx[y] = Unit {0}\n")}]),
     ("a sign that looks like a space", "U+00A0", [{ECHO: (re.escape(ECHOES), "IsEcho x y = x\u00a0≡ y")}]),
     ("a sign that looks like another", "U+0443", [{ECHO: ("IsEcho x y = ", "IsEcho x у = ")}]),
     ("a carriage return", "U+000D", [{ECHO: ("-- What", "-- What\r")}]),
     ("a tab", "U+0009", [{ECHO: ("IsEcho x y = ", "IsEcho x y =\t")}]),
-    ("a definition at all levels", None, [{ECHO: (r"abbrev pub IsEcho.*\n.*", "abbrev pub IsEcho {κ} : {A : Type κ} → A → A → Type 0\nIsEcho x y = Unit {0}")}]),
+    ("a definition at all levels", None,
+     [{ECHO: (r"abbrev pub IsEcho.*\n.*",
+              "abbrev pub IsEcho {κ} : {A : Type κ} → A → A → Type 0\nIsEcho x y = Unit {0}")}]),
     ("cases in one line", None, [
-        {ECHO: (re.escape(ECHOES), "IsEcho x y = is two\n\ndata Two : Type 0 where\n  one two : Two\n\nabbrev is : Two → Type 0\nis x = ⊥")},
+        {ECHO: (re.escape(ECHOES),
+                "IsEcho x y = is two\n\ndata Two : Type 0 where\n  one two : Two\n\n"
+                "abbrev is : Two → Type 0\nis x = ⊥")},
         {ECHO: ("  one two : Two", "  two one : Two")}]),
-    ("fields in one line", "on a line of its own", [{ECHO: (re.escape(ECHOES), "IsEcho x y = Two\n\nrecord Two : Type 0 where pub a : ⊥")}]),
+    ("fields in one line", "on a line of its own",
+     [{ECHO: (re.escape(ECHOES), "IsEcho x y = Two\n\nrecord Two : Type 0 where pub a : ⊥")}]),
     ("a constant of an impl", None, [{LIB: ("LEAST: usize = 2", "LEAST: usize = 0")}]),
     ("a constant by another name", None, [{NUMBERS: ("= 7", "= 9")}]),
     ("a type of the same name, passed on", None, [{"crates/low/src/further.rt": ("numbers::Count", "others::Count")}]),
-    ("a private import of the module above", "nor passed on", [{LIB: ("mod further;", "mod further;\nmod deep;\npub use deep::least;"), BELOW: ("", DEEP)}]),
+    ("a private import of the module above", "nor passed on",
+     [{LIB: ("mod further;", "mod further;\nmod deep;\npub use deep::least;"), BELOW: ("", DEEP)}]),
     ("a private import of the module above, by a path", "nor passed on", [
-        {LIB: ("mod further;", "mod further;\nmod deep;\npub use deep::least;"), BELOW: ("", DEEP.replace("use crate::LIMIT;\n", "").replace("-> usize", "-> [u8; super::LIMIT]"))}]),
+        {LIB: ("mod further;", "mod further;\nmod deep;\npub use deep::least;"),
+         BELOW: ("", DEEP.replace("use crate::LIMIT;\n", "").replace("-> usize", "-> [u8; super::LIMIT]"))}]),
     ("an import of the module above that is passed on", None, [
-        {LIB: [("mod further;", "mod further;\nmod deep;\npub use deep::least;"), ("use numbers::SMALL", "pub(crate) use numbers::SMALL")], BELOW: ("", DEEP)}, {NUMBERS: ("= 7", "= 9")}]),
+        {LIB: [("mod further;", "mod further;\nmod deep;\npub use deep::least;"),
+               ("use numbers::SMALL", "pub(crate) use numbers::SMALL")], BELOW: ("", DEEP)},
+               {NUMBERS: ("= 7", "= 9")}]),
     ("all names of a module of the code", "all names of a module", [{LIB: ("use further::Count;", "use further::*;")}]),
     ("the empty list of another file", None, [{ECHO: [(r"\[\], ", ""), ("Names.{IsSame}", "Other.{IsSame, []}")]}]),
     ("an operator with one side", None, [
-        {ECHO: (re.escape(ECHOES), "IsEcho x y = (◌≡ y) x")}, {ECHO: [(", ◌≡◌", ""), (r"\A", "use Rattle.low.specs.Other.{◌≡◌}\n")]}]),
-    ("what joins the lines of a `do`", None, [{ECHO: [(", ◌>>◌", ""), (r"\A", "use Rattle.low.specs.Other.{◌>>◌}\n")]}]),
+        {ECHO: (re.escape(ECHOES), "IsEcho x y = (◌≡ y) x")},
+        {ECHO: [(", ◌≡◌", ""), (r"\A", "use Rattle.low.specs.Other.{◌≡◌}\n")]}]),
+    ("what joins the lines of a `do`", None,
+     [{ECHO: [(", ◌>>◌", ""), (r"\A", "use Rattle.low.specs.Other.{◌>>◌}\n")]}]),
     ("a name that passes through a file", None, [{NAMES: ("Base", "Other")}]),
     ("how an operator binds", None, [{BASE: ("infixl 10 ◌>>=◌", "infixr 10 ◌>>=◌")}]),
-    ("how an operator binds, apart from it", None, [{BASE: ("infixl 10 ◌>>=◌\n", "")}, {BASE: ("infixl 10 ◌>>◌", "infixl 90 ◌>>=◌\ninfixl 10 ◌>>◌")}]),
-    ("the contract of a function that isn't public", "no type or constant", [{ECHO: (r"\A", "use Rattle.low.specs.contracts.numbers.seven as seven\n")}]),
+    ("how an operator binds, apart from it", None,
+     [{BASE: ("infixl 10 ◌>>=◌\n", "")}, {BASE: ("infixl 10 ◌>>◌", "infixl 90 ◌>>=◌\ninfixl 10 ◌>>◌")}]),
+    ("the contract of a function that isn't public", "no type or constant",
+     [{ECHO: (r"\A", "use Rattle.low.specs.contracts.numbers.seven as seven\n")}]),
     ("an import that leads nowhere", "defined nowhere", [{ECHO: ("Names.{IsSame}", "Names.{IsEqual}")}]),
-    ("an import that leads nowhere, in an impl", "defined nowhere", [{LIB: ("impl Meter {", "impl Meter {\n    ghost use Rattle.low.specs.Base.{IsEqual};")}]),
+    ("an import that leads nowhere, in an impl", "defined nowhere",
+     [{LIB: ("impl Meter {", "impl Meter {\n    ghost use Rattle.low.specs.Base.{IsEqual};")}]),
     ("an import from what is proved of it", "isn't in specs/", [{ECHO: ("low.specs.Names", "low.proofs.Names")}]),
     ("an import behind a definition", "at the head", [{ECHO: (r"\Z", "\nuse Rattle.low.specs.Other.{◌≡◌}\n")}]),
     ("the fields of a value", "'open", [{ECHO: ("abbrev pub IsEcho", "open first use {⊥}\n\nabbrev pub IsEcho")}]),
-    ("definitions that name each other", "'mutual'", [{ECHO: ("abbrev pub IsEcho", "mutual\n  a : Type 0\n  a = ⊥\n\nabbrev pub IsEcho")}]),
+    ("definitions that name each other", "'mutual'",
+     [{ECHO: ("abbrev pub IsEcho", "mutual\n  a : Type 0\n  a = ⊥\n\nabbrev pub IsEcho")}]),
     ("what is believed", "'axiom", [{ECHO: ("abbrev first : Type 0\nfirst = Unit {0}", "axiom first : ⊥")}]),
-    ("a section with a name", "has no name", [{ECHO: ("abbrev first", "module Sub where\n  abbrev pub IsSame : Type 0\n  IsSame = ⊥\n\nabbrev first")}]),
+    ("a section with a name", "has no name",
+     [{ECHO: ("abbrev first", "module Sub where\n  abbrev pub IsSame : Type 0\n  IsSame = ⊥\n\nabbrev first")}]),
     ("brackets over several lines", "too far left", [{ECHO: (re.escape(ECHOES), "IsEcho x y = (\nz : ℕ) × (z ≡ x)")}]),
     ("a line that ends a block and no other", "ends a block", [{ECHO: ("    a ≡ x", "    a ≡\n   x")}]),
     ("a law that is a member", None, [{LIB: (r"(    fn get.*;\n)\n(    ghost small.*\n)", r"\2\n\1")}]),
     ("a tuple of one", None, [{LIB: (r"\(usize,\)", "(usize)")}]),
     ("white space in a text", None, [{LIB: ("c  d", "c d")}]),
-    ("white space in a text behind a quote", None, [{LIB: (r'\[char; 2\] = .*;', r"""(char, &str) = ('"', "a  b");""")}, {LIB: ("a  b", "a b")}]),
+    ("white space in a text behind a quote", None,
+     [{LIB: (r'\[char; 2\] = .*;', r"""(char, &str) = ('"', "a  b");""")}, {LIB: ("a  b", "a b")}]),
     ("a file that says how to build", "a name that isn't read", [{"crates/low/specs/declared.antt": ("", ANY)}]),
-    ("a list of files that has definitions", "no file of specs/", [{"crates/low/specs/Lib.antt": (r"\Z", ANY), LIB: ("Rattle.low.specs.Echo.{IsEcho", "Rattle.low.specs.{IsEcho")}]),
+    ("a list of files that has definitions", "no file of specs/",
+     [{"crates/low/specs/Lib.antt": (r"\Z", ANY), LIB: ("Rattle.low.specs.Echo.{IsEcho", "Rattle.low.specs.{IsEcho")}]),
 ]
 # What a random edit writes before a word.
-SIGNS = ["{-", "-}", "-- ", "/*", "*/", "//", ".", ".*", "*", "«", "»", "(", ")", "[", "]", "{", "}", ",", ";", ":", "=", "|", "'", '"', "◌", "\\", "@", "?",
-         "\t", "\r", "\u00a0", "\u200b", "Rattle.", "package.", "open ", "pub ", "abbrev ", "mod ", "use ", "as x", "unfolding ", "module _ (x : ℕ) where ",
-         "where ", "do ", "let x = ⊥ in ", "infixl 3 ", "ghost ", "requires ", "#[cfg(test)] ", "suc ", "0 ", "x ", "not "]  # fmt: skip
+SIGNS = ["{-", "-}", "-- ", "/*", "*/", "//", ".", ".*", "*", "«", "»", "(", ")", "[", "]", "{", "}", ",", ";", ":",
+         "=", "|", "'", '"', "◌", "\\", "@", "?",
+         "\t", "\r", "\u00a0", "\u200b", "Rattle.", "package.", "open ", "pub ", "abbrev ", "mod ", "use ", "as x",
+         "unfolding ", "module _ (x : ℕ) where ",
+         # fmt: skip
+         "where ", "do ", "let x = ⊥ in ", "infixl 3 ", "ghost ", "requires ", "#[cfg(test)] ", "suc ", "0 ", "x ",
+         "not "]
 
 
 def of_crate(files, crate, kind):
@@ -291,7 +331,8 @@ def change(files, crate, kind, pattern, replacement):
 
 
 def changes_of_definitions(files):
-    """Changes of definitions that public clauses reach: one that no clause names itself, a field, the order of lines."""
+    """Changes of definitions that public clauses reach: one that no clause names itself, a field, the order of
+    lines."""
     reach = statements.Reach(files)
     named = {name for here, imports in reach.imports.items() if here[1] == "src" for _, name, _ in imports}
 
@@ -325,7 +366,8 @@ def taken(files, step):
     files = dict(files)
     for path, edits in step.items():
         for old, new in edits if isinstance(edits, list) else [edits]:
-            files[path], count = re.subn(old, lambda found: found.expand(new) if "\\" in new else new, files.get(path, ""), count=1)
+            files[path], count = re.subn(old, lambda found: found.expand(new) if "\\" in new else new,
+                                         files.get(path, ""), count=1)
             if not count:
                 raise SystemExit(f"statements: nothing in {path} matches {old}")
     return files
@@ -348,7 +390,8 @@ def laid_out_otherwise(path, text, chance):
         inside = {at for begin, (end, _) in source.terms.items() for at in range(begin, end + 1)}
         pieces = []
         for at, (_, word, _) in enumerate(source.tokens):
-            breaks = [" ", "\n            "] if at in inside else [" ", "\n            ", ' // a note, { of "no\n', "\n// /* a note\n"]
+            breaks = [" ", "\n            "] if at in inside else [" ", "\n            ", ' // a note, { of "no\n',
+                "\n// /* a note\n"]
             pieces += [chance.choice(breaks) if at in source.gaps and at else "", word]
         return "".join(pieces) + "\n"
     if not path.endswith(".antt"):
@@ -369,7 +412,8 @@ def laid_out_otherwise(path, text, chance):
 
 
 def words_to_edit(files, reach):
-    """The places of words, each as a file and where the word begins and ends: in definitions, imports and code that say something."""
+    """The places of words, each as a file and where the word begins and ends: in definitions, imports and code that say
+    something."""
     places = []
     for name, modules in reach.definitions.items():
         for module, names in modules.items():
@@ -378,7 +422,8 @@ def words_to_edit(files, reach):
             places.append([(path, token.at, token.at + len(token.text)) for one in definitions for token in one.tokens])
     imports = {}
     for (name, kind, module), brought in reach.used:
-        path = f"crates/{name}/{kind}/{module.replace('.', '/')}.antt" if kind == "specs" else f"crates/{name}/src/{module}.rt"
+        end = module.replace(".", "/") + ".antt" if kind == "specs" else module + ".rt"
+        path = f"crates/{name}/{kind}/{end}"
         imports.setdefault(path, set()).update((path, token.at, token.at + len(token.text)) for token in brought.tokens)
     places += [sorted(ones) for ones in imports.values()]
     for name, modules in reach.items.items():
@@ -392,9 +437,11 @@ def words_to_edit(files, reach):
 
 
 def spans_of(item):
-    """Where an item of the code says something: without the parts of an impl that aren't public, and without long constants."""
+    """Where an item of the code says something: without the parts of an impl that aren't public, and without long
+    constants."""
     if item.kind in ("impl", "trait"):
-        parts = [part for part in item.parts if part.public or part.kind == "const" or item.kind == "trait" or statements.is_of_trait(item)]
+        parts = [part for part in item.parts if part.public or part.kind == "const" or item.kind == "trait"
+                 or statements.is_of_trait(item)]
         return item.spans[:1] + [span for part in parts if part.kind != "ghost use" for span in spans_of(part)]
     return [] if item.kind in ("file", "use", "macro") else item.spans
 
@@ -404,7 +451,8 @@ def edited(text, begin, end, chance):
     word = text[begin:end]
     others = re.findall(r"\S+", text[max(0, begin - 300) : end + 300])
     behind = re.match(r"(\s+)(\S+)", text[end:])
-    ways = [chance.choice(others), "", f"{word} {word}", chance.choice(SIGNS) + word, chance.choice(SIGNS) + " " + word, word + chance.choice(SIGNS)]
+    ways = [chance.choice(others), "", f"{word} {word}", chance.choice(SIGNS) + word, chance.choice(SIGNS) + " " + word,
+            word + chance.choice(SIGNS)]
     changed = chance.choice(ways)
     if behind and chance.randrange(7) == 0:
         return text[:begin] + behind[2] + behind[1] + word + text[end + len(behind[0]) :]
@@ -412,8 +460,8 @@ def edited(text, begin, end, chance):
 
 
 def read_alike(path, one, other):
-    """Whether two texts of a file are the same but for comments and white space, for commas at the end of a list and for the order
-    of what is derived."""
+    """Whether two texts of a file are the same but for comments and white space, for commas at the end of a list and
+    for the order of what is derived."""
     forms = []
     for text in (one, other):
         if path.endswith(".antt"):
@@ -437,7 +485,8 @@ def unseen_edits(files, count, seed):
             after = statements.Reach({**files, path: text})
             name = path.split("/")[1]
             same = statements.text_of(after, after.crates[name]) == before[name]
-            same = same and all(statements.text_of(after, crate) == before[other] for other, crate in after.crates.items())
+            same = same and all(statements.text_of(after, crate) == before[other]
+                                for other, crate in after.crates.items())
         except sources.Unreadable:
             continue
         if same and not read_alike(path, files[path], text):
@@ -446,7 +495,8 @@ def unseen_edits(files, count, seed):
 
 
 def try_edits(files, count, seed=None):
-    """Tries random edits. Their seed is of the sources, so that a changed tree has others and a second run the same ones."""
+    """Tries random edits. Their seed is of the sources, so that a changed tree has others and a second run the same
+    ones."""
     seed = seed or hashlib.sha256("".join(files.values()).encode()).hexdigest()[:12]
     found = list(unseen_edits(files, count, seed))
     for line in found:
@@ -475,7 +525,8 @@ def main(words):
         failed.append("other layout and other comments change the texts")
     for line in failed:
         print(f"statements: {line}")
-    print(f"statements: {len(changes) + len(STEPS) + 1 - len(failed)} of {len(changes) + len(STEPS) + 1} changes are seen for what they are")
+    print(f"statements: {len(changes) + len(STEPS) + 1 - len(failed)} of {len(changes) + len(STEPS) + 1} changes are "
+          f"seen for what they are")
     return 1 if failed or try_edits(files, EDITS) else 0
 
 

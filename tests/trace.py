@@ -4,9 +4,10 @@
     tests/trace.py              the program in crates/ccq/out
     tests/trace.py PROGRAM      another one
 
-The plans are those of examples/ and of tests/rows.py, refused ones too. The second program is tests/derive.py, which knows
-the algorithm from the documents alone; the status, standard error and each line have to be the same. Before that the script
-shows that it finds each value of a line that is wrong, a line too few and one too many. Exit status 0 if all is so.
+The plans are those of examples/ and of tests/rows.py, refused ones too. The second program is tests/derive.py, which
+knows the algorithm from the documents alone; the status, standard error and each line have to be the same. Before that
+the script shows that it finds each value of a line that is wrong, a line too few and one too many. Exit status 0 if all
+is so.
 """
 import json
 import pathlib
@@ -45,7 +46,8 @@ def difference(seen, due):
 
 
 def wrong_traces(text):
-    """Traces that differ from this one: each value of its middle line is another, a line is missing, or stands twice."""
+    """Traces that differ from this one: each value of its middle line is another, a line is missing, or stands
+    twice."""
     lines = text.splitlines(keepends=True)
     middle = len(lines) // 2
     for key, value in json.loads(lines[middle]).items():

@@ -3,9 +3,10 @@
 
     tests/unwind.py
 
-- In each archive `.eh_frame` has a table for each function, of the function's size. Its first row, if it has one, is that of an entry (readelf).
-- gdb steps through the calls of tests/unwind.c, and finds main from each instruction (tests/unwind_walk.py). It doesn't without the tables.
-- For x86-64 the archives have the note of CET. So each export begins with `endbr64`, and each jump by a register is `notrack`. The linker
+- In each archive `.eh_frame` has a table for each function, of the function's size. Its first row, if it has one, is
+that of an entry (readelf). - gdb steps through the calls of tests/unwind.c, and finds main from each instruction
+(tests/unwind_walk.py). It doesn't without the tables. - For x86-64 the archives have the note of CET. So each export
+begins with `endbr64`, and each jump by a register is `notrack`. The linker
   finds the note in each object.
 - tools/mark_module.py makes of small modules what is due.
 
@@ -31,7 +32,8 @@ import mark_module
 FUNCTION, GROUP = "define internal void @it(ptr %a0) #0 {\nret void\n}\n", "attributes #0 = { nounwind }\n"
 MARKED = GROUP.replace("{ ", "{ uwtable ")
 TRIPLE = 'target triple = "x86_64-unknown-linux-gnu"\n'
-FLAGS = '!llvm.module.flags = !{!1, !2}\n!1 = !{i32 8, !"cf-protection-return", i32 1}\n!2 = !{i32 8, !"cf-protection-branch", i32 1}\n'
+FLAGS = ('!llvm.module.flags = !{!1, !2}\n!1 = !{i32 8, !"cf-protection-return", i32 1}\n'
+         '!2 = !{i32 8, !"cf-protection-branch", i32 1}\n')
 # Modules, and what becomes of them; None, if they are refused.
 MODULES = [
     (FUNCTION + GROUP, FUNCTION + MARKED),
@@ -51,10 +53,13 @@ def said_by(*command) -> str:
 
 def check_tables(archive: pathlib.Path) -> None:
     """Each function has a table of its size; without rows it is as at an entry."""
-    sizes = collections.Counter(int(size, 16) for size in re.findall(r" \.text\.\S+ +PROGBITS +\S+ \S+ (\S+)", said_by("readelf", "-SW", archive)))
+    sizes = collections.Counter(int(size, 16)
+                                for size in re.findall(r" \.text\.\S+ +PROGBITS +\S+ \S+ (\S+)",
+                                                       said_by("readelf", "-SW", archive)))
     told = said_by("readelf", "-W", "--debug-dump=frames-interp", archive)
     tables = re.findall(r" FDE [^\n]*pc=(\w+)\.\.(\w+)\n(?:[^\n]* LOC [^\n]*\n0+ (\S+))?", told)
-    wrong = [row for begin, end, row in tables if (row or FIRST[archive.parent.name]) != FIRST[archive.parent.name] or int(begin, 16)]
+    wrong = [row for begin, end, row in tables if (row or FIRST[archive.parent.name]) != FIRST[archive.parent.name]
+             or int(begin, 16)]
     if wrong or not sizes or collections.Counter(int(end, 16) for _, end, _ in tables) != sizes:
         failed.append(f"{archive}: the tables aren't those of the functions, or begin so: {wrong}")
 
@@ -74,10 +79,13 @@ def check_jumps(archive: pathlib.Path) -> None:
 def walk(room: str, archive: pathlib.Path) -> tuple:
     """How many stops gdb makes in the calls, and how many are wrong; nothing if no process may be traced here."""
     program = f"{room}/unwind"
-    command = ["cc", "-std=c11", "-O1", "-I", str(TOP / "bindings/c"), str(TOP / "tests/unwind.c"), str(archive), str(X86 / "libvahepito_heap.a")]
-    linked = subprocess.run([*command, "-Wl,-z,now", "-Wl,-z,cet-report=warning", "-o", program], capture_output=True, text=True, check=True)
+    command = ["cc", "-std=c11", "-O1", "-I", str(TOP / "bindings/c"), str(TOP / "tests/unwind.c"), str(archive),
+               str(X86 / "libvahepito_heap.a")]
+    linked = subprocess.run([*command, "-Wl,-z,now", "-Wl,-z,cet-report=warning", "-o", program], capture_output=True,
+                            text=True, check=True)
     failed.extend(line for line in linked.stderr.splitlines() if "libvahepito" in line)
-    done = subprocess.run(["gdb", "-nx", "-q", "-batch", "-x", TOP / "tests/unwind_walk.py", program], capture_output=True, text=True, timeout=300)
+    done = subprocess.run(["gdb", "-nx", "-q", "-batch", "-x", TOP / "tests/unwind_walk.py", program],
+                          capture_output=True, text=True, timeout=300)
     found = re.search(r"^(\d+) stops, (\d+) wrong$", done.stdout, re.M)
     if not found and "ptrace" not in done.stderr:
         failed.append(f"{archive}: gdb says {done.stdout[-500:]}{done.stderr}")

@@ -1,8 +1,8 @@
 """Steps through calls of the library, by gdb, and walks from each instruction to the caller: tests/unwind.py runs it.
 
-In each function that a step reaches, main has to be found by the tables of unwinding, with its stack pointer and the registers that a call keeps
-as they were when main called. What isn't of the program, as the C library, is left at once. It ends at the first stop that is wrong. The last
-line says how many stops there were, and how many were wrong.
+In each function that a step reaches, main has to be found by the tables of unwinding, with its stack pointer and the
+registers that a call keeps as they were when main called. What isn't of the program, as the C library, is left at once.
+It ends at the first stop that is wrong. The last line says how many stops there were, and how many were wrong.
 """
 import gdb
 

@@ -1,5 +1,5 @@
-# What the scripts share that have rt prove and build something; each reads it by `.` and says before: `top`, the top of the
-# repository, and `name`, what its lines begin with.
+# What the scripts share that have rt prove and build something; each reads it by `.` and says before: `top`, the top of
+# the repository, and `name`, what its lines begin with.
 
 # A crate and those that it stands on, each behind those below it. The kit's crates have no line in crates.txt.
 crates_of() {
@@ -17,7 +17,8 @@ crates_of() {
 
 sum_of() { sha256sum "$@" | cut -d' ' -f1; }
 
-# The sum of what these crates are built of and what is proved of them: the code with its contracts, and the definitions.
+# The sum of what these crates are built of and what is proved of them: the code with its contracts, and the
+# definitions.
 sum_of_sources() {
     local crate
     for crate; do
@@ -29,7 +30,8 @@ sum_of_sources() {
 # How many functions these crates have.
 functions_of() {
     local crate
-    for crate; do cat "$top/crates/$crate"/src/{,*/}*.rt 2>/dev/null; done | grep -cE '^ *(pub(\([a-z]+\))? )?(extern "C" )?(const )?fn '
+    for crate; do cat "$top/crates/$crate"/src/{,*/}*.rt 2>/dev/null; done |
+        grep -cE '^ *(pub(\([a-z]+\))? )?(extern "C" )?(const )?fn '
 }
 
 # Runs a command in a crate's folder, and says every 20 seconds how far it is. What it writes goes into $scratch/log.
@@ -66,8 +68,8 @@ clean_up() {
     done
 }
 
-# Proves and builds a crate, by the command that is given, behind those that it stands on: says at each how many functions are
-# left. Where one isn't proved it shows what rt wrote, and its status is 1.
+# Proves and builds a crate, by the command that is given, behind those that it stands on: says at each how many
+# functions are left. Where one isn't proved it shows what rt wrote, and its status is 1.
 build_with_those_below() {
     local last=$1 crates one
     shift

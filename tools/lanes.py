@@ -3,16 +3,18 @@
 
     tools/lanes.py LOG [OPTIONS OF ccq judge]
 
-It is for queues that promise order for each sender alone, as moodycamel::ConcurrentQueue. A lane has the accepted and the pending
-sends of one thread, the takes that got one of these items, all closes, and each take that hasn't returned, since that may have
-got any item. Takes that found none and sends that were refused belong to no lane. A take of an item that no line sent is in a lane of its own
-with all such takes. A lane is judged as a log whose other lines are empty, so a fault has the line numbers of the whole log. What the first
-line says of the log's begin and the last one of its end holds for each lane.
+It is for queues that promise order for each sender alone, as moodycamel::ConcurrentQueue. A lane has the accepted and
+the pending sends of one thread, the takes that got one of these items, all closes, and each take that hasn't returned,
+since that may have got any item. Takes that found none and sends that were refused belong to no lane. A take of an item
+that no line sent is in a lane of its own with all such takes. A lane is judged as a log whose other lines are empty, so
+a fault has the line numbers of the whole log. What the first line says of the log's begin and the last one of its end
+holds for each lane.
 
-Clean lanes mean: no item was taken twice, none was taken that wasn't sent, and the items of one thread were taken in the order in which it
-sent them. They don't mean that a take which found none was right, so a lost item is found only if a later one of its sender is
-taken. Prints a line for each lane that isn't clean, and one of all lanes; the exit status is the greatest of `ccq judge`, or 64 for a line
-that isn't understood. The program is what CCQ names, or `ccq` on the path, or else the one in bin.
+Clean lanes mean: no item was taken twice, none was taken that wasn't sent, and the items of one thread were taken in
+the order in which it sent them. They don't mean that a take which found none was right, so a lost item is found only if
+a later one of its sender is taken. Prints a line for each lane that isn't clean, and one of all lanes; the exit status
+is the greatest of `ccq judge`, or 64 for a line that isn't understood. The program is what CCQ names, or `ccq` on the
+path, or else the one in bin.
 """
 import json
 import os
@@ -21,7 +23,8 @@ import shutil
 import subprocess
 import sys
 
-CCQ = os.environ.get("CCQ") or shutil.which("ccq") or str(pathlib.Path(__file__).resolve().parent.parent / "bin/x86_64-unknown-linux-gnu/ccq")
+CCQ = os.environ.get("CCQ") or shutil.which("ccq") or str(
+    pathlib.Path(__file__).resolve().parent.parent / "bin/x86_64-unknown-linux-gnu/ccq")
 
 # The lane of takes of items that no line sent.
 UNSENT = "no line"
@@ -49,7 +52,8 @@ def calls_of(lines):
         if not isinstance(call, dict):
             raise Refused(f"line {place + 1}: no JSON object")
         calls[place] = call
-    said = {place for place, key in ((min(calls, default=None), "begins"), (max(calls, default=None), "ends")) if key in calls.get(place, ())}
+    said = {place for place, key in ((min(calls, default=None), "begins"), (max(calls, default=None), "ends"))
+            if key in calls.get(place, ())}
     for place in said:
         del calls[place]
     for place, call in calls.items():
@@ -62,7 +66,8 @@ def lanes_of(lines):
     """The logs of the lanes, by the names of their threads."""
     calls, said = calls_of(lines)
     # A send without an answer was accepted, or is pending.
-    sent_by = {item_of(call["send"]): str(call["thread"]) for call in calls.values() if "send" in call and "answer" not in call}
+    sent_by = {item_of(call["send"]): str(call["thread"])
+               for call in calls.values() if "send" in call and "answer" not in call}
     lanes, shared = {thread: [] for thread in sent_by.values()}, []
     for place, call in calls.items():
         if "send" in call and "answer" not in call:

@@ -4,11 +4,11 @@
     tools/manual.py            compares docs/ccq.1 with the texts of crates/ccq/out/ccq: exit status 0 if it has them
     tools/manual.py --write    writes docs/ccq.1
 
-A text of help is what the task does, how it is called, its options, and blocks between empty lines. A block is a paragraph; or
-lines that are indented by two columns, below a paragraph: a table if they have a gap of two blanks, and else lines as they are.
-The options of all tasks are in OPTIONS, their tables of exit statuses in EXIT STATUS, their examples in EXAMPLES; all else is in
-the section of the task. So each word of a text of help is in the page. The date is that of the version in CHANGELOG.md. The
-variable CCQ names another program.
+A text of help is what the task does, how it is called, its options, and blocks between empty lines. A block is a
+paragraph; or lines that are indented by two columns, below a paragraph: a table if they have a gap of two blanks, and
+else lines as they are. The options of all tasks are in OPTIONS, their tables of exit statuses in EXIT STATUS, their
+examples in EXAMPLES; all else is in the section of the task. So each word of a text of help is in the page. The date is
+that of the version in CHANGELOG.md. The variable CCQ names another program.
 """
 import os
 import pathlib
@@ -20,8 +20,8 @@ TOP = pathlib.Path(__file__).resolve().parent.parent
 PROGRAM, MANUAL = pathlib.Path(os.environ.get("CCQ", TOP / "crates/ccq/out/ccq")), TOP / "docs/ccq.1"
 SEE_ALSO = """.BR vahepito (3)
 .PP
-In the sources: docs/FORMATS.md has the rules of plans, receipts and reports, docs/JUDGE.md those of logs, and docs/PROVED.md what is
-proved of each task.
+In the sources: docs/FORMATS.md has the rules of plans, receipts and reports, docs/JUDGE.md those of logs, and
+docs/PROVED.md what is proved of each task.
 """
 
 
@@ -89,12 +89,15 @@ def body(block):
 
 
 def parted(text):
-    """Of a text of help: what the task does, its usage, its blocks by their kind: options, exit statuses, examples, others."""
+    """Of a text of help: what the task does, its usage, its blocks by their kind: options, exit statuses, examples,
+    others."""
     about, usage, *blocks = [it.split("\n") for it in text.rstrip("\n").split("\n\n")]
     kinds = {"options": [], "statuses": [], "examples": [], "others": []}
     for block in blocks:
         head = block[0]
-        kind = next((kind for word, kind in (("Option", "options"), ("Exit status:", "statuses"), ("Example", "examples")) if head.startswith(word)), "others")
+        kind = next((kind for word,
+                     kind in (("Option", "options"), ("Exit status:", "statuses"), ("Example", "examples"))
+                     if head.startswith(word)), "others")
         if head != "Commands:":
             kinds[kind].append(block)
     return about, usage[0].removeprefix("Usage: "), kinds
@@ -105,24 +108,28 @@ def manual(texts):
     about = parts["ccq"][0][0]
     version = said("--version").split()[1]
     date = re.search(rf"^## {re.escape(version)} \((.*)\)", (TOP / "CHANGELOG.md").read_text(), flags=re.M)
-    page = f'.TH CCQ 1 "{date[1] if date else ""}" "ccq {version}" "User Commands"\n.SH NAME\nccq \\- {raw(about[0].lower() + about[1:])}\n'
-    page += ".SH SYNOPSIS\n"
+    page = f'.TH CCQ 1 "{date[1] if date else ""}" "ccq {version}" "User Commands"\n'
+    page += f".SH NAME\nccq \\- {raw(about[0].lower() + about[1:])}\n.SH SYNOPSIS\n"
     for line, (_, usage, _) in parts.items():
         words, note = re.fullmatch(r"((?:ccq)(?: [a-z]+)?)(.*)", usage).groups()
         note = re.sub(r" \(.*\)", "", note)
         page += f".B {words}\n{lines([note.strip()])}.br\n"
     page += ".SH DESCRIPTION\n.PP\n" + lines([about + "."])
-    page += ".PP\n" + lines(["A task with an input reads the file that is named, or standard input if none is named or the name is `-`."])
+    page += ".PP\n" + lines(
+        ["A task with an input reads the file that is named, or standard input if none is named or the name is `-`."])
     page += "".join(body(it) for it in parts["ccq"][2]["others"])
     for line, (first, _, kinds) in parts.items():
         if line != "ccq":
-            page += f'.SS "{line}"\n' + ".PP\n" + lines([" ".join(first) + "."]) + "".join(body(it) for it in kinds["others"])
+            page += f'.SS "{line}"\n' + ".PP\n" + lines([" ".join(first) + "."]) + "".join(body(it)
+                for it in kinds["others"])
     page += ".SH OPTIONS\n"
     for line, (_, _, kinds) in parts.items():
-        found = [row for block in kinds["options"] for row in rows(block[1:]) if line == "ccq" or "--help" not in row[0]]
+        found = [row for block in kinds["options"]
+                 for row in rows(block[1:]) if line == "ccq" or "--help" not in row[0]]
         heads = [block[0].rstrip(":") for block in kinds["options"] if not block[0].startswith("Options:")]
         if found:
-            page += (f'.SS "{line}"\n' if line != "ccq" else "") + "".join(".PP\n" + lines([it + "."]) for it in heads) + table(found)
+            page += (f'.SS "{line}"\n' if line != "ccq" else "") + "".join(".PP\n" + lines([it + "."])
+                for it in heads) + table(found)
     page += ".SH EXIT STATUS\n"
     for line, (_, _, kinds) in parts.items():
         for block in kinds["statuses"]:

@@ -1,15 +1,18 @@
 #!/usr/bin/env python3
-"""Marks a module of LLVM, as text, so that the compiler writes what debuggers and a processor's protection of jumps need.
+"""Marks a module of LLVM, as text, so that the compiler writes what debuggers and a processor's protection of jumps
+need.
 
     tools/mark_module.py < MODULE > MARKED
 
-- Each function that is defined gets the attribute `uwtable`. Then `.eh_frame` says for each instruction where the caller's
+- Each function that is defined gets the attribute `uwtable`. Then `.eh_frame` says for each instruction where the
+caller's
   registers are, so that a debugger or a profiler finds the callers.
-- For x86-64 the module gets the flags of the compiler's `-fcf-protection=full` (CET). Then each function that a pointer may reach begins
+- For x86-64 the module gets the flags of the compiler's `-fcf-protection=full` (CET). Then each function that a pointer
+may reach begins
   with `endbr64`, and `.note.gnu.property` says so. Without that note a linker turns CET off for the whole program.
 
-No other byte changes, and a module that has these marks already stays as it is. The exit status is 1 if a function has no group of
-attributes, or the module has other flags.
+No other byte changes, and a module that has these marks already stays as it is. The exit status is 1 if a function has
+no group of attributes, or the module has other flags.
 """
 import re
 import sys

@@ -1,8 +1,8 @@
 #!/usr/bin/env python3
 """The pages of `ccq show` and `ccq judge --page` as texts of their program: crates/cc_show/src/page.rt, in which
 docs/pages/index.html is cut into what goes before, between and after its run and its report, and
-crates/cc_cli/src/judging/fault_page.rt, in which docs/pages/fault.html is cut in the same way at its fault and its calls.
-Nobody reads these texts, so they are folded: only a paragraph of the page begins a line.
+crates/cc_cli/src/judging/fault_page.rt, in which docs/pages/fault.html is cut in the same way at its fault and its
+calls. Nobody reads these texts, so they are folded: only a paragraph of the page begins a line.
 
     tools/page_text.py            compares the texts with the pages; exit status 0 if they are their parts
     tools/page_text.py --write    writes them

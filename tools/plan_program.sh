@@ -1,5 +1,6 @@
-# What ./play and ./show share: which plan is read, and the program `ccq`: the one in bin/, or one that is proved and built here,
-# or tried. Each says before it reads this by `.`: `top`, the top of the repository, and `name`, its name and the task of `ccq`.
+# What ./play and ./show share: which plan is read, and the program `ccq`: the one in bin/, or one that is proved and
+# built here, or tried. Each says before it reads this by `.`: `top`, the top of the repository, and `name`, its name
+# and the task of `ccq`.
 . "$top/tools/building.sh" || exit 69
 program=$top/crates/ccq/out/ccq
 prebuilt=$top/bin/x86_64-unknown-linux-gnu/ccq
@@ -26,7 +27,8 @@ is_old() {
 have_program() {
     if [ -x "$program" ] && ! is_old; then return; fi
     if ! command -v rt >/dev/null; then
-        [ -x "$program" ] && say 'sources are newer than the program, and rt is not on the path: this runs the old one' && return
+        [ -x "$program" ] &&
+            say 'sources are newer than the program, and rt is not on the path: this runs the old one' && return
         say "the command rt isn't on the path. It is the toolchain that proves and builds this program, and"
         say 'nothing else does: ./test --quick checks what needs no proof.'
         exit 69
@@ -34,7 +36,7 @@ have_program() {
     if [ -x "$program" ]; then
         say 'sources are newer than the program: building it again'
     else
-        say 'proving and building the program, this once: 25 minutes of one fast processor, or 15 on four, up to three times'
+        say 'proving and building ccq, this once: 25 minutes of one fast processor, or 15 on four, up to three times'
         say 'that on slow ones; and 2.9 GB. With --try it answers sooner, without proofs'
     fi
     # The help is asked for since rt has no other way to build a program than to run it
@@ -48,8 +50,9 @@ have_program() {
 # Runs the program by `rt try`, which proves and keeps nothing, and says every five seconds that it is at it.
 try_program() {
     local status start=$SECONDS told=0
-    command -v rt >/dev/null || { say 'the command rt is not on the path, which compiles and runs the sources' && exit 69; }
-    say "compiling $(functions_of $(crates_of ccq)) functions with checks at each index and each sum, without their proofs"
+    command -v rt >/dev/null ||
+        { say 'the command rt is not on the path, which compiles and runs the sources' && exit 69; }
+    say "compiling $(functions_of $(crates_of ccq)) functions with checks at indices and sums, without their proofs"
     scratch=$(mktemp -d) || exit 69
     trap clean_up EXIT
     trap 'exit 130' INT TERM HUP

@@ -5,8 +5,8 @@
 #        tools/programs.sh --sums
 #        tools/programs.sh --update LOG
 #
-# bin/x86_64-unknown-linux-gnu has `ccq` as LLVM built it, and PROOF: its sum, the sum of the sources that it is built of, and
-# the line by which `rt ci` proved it. Then ./play and ./show answer by it, with no rt on the path.
+# bin/x86_64-unknown-linux-gnu has `ccq` as LLVM built it, and PROOF: its sum, the sum of the sources that it is built
+# of, and the line by which `rt ci` proved it. Then ./play and ./show answer by it, with no rt on the path.
 # --sums builds nothing and needs no rt: it compares the sums in PROOF with the program and the sources as they stand.
 # --update copies the program into bin/. LOG is the output of the `rt ci` that proved it just now.
 # Exit status 0 if all is the same.

@@ -6,11 +6,12 @@
 #   ccq-VERSION-x86_64-linux.tar.gz the program `ccq`, its manual page, completions and the line of its proof
 #   SHA256SUMS                      their sums
 #
-# Usage: tools/release.sh                    makes them twice in folders for temporary files: both times with the same bytes
+# Usage: tools/release.sh                    makes them twice in folders for temporary files: twice with the same bytes
 #        tools/release.sh --write FOLDER     writes them into a folder, which has to be empty or not there
 #
-# It builds nothing but the shared library and the queue for C: the archives and the program are those in bindings/rust/lib and bin. It needs
-# make, cc and cargo, and no network. The exit status is 77 without one of these. CONTRIBUTING.md says how a release is made.
+# It builds nothing but the shared library and the queue for C: the archives and the program are those in
+# bindings/rust/lib and bin. It needs make, cc and cargo, and no network. The exit status is 77 without one of these.
+# CONTRIBUTING.md says how a release is made.
 set -u
 cd "$(dirname "$0")/.." || exit 1
 target=x86_64-unknown-linux-gnu
@@ -26,10 +27,12 @@ make_all() {
     local into=$1 room
     room=$(mktemp -d "$work/XXXX") && mkdir -p "$into" &&
         make -s -C bindings/c dist OUT="$room/c" >/dev/null && cp "$room/c/vahepito-c-$version.tar.gz" "$into" &&
-        CARGO_TARGET_DIR=$room/crate cargo package --quiet --offline --locked --no-verify --allow-dirty --manifest-path bindings/rust/Cargo.toml 2>"$room/said" &&
+        CARGO_TARGET_DIR=$room/crate cargo package --quiet --offline --locked --no-verify --allow-dirty \
+            --manifest-path bindings/rust/Cargo.toml 2>"$room/said" &&
         cp "$room/crate/package/vahepito-$version.crate" "$into" &&
         make -s install PREFIX=/usr/local DESTDIR="$room/ccq" && mv "$room/ccq/usr/local" "$room/ccq/ccq-$version" &&
-        cp "bin/$target/PROOF" CHANGELOG.md "$room/ccq/ccq-$version" && pack "$room/ccq" "ccq-$version" "$into/ccq-$version-x86_64-linux.tar.gz" &&
+        cp "bin/$target/PROOF" CHANGELOG.md "$room/ccq/ccq-$version" &&
+        pack "$room/ccq" "ccq-$version" "$into/ccq-$version-x86_64-linux.tar.gz" &&
         (cd "$into" && sha256sum -- *.tar.gz *.crate >SHA256SUMS)
 }
 
@@ -40,7 +43,8 @@ work=$(mktemp -d) || exit 1
 trap 'rm -rf "$work"' EXIT
 case "$#-${1-}" in
 0-)
-    make_all "$work/one" && sleep 1 && make_all "$work/two" && diff -r "$work/one" "$work/two" || { echo 'release: FAILED' && exit 1; }
+    make_all "$work/one" && sleep 1 && make_all "$work/two" && diff -r "$work/one" "$work/two" ||
+        { echo 'release: FAILED' && exit 1; }
     echo "release: $version, twice with the same bytes: $(cd "$work/one" && echo *)"
     ;;
 2---write)

@@ -1,11 +1,13 @@
 #!/bin/bash
-# The pictures of docs/pictures that show a page as a browser without a window draws it: docs/pages/index.html at a screen of a
-# lecture and at one event of each of four scenarios, and docs/pages/fault.html. docs/pictures/show.sums tells of each its page, the part of it, its size, and a sum of the
-# page that it was drawn from; so a picture that isn't of today's page is found without a browser.
+# The pictures of docs/pictures that show a page as a browser without a window draws it: docs/pages/index.html at a
+# screen of a lecture and at one event of each of four scenarios, and docs/pages/fault.html. docs/pictures/show.sums
+# tells of each its page, the part of it, its size, and a sum of the page that it was drawn from; so a picture that
+# isn't of today's page is found without a browser.
 #
 # Usage: tools/show_pictures.sh [--write]
 #
-# Compares the sums: exit status 0 where every picture is there and current. With `--write` it draws them anew, by Chromium.
+# Compares the sums: exit status 0 where every picture is there and current. With `--write` it draws them anew, by
+# Chromium.
 set -u
 cd "$(dirname "$0")/.." || exit 1
 room=$(mktemp -d) || exit 1
@@ -25,7 +27,8 @@ judge-fault fault.html # 468'
 record_of() {
     local picture page part height
     while read -r picture page part height; do
-        printf '%s %s %s %s %s\n' "$picture" "$page" "$part" "$height" "$(sha256sum <"docs/pages/$page" | cut -d' ' -f1)"
+        printf '%s %s %s %s %s\n' "$picture" "$page" "$part" "$height" \
+            "$(sha256sum <"docs/pages/$page" | cut -d' ' -f1)"
     done <<<"$pictures"
 }
 
@@ -33,7 +36,8 @@ record_of() {
 draw() {
     local picture page part height
     while read -r picture page part height; do
-        "$1" --headless --no-sandbox --disable-gpu --hide-scrollbars --force-device-scale-factor=1 --force-prefers-reduced-motion \
+        "$1" --headless --no-sandbox --disable-gpu --hide-scrollbars --force-device-scale-factor=1 \
+            --force-prefers-reduced-motion \
             --user-data-dir="$room/profile" --window-size="1366,$height" --virtual-time-budget=2000 \
             --screenshot="$PWD/$folder/$picture.png" "file://$PWD/docs/pages/$page$part" \
             >"$room/log" 2>&1 </dev/null || return 1

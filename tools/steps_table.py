@@ -1,6 +1,7 @@
 #!/usr/bin/env python3
 """The table of steps of docs/ARCHITECTURE.md, written from the definitions in crates/cc_runs/specs: a row for each line of
-Lines, SendLines, TakeLines and CountLines that makes a step, and behind the rows of a file the functions that they name.
+Lines, SendLines, TakeLines and CountLines that makes a step, and behind the rows of a file the functions that they
+name.
 
     tools/steps_table.py            compares the document with the definitions; exit status 0 if it has their table
     tools/steps_table.py --write    writes the table into the document
@@ -24,7 +25,8 @@ OPERATIONS = {
     "load": lambda found, word, *_: f"loads {word}" + (f" as {code(found)}" if found != "_" else ""),
     "store": lambda found, word, value, *_: f"stores {value} in {word}",
     "add": lambda found, word, value, *_: f"adds {value} to {word}",
-    "swap": lambda found, word, value, entry, node, *_: f"swaps {value} into {word}, finds {code(found)}: its node is {node}, "
+    "swap": lambda found, word, value, entry, node,
+    *_: f"swaps {value} into {word}, finds {code(found)}: its node is {node}, "
     f"and {entry} enters the history",
 }
 # What a line says of the pass behind its step.
@@ -83,7 +85,8 @@ def section(file, title):
     functions, rows = re.split(r"^ *abbrev pub line .*\n", text, maxsplit=1, flags=re.M)
     named = re.findall(r"^(--.*\n)abbrev pub (?:mark|after|serves|by_).*\n((?:.+\n)+)", functions, flags=re.M)
     table = "".join(row(line) for line in rows.splitlines() if re.match(" *line .* = ", line))
-    shown = "".join("\n" + "".join(f"    {line}\n" for line in (comment + lines).splitlines()) for comment, lines in named)
+    shown = "".join("\n" + "".join(f"    {line}\n" for line in (comment + lines).splitlines())
+                    for comment, lines in named)
     return f"\n### {title}\n\n| phase | kind | operation | next phase |\n|---|---|---|---|\n{table}{shown}"
 
 

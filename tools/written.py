@@ -13,7 +13,8 @@ class Part:
         self.path, self.begin, self.end = path, begin, end
 
     def main(self, made):
-        """Does what the words of the command line ask for, and returns the exit status. `made` makes the part as it has to be."""
+        """Does what the words of the command line ask for, and returns the exit status. `made` makes the part as it has
+        to be."""
         script = pathlib.Path(sys.argv[0]).name
         name = self.path.relative_to(TOP)
         if sys.argv[1:] not in ([], ["--write"]):

@@ -1,5 +1,6 @@
 #!/usr/bin/env python3
-"""Tests pages of `ccq show` and `ccq judge --page`, as `rt run` built it, and compares them with what `ccq play` writes.
+"""Tests pages of `ccq show` and `ccq judge --page`, as `rt run` built it, and compares them with what `ccq play`
+writes.
 
     tests/show/pages.py walks        the page of each plan in examples/, stepped to its end by keys and back
     tests/show/pages.py many         a page of 20,000 events: the median of its steps takes at most 20 ms
@@ -7,15 +8,16 @@
     tests/show/pages.py by_node      the same steps of the pages' machine alone, by node, with the laws
     tests/show/pages.py lessons      the tour, scenarios and broken queues of docs/pages/index.html, by node
     tests/show/pages.py plans        each plan of tests/rows.py is read or refused as by `ccq play`, by node
-    tests/show/pages.py learns       the index: each lesson by clicks and keys, side by side, exercises, also on paper, the adversary, a queue of one's own, plans, links, keys
-    tests/show/pages.py lectures     each screen of each lecture; the path of docs/TEACHING.md; motion; the page as a site serves it
+    tests/show/pages.py learns       the index: each lesson by clicks and keys, side by side, exercises, also on paper,
+                                     the adversary, a queue of one's own, plans, links, keys
+    tests/show/pages.py lectures     each screen of each lecture; the path of docs/TEACHING.md; motion; a site
     tests/show/pages.py shortest     the solutions of the exercises are shortest ones, by node
-    tests/show/pages.py judged       pages of `ccq judge --page`: one of each fault, of a clean log, and of 100,000 calls
-    tests/show/pages.py looks        buttons, keys and turns; what is in view; a phone, 320 pixels and 200 %; contrasts in both schemes
+    tests/show/pages.py judged       pages of `ccq judge --page`: one of each fault, a clean log, 100,000 calls
+    tests/show/pages.py looks        buttons, keys and turns; what is in view; a phone, 320 pixels and 200 %; contrasts
 
-All but by_node, lessons, plans and shortest need Chromium, whose name is in the environment variable `browser`. After steps by hand the
-plan that the page exports is played by `ccq`, and its report has to be that of the page, byte for byte. Exit status 0 if all is
-as it should be.
+All but by_node, lessons, plans and shortest need Chromium, whose name is in the environment variable `browser`. After
+steps by hand the plan that the page exports is played by `ccq`, and its report has to be that of the page, byte for
+byte. Exit status 0 if all is as it should be.
 """
 import difflib
 import json
@@ -53,7 +55,8 @@ CONFIGURATIONS = [(1, 1, 1, 1, 1, 3, 1), (1, 2, 2, 2, 2, 100, 1), (1, 3, 1, 4, 4
 
 
 def output(program, *words, given=b""):
-    return subprocess.run([program, *words], input=given, stdout=subprocess.PIPE, check=True, timeout=120).stdout.decode()
+    return subprocess.run([program, *words], input=given, stdout=subprocess.PIPE, check=True,
+                          timeout=120).stdout.decode()
 
 
 def alone(task, *words):
@@ -69,7 +72,8 @@ def page_of(plan):
 
 
 def plan_without_events(groups, senders, receivers, capacity, bound, life, words):
-    plan = {"capacity": capacity, "bound": bound, "life": life, "senders": [[]] * senders, "receivers": [0] * (groups * receivers), "schedule": []}
+    plan = {"capacity": capacity, "bound": bound, "life": life, "senders": [[]] * senders,
+            "receivers": [0] * (groups * receivers), "schedule": []}
     return json.dumps(plan if groups == 1 else {"version": 2, "groups": groups, **plan}).encode()
 
 
@@ -88,10 +92,12 @@ def plan_of_many_events():
 
 
 def in_browser(jobs, dark=False, still=True):
-    """What the test of each of these jobs returns, in one browser without a window, with motion or without. Ends if that fails, has a
-    console's line, or asks for what it isn't to have."""
-    files = {"/": '<!DOCTYPE html><meta charset="utf-8"><link rel="icon" href="data:,"><body>' + "".join(f'<script src="{name}"></script>' for name in ("jobs.js", "hands.js", "tests.js")),
-             "/pages/": INDEX.read_text(), "/index.html": INDEX.read_text(), "/jobs.js": "const jobs = " + json.dumps(jobs), **{f"/{name}": (HERE / name).read_text() for name in ("hands.js", "tests.js")}}
+    """What the test of each of these jobs returns, in one browser without a window, with motion or without. Ends if
+    that fails, has a console's line, or asks for what it isn't to have."""
+    files = {"/": '<!DOCTYPE html><meta charset="utf-8"><link rel="icon" href="data:,"><body>'
+             + "".join(f'<script src="{name}"></script>' for name in ("jobs.js", "hands.js", "tests.js")),
+             "/pages/": INDEX.read_text(), "/index.html": INDEX.read_text(), "/jobs.js": "const jobs = "
+             + json.dumps(jobs), **{f"/{name}": (HERE / name).read_text() for name in ("hands.js", "tests.js")}}
     answers, strange = queue.Queue(), []
 
     class Harness(BaseHTTPRequestHandler):
@@ -113,10 +119,13 @@ def in_browser(jobs, dark=False, still=True):
 
     server = ThreadingHTTPServer(("127.0.0.1", 0), Harness)
     threading.Thread(target=server.serve_forever, daemon=True).start()
-    with tempfile.TemporaryDirectory(ignore_cleanup_errors=True) as room, open(os.path.join(room, "console"), "w+") as console:
+    with tempfile.TemporaryDirectory(ignore_cleanup_errors=True) as room, open(os.path.join(room, "console"),
+        "w+") as console:
         browser = subprocess.Popen(
-            [os.environ["browser"], *(["--force-prefers-reduced-motion"] if still else []), "--headless", "--no-sandbox", "--disable-gpu", "--enable-logging=stderr", "--window-size=1400,1600",
-             f"--user-data-dir={room}/profile", f"--blink-settings=preferredColorScheme={0 if dark else 1}", f"http://127.0.0.1:{server.server_port}/"],
+            [os.environ["browser"], *(["--force-prefers-reduced-motion"] if still else []), "--headless",
+             "--no-sandbox", "--disable-gpu", "--enable-logging=stderr", "--window-size=1400,1600",
+             f"--user-data-dir={room}/profile", f"--blink-settings=preferredColorScheme={0 if dark else 1}",
+             f"http://127.0.0.1:{server.server_port}/"],
             stdin=subprocess.DEVNULL, stdout=console, stderr=console)
         try:
             found = [answers.get(timeout=300) for _ in jobs]
@@ -129,7 +138,8 @@ def in_browser(jobs, dark=False, still=True):
         console.seek(0)
         lines = [line for line in console if "CONSOLE" in line and "favicon" not in line]
     if lines or strange or not found:
-        sys.exit("".join(lines) or ("the page asks for " + ", ".join(strange) if strange else "the browser gave no answer"))
+        sys.exit("".join(lines)
+                 or ("the page asks for " + ", ".join(strange) if strange else "the browser gave no answer"))
     return found
 
 
@@ -145,7 +155,8 @@ def is_report_of(name, answer):
     """Whether the page's report is what `ccq play` writes for the page's plan, byte for byte; says if not."""
     played = output(PROGRAM, "play", given=answer["plan"].encode())
     if played != answer["report"]:
-        lines = difflib.unified_diff(played.splitlines(), answer["report"].splitlines(), "ccq play", "the page", lineterm="", n=1)
+        lines = difflib.unified_diff(played.splitlines(), answer["report"].splitlines(), "ccq play", "the page",
+                                     lineterm="", n=1)
         print(f"{name}: the plan {answer['plan'][:2000]}has another report:", *list(lines)[:12], sep="\n")
     return played == answer["report"]
 
@@ -153,7 +164,9 @@ def is_report_of(name, answer):
 def walks():
     pages = [page_of(plan.read_bytes()) for plan in PLANS]
     right = 0
-    for plan, answer in zip(PLANS, in_browser([{"test": "walk", "page": page, "rounds": 2, "width": 1280, "height": 1500} for page in pages])):
+    for plan, answer in zip(PLANS,
+                            in_browser([{"test": "walk", "page": page, "rounds": 2, "width": 1280, "height": 1500}
+                                        for page in pages])):
         if failed(plan.name, answer):
             continue
         history = output(PROGRAM, "play", given=plan.read_bytes()).split("\n")[:-2]
@@ -183,7 +196,8 @@ def driven(answers):
 
 
 def by_hand():
-    jobs = [{"test": "drive", "page": page_of(plan_without_events(*of)), "seed": seed, "steps": STEPS, "words": of[-1], **LAPTOP}
+    jobs = [{"test": "drive", "page": page_of(plan_without_events(*of)), "seed": seed, "steps": STEPS, "words": of[-1],
+             **LAPTOP}
             for seed, of in enumerate(CONFIGURATIONS, 1)]
     return driven(in_browser(jobs))
 
@@ -202,7 +216,8 @@ def lessons():
     """The plans of the lessons: those of examples/ are its files, and each has the report of `ccq play`."""
     right = True
     for lesson in alone("lessons", INDEX):
-        if lesson["kind"] == "example" and lesson["given"] != json.loads((TOP / "examples" / f"{lesson['id']}.json").read_text()):
+        if lesson["kind"] == "example" and lesson["given"] != json.loads(
+                (TOP / "examples" / f"{lesson['id']}.json").read_text()):
             print(f"{lesson['id']}: the plan isn't that of examples/")
             right = False
         right &= is_report_of(lesson["id"], lesson)
@@ -219,7 +234,8 @@ def plans():
     wrong = 0
     for (name, row), answer in zip(plays, answers):
         is_plan = row.status == 0
-        if (answer["refused"] == "") != is_plan or is_plan and not answer["is_long"] and answer["report"] != row.out.decode():
+        if (answer["refused"] == "") != is_plan or is_plan and not answer["is_long"] and answer[
+                "report"] != row.out.decode():
             print(f"{name}: {answer['refused'] or 'the page reads it as a plan, with another answer'}")
             wrong += 1
     return not wrong and len(answers) == len(plays) > 700
@@ -227,23 +243,30 @@ def plans():
 
 def learns():
     index = {"src": "/index.html", **LAPTOP}
-    jobs = [{"test": "lessons", **index}, {"test": "beside", **index}, {"test": "exercises", **index}, {"test": "own", **index}, {"test": "keys", **index}, {"test": "adversary", **index}, {"test": "paper", **index},
+    jobs = [{"test": "lessons", **index}, {"test": "beside", **index}, {"test": "exercises", **index},
+            {"test": "own", **index}, {"test": "keys", **index}, {"test": "adversary", **index},
+            {"test": "paper", **index},
             *({"test": "link", "text": plan.read_text(), **index} for plan in PLANS)]
     right = True
     for job, answer in zip(jobs, in_browser(jobs)):
-        right &= not failed(job["test"], answer) and (job["test"] != "own" or all(is_report_of("a queue of one's own", one) for one in answer))
+        right &= not failed(job["test"],
+                            answer) and (job["test"] != "own"
+                                         or all(is_report_of("a queue of one's own", one) for one in answer))
     return right
 
 
 def steps_of_path():
-    """The steps of the path in docs/TEACHING.md: the rows of its table, each with what is pressed and what the screen says then."""
+    """The steps of the path in docs/TEACHING.md: the rows of its table, each with what is pressed and what the screen
+    says then."""
     keys, steps = {"\u2192": "ArrowRight"}, []
     for press, says in re.findall(r"^\| \d+:\d\d \| (.*?) \| (.*?) \|", (TOP / "docs/TEACHING.md").read_text(), re.M):
         pressed = re.findall(r"`([^`]+)`(?: (\d+) times)?", press)
-        steps.append({"press": [keys.get(key, key) for key, times in pressed for _ in range(int(times or 1))], "says": re.findall(r'"([^"]+)"', says)})
+        steps.append({"press": [keys.get(key, key) for key, times in pressed for _ in range(int(times or 1))],
+                      "says": re.findall(r'"([^"]+)"', says)})
     if len(steps) < 10 or not all(step["press"] and step["says"] for step in steps):
         sys.exit("docs/TEACHING.md has no path of ten steps")
-    if "(docs/TEACHING.md)" not in (TOP / "README.md").read_text() or "(pages/index.html)" not in (TOP / "docs/TEACHING.md").read_text():
+    if "(docs/TEACHING.md)" not in (TOP / "README.md").read_text() or "(pages/index.html)" not in (
+            TOP / "docs/TEACHING.md").read_text():
         sys.exit("README doesn't lead to docs/TEACHING.md, or that not to the page")
     return steps
 
@@ -254,7 +277,8 @@ def lectures():
     index = {"src": "/pages/", **LAPTOP}
     wrong = 0
     for still in (True, False):
-        jobs = [{"test": "motion", "still": still, **index}] + [{"test": "lecture", **index}, *({"test": "fits", **index, **size} for size in SCREENS),
+        jobs = [{"test": "motion", "still": still, **index}] + [{"test": "lecture", **index},
+            *({"test": "fits", **index, **size} for size in SCREENS),
                 {"test": "path", "steps": steps, **index}, {"test": "served", **index}] * still
         for job, answer in zip(jobs, in_browser(jobs, still=still)):
             wrong += failed(job["test"], answer)
@@ -266,7 +290,8 @@ def shortest():
     right = True
     for exercise in alone("shortest", INDEX):
         if not exercise["least"] == exercise["solved"] == exercise["steps"]:
-            print(f"{exercise['id']}: the solution has {exercise['steps']} steps, solves it with {exercise['solved']}, and {exercise['least']} are enough")
+            print(f"{exercise['id']}: the solution has {exercise['steps']} steps, solves it with "
+                  f"{exercise['solved']}, and {exercise['least']} are enough")
             right = False
     return right
 
@@ -275,13 +300,19 @@ def looks():
     pages = {plan.stem: page_of(plan.read_bytes()) for plan in PLANS}
     empty = page_of(plan_without_events(*CONFIGURATIONS[1]))
     large = page_of(plan_of_many_events())
-    turns = page_of(json.dumps({"capacity": 2, "bound": 2, "life": 10, "senders": [[1, 2, 3]], "receivers": [2], "schedule": []}).encode())
+    turns = page_of(json.dumps(
+        {"capacity": 2, "bound": 2, "life": 10, "senders": [[1, 2, 3]], "receivers": [2], "schedule": []}).encode())
     index = {"src": "/index.html"}
-    light = [{"test": "hands", "page": empty, **LAPTOP}, {"test": "player", "page": pages["bodies_of_words"], **LAPTOP}, {"test": "turns", "page": turns, **LAPTOP},
-             {"test": "sizes", **index, **LAPTOP}, {"test": "sizes", **index, **PHONE}, *({"test": "covered", **index, **size} for size in (SMALL, PHONE, ZOOMED, LAPTOP)), {"test": "phone", **index, **PHONE},
+    light = [{"test": "hands", "page": empty, **LAPTOP}, {"test": "player", "page": pages["bodies_of_words"], **LAPTOP},
+             {"test": "turns", "page": turns, **LAPTOP},
+             {"test": "sizes", **index, **LAPTOP}, {"test": "sizes", **index, **PHONE},
+             *({"test": "covered", **index, **size} for size in (SMALL, PHONE, ZOOMED, LAPTOP)),
+             {"test": "phone", **index, **PHONE},
              *({"test": "in_view", "page": page, **LAPTOP} for page in [*pages.values(), large]),
              *({"test": "phone", "page": page, **PHONE} for page in pages.values())]
-    colours = [{"test": "contrasts", **page, **size} for page in ({"page": pages["bodies_of_words"]}, {"page": pages["two_groups"]}, {"src": "/index.html#lesson=handed_past"})
+    colours = [{"test": "contrasts", **page, **size}
+               for page in ({"page": pages["bodies_of_words"]}, {"page": pages["two_groups"]},
+                            {"src": "/index.html#lesson=handed_past"})
                for size in (LAPTOP, PHONE)]
     wrong = 0
     for dark, jobs in ((False, light + colours), (True, colours)):
@@ -291,16 +322,21 @@ def looks():
     return not wrong
 
 
-# Logs, each a line of calls: thread, begin, end or -, what it did, its item or -, and its answer if it has one; `late` first, if the log
-# begins late. Each has the status and the beginning of the verdict that is due, the options, and the lines that its page shows.
+# Logs, each a line of calls: thread, begin, end or -, what it did, its item or -, and its answer if it has one; `late`
+# first, if the log begins late. Each has the status and the beginning of the verdict that is due, the options, and the
+# lines that its page shows.
 LOGS = [
     (1, "never sent", [], "a 1 2 take 9; b 2 3 send 8; b 4 5 send 7", [1, 2]),
     (1, "taken before sent", [], "a 1 3 take 7; b 2 3 send 5; b 5 8 send 7", [1, 2, 3]),
     (1, "taken twice", [], "a 1 3 send 7; b 4 6 take 7; c 5 9 take 7; a 20 21 send 8", [1, 2, 3]),
     (1, "overtaken", [], "a 1 2 send 1; a 3 4 send 2; b 5 6 take 2; b 7 8 take 1", [1, 2, 3, 4]),
     (1, "overtaken", [], "a 1 2 send 1; a 3 4 send 2; b 5 6 take 2", [1, 2, 3]),
-    (1, "not empty", [], 'a 10 20 send 7; a 24 38 send 8; b<"\\é 26 60 take -; c 42 70 take 7; d 30 55 send 9 full; d 65 - take -', [1, 2, 3, 4, 5, 6]),
-    (1, "not empty", ["--skew", "3"], "a 10 20 send 18446744073709551615; b 30 40 take -; b 50 60 take 18446744073709551615; c 70 80 send 18446744073709551614", [1, 2, 3]),
+    (1, "not empty", [],
+     'a 10 20 send 7; a 24 38 send 8; b<"\\é 26 60 take -; c 42 70 take 7; d 30 55 send 9 full; d 65 - take -',
+     [1, 2, 3, 4, 5, 6]),
+    (1, "not empty", ["--skew", "3"],
+     "a 10 20 send 18446744073709551615; b 30 40 take -; b 50 60 take 18446744073709551615; c 70 80 send "
+     "18446744073709551614", [1, 2, 3]),
     (1, "not empty", [], "a 1 5 close -; b 2 - send 7; c 6 7 take -; c 8 9 take 7", [1, 2, 3, 4]),
     (1, "not empty", [], "late; a 1 2 close -; b 3 4 take -; b 5 6 take 7", [2, 3, 4]),
     (1, "open after closed", [], "a 1 2 close -; b 3 4 send 7; c 5 6 take 7", [1, 2, 3]),
@@ -338,7 +374,8 @@ def large_log(count):
 def judged_page(calls, options):
     """The line of the verdict on a log, and its page. Both have one status, which is returned too."""
     log = "".join(json.dumps(call) + "\n" for call in calls).encode()
-    line, page = (subprocess.run([PROGRAM, "judge", *more, *options], input=log, stdout=subprocess.PIPE, timeout=120) for more in ([], ["--page"]))
+    line, page = (subprocess.run([PROGRAM, "judge", *more, *options], input=log, stdout=subprocess.PIPE, timeout=120)
+                  for more in ([], ["--page"]))
     if line.returncode != page.returncode:
         sys.exit(f"the status is {line.returncode}, and {page.returncode} with a page")
     return line.stdout.decode().strip(), page.stdout.decode(), line.returncode
@@ -350,7 +387,8 @@ def judged_job(calls, line, page, shown):
     named = {int(number) for place in places for number in re.findall(r"\d+", place)}
     item = lambda number: calls[number - 1].get("send") or calls[number - 1].get("take")
     items = [item(number) for number in named if item(number)]
-    return {"test": "judged", "page": page, "line": line, "shown": shown, "named": sorted(named), "same": [number for number in shown if number not in named and item(number) in items],
+    return {"test": "judged", "page": page, "line": line, "shown": shown, "named": sorted(named),
+            "same": [number for number in shown if number not in named and item(number) in items],
             "threads": sorted({calls[number - 1]["thread"] for number in shown}), "never": bool(named)}
 
 
@@ -379,7 +417,8 @@ def judged():
 
 
 def main(words):
-    tasks = {task.__name__: task for task in (walks, many, by_hand, by_node, lessons, plans, learns, lectures, shortest, judged, looks)}
+    tasks = {task.__name__: task
+             for task in (walks, many, by_hand, by_node, lessons, plans, learns, lectures, shortest, judged, looks)}
     if len(words) != 1 or words[0] not in tasks:
         print(f"usage: tests/show/pages.py {' | '.join(tasks)}", file=sys.stderr)
         return 64
