@@ -54,14 +54,14 @@ def draw(title, joined, unit, columns, points, names=(), ours=(), shown=None):
     out = [f'<svg xmlns="http://www.w3.org/2000/svg" viewBox="0 0 {width} {height}" font-family="sans-serif" font-size="12">', style(),
            f'<rect class="back" width="{width}" height="{height}"/>',
            f'<text class="ink" x="{left}" y="22" font-size="15">{title}</text>', f'<text class="dim" x="{left}" y="40">{unit}</text>']
-    for power in range(low, high + 1):
-        for part in (1, 2, 5) if power < high else (1,):
-            value = part * 10 ** power
-            out.append(f'<line class="{"tens" if part == 1 else "parts"}" x1="{left}" x2="{width - right}" y1="{y(value):.1f}" y2="{y(value):.1f}"/>')
-            out.append(f'<text class="dim" x="{left - 6}" y="{y(value) + 4:.1f}" text-anchor="end">{value:,g}</text>')
-    for place, column in enumerate(columns):
-        for below, line in enumerate(column.split("\n")):
-            out.append(f'<text class="ink" x="{left + step * (place + 0.5):.1f}" y="{height - bottom + 20 + 13 * below}" text-anchor="middle" font-size="11">{line}</text>')
+    scale = [(part, part * 10 ** power) for power in range(low, high + 1) for part in ((1, 2, 5) if power < high else (1,))]
+    for kind, parts in (("tens", (1,)), ("parts", (2, 5))):
+        lines = "".join(f"M{left},{y(value):.1f}H{width - right}" for part, value in scale if part in parts)
+        out.append(f'<path class="{kind}" d="{lines}"/>')
+    out.append("".join(f'<text class="dim" x="{left - 6}" y="{y(value) + 4:.1f}" text-anchor="end">{value:,g}</text>' for _, value in scale))
+    out.append('<g class="ink" text-anchor="middle" font-size="11">' + "".join(
+        f'<text x="{left + step * (place + 0.5):.1f}" y="{height - bottom + 20 + 13 * below}">{line}</text>'
+        for place, column in enumerate(columns) for below, line in enumerate(column.split("\n"))) + "</g>")
     last = sorted(points, key=lambda row: -(points[row][-1] or (0, 0, 0))[1])
     for number, (row, of) in enumerate(points.items()):
         look, bold = (names.index(row) if row in names else number) % len(LOOKS), row in ours
@@ -71,9 +71,9 @@ def draw(title, joined, unit, columns, points, names=(), ours=(), shown=None):
         out.append(f'<g class="c{look}">')
         if joined:
             out.append(f'<polyline points="{" ".join(f"{x:.1f},{y(it[1]):.1f}" for x, it in at)}" {line}/>')
-        for x, it in at:
-            out.append(f'<line x1="{x:.1f}" x2="{x:.1f}" y1="{y(it[0]):.1f}" y2="{y(it[2]):.1f}" stroke="currentColor"/>')
-            out.append(point(shape, x, y(it[1]), 4.5 if bold else 3.2))
+        quartiles = "".join(f"M{x:.1f},{y(it[0]):.1f}V{y(it[2]):.1f}" for x, it in at)
+        out.append(f'<path d="{quartiles}" stroke="currentColor"/>')
+        out.append("".join(point(shape, x, y(it[1]), 4.5 if bold else 3.2) for x, it in at))
         place = top + 14 + 20 * last.index(row)
         if joined:
             out.append(f'<polyline points="{width - right + 8},{place - 4} {width - right + 40},{place - 4}" {line}/>')
