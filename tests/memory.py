@@ -15,13 +15,10 @@ import json
 import os
 import re
 import sys
-from pathlib import Path
 
-TOP = Path(__file__).resolve().parent.parent
 sys.dont_write_bytecode = True
-from rows import Row, does, refused
+from programs import PROGRAM, TOP, Row, does, refused
 
-PROGRAM = "crates/ccq/out/ccq"
 SAYS = (r"at most (\d+) bytes of memory for each byte of a plan or of\s+receipts, "
         r"(\d+) for each byte of any other input, and (\d+) MB")
 QUARTER = 4 << 20
@@ -96,13 +93,13 @@ def others():
 
 
 def main():
-    if not os.access(TOP / PROGRAM, os.X_OK):
+    if not os.access(PROGRAM, os.X_OK):
         sys.exit(f"memory: there is no {PROGRAM}: run `rt ci` first, or `rt run` in crates/ccq")
     says = re.search(SAYS, (TOP / "docs/FORMATS.md").read_text())
     if not says:
         sys.exit("memory: docs/FORMATS.md doesn't say how much memory ccq takes")
     factor, other, base = int(says[1]), int(says[2]), int(says[3]) << 20
-    within = lambda row, bytes_a_byte: does(TOP / PROGRAM, row, memory=base + bytes_a_byte * len(row.input))
+    within = lambda row, bytes_a_byte: does(PROGRAM, row, memory=base + bytes_a_byte * len(row.input))
     no_memory = lambda task, text: Row([task], 3, err=b"ccq: out of memory\n", input=text)
     cases = [(name, row, factor) for name, row in rows()]
     for name, text in others():

@@ -31,9 +31,8 @@ import sys
 import tempfile
 
 sys.dont_write_bytecode = True
-import rows
+from programs import TOP, by_hand, derived
 
-TOP = pathlib.Path(__file__).resolve().parent.parent
 NO_MEMORY, NO_THREAD = b"ccq: out of memory\n", b"ccq: a thread was refused\n"
 DRIVE = "drive --senders 3 --receivers 2 --items 100 --capacity 4 --bound 2".split()
 FAULTS = {
@@ -111,7 +110,7 @@ def inputs(room):
     for path in sorted((TOP / "examples").glob("*.json")):
         yield (["audit"] if path.name.startswith("receipts") else ["play"]), path
     yield ["judge"], TOP / "examples/calls.jsonl"
-    there = {**dict(rows.derived()), **dict(rows.by_hand("worked_rows"))}
+    there = {**dict(derived()), **dict(by_hand("worked_rows"))}
     for name in ROWS:
         path = pathlib.Path(room, name)
         path.write_bytes(there[name].input)

@@ -10,16 +10,12 @@ the script shows that it finds each value of a line that is wrong, a line too fe
 is so.
 """
 import json
-import pathlib
 import subprocess
 import sys
 
 sys.dont_write_bytecode = True
 import derive
-import rows
-
-TOP = pathlib.Path(__file__).resolve().parent.parent
-PROGRAM = TOP / "crates/ccq/out/ccq"
+from programs import PROGRAM, TOP, by_hand, derived as derived_rows
 
 
 def told(program, data):
@@ -62,7 +58,7 @@ def plans():
     """The plans by their names."""
     for path in sorted(TOP.glob("examples/*.json")):
         yield path.name, path.read_bytes()
-    for name, row in [*rows.by_hand("worked_rows"), *rows.derived()]:
+    for name, row in [*by_hand("worked_rows"), *derived_rows()]:
         if row.words[0] in ("play", "audit") and not row.words[1:]:
             yield name, row.input
 

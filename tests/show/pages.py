@@ -34,11 +34,9 @@ from http.server import BaseHTTPRequestHandler, ThreadingHTTPServer
 sys.dont_write_bytecode = True
 HERE = pathlib.Path(__file__).resolve().parent
 sys.path.insert(0, str(HERE.parent))
-import rows
+from programs import PROGRAM, TOP, by_hand, derived
 
-TOP = HERE.parent.parent
 INDEX = TOP / "docs/pages/index.html"
-PROGRAM = pathlib.Path(os.environ.get("CCQ", TOP / "crates/ccq/out/ccq"))
 PLANS = sorted(path for path in (TOP / "examples").glob("*.json") if not path.name.startswith("receipts"))
 LAPTOP, PHONE = {"width": 1366, "height": 768}, {"width": 390, "height": 844}
 # Projectors, and a laptop's window under the browser's bars.
@@ -226,7 +224,7 @@ def lessons():
 
 def plans():
     """The plans of tests/rows.py."""
-    plays = [(name, row) for name, row in [*rows.by_hand("worked_rows"), *rows.derived()] if row.words == ["play"]]
+    plays = [(name, row) for name, row in [*by_hand("worked_rows"), *derived()] if row.words == ["play"]]
     with tempfile.TemporaryDirectory() as room:
         for name, row in plays:
             pathlib.Path(room, name).write_bytes(row.input)
