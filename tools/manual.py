@@ -16,8 +16,11 @@ import re
 import subprocess
 import sys
 
-TOP = pathlib.Path(__file__).resolve().parent.parent
-PROGRAM, MANUAL = pathlib.Path(os.environ.get("CCQ", TOP / "crates/ccq/out/ccq")), TOP / "docs/ccq.1"
+sys.dont_write_bytecode = True
+import written
+from sources import TOP, Unreadable
+
+PROGRAM = pathlib.Path(os.environ.get("CCQ", TOP / "crates/ccq/out/ccq"))
 SEE_ALSO = """.BR vahepito (3)
 .PP
 In the sources: docs/FORMATS.md has the rules of plans, receipts and reports, docs/JUDGE.md those of logs, and
@@ -143,21 +146,11 @@ def manual(texts):
     return page + ".SH SEE ALSO\n" + SEE_ALSO.replace("-", "\\-")
 
 
-def main():
-    if sys.argv[1:] not in ([], ["--write"]):
-        print(__doc__)
-        return 0 if sys.argv[1:] in (["-h"], ["--help"]) else 64
+def due():
     if not PROGRAM.exists():
-        print("manual: there is no crates/ccq/out/ccq: run `rt ci` first, or `rt run` in crates/ccq")
-        return 1
-    page = manual(texts())
-    if sys.argv[1:]:
-        MANUAL.write_text(page)
-    elif MANUAL.read_text() != page:
-        print("manual: docs/ccq.1 isn't of the texts of help: run tools/manual.py --write")
-        return 1
-    return 0
+        raise Unreadable("there is no crates/ccq/out/ccq: run `rt ci` first, or `rt run` in crates/ccq")
+    return {"docs/ccq.1": manual(texts())}
 
 
 if __name__ == "__main__":
-    sys.exit(main())
+    sys.exit(written.main(__doc__, due))

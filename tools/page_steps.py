@@ -17,11 +17,11 @@ import re
 import sys
 
 sys.dont_write_bytecode = True
-from sources import TOP, Unreadable, read_files
+import written
+from sources import Unreadable, read_files
 from statements import Reach
-from written import Part
 
-PAGE = Part(TOP / "docs/pages/index.html", "// <steps>\n", "// </steps>\n")
+MARKS = "// <steps>\n", "// </steps>\n"
 HEAD = """\
 // The machine, by tools/page_steps.py: the table of steps of crates/cc_runs/specs, what is ahead of a call, and the
 // definitions that these name. Each of CHANGES makes a broken table, by its name.
@@ -451,4 +451,4 @@ def machine():
 
 
 if __name__ == "__main__":
-    sys.exit(PAGE.main(machine))
+    sys.exit(written.main(__doc__, lambda: written.between("docs/pages/index.html", *MARKS, machine())))

@@ -11,7 +11,8 @@ import re
 import sys
 
 sys.dont_write_bytecode = True
-from sources import TOP
+import written
+from sources import TOP, Unreadable
 
 # Each page, its text, and the two parts that the program writes, each between its tags.
 PAGES = [
@@ -41,7 +42,7 @@ def text_of(page, first, second):
             rf'(</script>.*<script type="text/plain" id="{second}">)[^<]*(</script>.*)')
     parts = re.fullmatch(tags, content, re.DOTALL)
     if not parts or not content.isascii():
-        sys.exit(f"page_text: {page} hasn't its {first} and its {second}, or isn't ASCII")
+        raise Unreadable(f"{page} hasn't its {first} and its {second}, or isn't ASCII")
     text = f"//! The fixed text of the page. It is written from {page} by tools/page_text.py.\n"
     whats = (f"before the {first}", f"between the {first} and the {second}", f"after the {second}")
     for name, what, part in zip(("FRONT", "MIDDLE", "BACK"), whats, parts.groups()):
@@ -50,20 +51,5 @@ def text_of(page, first, second):
     return text
 
 
-def main(words):
-    if words not in ([], ["--write"]):
-        print("usage: tools/page_text.py [--write]", file=sys.stderr)
-        return 64
-    status = 0
-    for page, name, first, second in PAGES:
-        text, wanted = TOP / name, text_of(page, first, second)
-        if words:
-            text.write_text(wanted)
-        if text.read_text() != wanted:
-            print(f"page_text: {name} isn't as {page} has it; tools/page_text.py --write writes it")
-            status = 1
-    return status
-
-
 if __name__ == "__main__":
-    sys.exit(main(sys.argv[1:]))
+    sys.exit(written.main(__doc__, lambda: {text: text_of(page, *parts) for page, text, *parts in PAGES}))

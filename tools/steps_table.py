@@ -10,10 +10,10 @@ import re
 import sys
 
 sys.dont_write_bytecode = True
+import written
 from sources import TOP, Unreadable
-from written import Part
 
-DOCUMENT = Part(TOP / "docs/ARCHITECTURE.md", "<!-- steps -->\n", "<!-- end of steps -->\n")
+MARKS = "<!-- steps -->\n", "<!-- end of steps -->\n"
 SECTIONS = {
     "Lines": "A call on its chain",
     "SendLines": "The service of a send or a close",
@@ -25,8 +25,8 @@ OPERATIONS = {
     "load": lambda found, word, *_: f"loads {word}" + (f" as {code(found)}" if found != "_" else ""),
     "store": lambda found, word, value, *_: f"stores {value} in {word}",
     "add": lambda found, word, value, *_: f"adds {value} to {word}",
-    "swap": lambda found, word, value, entry, node,
-    *_: f"swaps {value} into {word}, finds {code(found)}: its node is {node}, "
+    "swap": lambda found, word, value, entry, node, *_:
+    f"swaps {value} into {word}, finds {code(found)}: its node is {node}, "
     f"and {entry} enters the history",
 }
 # What a line says of the pass behind its step.
@@ -91,4 +91,5 @@ def section(file, title):
 
 
 if __name__ == "__main__":
-    sys.exit(DOCUMENT.main(lambda: "".join(section(*one) for one in SECTIONS.items()) + "\n"))
+    table = lambda: "".join(section(*one) for one in SECTIONS.items()) + "\n"
+    sys.exit(written.main(__doc__, lambda: written.between("docs/ARCHITECTURE.md", *MARKS, table())))
