@@ -4,13 +4,12 @@ use Rattle.std.proofs.lemmas.Bool.{cases_eq, cases_lt}
 use Rattle.std.specs.List.{AllByRecursion, list_any}
 use Rattle.cc_model.specs.Record.{Record}
 use Rattle.cc_model.specs.Items.{IsPrefix, accepted, accepted_by, accepted_item, is_shut, shuts, handed}
-use Rattle.cc_model.specs.Sequential.{Exactly}
 use Rattle.cc_runs.specs.State.{noted}
 use Rattle.cc_runs.specs.Run.{history_of, reached}
 use Rattle.cc_runs.specs.Counts.{counted_for}
 use Rattle.cc_runs.specs.Linearizable.{Effect, replay, AnswersAfter, IsExact, IsOfChain, in_order, IsOnTime}
 use Rattle.cc_runs.proofs.Linear.Replay.{prefix_length, replay_even}
-use Rattle.cc_row.specs.Names.{Config, Pass, Call, Item, Entry, Answer, SendAnswer, Chain, Setting, Move}
+use Rattle.cc_row.specs.Names.{Config, Pass, Call, Entry, Answer, SendAnswer, Chain, Setting, Move}
 use Rattle.cc_row.specs.BoundRuns.{waiting, waiting_at}
 use Rattle.cc_row.specs.CountedOrders.{FollowsCounts, HasCountedOrder}
 use Rattle.cc_row.proofs.Exact as exact
@@ -33,7 +32,9 @@ use Rattle.cc_row.proofs.BoundQueues.{bounded, bounded_queues}
 use Rattle.cc_row.specs.BoundQueues.{RowEffect, effects_in, AreLetIn}
 use Rattle.cc_row.specs.BoundedRuns.{Sent, GetsFull, GetFull, refused, with_looks, IsOneQueue, effects_before, LooksFindCrowds, ClosesLate, IsBoundedLinearization, BoundedThreadsAreOne}
 use Rattle.cc_row.proofs.FullLooks.{is_crowded, is_full}
-use Rattle.cc_row.proofs.CloseRuns.{effects_at, effects_front, effects_refused, looks_none, closes_late}
+use Rattle.cc_row.proofs.ShutCalls.{accepts_none}
+use Rattle.cc_row.proofs.LateTimes.{head_same, tail_same, none_in, calls_in_time, late_in_time}
+use Rattle.cc_row.proofs.CloseRuns.{at_append, effects_at, effects_front, effects_refused, looks_none, closes_late}
 use Rattle.cc_model.proofs.Grows.{any-append}
 
 -- ---- one queue: what an order has accepted
@@ -54,18 +55,9 @@ ahead_few (d ∷ calls) rest (a ∷ answers) later = omega (
   length-append (accepted_item d a) (accepted_by (calls ++ rest) answers),
 )
 
-none_in : {X : Type 0} (x : X) (l : List X) → [] ≡ x ∷ l → ⊥
-none_in {X} x l is = cc
-
 empty_front : {X : Type 0} (a b : List X) → a ++ b ≡ [] → a ≡ []
 empty_front {X} [] b is = refl
 empty_front {X} (x ∷ a) b is = absurd (none_in x (a ++ b) (sym is))
-
-head_same : {X : Type 0} {x y : X} {a b : List X} → x ∷ a ≡ y ∷ b → x ≡ y
-head_same {X} {x} {y} {a} {b} is = cc
-
-tail_same : {X : Type 0} {x y : X} {a b : List X} → x ∷ a ≡ y ∷ b → a ≡ b
-tail_same {X} {x} {y} {a} {b} is = cc
 
 split_last : {X : Type 0} (front rest xs : List X) (x : X) → xs ++ x ∷ [] ≡ front ++ rest → (front ≡ xs ++ x ∷ []) ⊎ IsPrefix front xs
 split_last {X} [] rest xs x is = inr (xs, refl)
@@ -74,14 +66,6 @@ split_last {X} (y ∷ front) rest (z ∷ xs) x is = elim (split_last front rest 
   | inl same ↦ inl (λ i. head_same (sym is) i ∷ same i)
   | inr p ↦ inr (p.0, λ i. head_same is i ∷ p.1 i)
 ]
-
--- a queue that is shut accepts nothing
-accepts_none : (cfg : Config) (pass : Pass) (call : Call) (number known : ℕ) (items : List Item) (shut : Bool) (t all : ℕ) (a : Answer) → Exactly cfg items shut t all call a → shut ≡ true
-    → length (accepted_item (record { pass = pass; call = call; number = number; known = known }) a) ≡ 0
-accepts_none cfg pass (Call.Send body) number known items shut t all (Answer.Send (SendAnswer.Accepted place)) h is = absurd (true_false (sym is ∙ h.0))
-accepts_none cfg pass Call.Close number known items shut t all (Answer.Send (SendAnswer.Accepted place)) h is = absurd h
-accepts_none cfg pass Call.Take number known items shut t all (Answer.Send (SendAnswer.Accepted place)) h is = absurd h
-accepts_none cfg pass call number known items shut t all _ h is = refl
 
 frozen_order : (cfg : Config) (l : List Effect) → IsExact cfg l → (answers : List Answer) → IsPrefix answers (replay cfg.groups l).sends.answers → list_any shuts answers ≡ true
     → length (accepted (replay cfg.groups l)) ≤ length (accepted_by (replay cfg.groups l).sends.calls answers)
@@ -175,10 +159,6 @@ stays_shut n (x ∷ front) l is = by x.chain x.entry x.answer (stays_shut n fron
     by : (c : Chain) (e : Entry) (a : Answer) → is_shut (replay n (front ++ l)) ≡ true → is_shut (noted c (replay n (front ++ l)) (Some e) (Some a)) ≡ true
     by (Chain.Take g) e a is = is
     by Chain.Send e a is = any-append shuts (replay n (front ++ l)).sends.answers (a ∷ []) ∙ ap (λ (b : Bool). b || (shuts a || false)) is
-
-at_append : (a b : List AtQueue) → map RowEffect.At (a ++ b) ≡ map RowEffect.At a ++ map RowEffect.At b
-at_append [] b = refl
-at_append (e ∷ a) b = ap (λ (z : List RowEffect). RowEffect.At e ∷ z) (at_append a b)
 
 without_looks : (events : List RowEvent) (f : ℕ → List (List Effect)) → with_looks (λ (s : List RowEvent). []) events (merge (moves_of events) f) ≡ map RowEffect.At (flat (merge (moves_of events) f))
 without_looks [] f = refl
@@ -527,6 +507,8 @@ bounded_threads r one events has is_kept keep =
         has_looks = one_of;
         finds_crowds = crowds;
         closes_late = late;
+        late_in_time = late_in_time r (final_of events) events (sound_of r events is_kept) f each ok;
+        in_time = λ later seen is. calls_in_time r (final_of events) events (sound_of r events is_kept) f each ok later seen is;
       },
     )
       where

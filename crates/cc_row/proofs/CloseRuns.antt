@@ -71,6 +71,37 @@ AreCrowded groups bound last (RowEffect.At e ∷ earlier) = AreCrowded groups bo
 AreCrowded groups bound last (RowEffect.Refused s n body ∷ earlier) = AreCrowded groups bound last earlier
     × IsCrowded groups bound last (map (seen own_name) (effects_in earlier))
 
+-- calls that come after others
+pub more_later : (e : At) (t : Option Answer) (calls base later : List At) → calls ≡ later ++ base
+    → (more : List At) × (add e t calls ≡ more ++ base)
+more_later e None calls base later is = (later, is)
+more_later e (Some a) calls base later is = (add e (Some a) later, ap (λ (z : List At). add e (Some a) z) is)
+
+pub at_append : (a b : List AtQueue) → map RowEffect.At (a ++ b) ≡ map RowEffect.At a ++ map RowEffect.At b
+at_append [] b = refl
+at_append (e ∷ a) b = ap (λ (z : List RowEffect). RowEffect.At e ∷ z) (at_append a b)
+
+pub told_front : (last : ℕ) (front base : List RowEffect)
+    → (since : List At) × (told last (calls_in (front ++ base)) ≡ since ++ told last (calls_in base))
+told_front last [] base = ([], refl)
+told_front last (RowEffect.At e ∷ front) base =
+    let p : (since : List At) × (told last (calls_in (front ++ base)) ≡ since ++ told last (calls_in base)) =
+    told_front last front base in
+    more_later (seen own_name e) (told_by (before e.at (at_queues (calls_in (front ++ base)))) (e.at == last)
+    e.effect.answer) (told last (calls_in (front ++ base))) (told last (calls_in base)) p.0 p.1
+told_front last (RowEffect.Refused s n body ∷ front) base =
+    let p : (since : List At) × (told last (calls_in (front ++ base)) ≡ since ++ told last (calls_in base)) =
+    told_front last front base in
+    let new : At = record { queue = 0; group = 0; sender = s; number = n; call = Call.Send body; answer = full } in
+    (new ∷ p.0, ap (λ (z : List At). new ∷ z) p.1)
+
+pub told_later : (last : ℕ) (since o : List AtQueue)
+    → (later : List At) × (told last (calls_of (since ++ o)) ≡ later ++ told last (calls_of o))
+told_later last since o =
+    let p : (later : List At) × (told last (calls_in (map RowEffect.At since ++ map RowEffect.At o))
+    ≡ later ++ told last (calls_of o)) = told_front last (map RowEffect.At since) (map RowEffect.At o) in
+    (p.0, ap (λ (z : List RowEffect). told last (calls_in z)) (at_append since o) ∙ p.1)
+
 module _ (cfg : ℕ → Config) (one : Config) (groups last : ℕ) (even : (q : ℕ) → (cfg q).capacity ≡ one.capacity) where
   -- calls a as calls b, but for those that get Full
   abbrev Follows : (a b : List At) → Type 0
@@ -175,20 +206,6 @@ module _ (cfg : ℕ → Config) (one : Config) (groups last : ℕ) (even : (q : 
 
   -- ---- later calls
 
-  more_later : (e : At) (t : Option Answer) (calls base later : List At) → calls ≡ later ++ base
-      → (more : List At) × (add e t calls ≡ more ++ base)
-  more_later e None calls base later is = (later, is)
-  more_later e (Some a) calls base later is = (add e (Some a) later, ap (λ (z : List At). add e (Some a) z) is)
-
-  told_later : (since o : List AtQueue)
-      → (later : List At) × (told last (calls_of (since ++ o)) ≡ later ++ told last (calls_of o))
-  told_later [] o = ([], refl)
-  told_later (e ∷ since) o =
-      let r : (later : List At) × (told last (calls_of (since ++ o)) ≡ later ++ told last (calls_of o)) =
-      told_later since o in
-      more_later (seen own_name e) (told_by (before e.at (at_queues (calls_of (since ++ o))))
-      (e.at == last) e.effect.answer) (told last (calls_of (since ++ o))) (told last (calls_of o)) r.0 r.1
-
   row_before : (since o : List AtQueue)
       → IsBoundedRow cfg groups one.capacity last (calls_of (since ++ o))
       → IsBoundedRow cfg groups one.capacity last (calls_of o)
@@ -204,7 +221,7 @@ module _ (cfg : ℕ → Config) (one : Config) (groups last : ℕ) (even : (q : 
       (later ++ shut_last (told last (calls_in order)))
   late_order since o order is some row crowds life few =
       let new : (later : List At) × (told last (calls_of (since ++ o)) ≡ later ++ told last (calls_of o)) =
-      told_later since o in
+      told_later last since o in
       let queue : IsQueue one groups (new.0 ++ told last (calls_of o)) = subst
       (λ (l : List At). IsQueue one groups l) new.1 (rows cfg one groups last even (calls_of (since ++ o)) row
       (omega (arith, life, long_of (since ++ o)))) in
@@ -225,19 +242,19 @@ module _ (cfg : ℕ → Config) (one : Config) (groups last : ℕ) (even : (q : 
 
 -- ---- runs
 
-before_both : (later more : List RowEvent) (effects : List (List AtQueue))
+pub none_before : (l : List RowEvent) → effects_before l [] ≡ []
+none_before [] = refl
+none_before (RowEvent.Moves m ∷ l) = refl
+none_before (RowEvent.Looks seat role ∷ l) = none_before l
+none_before (RowEvent.Leaves seat ∷ l) = none_before l
+none_before (RowEvent.Appends ∷ l) = none_before l
+none_before (RowEvent.GoesOn name ∷ l) = none_before l
+none_before (RowEvent.Closes ∷ l) = none_before l
+
+pub before_both : (later more : List RowEvent) (effects : List (List AtQueue))
     → effects_before (later ++ more) effects ≡ effects_before more (effects_before later effects)
 before_both [] more effects = refl
 before_both (RowEvent.Moves m ∷ later) more [] = sym (none_before more)
-  where
-    none_before : (l : List RowEvent) → effects_before l [] ≡ []
-    none_before [] = refl
-    none_before (RowEvent.Moves m ∷ l) = refl
-    none_before (RowEvent.Looks seat role ∷ l) = none_before l
-    none_before (RowEvent.Leaves seat ∷ l) = none_before l
-    none_before (RowEvent.Appends ∷ l) = none_before l
-    none_before (RowEvent.GoesOn name ∷ l) = none_before l
-    none_before (RowEvent.Closes ∷ l) = none_before l
 before_both (RowEvent.Moves m ∷ later) more (now ∷ before) = before_both later more before
 before_both (RowEvent.Looks seat role ∷ later) more effects = before_both later more effects
 before_both (RowEvent.Leaves seat ∷ later) more effects = before_both later more effects
@@ -245,7 +262,7 @@ before_both (RowEvent.Appends ∷ later) more effects = before_both later more e
 before_both (RowEvent.GoesOn name ∷ later) more effects = before_both later more effects
 before_both (RowEvent.Closes ∷ later) more effects = before_both later more effects
 
-flat_later : (later : List RowEvent) (effects : List (List AtQueue))
+pub flat_later : (later : List RowEvent) (effects : List (List AtQueue))
     → (since : List AtQueue) × (flat effects ≡ since ++ flat (effects_before later effects))
 flat_later [] effects = ([], refl)
 flat_later (RowEvent.Moves m ∷ later) [] = ([], refl)

@@ -45,6 +45,13 @@ slowest_same groups all a b same slow = record {
   is = sym (same slow.group) ∙ slow.is;
 }
 
+-- calls that say that the queue is shut send no item
+pub no_item : (s n : ℕ) (call : Call) (a : Answer) → says_shut a ≡ true → new_item s n call a ≡ []
+no_item s n (Call.Send body) (Answer.Send (SendAnswer.Accepted place)) is = clash false is refl
+no_item s n (Call.Send body) _ is = refl
+no_item s n Call.Close a is = refl
+no_item s n Call.Take a is = refl
+
 module _ (one : Config) (groups : ℕ) where
   -- a call that gets Full while as many items as the capacity wait, where the queue may be shut
   pub record IsRefused (items : List Item) (all : ℕ) (call : Call) (a : Answer) : Type 0 where
@@ -99,13 +106,6 @@ module _ (one : Config) (groups : ℕ) where
     c.2,
     for_any items (shut_at 0 l) (taken e.group) (then e.group) 0 0 e.call e.answer c.2 (same e.group) c.3,
   )
-
-  -- they say nothing of items
-  no_item : (s n : ℕ) (call : Call) (a : Answer) → says_shut a ≡ true → new_item s n call a ≡ []
-  no_item s n (Call.Send body) (Answer.Send (SendAnswer.Accepted place)) is = clash false is refl
-  no_item s n (Call.Send body) _ is = refl
-  no_item s n Call.Close a is = refl
-  no_item s n Call.Take a is = refl
 
   no_take : (a : Answer) → says_shut a ≡ true → handed_item a ≡ []
   no_take (Answer.Take (TakeAnswer.Got item)) is = clash false is refl

@@ -23,5 +23,8 @@ pub mod CountedOrders
 pub mod FullLooks
 pub mod LateCloses
 pub mod CloseRuns
+pub mod ShutCalls
+pub mod LateTimes
 pub mod BoundedRuns
 pub mod SmallBoundRun
+pub mod SmallClose

@@ -64,7 +64,7 @@ steps_let : (q p n : ℕ) (l : List RowMove) (earlier : List RowEvent) → Bound
 steps_let q p zero l earlier keep = keep
 steps_let q p (suc n) l earlier keep = (steps_let q p n l earlier keep, tt)
 
-one_let : (q p : ℕ) (call : Call) (n : ℕ) (l : List RowMove) (earlier : List RowEvent)
+pub one_let : (q p : ℕ) (call : Call) (n : ℕ) (l : List RowMove) (earlier : List RowEvent)
     → BeginsLetIn small_row 1 1 q (Move.Begin p call 0) (with_moves l earlier) → Bounded (with_moves l earlier)
     → Bounded (with_moves (makes q p call n l) earlier)
 one_let q p call n l earlier lets keep = (steps_let q p n (record { at = q; move = Move.Begin p call 0 } ∷ l) earlier (keep, lets), tt)
@@ -73,7 +73,7 @@ abbrev first_look : List RowEvent
 first_look = RowEvent.Looks 0 Role.Sends ∷ []
 
 -- all groups are at the first queue
-come : (events : List RowEvent) → HaveCome 1 0 events
+pub come : (events : List RowEvent) → HaveCome 1 0 events
 come events g inside = omega arith
 
 first_let : Bounded fills_first
