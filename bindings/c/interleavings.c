@@ -144,8 +144,8 @@ static uint32_t first_nodes[PROCESSES][CALLS + 1];
 
 static vahepito_queue queue;
 static union {
-    vahepito_internal_part part;
-    char bytes[sizeof(vahepito_internal_part) + (1 + GROUPS) * sizeof(vahepito_internal_handle)];
+    queue_part part;
+    char bytes[sizeof(queue_part) + (1 + GROUPS) * sizeof(own_handle)];
 } one;
 static uint64_t results[LONGEST];
 static int result_count, result_at, tries, group_of_take;
@@ -161,7 +161,7 @@ static uint64_t result_of(struct step step) {
 
 /* LINES if it is none of a model's lines. */
 static int line_of(const void *place) {
-    const vahepito_internal_line *const line = place;
+    const call_line *const line = place;
     if (line == &queue.senders) return 0;
     if (place == &queue.served.ended) return SERVED;
     return line >= queue.receivers && line < queue.receivers + GROUPS ? 1 + (int)(line - queue.receivers) : LINES;
@@ -318,11 +318,11 @@ static void reset(void) {
     queue.config.capacity = (uint32_t)model->capacity;
     queue.groups = (uint32_t)model->groups;
     queue.words = queue.places = 1;
-    queue.stride = sizeof(vahepito_internal_handle);
+    queue.stride = sizeof(own_handle);
     queue.has_bound = true;
     queue.first = queue.last = queue.at[0] = queue.at[1] = &one.part;
     for (int bell = 0; bell < LINES; bell++) queue.bells[bell].place = model->bells >> bell & 1 ? bell : -1;
-    vahepito_internal_own = sizeof *queue.seats;
+    thread_offset = sizeof *queue.seats;
 }
 
 /* The code of the call. */
@@ -340,7 +340,7 @@ static uint32_t make_call(char call) {
     case 'S': return vahepito_send_until(&queue, 1, &some_time, NULL);
     case 'm': return vahepito_send_now(&queue, 1, NULL);
     case 'b': return vahepito_send_many(&queue, words, 2, NULL, NULL);
-    case 'e': return vahepito_internal_notify_items(&queue, false), vahepito_internal_attempt_send(&(vahepito_internal_send_request){&queue, words, 1, 0, 0});
+    case 'e': return notify_items(&queue, false), attempt_send(&(send_request){&queue, words, 1, 0, 0});
     case 't': case 'u': return vahepito_take(&queue, (uint32_t)group_of_take, NULL, NULL);
     case 'T': case 'U': return vahepito_take_until(&queue, (uint32_t)group_of_take, NULL, &some_time, NULL);
     case 'n': return vahepito_take_now(&queue, 1, NULL, NULL);
@@ -427,7 +427,7 @@ static struct place after_step(struct place it, struct step step, uint64_t resul
         it.where = LOOKING, it.line = step.line;
         break;
     case LOAD:
-        if (result >= VAHEPITO_INTERNAL_ONE_WAITING) break;
+        if (result >= ONE_WAITING) break;
         it.owed[step.line] = 0, it.closing &= (uint8_t)~bit;
         if (it.line == step.line) it.is_refused = false;
         break;
@@ -824,7 +824,7 @@ static void check_state(const struct state *state) {
         if (is_buffered(state, process)) return;
         if (step->kind == DONE) continue;
         if (!sleeps) return;
-        if (step->kind == SLEEP && step->line != SERVED) sleeping[step->line] += VAHEPITO_INTERNAL_ONE_WAITING;
+        if (step->kind == SLEEP && step->line != SERVED) sleeping[step->line] += ONE_WAITING;
         if (step->line == SERVED) is_missed |= state->has[process] != WAITS;
         else is_missed |= state->closed || things(state, step->line) > 0;
     }

@@ -95,7 +95,7 @@ void model_free(void *memory);
 
 #define LIES_IN(field) ((size_t)((const char *)place - (const char *)&queue->field) < sizeof queue->field)
 
-const struct layout code_layout = {sizeof(vahepito_queue), offsetof(vahepito_queue, seats) - sizeof(vahepito_internal_seat), sizeof(vahepito_internal_seat)};
+const struct layout code_layout = {sizeof(vahepito_queue), offsetof(vahepito_queue, seats) - sizeof(call_seat), sizeof(call_seat)};
 
 enum field code_field(const void *of, const void *place, uint32_t *number) {
     const vahepito_queue *const queue = of;
@@ -104,16 +104,16 @@ enum field code_field(const void *of, const void *place, uint32_t *number) {
     if (LIES_IN(first) || LIES_IN(retired)) return LOCKED;
     if (LIES_IN(is_closed)) return *number = CLOSED_WORD, GUARDED;
     if (LIES_IN(last)) return *number = LAST_WORD, GUARDED;
-    if (LIES_IN(at)) return *number = AT_WORDS + (uint32_t)((vahepito_internal_part *const *)place - queue->at), GUARDED;
+    if (LIES_IN(at)) return *number = AT_WORDS + (uint32_t)((queue_part *const *)place - queue->at), GUARDED;
     if (LIES_IN(special)) return WORD;
     if (LIES_IN(senders)) return LINE;
-    if (LIES_IN(receivers)) return *number = 1 + (uint32_t)((const vahepito_internal_line *)place - queue->receivers), LINE;
-    if (LIES_IN(seats)) return *number = 1 + (uint32_t)((const vahepito_internal_seat *)place - queue->seats), SEAT;
+    if (LIES_IN(receivers)) return *number = 1 + (uint32_t)((const call_line *)place - queue->receivers), LINE;
+    if (LIES_IN(seats)) return *number = 1 + (uint32_t)((const call_seat *)place - queue->seats), SEAT;
     return LIES_IN(bells) || LIES_IN(has_bells) || LIES_IN(served) || LIES_IN(pace) ? QUIET : FIXED;
 }
 
 enum field code_part_field(size_t offset) {
-    const bool is_locked = offset == offsetof(vahepito_internal_part, next) || offset == offsetof(vahepito_internal_part, unseen);
+    const bool is_locked = offset == offsetof(queue_part, next) || offset == offsetof(queue_part, unseen);
     return is_locked ? LOCKED : FIXED;
 }
 
@@ -124,13 +124,13 @@ UNSEEN const void *code_queue_of(const void *of, uint32_t side) {
     const vahepito_queue *const queue = of;
     return side == 0 ? queue->last : queue->at[side - 1];
 }
-const void *code_pass_of(const void *part) { return &((const vahepito_internal_part *)part)->handles[0].pass; }
-UNSEEN uint32_t code_number_of(const void *part) { return (uint32_t)((const vahepito_internal_part *)part)->number; }
+const void *code_pass_of(const void *part) { return &((const queue_part *)part)->handles[0].pass; }
+UNSEEN uint32_t code_number_of(const void *part) { return (uint32_t)((const queue_part *)part)->number; }
 UNSEEN bool code_is_closed(const void *queue) { return ((const vahepito_queue *)queue)->is_closed; }
 
 /* Before each step of a process: its number, or 0 if it has none yet, and how many threads have one; and after a step. */
-void code_begin(size_t seat, uint32_t threads) { vahepito_internal_own = seat * sizeof(vahepito_internal_seat), vahepito_internal_threads = threads; }
-size_t code_seat(void) { return vahepito_internal_own / sizeof(vahepito_internal_seat); }
+void code_begin(size_t seat, uint32_t threads) { thread_offset = seat * sizeof(call_seat), thread_count = threads; }
+size_t code_seat(void) { return thread_offset / sizeof(call_seat); }
 
 #else
 

@@ -87,8 +87,8 @@ static void *takes(void *at) {
 
 static uint64_t parts_kept(void) {
     uint64_t count = 0;
-    for (const vahepito_internal_part *part = queue->first; part; part = part->next) count++;
-    for (const vahepito_internal_part *part = queue->retired; part; part = part->next) count++;
+    for (const queue_part *part = queue->first; part; part = part->next) count++;
+    for (const queue_part *part = queue->retired; part; part = part->next) count++;
     return count;
 }
 
@@ -123,7 +123,7 @@ static void many_threads(const struct shape *shape) {
     const uint64_t life = shape->life ? shape->life : UINT64_MAX;
     check(life == UINT64_MAX || opened_in_all >= total / life, "there were many queues");
     /* How many are kept before that depends on how long a thread was stopped in a seat. */
-    vahepito_internal_retire(queue);
+    retire_parts(queue);
     check(parts_kept() == 1, "of which the last one is left, when no call has a seat");
     check(vahepito_length(queue) == 0, "nothing is left");
     check(vahepito_send(queue, 1, NULL) == VAHEPITO_CLOSED, "and nothing is accepted");
@@ -202,7 +202,7 @@ static void stalled(void) {
         check(vahepito_send_now(queue, number, NULL) == VAHEPITO_ACCEPTED && vahepito_take_now(queue, 1, &item, NULL) == VAHEPITO_GOT, "the others go on");
     check(queue->last->number >= 49 && parts_kept() == 2, "its queue is kept, and no other one that is done with");
     queue->seats[5].is_taken = 0;
-    vahepito_internal_retire(queue);
+    retire_parts(queue);
     check(parts_kept() == 1, "until it returns");
     vahepito_destroy(queue, NULL, NULL);
 }

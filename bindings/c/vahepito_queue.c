@@ -1,31 +1,36 @@
-/* Vahepito for C, the queue of vahepito.h: a row of proved queues, and the calls that wait. `make` compiles this file into
- * libvahepito_queue.a and into the shared library; a program may also compile it with its own files. A thread that waits parks on a
- * futex, so it is for Linux.
+/* Vahepito for C, the queue of vahepito.h: a row of proved queues, and the calls that wait. `make` compiles this file
+ * into libvahepito_queue.a and into the shared library; a program may also compile it with its own files. A thread that
+ * waits parks on a futex, so it is for Linux.
  *
- * A row. A vahepito_queue has a row of the proved library's queues, whose calls are made by handles (handles.h). Sends are at the last one, and each group is at one of them. A queue that
- * is used up (a place may begin no further send, or its life is over), or is full and the row has no bound, is closed, and a further one
- * follows. A take that finds the end of its queue continues at the next one. So two rules hold:
+ * A row. A vahepito_queue has a row of the proved library's queues, whose calls are made by handles (handles.h). Sends
+ * are at the last one, and each group is at one of them. A queue that is used up (a place may begin no further send, or
+ * its life is over), or is full and the row has no bound, is closed, and a further one follows. A take that finds the
+ * end of its queue continues at the next one. So two rules hold:
  *
  * 1. a send or a close at a queue begins after a close of the queue before it has returned;
  * 2. a take of a group at a queue begins after a take of that group at the queue before has found the end.
  *
- * Accepted, Got and Empty of any queue are answers of the row, Closed and Ended of the last one alone. That such a row is one queue, linearizable and
- * first in, first out, is proved of the proved queues (`rows_are_linearizable` of the crate cc_row). That this file keeps the rules is tested, and the
- * program row_interleavings.c searches every interleaving of small models for an answer that no such queue gives, and for wrong use of memory.
- * It keeps them by a lock: the last queue is closed and the next one appended under the lock, and a group continues under the lock.
+ * Accepted, Got and Empty of any queue are answers of the row, Closed and Ended of the last one alone. That such a row
+ * is one queue, linearizable and first in, first out, is proved of the proved queues (`rows_are_linearizable` of the
+ * crate cc_row). That this file keeps the rules is tested, and the program row_interleavings.c searches every
+ * interleaving of small models for an answer that no such queue gives, and for wrong use of memory. It keeps them by a
+ * lock: the last queue is closed and the next one appended under the lock, and a group continues under the lock.
  *
- * The bound. While all groups are at the last queue, its own capacity is the row's. While some group is at an earlier queue, the row is
- * `narrow`: then each send is made under the lock, after a look at the counts. So Full is returned only if `capacity` items were in the row.
+ * The bound. While all groups are at the last queue, its own capacity is the row's. While some group is at an earlier
+ * queue, the row is `narrow`: then each send is made under the lock, after a look at the counts. So Full is returned
+ * only if `capacity` items were in the row.
  *
- * Seats. A call takes a seat and then reads at which queue it is. A seat has one sender, and one receiver of each group, of each queue of the row, so
- * that one thread at a time uses them. Then the seat says which queue that is. A queue that all groups have left is freed once each seat was seen
- * away from it after that, free or at another one: a call that takes its seat later reads a later queue. So a call whose thread is stopped keeps one queue. A call that parks for room or an item has no seat, nor has one that waits
- * for the lock: so a thread that has the lock may wait for a seat.
+ * Seats. A call takes a seat and then reads at which queue it is. A seat has one sender, and one receiver of each
+ * group, of each queue of the row, so that one thread at a time uses them. Then the seat says which queue that is. A
+ * queue that all groups have left is freed once each seat was seen away from it after that, free or at another one: a
+ * call that takes its seat later reads a later queue. So a call whose thread is stopped keeps one queue. A call that
+ * parks for room or an item has no seat, nor has one that waits for the lock: so a thread that has the lock may wait
+ * for a seat.
  *
  * Waits. The senders wait in one line for room, and the receivers of each group in another for an item. A line has two
- * counts in one word: `waiting`, the calls in line that aren't notified, and `notified`, the notifications that no call has
- * used. ../WAITS.md says how long each wait spins, and why no wake-up is lost. The program interleavings.c runs the code of
- * this file in every interleaving of small models, and finds a lost wake-up if one of the steps is wrong. */
+ * counts in one word: `waiting`, the calls in line that aren't notified, and `notified`, the notifications that no call
+ * has used. ../WAITS.md says how long each wait spins, and why no wake-up is lost. The program interleavings.c runs the
+ * code of this file in every interleaving of small models, and finds a lost wake-up if one of the steps is wrong. */
 #ifndef _POSIX_C_SOURCE
 #define _POSIX_C_SOURCE 200809L
 #endif
@@ -76,120 +81,127 @@ enum { FIRST_PAUSE = 150, LONGEST_PAUSE = 1000 };
 #endif
 enum { AT_ONCE = 500 };
 
-/* A side is slow if an item takes longer than this, in nanoseconds: longer than the park of a sender and that of a receiver. */
+/* A side is slow if an item takes longer than this, in nanoseconds: longer than the park of a sender and that of a
+ * receiver. */
 #ifndef VAHEPITO_PACE
 #define VAHEPITO_PACE 20000
 #endif
 
-/* A row without a bound begins with a queue of the least capacity, and each further one has twice as much, up to the most: a further one is opened
- * under the lock, and one of 4,096 takes a third of a millisecond. */
-enum { SEATS = 64, USUAL_SEATS = 16, MOST_GROUPS = 8, LEAST_CAPACITY = 64, MOST_CAPACITY = 512, NARROW = 1, WAS_FULL = 2 };
+/* A row without a bound begins with a queue of the least capacity, and each further one has twice as much, up to the
+ * most: a further one is opened under the lock, and one of 4,096 takes a third of a millisecond. */
+enum { SEATS = 64, USUAL_SEATS = 16, MOST_GROUPS = 8, LEAST_CAPACITY = 64, MOST_CAPACITY = 512 };
+
+/* What is special in a row. */
+enum { NARROW = 1, WAS_FULL = 2 };
 
 /* What a try of a send returns if the row is narrow: no code of the library. */
-#define VAHEPITO_INTERNAL_NARROW UINT32_MAX
+#define ROW_IS_NARROW UINT32_MAX
 
 /* ---- lines of calls that wait */
 
 /* A line of calls that wait: `notified` in the lower half of the word, and `waiting` in the upper half. */
 typedef struct {
     uint64_t counts;
-} vahepito_internal_line;
+} call_line;
 
-#define VAHEPITO_INTERNAL_ONE_WAITING ((uint64_t)1 << 32)
+#define ONE_WAITING ((uint64_t)1 << 32)
 
 /* The line of calls that park until they are answered or have a seat. `waiting` is PARKED if a call may sleep that no
  * end of a call has woken; else WAS_USED, once a call has parked. `ended` counts the ends that woke the line. */
 typedef struct {
     uint32_t waiting, ended;
-} vahepito_internal_served;
+} served_line;
 
 enum { WAS_USED = 1, PARKED = 2 };
 
-static long vahepito_internal_futex(const void *word, int operation, uint32_t value, const struct timespec *time) {
+static long call_futex(const void *word, int operation, uint32_t value, const struct timespec *time) {
     const int errno_before = errno;
-    const long done = syscall(SYS_futex, word, operation | FUTEX_PRIVATE_FLAG, value, time, NULL, FUTEX_BITSET_MATCH_ANY);
+    const long done =
+        syscall(SYS_futex, word, operation | FUTEX_PRIVATE_FLAG, value, time, NULL, FUTEX_BITSET_MATCH_ANY);
     const long answer = done < 0 ? -errno : done;
     errno = errno_before;
     return answer;
 }
 
 /* Changes the counts, if they are these; else gives what they are. */
-static inline bool vahepito_internal_change(vahepito_internal_line *line, uint64_t *counts, uint64_t next) {
+static inline bool change_counts(call_line *line, uint64_t *counts, uint64_t next) {
     return __atomic_compare_exchange_n(&line->counts, counts, next, 0, __ATOMIC_SEQ_CST, __ATOMIC_SEQ_CST);
 }
 
 /* Between the library's accesses of a call and one of the counts: the two have the order of the program. For x86-64 and
- * aarch64 compilers agree how a sequentially consistent access is written, and no fence is needed (bindings/WAITS.md, "The
- * order of memory"). For other machines, where the library's compiler and this one may differ, it is a fence. */
-static inline void vahepito_internal_in_order(void) {
+ * aarch64 compilers agree how a sequentially consistent access is written, and no fence is needed (bindings/WAITS.md,
+ * "The order of memory"). For other machines, where the library's compiler and this one may differ, it is a fence. */
+static inline void keep_order(void) {
 #if !defined(__x86_64__) && !defined(__aarch64__)
     __atomic_thread_fence(__ATOMIC_SEQ_CST);
 #endif
 }
 
 /* Notifies this number of calls of the line, or all if there are fewer. */
-static void vahepito_internal_notify_some(vahepito_internal_line *line, uint64_t counts, uint32_t most) {
-    while (counts >= VAHEPITO_INTERNAL_ONE_WAITING) {
+static void notify_some(call_line *line, uint64_t counts, uint32_t most) {
+    while (counts >= ONE_WAITING) {
         const uint64_t waiting = counts >> 32, chosen = waiting < most ? waiting : most;
-        const uint64_t next = counts - chosen * VAHEPITO_INTERNAL_ONE_WAITING + chosen;
-        if (!vahepito_internal_change(line, &counts, next)) continue;
-        (void)vahepito_internal_futex(&line->counts, FUTEX_WAKE, chosen < INT_MAX ? (uint32_t)chosen : INT_MAX, NULL);
+        const uint64_t next = counts - chosen * ONE_WAITING + chosen;
+        if (!change_counts(line, &counts, next)) continue;
+        (void)call_futex(&line->counts, FUTEX_WAKE, chosen < INT_MAX ? (uint32_t)chosen : INT_MAX, NULL);
         return;
     }
 }
 
-static __attribute__((noinline, cold)) void vahepito_internal_notify(vahepito_internal_line *line, uint32_t most) {
-    vahepito_internal_notify_some(line, __atomic_load_n(&line->counts, __ATOMIC_SEQ_CST), most);
+static __attribute__((noinline, cold)) void notify_line(call_line *line, uint32_t most) {
+    notify_some(line, __atomic_load_n(&line->counts, __ATOMIC_SEQ_CST), most);
 }
 
 /* Whether a call of the line isn't notified. */
-static inline bool vahepito_internal_has_waiting(const vahepito_internal_line *line) {
-    return __builtin_expect(__atomic_load_n(&line->counts, __ATOMIC_SEQ_CST) >= VAHEPITO_INTERNAL_ONE_WAITING, 0);
+static inline bool has_waiting(const call_line *line) {
+    return __builtin_expect(__atomic_load_n(&line->counts, __ATOMIC_SEQ_CST) >= ONE_WAITING, 0);
 }
 
 /* Leaves the line after a look that succeeded. */
-static void vahepito_internal_leave(vahepito_internal_line *line) {
+static void leave_line(call_line *line) {
     uint64_t counts = __atomic_load_n(&line->counts, __ATOMIC_SEQ_CST), next;
-    do next = counts >= VAHEPITO_INTERNAL_ONE_WAITING ? counts - VAHEPITO_INTERNAL_ONE_WAITING : counts - 1;
-    while (!vahepito_internal_change(line, &counts, next));
+    do next = counts >= ONE_WAITING ? counts - ONE_WAITING : counts - 1;
+    while (!change_counts(line, &counts, next));
 }
 
-/* Sleeps in the line until there is a notification, or until this moment, and leaves it. Returns whether it used one. */
-static bool vahepito_internal_park(vahepito_internal_line *line, const struct timespec *moment) {
+/* Sleeps in the line until there is a notification, or until this moment, and leaves it. Returns whether it used a
+ * notification. */
+static bool park_in_line(call_line *line, const struct timespec *moment) {
     uint64_t counts = __atomic_load_n(&line->counts, __ATOMIC_SEQ_CST);
     bool is_over = false;
     for (;;) {
         const bool is_notified = (uint32_t)counts != 0;
         if (is_notified || is_over) {
-            const uint64_t next = is_notified ? counts - 1 : counts - VAHEPITO_INTERNAL_ONE_WAITING;
-            if (vahepito_internal_change(line, &counts, next)) return is_notified;
+            const uint64_t next = is_notified ? counts - 1 : counts - ONE_WAITING;
+            if (change_counts(line, &counts, next)) return is_notified;
         } else {
-            const long answer = vahepito_internal_futex(&line->counts, FUTEX_WAIT_BITSET, 0, moment);
+            const long answer = call_futex(&line->counts, FUTEX_WAIT_BITSET, 0, moment);
             is_over = answer == -ETIMEDOUT || answer == -EINVAL;
             counts = __atomic_load_n(&line->counts, __ATOMIC_SEQ_CST);
         }
     }
 }
 
-static uint64_t vahepito_internal_clock(void) {
+static uint64_t clock_moment(void) {
     struct timespec time;
     (void)clock_gettime(CLOCK_MONOTONIC, &time);
     return (uint64_t)time.tv_sec * 1000000000u + (uint64_t)time.tv_nsec;
 }
 
-/* The pace of a side, for its calls that wait: when the last wait ended that was longer than its spins, and with the item of which place; and
- * whether the side is slow by that, so that its calls park at once. These are hints: two threads may write them at once. */
+/* The pace of a side, for its calls that wait: when the last wait ended that was longer than its spins, and with the
+ * item of which place; and whether the side is slow by that, so that its calls park at once. These are hints: two
+ * threads may write them at once. */
 typedef struct {
     uint64_t ended, place;
     uint32_t is_slow;
-} vahepito_internal_pace;
+} side_pace;
 
-static bool vahepito_internal_is_slow(const vahepito_internal_pace *pace) { return __atomic_load_n(&pace->is_slow, __ATOMIC_RELAXED) != 0; }
+static bool is_slow_side(const side_pace *pace) { return __atomic_load_n(&pace->is_slow, __ATOMIC_RELAXED) != 0; }
 
 /* Notes the end of a wait, with the item of this place. */
-static void vahepito_internal_note(vahepito_internal_pace *pace, uint64_t place) {
+static void note_wait(side_pace *pace, uint64_t place) {
     if (VAHEPITO_SPIN_TIME == 0) return;
-    const uint64_t ended = vahepito_internal_clock(), before = __atomic_load_n(&pace->ended, __ATOMIC_RELAXED);
+    const uint64_t ended = clock_moment(), before = __atomic_load_n(&pace->ended, __ATOMIC_RELAXED);
     const uint64_t items = place - __atomic_load_n(&pace->place, __ATOMIC_RELAXED);
     if (before != 0) __atomic_store_n(&pace->is_slow, ended - before > VAHEPITO_PACE * items, __ATOMIC_RELAXED);
     __atomic_store_n(&pace->ended, ended, __ATOMIC_RELAXED);
@@ -197,7 +209,7 @@ static void vahepito_internal_note(vahepito_internal_pace *pace, uint64_t place)
 }
 
 /* The hint of a thread that spins: on aarch64 as Rust's std has it. */
-static inline void vahepito_internal_pause(void) {
+static inline void pause_processor(void) {
 #if defined(__x86_64__)
     __builtin_ia32_pause();
 #elif defined(__aarch64__)
@@ -207,23 +219,23 @@ static inline void vahepito_internal_pause(void) {
 #endif
 }
 
-static void vahepito_internal_spin_until(uint64_t moment) {
-    while ((int64_t)(moment - vahepito_internal_clock()) > 0) vahepito_internal_pause();
+static void spin_until(uint64_t moment) {
+    while ((int64_t)(moment - clock_moment()) > 0) pause_processor();
 }
 
-/* How a call passes the time between its looks, before it parks. It begins with the first pause, after the first look.
- * */
+/* How a call passes the time between its looks, before it parks. It begins with the first pause after the first
+ * look. */
 typedef struct {
     uint64_t begin, pause;
-} vahepito_internal_wait_time;
+} wait_time;
 
 /* After a look that found nothing: spins, or yields, if the time for it isn't over. Returns whether it isn't. */
-static bool vahepito_internal_passes(vahepito_internal_wait_time *it, uint64_t spins, uint64_t yields) {
-    const uint64_t now = vahepito_internal_clock();
+static bool pass_time(wait_time *it, uint64_t spins, uint64_t yields) {
+    const uint64_t now = clock_moment();
     if (it->pause == 0) it->begin = now, it->pause = FIRST_PAUSE;
     const uint64_t spent = now - it->begin;
     if (spent < spins) {
-        vahepito_internal_spin_until(now + it->pause);
+        spin_until(now + it->pause);
         it->pause = 2 * it->pause < LONGEST_PAUSE ? 2 * it->pause : LONGEST_PAUSE;
     } else if (spent - spins < yields) {
         (void)sched_yield();
@@ -235,38 +247,38 @@ static bool vahepito_internal_passes(vahepito_internal_wait_time *it, uint64_t s
 
 /* How a call waits for its answer or for a seat: it spins, and then parks. */
 typedef struct {
-    vahepito_internal_served *line;
-    vahepito_internal_wait_time time;
+    served_line *line;
+    wait_time time;
     bool is_over; /* whether it has spun for long enough */
-} vahepito_internal_backoff;
+} served_wait;
 
 /* Before a look of a call that is about to park. A call that ends after this changes `ended`. That is loaded first: an
  * end that takes this call's PARKED away changes it later. */
-static uint32_t vahepito_internal_stand(const vahepito_internal_backoff *backoff) {
+static uint32_t begin_look(const served_wait *backoff) {
     if (!backoff->is_over) return 0;
     const uint32_t ended = __atomic_load_n(&backoff->line->ended, __ATOMIC_SEQ_CST);
     (void)__atomic_exchange_n(&backoff->line->waiting, PARKED, __ATOMIC_SEQ_CST);
-    vahepito_internal_in_order();
+    keep_order();
     return ended;
 }
 
 /* After a look that found nothing. */
-static void vahepito_internal_rest(vahepito_internal_backoff *backoff, uint32_t ended) {
+static void end_look(served_wait *backoff, uint32_t ended) {
     const struct timespec time = {0, 1000000};
-    if (backoff->is_over) (void)vahepito_internal_futex(&backoff->line->ended, FUTEX_WAIT, ended, &time);
-    else backoff->is_over = !vahepito_internal_passes(&backoff->time, VAHEPITO_SERVED_TIME, 0);
+    if (backoff->is_over) (void)call_futex(&backoff->line->ended, FUTEX_WAIT, ended, &time);
+    else backoff->is_over = !pass_time(&backoff->time, VAHEPITO_SERVED_TIME, 0);
 }
 
 /* Makes a call, whose code is `code`, again and again while `again` holds, and passes the time in between. */
-#define VAHEPITO_INTERNAL_UNTIL(line, code, call, again)                   \
-    do {                                                                   \
-        vahepito_internal_backoff backoff = {line, {0, 0}, false};         \
-        for (;;) {                                                         \
-            const uint32_t ended = vahepito_internal_stand(&backoff);      \
-            code = call;                                                   \
-            if (!(again)) break;                                           \
-            vahepito_internal_rest(&backoff, ended);                       \
-        }                                                                  \
+#define CALL_WHILE(line, code, call, again)                     \
+    do {                                                        \
+        served_wait backoff = {line, {0, 0}, false};            \
+        for (;;) {                                              \
+            const uint32_t ended = begin_look(&backoff);        \
+            code = call;                                        \
+            if (!(again)) break;                                \
+            end_look(&backoff, ended);                          \
+        }                                                       \
     } while (0)
 
 /* ---- the queue */
@@ -274,16 +286,16 @@ static void vahepito_internal_rest(vahepito_internal_backoff *backoff, uint32_t 
 /* A handle, in a line of the cache of its own. */
 typedef struct {
     vahepito_handle pass;
-} __attribute__((aligned(64))) vahepito_internal_handle;
+} __attribute__((aligned(64))) own_handle;
 
 /* A proved queue of the row. */
-typedef struct vahepito_internal_part {
-    struct vahepito_internal_part *next;
+typedef struct queue_part {
+    struct queue_part *next;
     uint64_t number; /* the first one of all has 0 */
     uint64_t base;   /* how many items the queues before it accepted */
     uint64_t unseen; /* of one that all groups have left: the seats that weren't seen away from it since then */
-    vahepito_internal_handle handles[]; /* by seats: the senders, and then the receivers of each group */
-} vahepito_internal_part;
+    own_handle handles[]; /* by seats: the senders, and then the receivers of each group */
+} queue_part;
 
 /* A seat, in a line of the cache of its own. `contention` says whether the calls in the seat contend for their side:
  * the moment at which the last call ended that another one answered, or at which a call had let others go ahead, times
@@ -293,145 +305,148 @@ typedef struct {
     uintptr_t is_taken; /* 0; or TAKEN; or the address of the queue that its call has found */
     uint64_t contention;
     uint32_t quiet; /* at the ends of how many of its last calls no call was parked */
-} __attribute__((aligned(64))) vahepito_internal_seat;
+} __attribute__((aligned(64))) call_seat;
 
 /* After this number of calls of a seat at whose ends no call was parked, seats are given back by a store again. */
 enum { FORGET_AFTER = 1024 };
 
 enum { TAKEN = 1, CONTENDS = 1, CONTENTION_SIDE = 2, CONTENTION_MOMENT = 32 };
 
-/* A descriptor that is readable while a take of a group, or a send, may find something; or -1. A call that finds nothing arms it, and looks once
- * more; a call that makes something writes into it, if it is armed. */
+/* A descriptor that is readable while a take of a group, or a send, may find something; or -1. A call that finds
+ * nothing arms it, and looks once more; a call that makes something writes into it, if it is armed. */
 typedef struct {
     int place;
     uint32_t is_armed;
-} vahepito_internal_bell;
+} side_bell;
 
 struct vahepito_queue {
     vahepito_config config;
     uint32_t groups, words, places; /* how many seats there are: a power of two */
-    size_t stride, own_mask;        /* the bytes of a side's handles in a queue of the row; and up to which bytes a seat begins */
+    size_t stride;   /* the bytes of a side's handles in a queue of the row */
+    size_t own_mask; /* up to which bytes a seat begins */
     bool has_bound, is_closed;
     bool has_bells;   /* whether some bell isn't -1, or some group has left */
     bool has_left[MOST_GROUPS];
-    uint32_t special; /* NARROW: some group isn't at the last queue, and there is a bound. WAS_FULL: a send found no room; so a send looks first */
-    vahepito_internal_part *last, *at[MOST_GROUPS];
+    uint32_t special; /* NARROW: some group isn't at the last queue, and there is a bound. WAS_FULL: a send found no
+                       * room; so a send looks first */
+    queue_part *last, *at[MOST_GROUPS];
     pthread_mutex_t lock;                   /* for `is_closed`, NARROW, the queues, and the two lists of them */
-    vahepito_internal_part *first, *retired; /* those that some group is at, and all behind them; those that are done with */
-    vahepito_internal_bell bells[1 + MOST_GROUPS];
-    vahepito_internal_served served; /* the calls that are parked until they have an answer or a seat */
-    vahepito_internal_pace pace[1 + MOST_GROUPS]; /* of the senders, and of each group */
-    vahepito_internal_line senders __attribute__((aligned(64)));
-    vahepito_internal_line receivers[MOST_GROUPS] __attribute__((aligned(64)));
-    vahepito_internal_seat seats[SEATS];    /* of which `places` are used; the first one has the number 1 */
+    queue_part *first, *retired; /* those that some group is at, and all behind them; those that are done with */
+    side_bell bells[1 + MOST_GROUPS];
+    served_line served; /* the calls that are parked until they have an answer or a seat */
+    side_pace pace[1 + MOST_GROUPS]; /* of the senders, and of each group */
+    call_line senders __attribute__((aligned(64)));
+    call_line receivers[MOST_GROUPS] __attribute__((aligned(64)));
+    call_seat seats[SEATS];    /* of which `places` are used; the first one has the number 1 */
 };
 
 /* The number of a thread, from 1 (0: it has none yet), times the bytes of a seat; and how many threads have one. */
-static __thread size_t vahepito_internal_own;
-static uint32_t vahepito_internal_threads;
+static __thread size_t thread_offset;
+static uint32_t thread_count;
 
-static __attribute__((noinline, cold)) void vahepito_internal_number_thread(void) {
-    const uint32_t before = __atomic_fetch_add(&vahepito_internal_threads, 1, __ATOMIC_RELAXED);
-    vahepito_internal_own = (1 + before % SEATS) * sizeof(vahepito_internal_seat);
+static __attribute__((noinline, cold)) void number_thread(void) {
+    const uint32_t before = __atomic_fetch_add(&thread_count, 1, __ATOMIC_RELAXED);
+    thread_offset = (1 + before % SEATS) * sizeof(call_seat);
 }
 
-/* The seat at which this thread looks first, as the bytes from the queue's first one on: by its number, modulo the seats. */
-static inline size_t vahepito_internal_own_at(const vahepito_queue *queue) {
-    if (__builtin_expect(vahepito_internal_own == 0, 0)) vahepito_internal_number_thread();
-    return vahepito_internal_own & queue->own_mask;
+/* The seat at which this thread looks first, as the bytes from the queue's first one on: by its number, modulo the
+ * seats. */
+static inline size_t own_offset(const vahepito_queue *queue) {
+    if (__builtin_expect(thread_offset == 0, 0)) number_thread();
+    return thread_offset & queue->own_mask;
 }
 
-static inline vahepito_internal_seat *vahepito_internal_seat_at(vahepito_queue *queue, size_t own) {
-    return (vahepito_internal_seat *)(void *)((char *)queue->seats + own);
+static inline call_seat *seat_at(vahepito_queue *queue, size_t own) {
+    return (call_seat *)(void *)((char *)queue->seats + own);
 }
 
 /* What a seat says that is taken stays. */
-static inline bool vahepito_internal_try_seat(vahepito_internal_seat *seat) {
+static inline bool try_seat(call_seat *seat) {
     uintptr_t none = 0;
     return __atomic_compare_exchange_n(&seat->is_taken, &none, TAKEN, false, __ATOMIC_SEQ_CST, __ATOMIC_SEQ_CST);
 }
 
-static inline uint32_t vahepito_internal_number(const vahepito_queue *queue, const vahepito_internal_seat *seat) {
+static inline uint32_t seat_number(const vahepito_queue *queue, const call_seat *seat) {
     return 1 + (uint32_t)(seat - queue->seats);
 }
 
 /* The number of a seat, or 0 if none is free. A thread whose own seat is taken has met another one with the same. From
  * then on the seat that it finds is its own. */
-static uint32_t vahepito_internal_enter(vahepito_queue *queue) {
-    const size_t own = vahepito_internal_own_at(queue);
-    for (size_t on = 0; on <= queue->own_mask; on += sizeof(vahepito_internal_seat)) {
-        vahepito_internal_seat *const seat = vahepito_internal_seat_at(queue, (own + on) & queue->own_mask);
-        if (__atomic_load_n(&seat->is_taken, __ATOMIC_RELAXED) != 0 || !vahepito_internal_try_seat(seat)) continue;
-        vahepito_internal_own += on;
-        return vahepito_internal_number(queue, seat);
+static uint32_t enter_seat(vahepito_queue *queue) {
+    const size_t own = own_offset(queue);
+    for (size_t on = 0; on <= queue->own_mask; on += sizeof(call_seat)) {
+        call_seat *const seat = seat_at(queue, (own + on) & queue->own_mask);
+        if (__atomic_load_n(&seat->is_taken, __ATOMIC_RELAXED) != 0 || !try_seat(seat)) continue;
+        thread_offset += on;
+        return seat_number(queue, seat);
     }
     return 0;
 }
 
 /* The number of a seat, once one is free. */
-static __attribute__((noinline)) uint32_t vahepito_internal_sit(vahepito_queue *queue) {
+static __attribute__((noinline)) uint32_t sit_down(vahepito_queue *queue) {
     uint32_t seat;
-    VAHEPITO_INTERNAL_UNTIL(&queue->served, seat, vahepito_internal_enter(queue), seat == 0);
+    CALL_WHILE(&queue->served, seat, enter_seat(queue), seat == 0);
     return seat;
 }
 
-static inline uint32_t vahepito_internal_waiting(const vahepito_queue *queue) {
+static inline uint32_t served_waiting(const vahepito_queue *queue) {
     return __atomic_load_n(&queue->served.waiting, __ATOMIC_SEQ_CST);
 }
 
 /* By an exchange, which waits until the stores of the seat's call are in memory: one of them may have answered a call
  * that is parked. Before an end wakes the line it takes PARKED away. So further ends make no system call while a call
  * that was woken waits for a processor. */
-static __attribute__((noinline, cold)) void vahepito_internal_swap_and_wake(vahepito_queue *queue, vahepito_internal_seat *seat) {
-    vahepito_internal_served *const line = &queue->served;
-    const uint32_t quiet = vahepito_internal_waiting(queue) != PARKED ? seat->quiet + 1 : 0;
+static __attribute__((noinline, cold)) void swap_and_wake(vahepito_queue *queue, call_seat *seat) {
+    served_line *const line = &queue->served;
+    const uint32_t quiet = served_waiting(queue) != PARKED ? seat->quiet + 1 : 0;
     seat->quiet = quiet % FORGET_AFTER;
     (void)__atomic_exchange_n(&seat->is_taken, 0, __ATOMIC_SEQ_CST);
-    vahepito_internal_in_order();
-    if (vahepito_internal_waiting(queue) == PARKED) {
+    keep_order();
+    if (served_waiting(queue) == PARKED) {
         (void)__atomic_exchange_n(&line->waiting, WAS_USED, __ATOMIC_SEQ_CST);
         (void)__atomic_fetch_add(&line->ended, 1, __ATOMIC_SEQ_CST);
-        (void)vahepito_internal_futex(&line->ended, FUTEX_WAKE, INT_MAX, NULL);
+        (void)call_futex(&line->ended, FUTEX_WAKE, INT_MAX, NULL);
     } else if (quiet == FORGET_AFTER) {
         (void)__atomic_fetch_and(&line->waiting, ~(uint32_t)WAS_USED, __ATOMIC_SEQ_CST);
     }
 }
 
 /* Gives a seat back after a call, and wakes the calls that are parked until they have an answer or a seat. */
-static inline void vahepito_internal_give_back(vahepito_queue *queue, vahepito_internal_seat *seat) {
-    if (__builtin_expect(vahepito_internal_waiting(queue) != 0, 0)) vahepito_internal_swap_and_wake(queue, seat);
+static inline void give_seat_back(vahepito_queue *queue, call_seat *seat) {
+    if (__builtin_expect(served_waiting(queue) != 0, 0)) swap_and_wake(queue, seat);
     else __atomic_store_n(&seat->is_taken, 0, __ATOMIC_RELEASE);
 }
 
-static inline void vahepito_internal_stand_up(vahepito_queue *queue, uint32_t seat) {
-    vahepito_internal_give_back(queue, &queue->seats[seat - 1]);
+static inline void stand_up(vahepito_queue *queue, uint32_t seat) {
+    give_seat_back(queue, &queue->seats[seat - 1]);
 }
 
 /* ---- contention */
 
-static bool vahepito_internal_comes_at_once(uint64_t contention, uint32_t side, uint64_t moment) {
+static bool comes_at_once(uint64_t contention, uint32_t side, uint64_t moment) {
     const uint64_t side_before = contention % CONTENTION_MOMENT / CONTENTION_SIDE;
     return side_before == side && moment - contention / CONTENTION_MOMENT < AT_ONCE;
 }
 
 /* After a call of this side in this seat that waited for its answer, from this moment on. */
-static void vahepito_internal_note_answered(vahepito_internal_seat *seat, uint32_t side, uint64_t begin) {
+static void note_answered(call_seat *seat, uint32_t side, uint64_t begin) {
     if (VAHEPITO_AHEAD == 0) return;
     const uint64_t before = __atomic_load_n(&seat->contention, __ATOMIC_RELAXED);
-    const uint64_t now = vahepito_internal_clock() * CONTENTION_MOMENT + side * CONTENTION_SIDE;
-    __atomic_store_n(&seat->contention, now + vahepito_internal_comes_at_once(before, side, begin), __ATOMIC_RELAXED);
+    const uint64_t now = clock_moment() * CONTENTION_MOMENT + side * CONTENTION_SIDE;
+    __atomic_store_n(&seat->contention, now + comes_at_once(before, side, begin), __ATOMIC_RELAXED);
 }
 
-static inline bool vahepito_internal_contends(const vahepito_internal_seat *seat) {
+static inline bool seat_contends(const call_seat *seat) {
     return VAHEPITO_AHEAD != 0 && (__atomic_load_n(&seat->contention, __ATOMIC_RELAXED) & CONTENDS) != 0;
 }
 
-static __attribute__((noinline, cold)) void vahepito_internal_go_behind(vahepito_internal_seat *seat, uint32_t side) {
+static __attribute__((noinline, cold)) void go_behind(call_seat *seat, uint32_t side) {
     uint64_t contention = __atomic_load_n(&seat->contention, __ATOMIC_RELAXED) - CONTENDS;
-    const uint64_t now = vahepito_internal_clock();
-    if (vahepito_internal_comes_at_once(contention, side, now)) {
-        vahepito_internal_spin_until(now + VAHEPITO_AHEAD);
-        contention = vahepito_internal_clock() * CONTENTION_MOMENT + side * CONTENTION_SIDE;
+    const uint64_t now = clock_moment();
+    if (comes_at_once(contention, side, now)) {
+        spin_until(now + VAHEPITO_AHEAD);
+        contention = clock_moment() * CONTENTION_MOMENT + side * CONTENTION_SIDE;
     }
     __atomic_store_n(&seat->contention, contention, __ATOMIC_RELAXED);
 }
@@ -439,52 +454,57 @@ static __attribute__((noinline, cold)) void vahepito_internal_go_behind(vahepito
 /* Before a call of this side, by a thread whose seat this is and that has no lock. Two threads of a side that call
  * again and again meet at each call, and each waits for the other. So if two calls in a row waited, and the next one
  * comes at once, that one lets the others make some calls alone. */
-static inline void vahepito_internal_let_ahead(vahepito_internal_seat *seat, uint32_t side) {
-    if (vahepito_internal_contends(seat)) vahepito_internal_go_behind(seat, side);
+static inline void let_ahead(call_seat *seat, uint32_t side) {
+    if (seat_contends(seat)) go_behind(seat, side);
 }
 
 /* The seat at which this thread looks first. */
-static inline vahepito_internal_seat *vahepito_internal_own_seat(vahepito_queue *queue) {
-    return vahepito_internal_seat_at(queue, vahepito_internal_own_at(queue));
+static inline call_seat *own_seat(vahepito_queue *queue) {
+    return seat_at(queue, own_offset(queue));
 }
 
 /* The handle that a seat has of a queue: of its sender, or of the receiver of a group from 1. */
-static inline vahepito_handle *vahepito_internal_pass(vahepito_internal_part *part, const vahepito_queue *queue, uint32_t side, uint32_t seat) {
+static inline vahepito_handle *pass_of(queue_part *part, const vahepito_queue *queue, uint32_t side, uint32_t seat) {
     return &part->handles[side * queue->places + seat - 1].pass;
 }
 
 /* The same of the seat at these bytes: a handle has as many as a seat. */
-static inline vahepito_handle *vahepito_internal_own_pass(vahepito_internal_part *part, const vahepito_queue *queue, uint32_t side, size_t own) {
+static inline vahepito_handle *own_pass_of(queue_part *part, const vahepito_queue *queue, uint32_t side, size_t own) {
     return (vahepito_handle *)(void *)((char *)part->handles + (side == 0 ? 0 : side * queue->stride) + own);
 }
 
-_Static_assert(sizeof(vahepito_internal_seat) == sizeof(vahepito_internal_handle), "a handle has as many bytes as a seat");
+_Static_assert(sizeof(call_seat) == sizeof(own_handle), "a handle has as many bytes as a seat");
 
-_Static_assert(offsetof(vahepito_word_item, sender) == offsetof(vahepito_item, sender) && offsetof(vahepito_word_item, number) == offsetof(vahepito_item, number),
+_Static_assert(offsetof(vahepito_word_item, sender) == offsetof(vahepito_item, sender) &&
+                   offsetof(vahepito_word_item, number) == offsetof(vahepito_item, number),
                "an item of one word begins as an item of words");
-_Static_assert(offsetof(vahepito_word_item, body) == offsetof(vahepito_item, count) && sizeof(size_t) == sizeof(uint64_t), "and has its body where that has the count");
+_Static_assert(offsetof(vahepito_word_item, body) == offsetof(vahepito_item, count) &&
+                   sizeof(size_t) == sizeof(uint64_t),
+               "and has its body where that has the count");
 
-static inline vahepito_internal_part *vahepito_internal_load(vahepito_internal_part *const *place) {
-    vahepito_internal_part *part;
+static inline queue_part *load_part(queue_part *const *place) {
+    queue_part *part;
     __atomic_load(place, &part, __ATOMIC_SEQ_CST);
     return part;
 }
 
 /* The queue at this place, by a call in this seat, which says that the call uses that one. */
-static inline vahepito_internal_part *vahepito_internal_find(vahepito_internal_seat *seat, vahepito_internal_part *const *place) {
-    vahepito_internal_part *const part = vahepito_internal_load(place);
+static inline queue_part *find_part(call_seat *seat, queue_part *const *place) {
+    queue_part *const part = load_part(place);
     __atomic_store_n(&seat->is_taken, (uintptr_t)part, __ATOMIC_RELEASE);
     return part;
 }
 
-static inline bool vahepito_internal_is_closed(const vahepito_queue *queue) { return __atomic_load_n(&queue->is_closed, __ATOMIC_SEQ_CST); }
+static inline bool row_is_closed(const vahepito_queue *queue) {
+    return __atomic_load_n(&queue->is_closed, __ATOMIC_SEQ_CST);
+}
 
-static void vahepito_internal_lock(vahepito_queue *queue) { (void)pthread_mutex_lock(&queue->lock); }
-static void vahepito_internal_unlock(vahepito_queue *queue) { (void)pthread_mutex_unlock(&queue->lock); }
+static void lock_row(vahepito_queue *queue) { (void)pthread_mutex_lock(&queue->lock); }
+static void unlock_row(vahepito_queue *queue) { (void)pthread_mutex_unlock(&queue->lock); }
 
 /* ---- bells */
 
-static void vahepito_internal_ring(vahepito_internal_bell *bell) {
+static void ring_bell(side_bell *bell) {
     const uint64_t one = 1;
     const int errno_before = errno;
     const int place = __atomic_load_n(&bell->place, __ATOMIC_SEQ_CST);
@@ -492,13 +512,14 @@ static void vahepito_internal_ring(vahepito_internal_bell *bell) {
     errno = errno_before;
 }
 
-static __attribute__((noinline, cold)) void vahepito_internal_ring_if_armed(vahepito_internal_bell *bell) {
-    if (__atomic_load_n(&bell->is_armed, __ATOMIC_SEQ_CST) != 0 && __atomic_exchange_n(&bell->is_armed, 0, __ATOMIC_SEQ_CST) != 0)
-        vahepito_internal_ring(bell);
+static __attribute__((noinline, cold)) void ring_if_armed(side_bell *bell) {
+    if (__atomic_load_n(&bell->is_armed, __ATOMIC_SEQ_CST) != 0 &&
+        __atomic_exchange_n(&bell->is_armed, 0, __ATOMIC_SEQ_CST) != 0)
+        ring_bell(bell);
 }
 
 /* After a try that found nothing. Returns whether to try again. */
-static bool vahepito_internal_arm(vahepito_internal_bell *bell) {
+static bool arm_bell(side_bell *bell) {
     uint64_t count;
     const int errno_before = errno, place = __atomic_load_n(&bell->place, __ATOMIC_SEQ_CST);
     if (place < 0) return false;
@@ -510,67 +531,68 @@ static bool vahepito_internal_arm(vahepito_internal_bell *bell) {
 
 /* ---- notifications, of which the rare parts are functions of their own */
 
-static __attribute__((noinline, cold)) void vahepito_internal_ring_for_items(vahepito_queue *queue) {
-    for (uint32_t group = 1; group <= queue->groups; group++) vahepito_internal_ring_if_armed(&queue->bells[group]);
+static __attribute__((noinline, cold)) void ring_for_items(vahepito_queue *queue) {
+    for (uint32_t group = 1; group <= queue->groups; group++) ring_if_armed(&queue->bells[group]);
 }
 
 /* The same, and takes what groups have that have left: in no seat. */
-static void vahepito_internal_ring_and_skip(vahepito_queue *queue);
+static void ring_and_skip(vahepito_queue *queue);
 
 /* After a send that was accepted: wakes a receiver of each group. */
-static inline void vahepito_internal_notify_items(vahepito_queue *queue, bool has_seat) {
-    vahepito_internal_in_order();
+static inline void notify_items(vahepito_queue *queue, bool has_seat) {
+    keep_order();
     uint32_t group = 0;
     do
-        if (vahepito_internal_has_waiting(&queue->receivers[group])) vahepito_internal_notify(&queue->receivers[group], 1);
+        if (has_waiting(&queue->receivers[group])) notify_line(&queue->receivers[group], 1);
     while (++group < queue->groups);
     if (__builtin_expect(__atomic_load_n(&queue->has_bells, __ATOMIC_SEQ_CST), 0))
-        (has_seat ? vahepito_internal_ring_for_items : vahepito_internal_ring_and_skip)(queue);
+        (has_seat ? ring_for_items : ring_and_skip)(queue);
 }
 
-static __attribute__((noinline, cold)) void vahepito_internal_notify_senders(vahepito_queue *queue) {
-    vahepito_internal_notify(&queue->senders, 1);
+static __attribute__((noinline, cold)) void notify_senders(vahepito_queue *queue) {
+    notify_line(&queue->senders, 1);
 }
-static __attribute__((noinline, cold)) void vahepito_internal_ring_for_room(vahepito_queue *queue) { vahepito_internal_ring_if_armed(&queue->bells[0]); }
+static __attribute__((noinline, cold)) void ring_for_room(vahepito_queue *queue) { ring_if_armed(&queue->bells[0]); }
 
 /* After a take that got an item: wakes a sender. */
-static inline void vahepito_internal_notify_room(vahepito_queue *queue) {
-    vahepito_internal_in_order();
-    if (vahepito_internal_has_waiting(&queue->senders)) vahepito_internal_notify_senders(queue);
-    if (__builtin_expect(__atomic_load_n(&queue->has_bells, __ATOMIC_SEQ_CST), 0)) vahepito_internal_ring_for_room(queue);
+static inline void notify_room(vahepito_queue *queue) {
+    keep_order();
+    if (has_waiting(&queue->senders)) notify_senders(queue);
+    if (__builtin_expect(__atomic_load_n(&queue->has_bells, __ATOMIC_SEQ_CST), 0)) ring_for_room(queue);
 }
 
 /* After a close: wakes all that wait. A descriptor stays readable then. */
-static void vahepito_internal_notify_all(vahepito_queue *queue) {
-    vahepito_internal_in_order();
-    vahepito_internal_notify(&queue->senders, UINT32_MAX);
-    for (uint32_t group = 0; group < queue->groups; group++) vahepito_internal_notify(&queue->receivers[group], UINT32_MAX);
+static void notify_all(vahepito_queue *queue) {
+    keep_order();
+    notify_line(&queue->senders, UINT32_MAX);
+    for (uint32_t group = 0; group < queue->groups; group++) notify_line(&queue->receivers[group], UINT32_MAX);
     if (!__atomic_load_n(&queue->has_bells, __ATOMIC_SEQ_CST)) return;
-    for (uint32_t group = 0; group <= queue->groups; group++) vahepito_internal_ring_if_armed(&queue->bells[group]);
+    for (uint32_t group = 0; group <= queue->groups; group++) ring_if_armed(&queue->bells[group]);
 }
 
 /* ---- the row */
 
-static void vahepito_internal_free_part(const vahepito_queue *queue, vahepito_internal_part *part) {
+static void free_part(const vahepito_queue *queue, queue_part *part) {
     for (uint32_t k = 0; k < (1 + queue->groups) * queue->places; k++) (void)vahepito_drop(&part->handles[k].pass);
     free(part);
 }
 
 /* A further queue of the row; NULL if there is no memory. */
-static vahepito_internal_part *vahepito_internal_append(vahepito_queue *queue, uint32_t *code) {
+static queue_part *append_part(vahepito_queue *queue, uint32_t *code) {
     vahepito_handle passes[(1 + MOST_GROUPS) * SEATS];
     const size_t count = (1 + (size_t)queue->groups) * queue->places;
     void *memory = NULL;
     memset(passes, 0, sizeof passes);
-    *code = vahepito_open_words(&queue->config, queue->groups, queue->words, passes, queue->places, passes + queue->places, count - queue->places);
+    *code = vahepito_open_words(&queue->config, queue->groups, queue->words, passes, queue->places,
+                                passes + queue->places, count - queue->places);
     if (*code != VAHEPITO_DONE) return NULL;
     *code = VAHEPITO_NO_MEMORY;
-    if (posix_memalign(&memory, 64, sizeof(vahepito_internal_part) + count * sizeof(vahepito_internal_handle)) != 0) {
+    if (posix_memalign(&memory, 64, sizeof(queue_part) + count * sizeof(own_handle)) != 0) {
         for (size_t k = 0; k < count; k++) (void)vahepito_drop(&passes[k]);
         return NULL;
     }
     *code = VAHEPITO_DONE;
-    vahepito_internal_part *const part = memory;
+    queue_part *const part = memory;
     part->next = NULL;
     part->number = part->base = part->unseen = 0;
     for (size_t k = 0; k < count; k++) part->handles[k].pass = passes[k];
@@ -578,30 +600,30 @@ static vahepito_internal_part *vahepito_internal_append(vahepito_queue *queue, u
 }
 
 /* Whether no call in this seat may use a queue that all groups have left. */
-static bool vahepito_internal_is_away(const vahepito_internal_seat *seat, const vahepito_internal_part *part) {
+static bool is_away(const call_seat *seat, const queue_part *part) {
     const uintptr_t at = __atomic_load_n(&seat->is_taken, __ATOMIC_SEQ_CST);
     return at != TAKEN && at != (uintptr_t)part;
 }
 
 /* Frees the queues that all groups have left, as far as no call may use them. Under the lock. */
-static void vahepito_internal_retire(vahepito_queue *queue) {
+static void retire_parts(vahepito_queue *queue) {
     uint64_t least = queue->last->number;
     for (uint32_t group = 0; group < queue->groups; group++)
         if (queue->at[group]->number < least) least = queue->at[group]->number;
     while (queue->first->number < least) {
-        vahepito_internal_part *const part = queue->first;
+        queue_part *const part = queue->first;
         queue->first = part->next;
         part->next = queue->retired;
         part->unseen = UINT64_MAX >> (SEATS - queue->places);
         queue->retired = part;
     }
-    for (vahepito_internal_part **place = &queue->retired; *place;) {
-        vahepito_internal_part *const part = *place;
+    for (queue_part **place = &queue->retired; *place;) {
+        queue_part *const part = *place;
         for (uint32_t seat = 0; seat < queue->places; seat++)
-            if (vahepito_internal_is_away(&queue->seats[seat], part)) part->unseen &= ~((uint64_t)1 << seat);
+            if (is_away(&queue->seats[seat], part)) part->unseen &= ~((uint64_t)1 << seat);
         if (part->unseen == 0) {
             *place = part->next;
-            vahepito_internal_free_part(queue, part);
+            free_part(queue, part);
         } else {
             place = &part->next;
         }
@@ -609,90 +631,92 @@ static void vahepito_internal_retire(vahepito_queue *queue) {
 }
 
 /* Whether all groups are at the last queue. Under the lock. */
-static bool vahepito_internal_is_together(const vahepito_queue *queue) {
+static bool is_together(const vahepito_queue *queue) {
     for (uint32_t group = 0; group < queue->groups; group++)
         if (queue->at[group] != queue->last) return false;
     return true;
 }
 
-/* How many items a queue has accepted, and how many this group, from 1, has taken of it: looks, by the sender of this seat. */
-static uint64_t vahepito_internal_accepted(vahepito_internal_part *part, const vahepito_queue *queue, uint32_t seat) {
+/* How many items a queue has accepted, and how many this group, from 1, has taken of it: looks, by the sender of this
+ * seat. */
+static uint64_t accepted_count(queue_part *part, const vahepito_queue *queue, uint32_t seat) {
     uint64_t count;
-    (void)vahepito_accepted(vahepito_internal_pass(part, queue, 0, seat), &count);
+    (void)vahepito_accepted(pass_of(part, queue, 0, seat), &count);
     return count;
 }
 
-static uint64_t vahepito_internal_taken(vahepito_internal_part *part, const vahepito_queue *queue, uint32_t seat, uint32_t group) {
+static uint64_t taken_count(queue_part *part, const vahepito_queue *queue, uint32_t seat, uint32_t group) {
     uint64_t count;
-    (void)vahepito_taken(vahepito_internal_pass(part, queue, 0, seat), group, &count);
+    (void)vahepito_taken(pass_of(part, queue, 0, seat), group, &count);
     return count;
 }
 
-/* How many items the row has: how many the slowest group has before it. The last queue's count is loaded first, so that there were as many at
- * that moment. Under the lock, in this seat. */
-static uint64_t vahepito_internal_length(const vahepito_queue *queue, uint32_t seat) {
-    const uint64_t accepted = queue->last->base + vahepito_internal_accepted(queue->last, queue, seat);
+/* How many items the row has: how many the slowest group has before it. The last queue's count is loaded first, so that
+ * there were as many at that moment. Under the lock, in this seat. */
+static uint64_t row_length(const vahepito_queue *queue, uint32_t seat) {
+    const uint64_t accepted = queue->last->base + accepted_count(queue->last, queue, seat);
     uint64_t most = 0;
     for (uint32_t group = 1; group <= queue->groups; group++) {
-        vahepito_internal_part *const at = queue->at[group - 1];
-        const uint64_t taken = at->base + vahepito_internal_taken(at, queue, seat, group);
+        queue_part *const at = queue->at[group - 1];
+        const uint64_t taken = at->base + taken_count(at, queue, seat, group);
         if (taken < accepted && accepted - taken > most) most = accepted - taken;
     }
     return most;
 }
 
 /* Closes the last queue, in a seat that it takes. Under the lock. */
-static uint32_t vahepito_internal_close_last(vahepito_queue *queue, uint64_t *total) {
-    const uint32_t seat = vahepito_internal_sit(queue);
-    vahepito_handle *const pass = vahepito_internal_pass(queue->last, queue, 0, seat);
+static uint32_t close_last(vahepito_queue *queue, uint64_t *total) {
+    const uint32_t seat = sit_down(queue);
+    vahepito_handle *const pass = pass_of(queue->last, queue, 0, seat);
     uint32_t code, served;
     (void)vahepito_begin_close(pass);
-    VAHEPITO_INTERNAL_UNTIL(&queue->served, code, vahepito_turn_close(pass, total, &served), code == VAHEPITO_WAITING);
+    CALL_WHILE(&queue->served, code, vahepito_turn_close(pass, total, &served), code == VAHEPITO_WAITING);
     *total += queue->last->base;
-    vahepito_internal_stand_up(queue, seat);
+    stand_up(queue, seat);
     return code;
 }
 
-/* After the queue of this number refused a send: sends continue at the next one, which is appended if that was the last. DONE; CLOSED;
- * NO_MEMORY. */
-static __attribute__((noinline)) uint32_t vahepito_internal_next_for_senders(vahepito_queue *queue, uint64_t number) {
+/* After the queue of this number refused a send: sends continue at the next one, which is appended if that was the
+ * last. DONE; CLOSED; NO_MEMORY. */
+static __attribute__((noinline)) uint32_t next_for_senders(vahepito_queue *queue, uint64_t number) {
     uint32_t code = VAHEPITO_DONE;
-    vahepito_internal_lock(queue);
-    if (vahepito_internal_is_closed(queue)) {
+    lock_row(queue);
+    if (row_is_closed(queue)) {
         code = VAHEPITO_CLOSED;
     } else if (queue->last->number == number) {
         const uint32_t capacity = queue->config.capacity;
         if (!queue->has_bound && capacity < MOST_CAPACITY) queue->config.capacity = 2 * capacity;
-        vahepito_internal_part *const next = vahepito_internal_append(queue, &code);
+        queue_part *const next = append_part(queue, &code);
         if (!next) {
             if (!queue->has_bound) queue->config.capacity = capacity;
         } else {
-            (void)vahepito_internal_close_last(queue, &next->base);
+            (void)close_last(queue, &next->base);
             next->number = number + 1;
             queue->last->next = next;
             if (queue->has_bound) (void)__atomic_fetch_or(&queue->special, NARROW, __ATOMIC_SEQ_CST);
             __atomic_store_n(&queue->last, next, __ATOMIC_SEQ_CST);
-            vahepito_internal_retire(queue);
+            retire_parts(queue);
         }
     }
-    vahepito_internal_unlock(queue);
+    unlock_row(queue);
     return code;
 }
 
-/* After a take of this group found the end of the queue of this number: the group continues at the next one. Returns whether there is one. */
-static __attribute__((noinline)) bool vahepito_internal_next_for_group(vahepito_queue *queue, uint32_t group, uint64_t number) {
+/* After a take of this group found the end of the queue of this number: the group continues at the next one. Returns
+ * whether there is one. */
+static __attribute__((noinline)) bool next_for_group(vahepito_queue *queue, uint32_t group, uint64_t number) {
     bool is_there = true;
-    vahepito_internal_lock(queue);
-    vahepito_internal_part *const at = queue->at[group - 1];
+    lock_row(queue);
+    queue_part *const at = queue->at[group - 1];
     if (at->number == number) {
         is_there = at->next != NULL;
         if (is_there) {
             __atomic_store_n(&queue->at[group - 1], at->next, __ATOMIC_SEQ_CST);
-            if (vahepito_internal_is_together(queue)) (void)__atomic_fetch_and(&queue->special, ~(uint32_t)NARROW, __ATOMIC_SEQ_CST);
-            vahepito_internal_retire(queue);
+            if (is_together(queue)) (void)__atomic_fetch_and(&queue->special, ~(uint32_t)NARROW, __ATOMIC_SEQ_CST);
+            retire_parts(queue);
         }
     }
-    vahepito_internal_unlock(queue);
+    unlock_row(queue);
     return is_there;
 }
 
@@ -705,27 +729,28 @@ typedef struct {
     size_t count;
     uint64_t place;
     uint64_t number; /* of the queue that refused it */
-} vahepito_internal_send_request;
+} send_request;
 
-/* Whether the counts of this queue say that it was full at a moment at which no close had returned: the close is looked for last. The looks are
- * by the sender of this seat, one after the other: that such looks show Full is proved (looks_answer_full of the crate cc_queue). */
-static bool vahepito_internal_is_full(const vahepito_queue *queue, vahepito_internal_part *part, uint32_t seat) {
-    const uint64_t accepted = vahepito_internal_accepted(part, queue, seat);
+/* Whether the counts of this queue say that it was full at a moment at which no close had returned: the close is looked
+ * for last. The looks are by the sender of this seat, one after the other: that such looks show Full is proved
+ * (looks_answer_full of the crate cc_queue). */
+static bool is_full_part(const vahepito_queue *queue, queue_part *part, uint32_t seat) {
+    const uint64_t accepted = accepted_count(part, queue, seat);
     for (uint32_t group = 1; group <= queue->groups; group++)
-        if (vahepito_internal_taken(part, queue, seat, group) + queue->config.capacity <= accepted)
-            return !vahepito_internal_is_closed(queue);
+        if (taken_count(part, queue, seat, group) + queue->config.capacity <= accepted)
+            return !row_is_closed(queue);
     return false;
 }
 
 /* After a try of a send at this queue, in this seat, with this code: until it is answered. */
-static uint32_t vahepito_internal_after_send(vahepito_internal_send_request *it, uint32_t seat, vahepito_internal_part *part, uint32_t code) {
+static uint32_t after_send(send_request *it, uint32_t seat, queue_part *part, uint32_t code) {
     vahepito_queue *const queue = it->queue;
-    vahepito_handle *const pass = vahepito_internal_pass(part, queue, 0, seat);
+    vahepito_handle *const pass = pass_of(part, queue, 0, seat);
     uint32_t served;
     if (code == VAHEPITO_WAITING) {
-        const uint64_t begin = VAHEPITO_AHEAD == 0 ? 0 : vahepito_internal_clock();
-        VAHEPITO_INTERNAL_UNTIL(&queue->served, code, vahepito_turn_send(pass, &it->place, &served), code == VAHEPITO_WAITING);
-        vahepito_internal_note_answered(&queue->seats[seat - 1], 0, begin);
+        const uint64_t begin = VAHEPITO_AHEAD == 0 ? 0 : clock_moment();
+        CALL_WHILE(&queue->served, code, vahepito_turn_send(pass, &it->place, &served), code == VAHEPITO_WAITING);
+        note_answered(&queue->seats[seat - 1], 0, begin);
     }
     if (code == VAHEPITO_ACCEPTED) it->place += part->base;
     else if (code == VAHEPITO_FULL) (void)__atomic_fetch_or(&queue->special, WAS_FULL, __ATOMIC_RELAXED);
@@ -734,59 +759,62 @@ static uint32_t vahepito_internal_after_send(vahepito_internal_send_request *it,
 }
 
 /* A send at the last queue, in this seat: after a look at the counts, if there was no room. */
-static uint32_t vahepito_internal_send_by(vahepito_internal_send_request *it, uint32_t seat, vahepito_internal_part *part) {
+static uint32_t send_by(send_request *it, uint32_t seat, queue_part *part) {
     vahepito_queue *const queue = it->queue;
     uint32_t served;
     if ((__atomic_load_n(&queue->special, __ATOMIC_RELAXED) & WAS_FULL) != 0) {
-        if (queue->has_bound && vahepito_internal_is_full(queue, part, seat)) return it->place = 0, VAHEPITO_FULL;
+        if (queue->has_bound && is_full_part(queue, part, seat)) return it->place = 0, VAHEPITO_FULL;
         (void)__atomic_fetch_and(&queue->special, ~(uint32_t)WAS_FULL, __ATOMIC_RELAXED);
     }
-    return vahepito_internal_after_send(it, seat, part, vahepito_try_send_words(vahepito_internal_pass(part, queue, 0, seat), it->words, it->count, &it->place, &served));
+    return after_send(
+        it, seat, part,
+        vahepito_try_send_words(pass_of(part, queue, 0, seat), it->words, it->count, &it->place, &served));
 }
 
 /* The same of this one call, in a seat that it takes. */
-static uint32_t vahepito_internal_seated_send(vahepito_internal_send_request *it) {
-    vahepito_internal_let_ahead(vahepito_internal_own_seat(it->queue), 0);
-    const uint32_t seat = vahepito_internal_sit(it->queue);
-    vahepito_internal_part *const part = vahepito_internal_find(&it->queue->seats[seat - 1], &it->queue->last);
-    uint32_t code = VAHEPITO_INTERNAL_NARROW;
-    if ((__atomic_load_n(&it->queue->special, __ATOMIC_SEQ_CST) & NARROW) == 0) code = vahepito_internal_send_by(it, seat, part);
-    vahepito_internal_stand_up(it->queue, seat);
+static uint32_t seated_send(send_request *it) {
+    let_ahead(own_seat(it->queue), 0);
+    const uint32_t seat = sit_down(it->queue);
+    queue_part *const part = find_part(&it->queue->seats[seat - 1], &it->queue->last);
+    uint32_t code = ROW_IS_NARROW;
+    if ((__atomic_load_n(&it->queue->special, __ATOMIC_SEQ_CST) & NARROW) == 0) code = send_by(it, seat, part);
+    stand_up(it->queue, seat);
     return code;
 }
 
 /* A send while the row is narrow, under the lock. NARROW: it isn't any more. */
-static uint32_t vahepito_internal_narrow_send(vahepito_internal_send_request *it) {
+static uint32_t narrow_send(send_request *it) {
     vahepito_queue *const queue = it->queue;
-    uint32_t code = VAHEPITO_INTERNAL_NARROW;
-    vahepito_internal_lock(queue);
-    if (vahepito_internal_is_closed(queue)) {
+    uint32_t code = ROW_IS_NARROW;
+    lock_row(queue);
+    if (row_is_closed(queue)) {
         code = VAHEPITO_CLOSED;
     } else if ((__atomic_load_n(&queue->special, __ATOMIC_SEQ_CST) & NARROW) != 0) {
-        const uint32_t seat = vahepito_internal_sit(queue);
+        const uint32_t seat = sit_down(queue);
         code = VAHEPITO_FULL;
-        if (vahepito_internal_length(queue, seat) < queue->config.capacity) code = vahepito_internal_send_by(it, seat, queue->last);
-        vahepito_internal_stand_up(queue, seat);
+        if (row_length(queue, seat) < queue->config.capacity) code = send_by(it, seat, queue->last);
+        stand_up(queue, seat);
     }
-    vahepito_internal_unlock(queue);
+    unlock_row(queue);
     return code;
 }
 
 /* After a call of a send with this code, the rest of its try: ACCEPTED, FULL, CLOSED, BAD_WORDS, LONG, NO_MEMORY. */
-static uint32_t vahepito_internal_further_send(vahepito_internal_send_request *it, uint32_t code) {
+static uint32_t further_send(send_request *it, uint32_t code) {
     for (;;) {
-        if (code == VAHEPITO_INTERNAL_NARROW) code = vahepito_internal_narrow_send(it);
-        if (code == VAHEPITO_WORN || code == VAHEPITO_SPENT || code == VAHEPITO_CLOSED || (code == VAHEPITO_FULL && !it->queue->has_bound))
-            code = vahepito_internal_next_for_senders(it->queue, it->number);
-        else if (code != VAHEPITO_INTERNAL_NARROW)
+        if (code == ROW_IS_NARROW) code = narrow_send(it);
+        if (code == VAHEPITO_WORN || code == VAHEPITO_SPENT || code == VAHEPITO_CLOSED ||
+            (code == VAHEPITO_FULL && !it->queue->has_bound))
+            code = next_for_senders(it->queue, it->number);
+        else if (code != ROW_IS_NARROW)
             return code;
         if (code == VAHEPITO_CLOSED || code == VAHEPITO_NO_MEMORY) return code;
-        code = vahepito_internal_seated_send(it);
+        code = seated_send(it);
     }
 }
 
 /* One try of a send. */
-static uint32_t vahepito_internal_attempt_send(vahepito_internal_send_request *it) { return vahepito_internal_further_send(it, vahepito_internal_seated_send(it)); }
+static uint32_t attempt_send(send_request *it) { return further_send(it, seated_send(it)); }
 
 /* ---- takes */
 
@@ -797,16 +825,17 @@ typedef struct {
     vahepito_item *item;
     uint64_t total;
     uint64_t number; /* of the queue that has ended */
-} vahepito_internal_take_request;
+} take_request;
 
 /* After a try of a take at this queue, in this seat, with this code: until it is answered. */
-static uint32_t vahepito_internal_after_take(vahepito_internal_take_request *it, uint32_t seat, vahepito_internal_part *part, uint32_t code) {
-    vahepito_handle *const pass = vahepito_internal_pass(part, it->queue, it->group, seat);
+static uint32_t after_take(take_request *it, uint32_t seat, queue_part *part, uint32_t code) {
+    vahepito_handle *const pass = pass_of(part, it->queue, it->group, seat);
     uint32_t served;
     if (code == VAHEPITO_WAITING) {
-        const uint64_t begin = VAHEPITO_AHEAD == 0 ? 0 : vahepito_internal_clock();
-        VAHEPITO_INTERNAL_UNTIL(&it->queue->served, code, vahepito_turn_take_words(pass, it->item, &it->total, &served), code == VAHEPITO_WAITING);
-        vahepito_internal_note_answered(&it->queue->seats[seat - 1], it->group, begin);
+        const uint64_t begin = VAHEPITO_AHEAD == 0 ? 0 : clock_moment();
+        CALL_WHILE(&it->queue->served, code, vahepito_turn_take_words(pass, it->item, &it->total, &served),
+                   code == VAHEPITO_WAITING);
+        note_answered(&it->queue->seats[seat - 1], it->group, begin);
     }
     if (code == VAHEPITO_GOT) it->item->place += part->base;
     else if (code == VAHEPITO_ENDED) it->total += part->base, it->number = part->number;
@@ -814,238 +843,247 @@ static uint32_t vahepito_internal_after_take(vahepito_internal_take_request *it,
 }
 
 /* A take at this queue, in this seat. */
-static uint32_t vahepito_internal_take_by(vahepito_internal_take_request *it, uint32_t seat,
-                                          vahepito_internal_part *part) {
-    vahepito_handle *const pass = vahepito_internal_pass(part, it->queue, it->group, seat);
+static uint32_t take_by(take_request *it, uint32_t seat,
+                                          queue_part *part) {
+    vahepito_handle *const pass = pass_of(part, it->queue, it->group, seat);
     uint32_t served;
-    return vahepito_internal_after_take(it, seat, part, vahepito_try_take_words(pass, it->item, &it->total, &served));
+    return after_take(it, seat, part, vahepito_try_take_words(pass, it->item, &it->total, &served));
 }
 
 /* The same at the queue that the group is at, in a seat that it takes. */
-static uint32_t vahepito_internal_seated_take(vahepito_internal_take_request *it) {
-    vahepito_internal_let_ahead(vahepito_internal_own_seat(it->queue), it->group);
-    const uint32_t seat = vahepito_internal_sit(it->queue);
-    vahepito_internal_part *const part = vahepito_internal_find(&it->queue->seats[seat - 1], &it->queue->at[it->group - 1]);
-    const uint32_t code = vahepito_internal_take_by(it, seat, part);
-    vahepito_internal_stand_up(it->queue, seat);
+static uint32_t seated_take(take_request *it) {
+    let_ahead(own_seat(it->queue), it->group);
+    const uint32_t seat = sit_down(it->queue);
+    queue_part *const part = find_part(&it->queue->seats[seat - 1], &it->queue->at[it->group - 1]);
+    const uint32_t code = take_by(it, seat, part);
+    stand_up(it->queue, seat);
     return code;
 }
 
 /* After a call of a take with this code, the rest of its try: GOT, EMPTY, ENDED. */
-static uint32_t vahepito_internal_further_take(vahepito_internal_take_request *it, uint32_t code) {
+static uint32_t further_take(take_request *it, uint32_t code) {
     for (;;) {
-        if (code != VAHEPITO_ENDED || !vahepito_internal_next_for_group(it->queue, it->group, it->number)) return code;
-        code = vahepito_internal_seated_take(it);
+        if (code != VAHEPITO_ENDED || !next_for_group(it->queue, it->group, it->number)) return code;
+        code = seated_take(it);
     }
 }
 
 /* One try of a take. */
-static uint32_t vahepito_internal_attempt_take(vahepito_internal_take_request *it) { return vahepito_internal_further_take(it, vahepito_internal_seated_take(it)); }
+static uint32_t attempt_take(take_request *it) { return further_take(it, seated_take(it)); }
 
 /* Takes all that a group has, which has left or is leaving. */
-static void vahepito_internal_skip(vahepito_queue *queue, uint32_t group) {
+static void skip_items(vahepito_queue *queue, uint32_t group) {
     vahepito_item item;
-    vahepito_internal_take_request request = {queue, group, &item, 0, 0};
-    while (vahepito_internal_attempt_take(&request) == VAHEPITO_GOT) vahepito_internal_notify_room(queue);
+    take_request request = {queue, group, &item, 0, 0};
+    while (attempt_take(&request) == VAHEPITO_GOT) notify_room(queue);
 }
 
-static __attribute__((noinline, cold)) void vahepito_internal_ring_and_skip(vahepito_queue *queue) {
-    vahepito_internal_ring_for_items(queue);
+static __attribute__((noinline, cold)) void ring_and_skip(vahepito_queue *queue) {
+    ring_for_items(queue);
     for (uint32_t group = 1; group <= queue->groups; group++)
-        if (__atomic_load_n(&queue->has_left[group - 1], __ATOMIC_SEQ_CST)) vahepito_internal_skip(queue, group);
+        if (__atomic_load_n(&queue->has_left[group - 1], __ATOMIC_SEQ_CST)) skip_items(queue, group);
 }
 
 /* ---- waits */
 
 /* A try, of a send or of a take. */
-static uint32_t vahepito_internal_attempt(uint32_t nothing, void *request) {
-    return nothing == VAHEPITO_FULL ? vahepito_internal_attempt_send((vahepito_internal_send_request *)request)
-                                    : vahepito_internal_attempt_take((vahepito_internal_take_request *)request);
+static uint32_t attempt_call(uint32_t nothing, void *request) {
+    return nothing == VAHEPITO_FULL ? attempt_send((send_request *)request)
+                                    : attempt_take((take_request *)request);
 }
 
 /* The place of the item that a request has sent or taken. */
-static uint64_t vahepito_internal_place(uint32_t nothing, const void *request) {
-    return nothing == VAHEPITO_FULL ? ((const vahepito_internal_send_request *)request)->place : ((const vahepito_internal_take_request *)request)->item->place;
+static uint64_t place_of(uint32_t nothing, const void *request) {
+    return nothing == VAHEPITO_FULL ? ((const send_request *)request)->place
+                                    : ((const take_request *)request)->item->place;
 }
 
 /* Tries again for some time, and spins or yields between the tries, unless the side is slow. */
-static uint32_t vahepito_internal_try_for_some_time(vahepito_internal_pace *pace, void *request, uint32_t nothing) {
-    vahepito_internal_wait_time time = {0, 0};
+static uint32_t try_for_some_time(side_pace *pace, void *request, uint32_t nothing) {
+    wait_time time = {0, 0};
     uint32_t code = nothing;
-    if (VAHEPITO_SPIN_TIME == 0 || vahepito_internal_is_slow(pace)) return nothing;
-    while (code == nothing && vahepito_internal_passes(&time, VAHEPITO_SPIN_TIME, VAHEPITO_YIELD_TIME))
-        code = vahepito_internal_attempt(nothing, request);
-    if (code != nothing && vahepito_internal_clock() - time.begin > VAHEPITO_SPIN_TIME)
-        vahepito_internal_note(pace, vahepito_internal_place(nothing, request));
+    if (VAHEPITO_SPIN_TIME == 0 || is_slow_side(pace)) return nothing;
+    while (code == nothing && pass_time(&time, VAHEPITO_SPIN_TIME, VAHEPITO_YIELD_TIME))
+        code = attempt_call(nothing, request);
+    if (code != nothing && clock_moment() - time.begin > VAHEPITO_SPIN_TIME)
+        note_wait(pace, place_of(nothing, request));
     return code;
 }
 
-static bool vahepito_internal_is_past(const struct timespec *moment) {
+static bool is_past(const struct timespec *moment) {
     struct timespec now;
     (void)clock_gettime(CLOCK_MONOTONIC, &now);
     return now.tv_sec > moment->tv_sec || (now.tv_sec == moment->tv_sec && now.tv_nsec >= moment->tv_nsec);
 }
 
-/* Tries until a try finds something, or until this moment; `nothing` is FULL of a send, or EMPTY of a take. A try that finds nothing again
- * costs a look at the counts. */
-static uint32_t vahepito_internal_wait(vahepito_internal_line *line, vahepito_internal_pace *pace, void *request, uint32_t nothing, const struct timespec *moment) {
-    if (moment && vahepito_internal_is_past(moment)) return nothing;
-    uint32_t code = vahepito_internal_try_for_some_time(pace, request, nothing);
+/* Tries until a try finds something, or until this moment; `nothing` is FULL of a send, or EMPTY of a take. A try that
+ * finds nothing again costs a look at the counts. */
+static uint32_t wait_in_line(call_line *line, side_pace *pace, void *request, uint32_t nothing,
+                             const struct timespec *moment) {
+    if (moment && is_past(moment)) return nothing;
+    uint32_t code = try_for_some_time(pace, request, nothing);
     if (code != nothing) return code;
     do {
-        (void)__atomic_fetch_add(&line->counts, VAHEPITO_INTERNAL_ONE_WAITING, __ATOMIC_SEQ_CST);
-        vahepito_internal_in_order();
-        code = vahepito_internal_attempt(nothing, request);
+        (void)__atomic_fetch_add(&line->counts, ONE_WAITING, __ATOMIC_SEQ_CST);
+        keep_order();
+        code = attempt_call(nothing, request);
         if (code != nothing) {
-            vahepito_internal_leave(line);
+            leave_line(line);
         } else {
-            if (!vahepito_internal_park(line, moment)) return code;
-            code = vahepito_internal_attempt(nothing, request);
+            if (!park_in_line(line, moment)) return code;
+            code = attempt_call(nothing, request);
         }
     } while (code == nothing);
-    if (code == VAHEPITO_ACCEPTED || code == VAHEPITO_GOT) vahepito_internal_note(pace, vahepito_internal_place(nothing, request));
-    else vahepito_internal_notify(line, 1);
+    if (code == VAHEPITO_ACCEPTED || code == VAHEPITO_GOT) note_wait(pace, place_of(nothing, request));
+    else notify_line(line, 1);
     return code;
 }
 
-static const struct timespec vahepito_internal_now = {0, 0};
+static const struct timespec no_wait = {0, 0};
 
 /* After a try that found nothing: waits until this moment, or arms the descriptor and tries once more. */
-static __attribute__((noinline)) uint32_t vahepito_internal_again(vahepito_queue *queue, uint32_t group, void *request, uint32_t nothing, const struct timespec *moment) {
-    vahepito_internal_bell *const bell = &queue->bells[group];
+static __attribute__((noinline)) uint32_t wait_or_arm(vahepito_queue *queue, uint32_t group, void *request,
+                                                      uint32_t nothing, const struct timespec *moment) {
+    side_bell *const bell = &queue->bells[group];
     uint32_t code;
     if (!moment || moment->tv_sec != 0 || moment->tv_nsec != 0)
-        return vahepito_internal_wait(group == 0 ? &queue->senders : &queue->receivers[group - 1], &queue->pace[group], request, nothing, moment);
-    if (!__atomic_load_n(&queue->has_bells, __ATOMIC_SEQ_CST) || !vahepito_internal_arm(bell)) return nothing;
-    code = vahepito_internal_attempt(nothing, request);
-    if (code != nothing) vahepito_internal_ring_if_armed(bell);
+        return wait_in_line(group == 0 ? &queue->senders : &queue->receivers[group - 1], &queue->pace[group], request,
+                            nothing, moment);
+    if (!__atomic_load_n(&queue->has_bells, __ATOMIC_SEQ_CST) || !arm_bell(bell)) return nothing;
+    code = attempt_call(nothing, request);
+    if (code != nothing) ring_if_armed(bell);
     return code;
 }
 
 /* The rest of a send whose first try was made in this seat with this code; with seat 0, none was made. */
-static __attribute__((noinline)) uint32_t vahepito_internal_rest_of_send(vahepito_internal_send_request it, const struct timespec *moment, uint64_t *place,
-                                                                         uint32_t seat, vahepito_internal_part *part, uint32_t code) {
+static __attribute__((noinline)) uint32_t rest_of_send(send_request it, const struct timespec *moment, uint64_t *place,
+                                                       uint32_t seat, queue_part *part, uint32_t code) {
     if (seat != 0) {
-        code = vahepito_internal_after_send(&it, seat, part, code);
-        vahepito_internal_stand_up(it.queue, seat);
+        code = after_send(&it, seat, part, code);
+        stand_up(it.queue, seat);
     } else if (it.count - 1 >= it.queue->words) {
         /* Whether there is room isn't looked at then. */
         code = it.count - 1 < VAHEPITO_MOST_WORDS ? VAHEPITO_LONG : VAHEPITO_BAD_WORDS;
     } else {
-        code = vahepito_internal_seated_send(&it);
+        code = seated_send(&it);
     }
-    code = vahepito_internal_further_send(&it, code);
-    if (code == VAHEPITO_FULL) code = vahepito_internal_again(it.queue, 0, &it, VAHEPITO_FULL, moment);
-    if (code == VAHEPITO_ACCEPTED) vahepito_internal_notify_items(it.queue, false);
+    code = further_send(&it, code);
+    if (code == VAHEPITO_FULL) code = wait_or_arm(it.queue, 0, &it, VAHEPITO_FULL, moment);
+    if (code == VAHEPITO_ACCEPTED) notify_items(it.queue, false);
     if (place) *place = it.place;
     return code;
 }
 
 /* A send. Its first try is here, if the thread's own seat is free, and there is nothing special. */
-static inline __attribute__((always_inline)) uint32_t vahepito_internal_send(vahepito_queue *queue, const uint64_t *words, size_t count, bool is_one,
-                                                                             const struct timespec *moment, uint64_t *place) {
-    const size_t own = vahepito_internal_own_at(queue);
-    vahepito_internal_seat *const seat = vahepito_internal_seat_at(queue, own);
+static inline __attribute__((always_inline)) uint32_t send_item(vahepito_queue *queue, const uint64_t *words,
+                                                                size_t count, bool is_one,
+                                                                const struct timespec *moment, uint64_t *place) {
+    const size_t own = own_offset(queue);
+    call_seat *const seat = seat_at(queue, own);
     uint32_t code, served;
     uint64_t number;
-    if (__builtin_expect(!vahepito_internal_contends(seat) && vahepito_internal_try_seat(seat), 1)) {
-        vahepito_internal_part *const part = vahepito_internal_find(seat, &queue->last);
+    if (__builtin_expect(!seat_contends(seat) && try_seat(seat), 1)) {
+        queue_part *const part = find_part(seat, &queue->last);
         if (__builtin_expect(__atomic_load_n(&queue->special, __ATOMIC_SEQ_CST) == 0, 1)) {
-            vahepito_handle *const pass = vahepito_internal_own_pass(part, queue, 0, own);
-            code = is_one ? vahepito_try_send(pass, *words, &number, &served) : vahepito_try_send_words(pass, words, count, &number, &served);
+            vahepito_handle *const pass = own_pass_of(part, queue, 0, own);
+            code = is_one ? vahepito_try_send(pass, *words, &number, &served)
+                          : vahepito_try_send_words(pass, words, count, &number, &served);
             if (__builtin_expect(code == VAHEPITO_ACCEPTED, 1)) {
                 number += part->base;
-                vahepito_internal_give_back(queue, seat);
-                vahepito_internal_notify_items(queue, false);
+                give_seat_back(queue, seat);
+                notify_items(queue, false);
                 if (place) *place = number;
                 return VAHEPITO_ACCEPTED;
             }
-            return vahepito_internal_rest_of_send((vahepito_internal_send_request){queue, words, count, number, 0}, moment, place, vahepito_internal_number(queue, seat), part, code);
+            return rest_of_send((send_request){queue, words, count, number, 0}, moment, place, seat_number(queue, seat),
+                                part, code);
         }
-        vahepito_internal_give_back(queue, seat);
+        give_seat_back(queue, seat);
     }
-    return vahepito_internal_rest_of_send((vahepito_internal_send_request){queue, words, count, 0, 0}, moment, place, 0, NULL, 0);
+    return rest_of_send((send_request){queue, words, count, 0, 0}, moment, place, 0, NULL, 0);
 }
 
 uint32_t vahepito_send(vahepito_queue *queue, uint64_t word, uint64_t *place) {
-    return vahepito_internal_send(queue, &word, 1, true, NULL, place);
+    return send_item(queue, &word, 1, true, NULL, place);
 }
 
 uint32_t vahepito_send_until(vahepito_queue *queue, uint64_t word, const struct timespec *moment, uint64_t *place) {
-    return vahepito_internal_send(queue, &word, 1, true, moment, place);
+    return send_item(queue, &word, 1, true, moment, place);
 }
 
 uint32_t vahepito_send_now(vahepito_queue *queue, uint64_t word, uint64_t *place) {
-    return vahepito_internal_send(queue, &word, 1, true, &vahepito_internal_now, place);
+    return send_item(queue, &word, 1, true, &no_wait, place);
 }
 
 uint32_t vahepito_send_words(vahepito_queue *queue, const uint64_t *words, size_t count, uint64_t *place) {
-    return vahepito_internal_send(queue, words, count, false, NULL, place);
+    return send_item(queue, words, count, false, NULL, place);
 }
 
-uint32_t vahepito_send_words_until(vahepito_queue *queue, const uint64_t *words, size_t count, const struct timespec *moment, uint64_t *place) {
-    return vahepito_internal_send(queue, words, count, false, moment, place);
+uint32_t vahepito_send_words_until(vahepito_queue *queue, const uint64_t *words, size_t count,
+                                   const struct timespec *moment, uint64_t *place) {
+    return send_item(queue, words, count, false, moment, place);
 }
 
 uint32_t vahepito_send_words_now(vahepito_queue *queue, const uint64_t *words, size_t count, uint64_t *place) {
-    return vahepito_internal_send(queue, words, count, false, &vahepito_internal_now, place);
+    return send_item(queue, words, count, false, &no_wait, place);
 }
 
 /* How many calls of a batch are made in one seat. */
 enum { IN_ONE_SEAT = 64 };
 
-static inline size_t vahepito_internal_least(size_t one, size_t other) { return one < other ? one : other; }
+static inline size_t lesser_of(size_t one, size_t other) { return one < other ? one : other; }
 
 /* Sends words in the thread's own seat, one after another, up to IN_ONE_SEAT of them, until one isn't accepted or the
  * row is narrow. Each one wakes receivers, as a send does. Returns how many were accepted: 0 also if the seat isn't
  * free. */
-static size_t vahepito_internal_send_some(vahepito_queue *queue, const uint64_t *words, size_t count) {
-    vahepito_internal_seat *const seat = vahepito_internal_own_seat(queue);
-    const uint32_t own = vahepito_internal_number(queue, seat);
+static size_t send_some(vahepito_queue *queue, const uint64_t *words, size_t count) {
+    call_seat *const seat = own_seat(queue);
+    const uint32_t own = seat_number(queue, seat);
     size_t at = 0;
-    vahepito_internal_let_ahead(seat, 0);
-    if (!vahepito_internal_try_seat(seat)) return 0;
-    vahepito_internal_part *const part = vahepito_internal_find(seat, &queue->last);
-    for (const size_t most = vahepito_internal_least(count, IN_ONE_SEAT); at < most; at++) {
-        vahepito_internal_send_request request = {queue, &words[at], 1, 0, 0};
+    let_ahead(seat, 0);
+    if (!try_seat(seat)) return 0;
+    queue_part *const part = find_part(seat, &queue->last);
+    for (const size_t most = lesser_of(count, IN_ONE_SEAT); at < most; at++) {
+        send_request request = {queue, &words[at], 1, 0, 0};
         if ((__atomic_load_n(&queue->special, __ATOMIC_SEQ_CST) & NARROW) != 0) break;
-        if (vahepito_internal_send_by(&request, own, part) != VAHEPITO_ACCEPTED) break;
-        vahepito_internal_notify_items(queue, true);
+        if (send_by(&request, own, part) != VAHEPITO_ACCEPTED) break;
+        notify_items(queue, true);
     }
-    vahepito_internal_give_back(queue, seat);
-    if (at > 0 && __atomic_load_n(&queue->has_bells, __ATOMIC_SEQ_CST)) vahepito_internal_ring_and_skip(queue);
+    give_seat_back(queue, seat);
+    if (at > 0 && __atomic_load_n(&queue->has_bells, __ATOMIC_SEQ_CST)) ring_and_skip(queue);
     return at;
 }
 
-uint32_t vahepito_send_many(vahepito_queue *queue, const uint64_t *words, size_t count, const struct timespec *moment, size_t *sent) {
+uint32_t vahepito_send_many(vahepito_queue *queue, const uint64_t *words, size_t count, const struct timespec *moment,
+                            size_t *sent) {
     uint32_t code = VAHEPITO_ACCEPTED;
     size_t at = 0;
     while (code == VAHEPITO_ACCEPTED && at < count) {
-        const size_t some = vahepito_internal_send_some(queue, &words[at], count - at);
+        const size_t some = send_some(queue, &words[at], count - at);
         at += some;
         if (some == IN_ONE_SEAT || at == count) continue;
-        vahepito_internal_send_request request = {queue, &words[at], 1, 0, 0};
-        code = vahepito_internal_attempt_send(&request);
-        if (code == VAHEPITO_FULL) code = vahepito_internal_again(queue, 0, &request, VAHEPITO_FULL, moment);
-        if (code == VAHEPITO_ACCEPTED) at++, vahepito_internal_notify_items(queue, false);
+        send_request request = {queue, &words[at], 1, 0, 0};
+        code = attempt_send(&request);
+        if (code == VAHEPITO_FULL) code = wait_or_arm(queue, 0, &request, VAHEPITO_FULL, moment);
+        if (code == VAHEPITO_ACCEPTED) at++, notify_items(queue, false);
     }
     if (sent) *sent = at;
     return code;
 }
 
 /* The rest of a take whose first try was made in this seat with this code; with seat 0, none was made. */
-static __attribute__((noinline)) uint32_t vahepito_internal_rest_of_take(vahepito_internal_take_request it, const struct timespec *moment, uint64_t *total,
-                                                                         uint32_t seat, vahepito_internal_part *part, uint32_t code) {
+static __attribute__((noinline)) uint32_t rest_of_take(take_request it, const struct timespec *moment, uint64_t *total,
+                                                       uint32_t seat, queue_part *part, uint32_t code) {
     if (code != VAHEPITO_BAD_GROUPS) {
         if (seat != 0) {
-            code = vahepito_internal_after_take(&it, seat, part, code);
-            vahepito_internal_stand_up(it.queue, seat);
+            code = after_take(&it, seat, part, code);
+            stand_up(it.queue, seat);
         } else {
-            code = vahepito_internal_seated_take(&it);
+            code = seated_take(&it);
         }
-        code = vahepito_internal_further_take(&it, code);
-        if (code == VAHEPITO_EMPTY) code = vahepito_internal_again(it.queue, it.group, &it, VAHEPITO_EMPTY, moment);
-        if (code == VAHEPITO_GOT) vahepito_internal_notify_room(it.queue);
+        code = further_take(&it, code);
+        if (code == VAHEPITO_EMPTY) code = wait_or_arm(it.queue, it.group, &it, VAHEPITO_EMPTY, moment);
+        if (code == VAHEPITO_GOT) notify_room(it.queue);
     }
     if (code != VAHEPITO_GOT) memset(it.item, 0, sizeof *it.item);
     if (total) *total = it.total;
@@ -1053,78 +1091,84 @@ static __attribute__((noinline)) uint32_t vahepito_internal_rest_of_take(vahepit
 }
 
 /* A take. Its first try is here, if the thread's own seat is free. */
-static inline __attribute__((always_inline)) uint32_t vahepito_internal_take(vahepito_queue *queue, uint32_t group, vahepito_item *item,
-                                                                             const struct timespec *moment, uint64_t *total) {
-    const size_t own = vahepito_internal_own_at(queue);
-    vahepito_internal_seat *const seat = vahepito_internal_seat_at(queue, own);
+static inline __attribute__((always_inline)) uint32_t take_item(vahepito_queue *queue, uint32_t group,
+                                                                vahepito_item *item, const struct timespec *moment,
+                                                                uint64_t *total) {
+    const size_t own = own_offset(queue);
+    call_seat *const seat = seat_at(queue, own);
     uint32_t code = VAHEPITO_BAD_GROUPS, served;
     vahepito_item unused;
     uint64_t number;
     if (!item) item = &unused;
     if (__builtin_expect(group - 1 < queue->groups, 1)) {
         code = VAHEPITO_EMPTY;
-        if (__builtin_expect(!vahepito_internal_contends(seat) && vahepito_internal_try_seat(seat), 1)) {
-            vahepito_internal_part *const part = vahepito_internal_find(seat, &queue->at[group - 1]);
-            vahepito_handle *const pass = vahepito_internal_own_pass(part, queue, group, own);
+        if (__builtin_expect(!seat_contends(seat) && try_seat(seat), 1)) {
+            queue_part *const part = find_part(seat, &queue->at[group - 1]);
+            vahepito_handle *const pass = own_pass_of(part, queue, group, own);
             const bool is_one = queue->words == 1;
             /* An item of one word begins as an item of words does, and has its body where that has the count. */
-            code = is_one ? vahepito_try_take(pass, (vahepito_word_item *)(void *)item, &number, &served) : vahepito_try_take_words(pass, item, &number, &served);
+            code = is_one ? vahepito_try_take(pass, (vahepito_word_item *)(void *)item, &number, &served)
+                          : vahepito_try_take_words(pass, item, &number, &served);
             if (__builtin_expect(code == VAHEPITO_GOT, 1)) {
-                if (is_one) item->words[0] = item->count, item->count = 1, item->words[1] = item->words[2] = item->words[3] = 0;
+                if (is_one)
+                    item->words[0] = item->count, item->count = 1, item->words[1] = item->words[2] = item->words[3] = 0;
                 item->place += part->base;
-                vahepito_internal_give_back(queue, seat);
-                vahepito_internal_notify_room(queue);
+                give_seat_back(queue, seat);
+                notify_room(queue);
                 if (total) *total = 0;
                 return VAHEPITO_GOT;
             }
-            return vahepito_internal_rest_of_take((vahepito_internal_take_request){queue, group, item, number, 0}, moment, total, vahepito_internal_number(queue, seat), part, code);
+            return rest_of_take((take_request){queue, group, item, number, 0}, moment, total, seat_number(queue, seat),
+                                part, code);
         }
     }
-    return vahepito_internal_rest_of_take((vahepito_internal_take_request){queue, group, item, 0, 0}, moment, total, 0, NULL, code);
+    return rest_of_take((take_request){queue, group, item, 0, 0}, moment, total, 0, NULL, code);
 }
 
 uint32_t vahepito_take(vahepito_queue *queue, uint32_t group, vahepito_item *item, uint64_t *total) {
-    return vahepito_internal_take(queue, group, item, NULL, total);
+    return take_item(queue, group, item, NULL, total);
 }
 
-uint32_t vahepito_take_until(vahepito_queue *queue, uint32_t group, vahepito_item *item, const struct timespec *moment, uint64_t *total) {
-    return vahepito_internal_take(queue, group, item, moment, total);
+uint32_t vahepito_take_until(vahepito_queue *queue, uint32_t group, vahepito_item *item, const struct timespec *moment,
+                             uint64_t *total) {
+    return take_item(queue, group, item, moment, total);
 }
 
 uint32_t vahepito_take_now(vahepito_queue *queue, uint32_t group, vahepito_item *item, uint64_t *total) {
-    return vahepito_internal_take(queue, group, item, &vahepito_internal_now, total);
+    return take_item(queue, group, item, &no_wait, total);
 }
 
 /* Takes items in the thread's own seat, one after another, up to IN_ONE_SEAT of them, until there is none. Each one
  * wakes senders, as a take does. Returns how many: 0 also if the seat isn't free. */
-static size_t vahepito_internal_take_some(vahepito_queue *queue, uint32_t group, vahepito_item *items, size_t count) {
-    vahepito_internal_seat *const seat = vahepito_internal_own_seat(queue);
-    const uint32_t own = vahepito_internal_number(queue, seat);
+static size_t take_some(vahepito_queue *queue, uint32_t group, vahepito_item *items, size_t count) {
+    call_seat *const seat = own_seat(queue);
+    const uint32_t own = seat_number(queue, seat);
     size_t at = 0;
-    vahepito_internal_let_ahead(seat, group);
-    if (!vahepito_internal_try_seat(seat)) return 0;
-    vahepito_internal_part *const part = vahepito_internal_find(seat, &queue->at[group - 1]);
-    for (const size_t most = vahepito_internal_least(count, IN_ONE_SEAT); at < most; at++) {
-        vahepito_internal_take_request request = {queue, group, &items[at], 0, 0};
-        if (vahepito_internal_take_by(&request, own, part) != VAHEPITO_GOT) break;
-        vahepito_internal_notify_room(queue);
+    let_ahead(seat, group);
+    if (!try_seat(seat)) return 0;
+    queue_part *const part = find_part(seat, &queue->at[group - 1]);
+    for (const size_t most = lesser_of(count, IN_ONE_SEAT); at < most; at++) {
+        take_request request = {queue, group, &items[at], 0, 0};
+        if (take_by(&request, own, part) != VAHEPITO_GOT) break;
+        notify_room(queue);
     }
-    vahepito_internal_give_back(queue, seat);
+    give_seat_back(queue, seat);
     return at;
 }
 
-uint32_t vahepito_take_many(vahepito_queue *queue, uint32_t group, vahepito_item *items, size_t most, const struct timespec *moment, size_t *count, uint64_t *total) {
-    vahepito_internal_take_request request = {queue, group, items, 0, 0};
+uint32_t vahepito_take_many(vahepito_queue *queue, uint32_t group, vahepito_item *items, size_t most,
+                            const struct timespec *moment, size_t *count, uint64_t *total) {
+    take_request request = {queue, group, items, 0, 0};
     uint32_t code = group - 1 < queue->groups ? VAHEPITO_GOT : VAHEPITO_BAD_GROUPS;
     size_t got = 0;
     while (code == VAHEPITO_GOT && got < most) {
-        const size_t some = vahepito_internal_take_some(queue, group, &items[got], most - got);
+        const size_t some = take_some(queue, group, &items[got], most - got);
         got += some;
         if (some == IN_ONE_SEAT || got == most) continue;
         request.item = &items[got];
-        code = vahepito_internal_attempt_take(&request);
-        if (code == VAHEPITO_EMPTY && got == 0) code = vahepito_internal_again(queue, group, &request, VAHEPITO_EMPTY, moment);
-        if (code == VAHEPITO_GOT) got++, vahepito_internal_notify_room(queue);
+        code = attempt_take(&request);
+        if (code == VAHEPITO_EMPTY && got == 0) code = wait_or_arm(queue, group, &request, VAHEPITO_EMPTY, moment);
+        if (code == VAHEPITO_GOT) got++, notify_room(queue);
     }
     if (got > 0) code = VAHEPITO_GOT;
     else if (code == VAHEPITO_GOT) code = VAHEPITO_EMPTY;
@@ -1137,11 +1181,11 @@ uint32_t vahepito_take_many(vahepito_queue *queue, uint32_t group, vahepito_item
 
 uint32_t vahepito_close(vahepito_queue *queue, uint64_t *total) {
     uint64_t number = 0;
-    vahepito_internal_lock(queue);
-    const uint32_t code = vahepito_internal_close_last(queue, &number);
+    lock_row(queue);
+    const uint32_t code = close_last(queue, &number);
     __atomic_store_n(&queue->is_closed, true, __ATOMIC_SEQ_CST);
-    vahepito_internal_unlock(queue);
-    vahepito_internal_notify_all(queue);
+    unlock_row(queue);
+    notify_all(queue);
     if (total) *total = number;
     return code;
 }
@@ -1150,29 +1194,29 @@ uint32_t vahepito_close(vahepito_queue *queue, uint64_t *total) {
 uint32_t vahepito_leave(vahepito_queue *queue, uint32_t group) {
     bool is_last = true;
     if (group - 1 >= queue->groups) return VAHEPITO_BAD_GROUPS;
-    vahepito_internal_lock(queue);
+    lock_row(queue);
     __atomic_store_n(&queue->has_left[group - 1], true, __ATOMIC_SEQ_CST);
     __atomic_store_n(&queue->has_bells, true, __ATOMIC_SEQ_CST);
     for (uint32_t other = 0; other < queue->groups; other++) is_last = is_last && queue->has_left[other];
-    vahepito_internal_unlock(queue);
+    unlock_row(queue);
     if (is_last) (void)vahepito_close(queue, NULL);
-    else vahepito_internal_skip(queue, group);
+    else skip_items(queue, group);
     return VAHEPITO_DONE;
 }
 
 bool vahepito_is_closed(vahepito_queue *queue) {
-    vahepito_internal_lock(queue);
-    const bool is_closed = vahepito_internal_is_closed(queue);
-    vahepito_internal_unlock(queue);
+    lock_row(queue);
+    const bool is_closed = row_is_closed(queue);
+    unlock_row(queue);
     return is_closed;
 }
 
 uint64_t vahepito_length(vahepito_queue *queue) {
-    vahepito_internal_lock(queue);
-    const uint32_t seat = vahepito_internal_sit(queue);
-    const uint64_t length = vahepito_internal_length(queue, seat);
-    vahepito_internal_stand_up(queue, seat);
-    vahepito_internal_unlock(queue);
+    lock_row(queue);
+    const uint32_t seat = sit_down(queue);
+    const uint64_t length = row_length(queue, seat);
+    stand_up(queue, seat);
+    unlock_row(queue);
     return length;
 }
 
@@ -1180,33 +1224,33 @@ uint32_t vahepito_capacity(const vahepito_queue *queue) { return queue->has_boun
 
 int vahepito_descriptor(vahepito_queue *queue, uint32_t group) {
     if (group > queue->groups) return errno = EINVAL, -1;
-    vahepito_internal_lock(queue);
-    vahepito_internal_bell *const bell = &queue->bells[group];
+    lock_row(queue);
+    side_bell *const bell = &queue->bells[group];
     /* It begins readable: so its first reader tries, finds nothing, and arms it. */
     int place = bell->place;
     if (place < 0 && (place = eventfd(1, EFD_NONBLOCK | EFD_CLOEXEC)) >= 0) {
         __atomic_store_n(&bell->place, place, __ATOMIC_SEQ_CST);
         __atomic_store_n(&queue->has_bells, true, __ATOMIC_SEQ_CST);
     }
-    vahepito_internal_unlock(queue);
+    unlock_row(queue);
     return place;
 }
 
-static uint32_t vahepito_internal_or(uint32_t number, uint32_t other) { return number ? number : other; }
+static uint32_t value_or(uint32_t number, uint32_t other) { return number ? number : other; }
 
-static void vahepito_internal_begin(vahepito_queue *queue, const vahepito_attributes *attributes) {
+static void begin_queue(vahepito_queue *queue, const vahepito_attributes *attributes) {
     memset(queue, 0, sizeof *queue);
     queue->has_bound = attributes->capacity != 0;
-    queue->config.capacity = vahepito_internal_or(attributes->capacity, LEAST_CAPACITY);
-    for (queue->places = 1; queue->places < vahepito_internal_or(attributes->places, USUAL_SEATS);) queue->places *= 2;
+    queue->config.capacity = value_or(attributes->capacity, LEAST_CAPACITY);
+    for (queue->places = 1; queue->places < value_or(attributes->places, USUAL_SEATS);) queue->places *= 2;
     queue->config.senders = queue->config.receivers = queue->places;
-    queue->config.bound = vahepito_internal_or(attributes->bound, 64);
+    queue->config.bound = value_or(attributes->bound, 64);
     queue->config.life = attributes->life ? attributes->life : (uint64_t)1 << 48;
-    queue->config.per_sender = vahepito_internal_or(attributes->per_sender, UINT32_MAX);
-    queue->stride = queue->places * sizeof(vahepito_internal_handle);
-    queue->own_mask = (queue->places - 1) * sizeof(vahepito_internal_seat);
-    queue->groups = vahepito_internal_or(attributes->groups, 1);
-    queue->words = vahepito_internal_or(attributes->words, 1);
+    queue->config.per_sender = value_or(attributes->per_sender, UINT32_MAX);
+    queue->stride = queue->places * sizeof(own_handle);
+    queue->own_mask = (queue->places - 1) * sizeof(call_seat);
+    queue->groups = value_or(attributes->groups, 1);
+    queue->words = value_or(attributes->words, 1);
     for (uint32_t bell = 0; bell <= MOST_GROUPS; bell++) queue->bells[bell].place = -1;
 }
 
@@ -1224,10 +1268,11 @@ uint32_t vahepito_create_as(const vahepito_attributes *attributes, vahepito_queu
     if (attributes->groups > MOST_GROUPS) return VAHEPITO_BAD_GROUPS;
     if (posix_memalign(&memory, 64, sizeof(vahepito_queue)) != 0) return VAHEPITO_NO_MEMORY;
     vahepito_queue *const queue = memory;
-    vahepito_internal_begin(queue, attributes);
-    queue->first = queue->last = vahepito_internal_append(queue, &code);
+    begin_queue(queue, attributes);
+    queue->first = queue->last = append_part(queue, &code);
     if (!queue->first) return free(queue), code;
-    if (pthread_mutex_init(&queue->lock, NULL) != 0) return vahepito_internal_free_part(queue, queue->first), free(queue), VAHEPITO_NO_MEMORY;
+    if (pthread_mutex_init(&queue->lock, NULL) != 0)
+        return free_part(queue, queue->first), free(queue), VAHEPITO_NO_MEMORY;
     for (uint32_t group = 0; group < queue->groups; group++) queue->at[group] = queue->first;
     *opened = queue;
     return VAHEPITO_DONE;
@@ -1241,19 +1286,19 @@ vahepito_queue *vahepito_create(uint32_t capacity) {
 }
 
 /* What each group has left goes to `left`. */
-static void vahepito_internal_drain(vahepito_queue *queue, vahepito_leftover *left, void *with) {
+static void drain_row(vahepito_queue *queue, vahepito_leftover *left, void *with) {
     vahepito_item item;
     for (uint32_t group = 1; group <= queue->groups; group++) {
-        vahepito_internal_take_request request = {queue, group, &item, 0, 0};
-        while (vahepito_internal_attempt_take(&request) == VAHEPITO_GOT) left(with, group, &item);
+        take_request request = {queue, group, &item, 0, 0};
+        while (attempt_take(&request) == VAHEPITO_GOT) left(with, group, &item);
     }
 }
 
 void vahepito_destroy(vahepito_queue *queue, vahepito_leftover *left, void *with) {
     if (!queue) return;
-    if (left) vahepito_internal_drain(queue, left, with);
-    for (vahepito_internal_part *part = queue->first, *next; part; part = next) next = part->next, vahepito_internal_free_part(queue, part);
-    for (vahepito_internal_part *part = queue->retired, *next; part; part = next) next = part->next, vahepito_internal_free_part(queue, part);
+    if (left) drain_row(queue, left, with);
+    for (queue_part *part = queue->first, *next; part; part = next) next = part->next, free_part(queue, part);
+    for (queue_part *part = queue->retired, *next; part; part = next) next = part->next, free_part(queue, part);
     for (uint32_t bell = 0; bell <= MOST_GROUPS; bell++)
         if (queue->bells[bell].place >= 0) (void)syscall(SYS_close, queue->bells[bell].place);
     (void)pthread_mutex_destroy(&queue->lock);
@@ -1330,11 +1375,11 @@ typedef struct {
     int32_t nice;
     uint32_t priority;
     uint64_t runtime, deadline, period;
-} vahepito_internal_attributes;
+} slice_attributes;
 
 int vahepito_lengthen_slice(void) {
     const uint64_t slice = 12000000;
-    vahepito_internal_attributes of_thread;
+    slice_attributes of_thread;
     memset(&of_thread, 0, sizeof of_thread);
     if (syscall(SYS_sched_getattr, 0, &of_thread, sizeof of_thread, 0) != 0) return -1;
     if (of_thread.policy != SCHED_OTHER && of_thread.policy != 3 /* SCHED_BATCH */) return errno = EINVAL, -1;

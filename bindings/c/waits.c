@@ -233,7 +233,7 @@ static void batches_wake_at_once(void) {
     size_t sent = 0;
     check(words && (queue = vahepito_create(0)), "there is room for any number");
     start(&taking[0], takes_of_a_batch, NULL);
-    while (!vahepito_internal_has_waiting(&queue->receivers[0])) sleep_for(1);
+    while (!has_waiting(&queue->receivers[0])) sleep_for(1);
     let_them_sleep();
     check(vahepito_send_many(queue, words, BATCH, NULL, &sent) == VAHEPITO_ACCEPTED && sent == BATCH, "a batch is sent");
     __atomic_store_n(&is_over, 1, __ATOMIC_SEQ_CST);
@@ -255,12 +255,12 @@ static void *takes_slow_items(void *told) {
 }
 
 static void until_a_take_waits(void) {
-    while (!vahepito_internal_has_waiting(&queue->receivers[0])) sleep_for(1);
+    while (!has_waiting(&queue->receivers[0])) sleep_for(1);
 }
 
 /* A take yields before it parks, but not if items come slowly. */
 static void pace_is_noted(void) {
-    vahepito_internal_pace pace = {0, 0, 0};
+    side_pace pace = {0, 0, 0};
     open_for(1);
     start(&taking[0], takes_slow_items, NULL);
     for (int item = 0; item < SLOW; item++) {
@@ -271,11 +271,11 @@ static void pace_is_noted(void) {
     check(!pthread_join(taking[0], NULL), "a receiver ends");
     check(queue->pace[1].is_slow == 1, "the side is slow");
     free_queue();
-    vahepito_internal_note(&pace, 1);
+    note_wait(&pace, 1);
     sleep_for(1);
-    vahepito_internal_note(&pace, 2);
+    note_wait(&pace, 2);
     check(pace.is_slow == 1, "one item in a millisecond is slow");
-    vahepito_internal_note(&pace, 1000000000);
+    note_wait(&pace, 1000000000);
     check(pace.is_slow == 0, "a thousand million items in less than an hour are not");
 }
 
