@@ -13,6 +13,9 @@
  *
  * In some models a call is begun in one step, and is answered in its next one.
  *
+ * In some models groups leave while senders wait for room. In a state in which no process makes a step, no item is left
+ * of a group that has left, and the queue is closed if all groups have left.
+ *
  * In other models the calls of a side combine, and a call that waits for its answer parks. A call gets its place in the
  * chain of its side by a locked instruction. The first call of the chain serves itself and those behind it, up to a
  * bound, and hands over to the next place. Its answers and its hand-over wait in the store buffer of its process. They
@@ -76,7 +79,8 @@ enum { PROCESSES = 4, GROUPS = 2, LINES = 1 + GROUPS, SERVED, CALLS = 3, LONGEST
 
 /* The calls of each process, in order: a send or a take of group 1 or 2 (s, t, u), the same until a moment (S, T, U), or now
  * (m, n); two sends or takes at once (b, k); a send that is refused memory at its third try (w); as a fault, a send with a notification before
- * it (e); a close (c); polls, and sends or takes of group 1 or 2 after each, until one finds something (r, p, q). */
+ * it (e); a close (c); polls, and sends or takes of group 1 or 2 after each, until one finds something (r, p, q); group 1
+ * or 2 leaves (x, y). */
 struct model {
     const char *calls[PROCESSES];
     int capacity, groups, life, wakes_for_nothing;
@@ -87,6 +91,7 @@ struct model {
 };
 
 static const struct model *model;
+static bool has_leaves;                /* whether a group leaves in it */
 static const char *fault;              /* what is wrong */
 static const char *wanted;             /* the one rule that counts then, or NULL */
 static bool has_rules = true;          /* else no rule counts */
@@ -104,12 +109,12 @@ static void breaks(const char *rule) {
 enum kind {
     DONE, LOAD, ADD, EXCHANGE, SLEEP, WAKE, TRY_SEND, TRY_TAKE, TURN_SEND, TURN_TAKE, CLOSE, LOOK_SENT, LOOK_TAKEN, LOOK_CLOSED, MARK_CLOSED,
     LOCK, UNLOCK, SEAT, COMBINE, TURN_COMBINED, LOAD_WAITING, LOAD_ENDED, SWAP_WAITING, ADD_ENDED,
-    POLL, DRAIN, RING, LOAD_ARMED, SWAP_ARMED
+    POLL, DRAIN, RING, LOAD_ARMED, SWAP_ARMED, LOAD_LEFT, MARK_LEFT
 };
 
 struct step {
     enum kind kind;
-    int line; /* or the group of a take, or of a descriptor */
+    int line; /* or the group of a take, of a descriptor, or that has left: 0 if any has */
     uint64_t value, next; /* of DONE, the code of the call */
     bool has_time;
 };
@@ -148,7 +153,7 @@ static union {
     char bytes[sizeof(queue_part) + (1 + GROUPS) * sizeof(own_handle)];
 } one;
 static uint64_t results[LONGEST];
-static int result_count, result_at, tries, group_of_take;
+static int result_count, result_at, tries;
 static bool was_refused; /* memory, since the last step */
 static struct step next_step;
 static jmp_buf at_next_step;
@@ -173,6 +178,13 @@ static int bell_of(const void *place) {
     return at < LINES ? (int)at : LINES;
 }
 
+/* Which group has its mark here: 0 is the mark that any has; LINES if this is no such mark. */
+static int left_of(const void *place) {
+    const bool *const mark = place;
+    if (mark == &queue.has_bells) return 0;
+    return mark >= queue.has_left && mark < queue.has_left + GROUPS ? 1 + (int)(mark - queue.has_left) : LINES;
+}
+
 static uint64_t model_served_time(void) { return model->bound ? 0 : UINT64_MAX; }
 
 /* Each seat is free, and the row is not narrow. */
@@ -182,7 +194,9 @@ static uint64_t model_load(const void *place) {
     if (model->bound && place == &queue.served.ended) return result_of((struct step){LOAD_ENDED, 0, 0, 0, false});
     if (place == &queue.is_closed) return result_of((struct step){LOOK_CLOSED, 0, 0, 0, false});
     if (place == &queue.special) return model->looks ? WAS_FULL : 0;
-    if (place == &queue.has_bells) return model->bells != 0;
+    const int left = left_of(place);
+    if (left == 0 && (model->bells != 0 || !has_leaves)) return model->bells != 0;
+    if (left < LINES) return result_of((struct step){LOAD_LEFT, left, 0, 0, false});
     const int bell = bell_of(place);
     if (bell < LINES && place == &queue.bells[bell].place) return (uint64_t)queue.bells[bell].place;
     if (bell < LINES) return result_of((struct step){LOAD_ARMED, bell, 0, 0, false});
@@ -215,6 +229,7 @@ static uint32_t model_swap(uint32_t *place, uint32_t value) {
 /* Any other store is of a seat, or of the hint that there was no room. */
 static void model_store(const void *place, uint64_t value) {
     if (place == &queue.is_closed) (void)result_of((struct step){MARK_CLOSED, 0, 0, 0, false});
+    if (left_of(place) < LINES) (void)result_of((struct step){MARK_LEFT, left_of(place), 0, 0, false});
     if (place == &queue.seats[0].is_taken) queue.seats[0].is_taken = (uintptr_t)value;
 }
 
@@ -282,12 +297,18 @@ uint32_t vahepito_drop(vahepito_handle *pass) { return (void)pass, VAHEPITO_DONE
 uint32_t vahepito_version(void) { return VAHEPITO_VERSION; }
 void vahepito_sizes(size_t *config, size_t *pass, size_t *item, size_t *words_item) { (void)config, (void)pass, (void)item, (void)words_item; }
 
+/* The handles are of the sender, and then of a receiver of each group. */
+static int group_of(const vahepito_handle *receiver) {
+    return (int)((const own_handle *)(const void *)receiver - one.part.handles);
+}
+
 uint32_t vahepito_try_take_words(vahepito_handle *receiver, vahepito_item *item, uint64_t *total, uint32_t *served) {
-    (void)receiver, (void)item, (void)served;
+    const int group = group_of(receiver);
+    (void)item, (void)served;
     *total = 0;
-    if (model->bound) (void)result_of((struct step){COMBINE, group_of_take, 0, 0, false});
-    if (model->bound) return (uint32_t)result_of((struct step){TURN_COMBINED, group_of_take, 0, 0, false});
-    return (uint32_t)result_of((struct step){TRY_TAKE, group_of_take, 0, 0, false});
+    if (model->bound) (void)result_of((struct step){COMBINE, group, 0, 0, false});
+    if (model->bound) return (uint32_t)result_of((struct step){TURN_COMBINED, group, 0, 0, false});
+    return (uint32_t)result_of((struct step){TRY_TAKE, group, 0, 0, false});
 }
 
 uint32_t vahepito_try_take(vahepito_handle *receiver, vahepito_word_item *item, uint64_t *total, uint32_t *served) {
@@ -308,8 +329,8 @@ uint32_t vahepito_turn_send(vahepito_handle *sender, uint64_t *place, uint32_t *
 }
 
 uint32_t vahepito_turn_take_words(vahepito_handle *receiver, vahepito_item *item, uint64_t *total, uint32_t *served) {
-    (void)receiver, (void)item, (void)total, (void)served;
-    return (uint32_t)result_of((struct step){model->bound ? TURN_COMBINED : TURN_TAKE, group_of_take, 0, 0, false});
+    (void)item, (void)total, (void)served;
+    return (uint32_t)result_of((struct step){model->bound ? TURN_COMBINED : TURN_TAKE, group_of(receiver), 0, 0, false});
 }
 
 /* The queue as each call finds it: what is a model's state isn't in it. */
@@ -332,7 +353,7 @@ static uint32_t make_call(char call) {
     vahepito_item items[2];
     uint32_t code;
     reset();
-    group_of_take = 1 + (call == 'u' || call == 'U' || call == 'q');
+    const uint32_t group = 1 + (call == 'u' || call == 'U' || call == 'q' || call == 'y');
     is_exhausted = call == 'w';
     tries = 0;
     switch (call) {
@@ -341,17 +362,18 @@ static uint32_t make_call(char call) {
     case 'm': return vahepito_send_now(&queue, 1, NULL);
     case 'b': return vahepito_send_many(&queue, words, 2, NULL, NULL);
     case 'e': return notify_items(&queue, false), attempt_send(&(send_request){&queue, words, 1, 0, 0});
-    case 't': case 'u': return vahepito_take(&queue, (uint32_t)group_of_take, NULL, NULL);
-    case 'T': case 'U': return vahepito_take_until(&queue, (uint32_t)group_of_take, NULL, &some_time, NULL);
+    case 't': case 'u': return vahepito_take(&queue, group, NULL, NULL);
+    case 'T': case 'U': return vahepito_take_until(&queue, group, NULL, &some_time, NULL);
     case 'n': return vahepito_take_now(&queue, 1, NULL, NULL);
     case 'k': return vahepito_take_many(&queue, 1, items, 2, NULL, NULL, NULL);
     case 'c': return vahepito_close(&queue, NULL);
+    case 'x': case 'y': return vahepito_leave(&queue, group);
     case 'r':
         do model_poll(0), code = vahepito_send_now(&queue, 1, NULL);
         while (code == VAHEPITO_FULL);
         return code;
     case 'p': case 'q':
-        do model_poll(group_of_take), code = vahepito_take_now(&queue, (uint32_t)group_of_take, NULL, NULL);
+        do model_poll((int)group), code = vahepito_take_now(&queue, group, NULL, NULL);
         while (code == VAHEPITO_EMPTY);
         return code;
     default: abort();
@@ -537,7 +559,8 @@ struct state {
     uint8_t waiting, ended; /* of the line of calls that wait for their answer */
     struct store buffers[PROCESSES][STORES];
     uint8_t readable, armed; /* bits of descriptors */
-    uint8_t padding[4];
+    uint8_t left; /* bits of groups; the first one says that some group has left */
+    uint8_t padding[3];
 };
 
 _Static_assert(sizeof(struct state) % 8 == 0, "its hash is of words");
@@ -749,6 +772,8 @@ static void search_after(const struct state *state, int process) {
         break;
     case UNLOCK: next.has_lock = 0, advance(next, process, 0); break;
     case CLOSE: next.closed = 1, advance(next, process, VAHEPITO_SHUT); break;
+    case LOAD_LEFT: advance(next, process, state->left >> step.line & 1); break;
+    case MARK_LEFT: next.left |= bit, advance(next, process, 0); break;
     case POLL:
         if (state->readable & bit) advance(next, process, 0);
         break;
@@ -806,6 +831,19 @@ static void check_bell(const struct state *state, int bell) {
     if (has_something && !is_readable && !is_rung && !is_due) breaks("a descriptor misses something");
 }
 
+/* Whether the items of groups that have left stay, or the queue isn't closed just when all have left: no model with such
+ * groups has a close. */
+static void check_left(const struct state *state) {
+    bool have_all = true;
+    for (int group = 1; group <= model->groups; group++) {
+        const bool has_left = state->left >> group & 1;
+        have_all = have_all && has_left;
+        if (has_left && !state->closed && things(state, group) > 0) is_wrong("a group that has left keeps an item");
+    }
+    if (have_all && !state->closed) is_wrong("all groups have left, and the queue isn't closed");
+    if (has_leaves && state->closed && !have_all) is_wrong("the queue is closed, and a group hasn't left");
+}
+
 /* Whether a rule is broken, or a call returned before its answer; or no process makes a step, though the try of a
  * process that sleeps, in a line or in a poll, would find something, or the counts of a line aren't the number of those
  * that sleep there, or PARKED is left. */
@@ -829,6 +867,7 @@ static void check_state(const struct state *state) {
         else is_missed |= state->closed || things(state, step->line) > 0;
     }
     if (is_missed) is_wrong("a wake-up is lost");
+    check_left(state);
     if (memcmp(sleeping, state->counts, sizeof sleeping) != 0) is_wrong("the counts aren't those of the sleepers");
     if (state->waiting == PARKED) is_wrong("the line of calls that wait for their answer is left as PARKED");
 }
@@ -838,6 +877,8 @@ static bool search(const struct model *it) {
     struct state start;
     memset(&start, 0, sizeof start);
     model = it;
+    has_leaves = false;
+    for (int process = 0; process < PROCESSES; process++) has_leaves |= strpbrk(it->calls[process], "xy") != NULL;
     fault = NULL;
     node_count = 0;
     state_count = left_count = 0;
@@ -867,6 +908,8 @@ static const struct model models[] = {
     {{"p", "c", "", ""}, 1, 1, 9, 0, false, false, 0, 2}, {{"mr", "c", "", ""}, 1, 1, 9, 0, false, false, 0, 1},
     {{"mr", "t", "", ""}, 1, 1, 9, 0, false, true, 0, 1}, {{"T", "s", "s", ""}, 2, 1, 9, 1, false, false, 0, 0},
     {{"p", "s", "c", ""}, 1, 1, 9, 0, false, false, 0, 2}, {{"t", "c", "s", ""}, 1, 1, 9, 0, true, false, 0, 0},
+    {{"ss", "x", "", ""}, 1, 1, 9, 0, false, false, 0, 0}, {{"t", "s", "y", ""}, 1, 2, 9, 0, false, false, 0, 0},
+    {{"b", "y", "", ""}, 2, 2, 9, 0, false, false, 0, 0}, {{"x", "y", "s", ""}, 1, 2, 9, 0, false, false, 0, 0},
     {{"p", "n", "s", ""}, 1, 1, 9, 0, false, false, 0, 2}, {{"t", "u", "s", ""}, 1, 2, 9, 0, false, false, 0, 0},
     {{"p", "q", "s", ""}, 1, 2, 9, 0, false, false, 0, 6}, {{"p", "q", "c", ""}, 1, 2, 9, 0, false, false, 0, 6},
     {{"k", "s", "s", ""}, 2, 1, 9, 0, false, true, 0, 0}, {{"tt", "ss", "", ""}, 1, 1, 9, 1, false, false, 0, 0},
@@ -882,6 +925,8 @@ static const struct model models[] = {
     {{"pp", "mr", "s", ""}, 1, 1, 9, 0, true, false, 0, 3}, {{"p", "u", "s", "c"}, 1, 2, 9, 0, false, false, 0, 2},
     {{"t", "t", "ss", ""}, 1, 1, 9, 0, true, false, 0, 0}, {{"m", "m", "m", ""}, 3, 1, 9, 0, false, false, 3, 0},
     {{"m", "m", "m", ""}, 3, 1, 9, 0, false, false, 1, 0}, {{"bs", "s", "k", ""}, 2, 1, 9, 0, false, false, 0, 0},
+    {{"t", "ss", "y", ""}, 1, 2, 9, 0, false, false, 0, 0}, {{"t", "ss", "y", ""}, 1, 2, 9, 0, false, true, 0, 0},
+    {{"x", "y", "ss", ""}, 1, 2, 9, 0, false, false, 0, 0}, {{"t", "b", "y", ""}, 1, 2, 9, 0, false, false, 0, 0},
     {{"k", "s", "b", ""}, 1, 1, 9, 0, false, false, 0, 0}, {{"t", "t", "b", "s"}, 3, 1, 9, 0, false, false, 0, 0},
     {{"tt", "w", "ss", ""}, 1, 1, 9, 0, false, false, 0, 0}, {{"t", "t", "s", "s"}, 2, 1, 9, 0, false, false, 0, 0},
     {{"t", "t", "c", "s"}, 1, 1, 9, 0, false, false, 0, 0}, {{"tc", "ss", "S", ""}, 1, 1, 9, 0, false, false, 0, 0},

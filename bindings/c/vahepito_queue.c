@@ -1198,7 +1198,8 @@ uint32_t vahepito_leave(vahepito_queue *queue, uint32_t group) {
     lock_row(queue);
     __atomic_store_n(&queue->has_left[group - 1], true, __ATOMIC_SEQ_CST);
     __atomic_store_n(&queue->has_bells, true, __ATOMIC_SEQ_CST);
-    for (uint32_t other = 0; other < queue->groups; other++) is_last = is_last && queue->has_left[other];
+    for (uint32_t other = 0; other < queue->groups; other++)
+        is_last = is_last && __atomic_load_n(&queue->has_left[other], __ATOMIC_SEQ_CST);
     unlock_row(queue);
     if (is_last) (void)vahepito_close(queue, NULL);
     else skip_items(queue, group);
