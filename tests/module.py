@@ -3,6 +3,7 @@
 byte.
 
     tests/module.py
+    tests/module.py --into FOLDER TARGET
 
 `bindings/rust/lib/TARGET/module.ll.xz` is what the toolchain's compiler read when the library was built, and the line
 `compiler:` of PROOF says which version of clang it is and by which words it was called. Debian's clang of that version,
@@ -17,6 +18,9 @@ marks (stores of 2) are of one kind: so the choice between both kinds of mark is
 not at each mark.
 
 Without that clang it does nothing, says so in a line, and the exit status is 77. Exit status 0 if all is so.
+
+With --into it writes archives of these objects of a target into a folder, for `make from-text` in bindings/c; exit status 1 if they
+aren't those of the tree.
 """
 import collections
 import lzma
@@ -81,12 +85,31 @@ def wrong_stores(archive: pathlib.Path, optimized: str) -> list:
     return found if len(orders) == 2 else [*found, f"stores of these kinds alone: {dict(orders)}"]
 
 
+def texts_of(folder: pathlib.Path) -> dict:
+    """The text of each archive of a target."""
+    strict = lzma.open(folder / "module.ll.xz", "rt").read()
+    texts = {"libvahepito_strict.a": strict}
+    return texts | {"libvahepito.a": released(strict)} if (folder / "libvahepito.a").exists() else texts
+
+
+def build(folder: pathlib.Path, into: pathlib.Path, clang: str, words: list) -> list:
+    """Writes archives into another folder. Returns what is wrong with them."""
+    found = []
+    for name, text in texts_of(folder).items():
+        made = (into / name).with_suffix(".o")
+        made.write_bytes(compiled(clang, words, text))
+        (into / name).unlink(missing_ok=True)
+        subprocess.run(["ar", "rcsD", into / name, made], check=True)
+        if made.read_bytes() != object_in(folder / name):
+            found.append(f"{name} is another object")
+    return found
+
+
 def faults_of(folder: pathlib.Path, clang: str, words: list) -> list:
     """What is wrong with the archives of a target."""
-    strict = lzma.open(folder / "module.ll.xz", "rt").read()
-    texts, found = {"libvahepito_strict.a": strict}, []
+    texts, found = texts_of(folder), []
+    strict = texts["libvahepito_strict.a"]
     if (default := folder / "libvahepito.a").exists():
-        texts[default.name] = released(strict)
         optimized = compiled(clang, words, texts[default.name], "-S", "-emit-llvm").decode()
         found += wrong_stores(default, optimized)
         if not wrong_stores(folder / "libvahepito_strict.a", optimized):
@@ -110,15 +133,15 @@ def compiler_of(folder: pathlib.Path) -> tuple:
 
 
 def main() -> int:
-    failed = 0
-    for folder in sorted((TOP / "bindings/rust/lib").glob("*/")):
+    failed, into = 0, pathlib.Path(sys.argv[2]) if sys.argv[1:2] == ["--into"] else None
+    for folder in sorted((TOP / "bindings/rust/lib").glob(f"{sys.argv[3] if into else '*'}/")):
         clang, said, words = compiler_of(folder)
         if not clang or not shutil.which("objdump"):
             print(f"module: another compiler of the same version: SKIPPED: clang {said} or objdump is not on this "
                   f"machine")
             return 77
         try:
-            found = faults_of(folder, clang, words)
+            found = build(folder, into, clang, words) if into else faults_of(folder, clang, words)
         except Refused as why:
             found = [f"the module is refused: {why}"]
         print("\n".join(f"module: {folder.name}: {line}"
