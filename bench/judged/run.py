@@ -194,9 +194,9 @@ def version(package):
     return (words[0] if package not in commands else words[1]) if words else None
 
 
-def install():
+def install(programs):
     """Installs what is missing, one package after another."""
-    packages = dict.fromkeys(queue.package for program in PROGRAMS for queue in program.queues if queue.package.startswith(("lib", "golang")))
+    packages = dict.fromkeys(queue.package for program in programs for queue in program.queues if queue.package.startswith(("lib", "golang")))
     missing = [package for package in packages if not version(package)]
     if not missing or os.geteuid() != 0 or not shutil.which("apt-get"):
         return
@@ -216,18 +216,18 @@ def told(command, **options):
     return run.stdout
 
 
-def build_c(room):
-    """The program of the libraries that are there."""
+def build_c(room, main=("record.cpp",), more=()):
+    """A program over the libraries that are there: its own sources, and further words for the compilers."""
     libraries = {"BOOST": ("libboost-dev", []), "MOODYCAMEL": ("libconcurrentqueue-dev", []), "TBB": ("libtbb-dev", ["tbb"]),
                  "GLIB": ("libglib2.0-dev", ["glib-2.0"]), "URCU": ("liburcu-dev", ["liburcu", "liburcu-cds"]), "CK": ("libck-dev", ["ck"])}
     there = {name: links for name, (package, links) in libraries.items() if version(package)}
     links = [link for of_one in there.values() for link in of_one]
     flags = lambda kind: told(["pkg-config", kind, *links]).split() if links else []
-    defines = [f"-DHAS_{name}" for name in there]
+    defines = [*more, *(f"-DHAS_{name}" for name in there)]
     objects = [name for name in ("ck", "urcu") if name.upper() in there]
     for name in objects:
-        told(["cc", "-std=gnu11", "-O2", "-c", SOURCES / f"{name}.c", "-o", room / f"{name}.o", *flags("--cflags")])
-    sources = [SOURCES / name for name in ("record.cpp", "cpp.cpp", "from_c.cpp")]
+        told(["cc", "-std=gnu11", "-O2", *more, "-c", SOURCES / f"{name}.c", "-o", room / f"{name}.o", *flags("--cflags")])
+    sources = [SOURCES / name for name in (*main, "cpp.cpp", "from_c.cpp")]
     told(["c++", "-std=c++17", "-O2", "-pthread", *defines, *flags("--cflags"), *sources, *[room / f"{name}.o" for name in objects],
           "-o", room / "record", *flags("--libs"), "-lrt"])
     return [room / "record"]
@@ -535,7 +535,7 @@ def main():
     # Sleeps of the programs are as short as they say: 50 microseconds less than usual.
     ctypes.CDLL(None).prctl(PR_SET_TIMERSLACK, 1, 0, 0, 0)
     if not options.short:
-        install()
+        install(PROGRAMS)
     results, right, skip = [], True, []
     for program in PROGRAMS:
         if options.only not in (None, program.language):

@@ -1,7 +1,7 @@
 #!/usr/bin/env python3
 """Times the proved queue beside its peers, in one run, and writes the tables and pictures of docs/BENCH.md.
 
-    bench/peers/run.py [--seconds N] [--print | --all | --busy | --tail | --busy-tail | --steps | --unbounded | --pinned] [--again]
+    bench/peers/run.py [--seconds N] [--print | --all | --busy | --tail | --busy-tail | --steps | --unbounded | --pinned | --c] [--again]
 
 One command, in some N seconds (420 where no number is given; 120 are a short form, and 20 a trial), after the build. It
 takes crossbeam's, flume's and smol's queues from Debian's packages: those that aren't there it installs, where it is root
@@ -15,13 +15,16 @@ the slowest calls are measured, and the table `tail` is written; with --busy-tai
 and the table `busy_tail`. With --steps the exports are timed with the same atomic steps by hand, and the table `steps` is written.
 With --unbounded queues without a bound are timed, and the table `unbounded` is written. With --pinned short bursts of pinned threads
 are timed, of which those count in which no thread lost its processor, and the table `pinned` is written: also on a busy machine.
+With --c the queue of vahepito.h is timed beside queues of libraries for C and C++, with the adapters of bench/judged, and the table `c` is written.
 --all measures all but the steps and the queues without a bound, in some N + 300 seconds, then writes README's table (bench/readme.py).
 """
 import argparse
 import glob
+import importlib.util
 import json
 import math
 import os
+import pathlib
 import random
 import resource
 import shutil
@@ -430,6 +433,49 @@ def without_bound(programs, there, seconds):
     return rows
 
 
+# The queue of vahepito.h beside others in C and C++.
+
+IN_C = {"vahepito": "`vahepito.h`", "mutex": "mutex and condition variables", "glib": "`GAsyncQueue`", "tbb_bounded": "TBB's bounded queue",
+        "ck_ring_mpmc": "`ck_ring`", "boost_bounded": "boost::lockfree", "urcu_wfcqueue": "liburcu's wfcqueue",
+        "urcu_rculfqueue": "its rculfqueue"}
+WAIT_IN_C = ["vahepito", "mutex", "glib", "tbb_bounded"]
+
+
+def build_in_c():
+    """The program, and the queues that it has: by the build of bench/judged."""
+    spec = importlib.util.spec_from_file_location("judged", os.path.join(TOP, "bench", "judged", "run.py"))
+    judged = sys.modules["judged"] = importlib.util.module_from_spec(spec)
+    spec.loader.exec_module(judged)
+    judged.install([judged.C])
+    room, bindings = pathlib.Path(OUT, "c"), os.path.join(TOP, "bindings")
+    room.mkdir(parents=True, exist_ok=True)
+    queue = os.path.join(room, "vahepito_queue.o")
+    judged.told(["cc", "-std=c11", "-O2", "-c", os.path.join(bindings, "c", "vahepito_queue.c"), "-o", queue])
+    archives = [os.path.join(bindings, f"rust/lib/x86_64-unknown-linux-gnu/libvahepito{name}.a") for name in ("", "_heap")]
+    words = ["-DPLACES=64", "-I", str(judged.SOURCES), "-I", os.path.join(bindings, "c")]
+    program, = judged.build_c(room, [os.path.join(HERE, "src", "waits.cpp"), queue, *archives], words)
+    packages = {one.name: one.package for one in judged.C.queues}
+    return str(program), [name for name in IN_C if name in WAIT_IN_C[:2] or judged.version(packages[name])]
+
+
+def in_c(seconds):
+    """The rows of the table `c`."""
+    program, names = build_in_c()
+    queues = {name: (program, name, 64) for name in names}
+    each, waits = lambda queue: True, lambda queue: queue in WAIT_IN_C
+    shapes = {
+        "a take that waits, p50, us": ("p50", shape(1, 1), waits), "the same, p99, us": ("p99", shape(1, 1), waits),
+        "its processor time, us": ("processor", shape(1, 1), waits),
+        "8 that wait for nothing, thousandths of a processor": ("idle", shape(1, 8), waits),
+        **{f"{n}/{n}, ns an item": ("pass", shape(n, n), each) for n in (1, 2, 4, 8)},
+        "one thread, ns a pair": ("alone", shape(1, 1), each),
+    }
+    times = timed(shapes, queues, seconds)
+    told = lambda it: "" if it is None else f"{short(it[1])} ({short(it[0])}–{short(it[2])})"
+    cells = {key: told(quartiles({key: [[time] for time in of]}, key, 0)) for key, of in times.items()}
+    return [["", *(IN_C[name] for name in names)], *([at, *(cells.get((at, name), "") for name in names)] for at in shapes)]
+
+
 # The pictures.
 
 def picture(title, joined, unit, rows, numbers):
@@ -444,7 +490,7 @@ def main():
     parser.add_argument("--seconds", type=int, default=420)
     parser.add_argument("--again", action="store_true")
     what = parser.add_mutually_exclusive_group()
-    for name in ("print", "all", "busy", "busy-tail", "tail", "steps", "unbounded", "pinned"):
+    for name in ("print", "all", "busy", "busy-tail", "tail", "steps", "unbounded", "pinned", "c"):
         what.add_argument(f"--{name}", action="store_true")
     options = parser.parse_args()
     if options.all and options.again:
@@ -454,6 +500,8 @@ def main():
         with open(kept) as file:
             told = json.load(file)
     else:
+        if options.c:
+            return write("c", in_c(options.seconds))
         there = [] if options.steps else install()
         programs = build(there)
         if options.busy:

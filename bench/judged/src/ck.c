@@ -7,7 +7,9 @@
 #include <stdlib.h>
 #include <string.h>
 
-enum { PLACES = 16 };
+#ifndef PLACES
+#define PLACES 16
+#endif
 
 struct ring {
     ck_ring_t ring;

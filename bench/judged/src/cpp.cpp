@@ -15,7 +15,10 @@
 
 namespace {
 
-constexpr size_t CAPACITY = 16;
+#ifndef PLACES
+#define PLACES 16
+#endif
+constexpr size_t CAPACITY = PLACES;
 
 [[noreturn]] void fail(const char *what) {
     perror(what);
