@@ -1,14 +1,19 @@
-/* Begins and turns in random orders, in C: each turn returns what a model of the queue returns, which serves whole calls.
+/* Begins and turns in random orders, in C: each turn returns what a model of the queue returns, which serves whole
+ * calls.
  *
- * In thousands of runs three senders, and two receivers of each of one to three groups, begin calls and turn them in an order
- * that is rolled, on queues whose sizes are rolled too. At the end each call is turned until it is answered. It ends with
- * status 0 where each answer, each wait and each number of served calls was the model's, and each of these occurred. */
+ * In thousands of runs three senders, and two receivers of each of one to three groups, begin calls and turn them in an
+ * order that is rolled, on queues whose sizes are rolled too. At the end each call is turned until it is answered. It
+ * ends with status 0 where each answer, each wait and each number of served calls was the model's, and each of these
+ * occurred. */
 #include "by_handles.h"
 
 #include <stdio.h>
 #include <string.h>
 
-enum { RUNS = 4000, SENDERS = 3, IN_EACH = 2, MOST_GROUPS = 3, MOST_PASSES = SENDERS + MOST_GROUPS * IN_EACH, MOST_LIFE = 12 };
+enum {
+    RUNS = 4000, SENDERS = 3, IN_EACH = 2, MOST_GROUPS = 3, MOST_PASSES = SENDERS + MOST_GROUPS * IN_EACH,
+    MOST_LIFE = 12
+};
 
 /* What is rolled, for all runs. */
 static uint64_t dice = 1;
@@ -203,9 +208,10 @@ static void open_both(void) {
     memset(&model, 0, sizeof model);
     memset(passes, 0, sizeof passes);
     model.groups = roll(&dice, MOST_GROUPS) + 1;
-    model.config = (vahepito_config){SENDERS, IN_EACH, roll(&dice, 3) + 1, roll(&dice, 4) + 1, roll(&dice, MOST_LIFE) + 1, roll(&dice, 6) + 1};
-    uint32_t code = vahepito_open_words(&model.config, model.groups, VAHEPITO_MOST_WORDS, passes, SENDERS, passes + SENDERS,
-                                        model.groups * IN_EACH);
+    model.config = (vahepito_config){
+        SENDERS, IN_EACH, roll(&dice, 3) + 1, roll(&dice, 4) + 1, roll(&dice, MOST_LIFE) + 1, roll(&dice, 6) + 1};
+    uint32_t code = vahepito_open_words(&model.config, model.groups, VAHEPITO_MOST_WORDS, passes, SENDERS,
+                                        passes + SENDERS, model.groups * IN_EACH);
     check(code == VAHEPITO_DONE, "a queue is opened");
 }
 
@@ -227,8 +233,9 @@ static void run(void) {
 }
 
 int main(void) {
-    const uint32_t seen[] = {VAHEPITO_ACCEPTED, VAHEPITO_FULL,  VAHEPITO_CLOSED, VAHEPITO_SPENT, VAHEPITO_SHUT, VAHEPITO_ALREADY,
-                             VAHEPITO_GOT,      VAHEPITO_EMPTY, VAHEPITO_ENDED,  VAHEPITO_WORN,  VAHEPITO_WAITING};
+    const uint32_t seen[] = {VAHEPITO_ACCEPTED, VAHEPITO_FULL,    VAHEPITO_CLOSED, VAHEPITO_SPENT,
+                             VAHEPITO_SHUT,     VAHEPITO_ALREADY, VAHEPITO_GOT,    VAHEPITO_EMPTY,
+                             VAHEPITO_ENDED,    VAHEPITO_WORN,    VAHEPITO_WAITING};
     for (int k = 0; k < RUNS; k++) run();
     for (size_t k = 0; k < sizeof seen / sizeof *seen; k++) check(codes[seen[k]] > 100, "each answer occurred");
     check(by_others > 100 && of_others > 100, "calls were served by others");

@@ -7,11 +7,11 @@
 #include "handles.h"
 
 /* The body of a function that makes this turn, with &number and &served, until the call is answered. */
-#define FINISHED(turn, out)                                                                                                    \
-    uint64_t number = 0;                                                                                                       \
-    uint32_t served = 0, code;                                                                                                 \
-    while ((code = (turn)) == VAHEPITO_WAITING) (void)sched_yield();                                                           \
-    if (out) *(out) = number;                                                                                                  \
+#define FINISHED(turn, out) \
+    uint64_t number = 0; \
+    uint32_t served = 0, code; \
+    while ((code = (turn)) == VAHEPITO_WAITING) (void)sched_yield(); \
+    if (out) *(out) = number; \
     return code
 
 static inline uint32_t finish_send(vahepito_handle *sender, uint64_t *place) {
@@ -31,20 +31,21 @@ static inline uint32_t finish_take_words(vahepito_handle *receiver, vahepito_ite
 }
 
 /* The body of a function that makes this try, and if that waits finishes it, until its code isn't `nothing`. */
-#define REPEATED(try, finish, nothing, out)                                                                                    \
-    uint64_t number = 0;                                                                                                       \
-    uint32_t served = 0, code;                                                                                                 \
-    for (;;) {                                                                                                                 \
-        code = (try);                                                                                                          \
-        if (code == VAHEPITO_WAITING) code = (finish);                                                                         \
-        if (out) *(out) = number;                                                                                              \
-        if (code != (nothing)) return code;                                                                                    \
-        (void)sched_yield();                                                                                                   \
+#define REPEATED(try, finish, nothing, out) \
+    uint64_t number = 0; \
+    uint32_t served = 0, code; \
+    for (;;) { \
+        code = (try); \
+        if (code == VAHEPITO_WAITING) code = (finish); \
+        if (out) *(out) = number; \
+        if (code != (nothing)) return code; \
+        (void)sched_yield(); \
     }
 
 /* Sends, and waits for room. */
 static inline uint32_t send_words_by(vahepito_handle *sender, const uint64_t *words, size_t count, uint64_t *place) {
-    REPEATED(vahepito_try_send_words(sender, words, count, &number, &served), finish_send(sender, &number), VAHEPITO_FULL, place)
+    REPEATED(vahepito_try_send_words(sender, words, count, &number, &served), finish_send(sender, &number),
+             VAHEPITO_FULL, place)
 }
 
 static inline uint32_t send_by(vahepito_handle *sender, uint64_t body, uint64_t *place) {
@@ -53,11 +54,13 @@ static inline uint32_t send_by(vahepito_handle *sender, uint64_t body, uint64_t 
 
 /* Takes, and waits for an item. */
 static inline uint32_t take_by(vahepito_handle *receiver, vahepito_word_item *item, uint64_t *total) {
-    REPEATED(vahepito_try_take(receiver, item, &number, &served), finish_take(receiver, item, &number), VAHEPITO_EMPTY, total)
+    REPEATED(vahepito_try_take(receiver, item, &number, &served), finish_take(receiver, item, &number), VAHEPITO_EMPTY,
+             total)
 }
 
 static inline uint32_t take_words_by(vahepito_handle *receiver, vahepito_item *item, uint64_t *total) {
-    REPEATED(vahepito_try_take_words(receiver, item, &number, &served), finish_take_words(receiver, item, &number), VAHEPITO_EMPTY, total)
+    REPEATED(vahepito_try_take_words(receiver, item, &number, &served), finish_take_words(receiver, item, &number),
+             VAHEPITO_EMPTY, total)
 }
 
 static inline uint32_t close_by(vahepito_handle *sender, uint64_t *total) {

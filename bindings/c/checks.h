@@ -66,7 +66,8 @@ static inline uint32_t roll(uint64_t *dice, uint32_t bound) {
     return (uint32_t)(*dice >> 33) % bound;
 }
 
-/* An item of a thread: the number of the thread is in the upper half of the word, and that of the item in the lower half. */
+/* An item of a thread: the number of the thread is in the upper half of the word, and that of the item in the lower
+ * half. */
 static inline uint64_t item_of(uint32_t thread, uint64_t number) { return (uint64_t)thread << 32 | number; }
 
 /* A thread's sends, from 1 up to a number of items, each of which is accepted. */
@@ -74,7 +75,8 @@ static inline void send_up_to(vahepito_queue *queue, uint32_t thread, uint64_t i
     uint64_t last = 0;
     for (uint64_t number = 1; number <= items; number++) {
         uint64_t place;
-        check(vahepito_send(queue, item_of(thread, number), &place) == VAHEPITO_ACCEPTED, "a send is accepted in the end");
+        check(vahepito_send(queue, item_of(thread, number), &place) == VAHEPITO_ACCEPTED,
+              "a send is accepted in the end");
         check(number == 1 || place > last, "places rise");
         last = place;
     }
@@ -95,7 +97,8 @@ static inline void take_to_the_end(vahepito_queue *queue, uint32_t group, uint32
         const uint32_t thread = (uint32_t)(item.words[0] >> 32);
         const uint64_t number = (uint32_t)item.words[0];
         check(code == VAHEPITO_GOT, "a take gets an item, or is told the end");
-        check(mine->total == 0 && item.count == 1 && item.words[1] == 0, "an item comes as it was sent, without a total");
+        check(mine->total == 0 && item.count == 1 && item.words[1] == 0,
+              "an item comes as it was sent, without a total");
         check(thread < threads && number > last[thread], "each thread's items come in order");
         check(mine->got == 0 || item.place > last_place, "places rise");
         last[thread] = number;

@@ -2,8 +2,8 @@
  *
  *     consume [ITEMS]
  *
- * Each of three publishers sends ITEMS numbers (10,000), each of two consumers takes until the end. It ends with status 0
- * if each item was taken once, each consumer saw each publisher's items in order, and each answer was legal. */
+ * Each of three publishers sends ITEMS numbers (10,000), each of two consumers takes until the end. It ends with status
+ * 0 if each item was taken once, each consumer saw each publisher's items in order, and each answer was legal. */
 #include "checks.h"
 
 #include <pthread.h>
@@ -30,8 +30,10 @@ int main(int count, char **words) {
     pthread_t publishers[PUBLISHERS], threads[CONSUMERS];
     const uint32_t numbers[PUBLISHERS] = {0, 1, 2};
     struct taker consumers[CONSUMERS] = {0};
-    for (int k = 0; k < CONSUMERS; k++) check(!pthread_create(&threads[k], NULL, consume, &consumers[k]), "a thread starts");
-    for (int k = 0; k < PUBLISHERS; k++) check(!pthread_create(&publishers[k], NULL, publish, (void *)&numbers[k]), "a thread starts");
+    for (int k = 0; k < CONSUMERS; k++)
+        check(!pthread_create(&threads[k], NULL, consume, &consumers[k]), "a thread starts");
+    for (int k = 0; k < PUBLISHERS; k++)
+        check(!pthread_create(&publishers[k], NULL, publish, (void *)&numbers[k]), "a thread starts");
     for (int k = 0; k < PUBLISHERS; k++) check(!pthread_join(publishers[k], NULL), "a thread ends");
     uint64_t total, got = 0, sum = 0;
     check(vahepito_close(topic, &total) == VAHEPITO_SHUT, "the first close closes");

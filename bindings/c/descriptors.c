@@ -61,8 +61,8 @@ static uint32_t one_call(struct one *it) {
     return (it->polls ? vahepito_take_now : vahepito_take)(queue, it->group, NULL, NULL);
 }
 
-/* Calls until the queue is closed, and has ended for a group, or until it has made the most. It sleeps after some of its
- * calls that find nothing. Returns how many it made. */
+/* Calls until the queue is closed, and has ended for a group, or until it has made the most. It sleeps after some of
+ * its calls that find nothing. Returns how many it made. */
 static uint64_t call_again_and_again(struct one *it, uint64_t most) {
     const uint32_t made = it->group ? VAHEPITO_GOT : VAHEPITO_ACCEPTED;
     const uint32_t none = it->group ? VAHEPITO_EMPTY : VAHEPITO_FULL;

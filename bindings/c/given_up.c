@@ -1,9 +1,10 @@
 /* Calls that are given up, in C: a pass is dropped while it has a call that was begun.
  *
- * On one thread: the answers of the calls before and after a send or a take that was given up. Then threads give calls up at
- * random while others continue, in two hundred rounds of four senders and four receivers, and in more until everything was
- * seen that is looked for. It ends with status 0 if all answers are legal. An item whose send returned no answer is that of a
- * send that was given up, with its words. A place that no take returned is that of a take that was given up. */
+ * On one thread: the answers of the calls before and after a send or a take that was given up. Then threads give calls
+ * up at random while others continue, in two hundred rounds of four senders and four receivers, and in more until
+ * everything was seen that is looked for. It ends with status 0 if all answers are legal. An item whose send returned
+ * no answer is that of a send that was given up, with its words. A place that no take returned is that of a take that
+ * was given up. */
 #include "by_handles.h"
 
 #include <pthread.h>
@@ -13,9 +14,12 @@
 #include <string.h>
 #include <time.h>
 
-/* The most calls of a worker, and the most turns of a call that isn't about to be given up. A call after one that was given up
- * may wait for ever. After LONG turns it has waited long. */
-enum { WORKERS = 4, ROUNDS = 200, MOST_ROUNDS = 20000, CALLS = 500, LONG = 64, MOST_TURNS = 2000, PLACES = WORKERS * CALLS };
+/* The most calls of a worker, and the most turns of a call that isn't about to be given up. A call after one that was
+ * given up may wait for ever. After LONG turns it has waited long. */
+enum {
+    WORKERS = 4, ROUNDS = 200, MOST_ROUNDS = 20000, CALLS = 500, LONG = 64, MOST_TURNS = 2000,
+    PLACES = WORKERS * CALLS
+};
 
 static const uint64_t LIFE = (uint64_t)1 << 48;
 
@@ -27,7 +31,8 @@ struct queue {
 static void open_queue(struct queue *queue, uint32_t senders, uint32_t receivers, uint32_t capacity) {
     const vahepito_config config = {senders, receivers, capacity, 3, LIFE, UINT32_MAX};
     memset(queue, 0, sizeof *queue);
-    uint32_t code = vahepito_open_words(&config, 1, VAHEPITO_MOST_WORDS, queue->senders, senders, queue->receivers, receivers);
+    uint32_t code =
+        vahepito_open_words(&config, 1, VAHEPITO_MOST_WORDS, queue->senders, senders, queue->receivers, receivers);
     check(code == VAHEPITO_DONE, "a queue is opened");
 }
 
@@ -59,7 +64,9 @@ static uint32_t begin_send(vahepito_handle *pass, uint32_t sender, uint32_t numb
 
 /* ---- on one thread */
 
-static void gives_up(vahepito_handle *pass) { check(vahepito_drop(pass) == VAHEPITO_DONE && !pass->live, "a call is given up"); }
+static void gives_up(vahepito_handle *pass) {
+    check(vahepito_drop(pass) == VAHEPITO_DONE && !pass->live, "a call is given up");
+}
 
 static void begins(vahepito_handle *pass, uint32_t sender, uint32_t number) {
     check(begin_send(pass, sender, number) == VAHEPITO_BEGUN, "a send is begun");
@@ -76,7 +83,8 @@ static void is_got(vahepito_handle *pass, uint64_t place, uint32_t sender, uint3
     vahepito_item item;
     uint64_t total = 99;
     uint32_t served = 99;
-    check(vahepito_turn_take_words(pass, &item, &total, &served) == VAHEPITO_GOT && served == serves, "a take gets an item");
+    check(vahepito_turn_take_words(pass, &item, &total, &served) == VAHEPITO_GOT && served == serves,
+          "a take gets an item");
     check(item.place == place && item.sender == sender && item.number == number, "which is the next one");
     check(has_its_words(&item), "with the words that were sent");
 }
@@ -119,8 +127,8 @@ static void served_though_given_up(void) {
     drop_queue(&queue);
 }
 
-/* One turn of each side serves a call that was given up: the item of that send went to that take, and no call returned it. The
- * passes that are left continue. */
+/* One turn of each side serves a call that was given up: the item of that send went to that take, and no call returned
+ * it. The passes that are left continue. */
 static void an_item_that_no_call_returned(void) {
     struct queue queue;
     open_queue(&queue, 2, 2, 3);
@@ -171,7 +179,9 @@ static void tell(struct entry *places, uint64_t place, uint32_t sender, uint32_t
     places[place] = (struct entry){sender, number};
 }
 
-static int is_same(struct entry one, struct entry other) { return one.sender == other.sender && one.number == other.number; }
+static int is_same(struct entry one, struct entry other) {
+    return one.sender == other.sender && one.number == other.number;
+}
 
 static int is_of_given_up(struct entry entry) {
     for (int k = 0; k < WORKERS; k++)
@@ -179,8 +189,8 @@ static int is_of_given_up(struct entry entry) {
     return 0;
 }
 
-/* Each item that was taken was sent: its send returned that it was accepted, or was given up. No item was taken twice. Below the
- * last of them at most as many places were returned by no take as takes were given up. */
+/* Each item that was taken was sent: its send returned that it was accepted, or was given up. No item was taken twice.
+ * Below the last of them at most as many places were returned by no take as takes were given up. */
 static enum judgement judge(void) {
     uint32_t end = 0;
     told.strangers = told.gaps = 0;
@@ -203,9 +213,9 @@ static enum judgement judge(void) {
     return told.gaps <= told.takes_given_up ? FAIR : GAP;
 }
 
-/* The judgement on a round. The first items of this number of senders were accepted, at the places from 0 on. A receiver got the
- * first sender's item at place 0 (`a`), or the second's at place 1 (`b`), 2 (`c`) or 0 (`d`). The second sender's send, or a take,
- * was given up. */
+/* The judgement on a round. The first items of this number of senders were accepted, at the places from 0 on. A
+ * receiver got the first sender's item at place 0 (`a`), or the second's at place 1 (`b`), 2 (`c`) or 0 (`d`). The
+ * second sender's send, or a take, was given up. */
 static enum judgement left(uint32_t senders, const char *items, int send_given_up, int take_given_up) {
     memset(&told, 0, sizeof told);
     for (uint32_t k = 0; k < senders; k++) tell(told.sent, k, k + 1, 1);
@@ -255,15 +265,15 @@ static void pause_at_random(struct worker *mine) {
     if (roll(&mine->dice, 4) == 0) sleep_briefly();
 }
 
-/* After how many turns a call is given up. In one of fifty they are few; in one of two thousand there is none, and so a call
- * may be given up that others wait for. */
+/* After how many turns a call is given up. In one of fifty they are few; in one of two thousand there is none, and so a
+ * call may be given up that others wait for. */
 static uint32_t roll_turns(struct worker *mine) {
     const uint32_t number = roll(&mine->dice, 2000);
     return number == 0 ? 0 : number <= 40 ? roll(&mine->dice, 3) + 1 : MOST_TURNS;
 }
 
-/* Whether a call has a turn of this number. If all workers that are left have waited long, they may wait for ever behind a call that
- * was given up, and give up theirs. */
+/* Whether a call has a turn of this number. If all workers that are left have waited long, they may wait for ever
+ * behind a call that was given up, and give up theirs. */
 static bool has_turn(struct worker *mine, uint32_t turn, uint32_t most) {
     if (turn > 16) {
         sleep_briefly();
@@ -358,9 +368,11 @@ static void gather(const struct worker *senders, const struct worker *receivers)
     memset(&told, 0, sizeof told);
     for (int k = 0; k < WORKERS; k++) {
         for (uint32_t at = 0; at < senders[k].count; at++)
-            tell(told.sent, senders[k].items[at].place, senders[k].items[at].entry.sender, senders[k].items[at].entry.number);
+            tell(told.sent, senders[k].items[at].place, senders[k].items[at].entry.sender,
+                 senders[k].items[at].entry.number);
         for (uint32_t at = 0; at < receivers[k].count; at++)
-            tell(told.taken, receivers[k].items[at].place, receivers[k].items[at].entry.sender, receivers[k].items[at].entry.number);
+            tell(told.taken, receivers[k].items[at].place, receivers[k].items[at].entry.sender,
+                 receivers[k].items[at].entry.number);
         if (senders[k].given_up != 0) told.sends_given_up[k] = (struct entry){senders[k].sender, senders[k].given_up};
         told.takes_given_up += receivers[k].given_up != 0;
         told.served_by_others += senders[k].served_by_others + receivers[k].served_by_others;
@@ -413,8 +425,8 @@ static int has_all(const struct seen *seen) {
     return seen->sends > 0 && seen->takes > 0 && seen->by_others >= 1000 && seen->strangers > 0 && seen->gaps > 0;
 }
 
-/* All answers are legal, in this number of rounds, and in further ones until everything was seen: how seldom a call that was given
- * up is served depends on how the threads are run. */
+/* All answers are legal, in this number of rounds, and in further ones until everything was seen: how seldom a call
+ * that was given up is served depends on how the threads are run. */
 static void calls_are_given_up_by_threads(void) {
     struct seen seen = {0};
     for (uint64_t round = 0; round < ROUNDS || (round < MOST_ROUNDS && !has_all(&seen)); round++) {

@@ -1,8 +1,8 @@
 /* Two groups of receivers in C: each group gets every item once.
  *
- * On one thread: what an opening refuses, and of which group each receiver is. Then one thread sends 1,000 numbers into a queue with
- * room for four, and two threads for each group take until the end. It ends with status 0 if each group got each item once, each
- * receiver's items came in order, and the opening returned what it has to. */
+ * On one thread: what an opening refuses, and of which group each receiver is. Then one thread sends 1,000 numbers into
+ * a queue with room for four, and two threads for each group take until the end. It ends with status 0 if each group
+ * got each item once, each receiver's items came in order, and the opening returned what it has to. */
 #include "by_handles.h"
 
 #include <pthread.h>
@@ -18,17 +18,20 @@ static void refusals(void) {
     vahepito_handle sender = VAHEPITO_HANDLE_EMPTY, receivers[RECEIVERS] = {VAHEPITO_HANDLE_EMPTY};
     vahepito_config no_sends = config;
     no_sends.per_sender = 0;
-    check(vahepito_open_words(&no_sends, 0, 1, &sender, 1, receivers, 0) == VAHEPITO_BAD_PER_SENDER, "groups are looked at last");
+    check(vahepito_open_words(&no_sends, 0, 1, &sender, 1, receivers, 0) == VAHEPITO_BAD_PER_SENDER,
+          "groups are looked at last");
     const uint32_t refused[] = {0, 9, UINT32_MAX};
     for (int k = 0; k < 3; k++)
-        check(vahepito_open_words(&config, refused[k], 1, &sender, 1, receivers, 0) == VAHEPITO_BAD_GROUPS, "1 to 8, and then handles");
-    check(vahepito_open_words(&config, GROUPS, 1, &sender, 1, receivers, IN_EACH) == VAHEPITO_BAD_HANDLES, "one for each receiver");
+        check(vahepito_open_words(&config, refused[k], 1, &sender, 1, receivers, 0) == VAHEPITO_BAD_GROUPS,
+              "1 to 8, and then handles");
+    check(vahepito_open_words(&config, GROUPS, 1, &sender, 1, receivers, IN_EACH) == VAHEPITO_BAD_HANDLES,
+          "one for each receiver");
     check(vahepito_open_words(&config, 1, 1, &sender, 1, receivers, RECEIVERS) == VAHEPITO_BAD_HANDLES, "and no more");
     for (int k = 0; k < RECEIVERS; k++) check(!sender.live && !receivers[k].live, "no handle was changed");
 }
 
-/* The receivers of a group follow each other: each of them takes, and the first one of each group gets the item. The opening
- * doesn't read the padding of the configuration, which is not 0 here. */
+/* The receivers of a group follow each other: each of them takes, and the first one of each group gets the item. The
+ * opening doesn't read the padding of the configuration, which is not 0 here. */
 static void stand_by_groups(uint32_t groups) {
     const size_t count = groups * IN_EACH;
     vahepito_handle sender = VAHEPITO_HANDLE_EMPTY, receivers[RECEIVERS] = {VAHEPITO_HANDLE_EMPTY};
@@ -102,7 +105,8 @@ int main(void) {
     refusals();
     for (uint32_t groups = 1; groups <= GROUPS; groups++) stand_by_groups(groups);
     vahepito_handle sender = VAHEPITO_HANDLE_EMPTY, receivers[RECEIVERS] = {VAHEPITO_HANDLE_EMPTY};
-    check(vahepito_open_words(&config, GROUPS, 1, &sender, 1, receivers, RECEIVERS) == VAHEPITO_DONE, "the queue is opened");
+    check(vahepito_open_words(&config, GROUPS, 1, &sender, 1, receivers, RECEIVERS) == VAHEPITO_DONE,
+          "the queue is opened");
 
     static struct reader readers[RECEIVERS];
     pthread_t sending, taking[RECEIVERS];

@@ -1,6 +1,6 @@
-/* Boxes of malloc that threads fill, hand over by a queue as pointers, read, write to and free: for the thread sanitizer,
- * which sees none of the queue's steps and learns of the hand-over from the header. Half of the threads wait, and half try
- * until there is room, or an item.
+/* Boxes of malloc that threads fill, hand over by a queue as pointers, read, write to and free: for the thread
+ * sanitizer, which sees none of the queue's steps and learns of the hand-over from the header. Half of the threads
+ * wait, and half try until there is room, or an item.
  *
  *     hand_over [BOXES]
  *

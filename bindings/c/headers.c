@@ -20,11 +20,15 @@ static int one_item(struct service *service) {
     vahepito_item item;
     uint64_t number;
     if (vahepito_send(service->queue, 7, &number) != VAHEPITO_ACCEPTED || number != 0) return 1;
-    if (vahepito_length(service->queue) != 1 || vahepito_capacity(service->queue) != 1 || vahepito_is_closed(service->queue)) return 2;
+    if (vahepito_length(service->queue) != 1 || vahepito_capacity(service->queue) != 1 ||
+        vahepito_is_closed(service->queue))
+        return 2;
     if (vahepito_send_now(service->queue, 9, NULL) != VAHEPITO_FULL) return 3;
     if (vahepito_send_until(service->queue, 9, &soon, NULL) != VAHEPITO_FULL) return 4;
     if (vahepito_take(service->queue, 1, &item, &number) != VAHEPITO_GOT) return 5;
-    if (item.words[0] != 7 || item.count != 1 || item.place != 0 || item.sender < 1 || item.sender > 64 || item.number < 1 || number != 0) return 6;
+    if (item.words[0] != 7 || item.count != 1 || item.place != 0 || item.sender < 1 || item.sender > 64 ||
+        item.number < 1 || number != 0)
+        return 6;
     if (vahepito_take_now(service->queue, 1, &item, &number) != VAHEPITO_EMPTY || item.count != 0) return 7;
     if (vahepito_take_until(service->queue, 1, NULL, &soon, NULL) != VAHEPITO_EMPTY) return 8;
     if (vahepito_length(service->queue) != 0) return 9;
@@ -54,7 +58,8 @@ static int texts(void) {
         if (has_name != (strcmp(vahepito_text(code), "there is no such code") != 0)) return 32;
         count += (uint32_t)has_name, done += vahepito_is_done(code);
     }
-    if (done != 4 || !vahepito_is_done(0) || !vahepito_is_done(17) || !vahepito_is_done(21) || !vahepito_is_done(23)) return 35;
+    if (done != 4 || !vahepito_is_done(0) || !vahepito_is_done(17) || !vahepito_is_done(21) || !vahepito_is_done(23))
+        return 35;
     switch ((enum vahepito_code)VAHEPITO_ENDED) {
     case VAHEPITO_ENDED: return count == 19 && strcmp(vahepito_name(VAHEPITO_ENDED), "ENDED") == 0 ? 0 : 33;
     default: return 34;

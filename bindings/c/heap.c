@@ -1,8 +1,9 @@
-/* The library's functions for memory on machines for which the toolchain has none: part of libvahepito_heap.a, and not proved.
+/* The library's functions for memory on machines for which the toolchain has none: part of libvahepito_heap.a, and not
+ * proved.
  *
- * Their contracts are the three axioms that PROOF counts: what the toolchain's liblibc_c.a does on x86-64. A size of 0 asks for as
- * many bytes as the alignment, which divides 16. An answer has two registers: whether memory was given, and where it is;
- * without memory it is an address of this file.
+ * Their contracts are the three axioms that PROOF counts: what the toolchain's liblibc_c.a does on x86-64. A size of 0
+ * asks for as many bytes as the alignment, which divides 16. An answer has two registers: whether memory was given, and
+ * where it is; without memory it is an address of this file.
  *
  * The toolchain's compiler, which builds it, has no headers. */
 void *realloc(void *, __SIZE_TYPE__);

@@ -1,11 +1,11 @@
 /* No wake-up is lost: the code of vahepito_queue.c in every interleaving of small models.
  *
- * A process makes calls of vahepito.h. Its steps are the code's accesses to the counts of a line and to the mark of a close, its lock, its
- * futex calls, and its calls of the proved library. Here the counts, the lock, the futex and the library are models: a bounded queue whose calls
- * take one step, without memory for a further one, and the kernel's futex, which may wake any one that sleeps, may time out, and may once wake a
- * process for nothing. The row has one queue (row_interleavings.c has rows of several). The search
- * visits all states that the processes reach. It replays a process from its start with the results of its steps so far, up
- * to the next step.
+ * A process makes calls of vahepito.h. Its steps are the code's accesses to the counts of a line and to the mark of a
+ * close, its lock, its futex calls, and its calls of the proved library. Here the counts, the lock, the futex and the
+ * library are models: a bounded queue whose calls take one step, without memory for a further one, and the kernel's
+ * futex, which may wake any one that sleeps, may time out, and may once wake a process for nothing. The row has one
+ * queue (row_interleavings.c has rows of several). The search visits all states that the processes reach. It replays a
+ * process from its start with the results of its steps so far, up to the next step.
  *
  * In some models the queue has descriptors from the start. A process polls one of them without end, and then makes a
  * call whose moment is now, until the call finds something. A descriptor is modelled by one bit, whether it is
@@ -77,10 +77,10 @@ enum { PROCESSES = 4, GROUPS = 2, LINES = 1 + GROUPS, SERVED, CALLS = 3, LONGEST
 
 /* ---- models */
 
-/* The calls of each process, in order: a send or a take of group 1 or 2 (s, t, u), the same until a moment (S, T, U), or now
- * (m, n); two sends or takes at once (b, k); a send that is refused memory at its third try (w); as a fault, a send with a notification before
- * it (e); a close (c); polls, and sends or takes of group 1 or 2 after each, until one finds something (r, p, q); group 1
- * or 2 leaves (x, y). */
+/* The calls of each process, in order: a send or a take of group 1 or 2 (s, t, u), the same until a moment (S, T, U),
+ * or now (m, n); two sends or takes at once (b, k); a send that is refused memory at its third try (w); as a fault, a
+ * send with a notification before it (e); a close (c); polls, and sends or takes of group 1 or 2 after each, until one
+ * finds something (r, p, q); group 1 or 2 leaves (x, y). */
 struct model {
     const char *calls[PROCESSES];
     int capacity, groups, life, wakes_for_nothing;
@@ -107,9 +107,9 @@ static void breaks(const char *rule) {
 /* ---- a process, step by step */
 
 enum kind {
-    DONE, LOAD, ADD, EXCHANGE, SLEEP, WAKE, TRY_SEND, TRY_TAKE, TURN_SEND, TURN_TAKE, CLOSE, LOOK_SENT, LOOK_TAKEN, LOOK_CLOSED, MARK_CLOSED,
-    LOCK, UNLOCK, SEAT, COMBINE, TURN_COMBINED, LOAD_WAITING, LOAD_ENDED, SWAP_WAITING, ADD_ENDED,
-    POLL, DRAIN, RING, LOAD_ARMED, SWAP_ARMED, LOAD_LEFT, MARK_LEFT
+    DONE, LOAD, ADD, EXCHANGE, SLEEP, WAKE, TRY_SEND, TRY_TAKE, TURN_SEND, TURN_TAKE, CLOSE, LOOK_SENT, LOOK_TAKEN,
+    LOOK_CLOSED, MARK_CLOSED, LOCK, UNLOCK, SEAT, COMBINE, TURN_COMBINED, LOAD_WAITING, LOAD_ENDED, SWAP_WAITING,
+    ADD_ENDED, POLL, DRAIN, RING, LOAD_ARMED, SWAP_ARMED, LOAD_LEFT, MARK_LEFT
 };
 
 struct step {
@@ -133,8 +133,8 @@ struct place {
     const char *broken;       /* the rule that its last step broke, or that its next step breaks */
 };
 
-/* A process after some steps of a call: which one that is, the result of the last step, and the next step. Node 0 is after all
- * calls. */
+/* A process after some steps of a call: which one that is, the result of the last step, and the next step. Node 0 is
+ * after all calls. */
 struct node {
     struct step step;
     struct place place;
@@ -259,7 +259,8 @@ long model_futex(long number, ...) {
 /* The library. */
 static bool is_exhausted;
 
-uint32_t vahepito_try_send_words(vahepito_handle *sender, const uint64_t *words, size_t count, uint64_t *place, uint32_t *served) {
+uint32_t vahepito_try_send_words(vahepito_handle *sender, const uint64_t *words, size_t count, uint64_t *place,
+                                 uint32_t *served) {
     (void)sender, (void)words, (void)count, (void)served;
     *place = 0;
     if (is_exhausted && tries++ > 1) return VAHEPITO_WORN;
@@ -285,8 +286,8 @@ uint32_t vahepito_taken(vahepito_handle *pass, uint32_t group, uint64_t *count) 
 }
 
 /* Memory for a further queue is refused. */
-uint32_t vahepito_open_words(const vahepito_config *config, uint32_t groups, uint32_t words, vahepito_handle *senders, size_t sender_count,
-                             vahepito_handle *receivers, size_t receiver_count) {
+uint32_t vahepito_open_words(const vahepito_config *config, uint32_t groups, uint32_t words, vahepito_handle *senders,
+                             size_t sender_count, vahepito_handle *receivers, size_t receiver_count) {
     (void)config, (void)groups, (void)words, (void)senders, (void)sender_count, (void)receivers, (void)receiver_count;
     was_refused = true;
     return VAHEPITO_NO_MEMORY;
@@ -295,7 +296,9 @@ uint32_t vahepito_open_words(const vahepito_config *config, uint32_t groups, uin
 uint32_t vahepito_drop(vahepito_handle *pass) { return (void)pass, VAHEPITO_DONE; }
 
 uint32_t vahepito_version(void) { return VAHEPITO_VERSION; }
-void vahepito_sizes(size_t *config, size_t *pass, size_t *item, size_t *words_item) { (void)config, (void)pass, (void)item, (void)words_item; }
+void vahepito_sizes(size_t *config, size_t *pass, size_t *item, size_t *words_item) {
+    (void)config, (void)pass, (void)item, (void)words_item;
+}
 
 /* The handles are of the sender, and then of a receiver of each group. */
 static int group_of(const vahepito_handle *receiver) {
@@ -330,7 +333,8 @@ uint32_t vahepito_turn_send(vahepito_handle *sender, uint64_t *place, uint32_t *
 
 uint32_t vahepito_turn_take_words(vahepito_handle *receiver, vahepito_item *item, uint64_t *total, uint32_t *served) {
     (void)item, (void)total, (void)served;
-    return (uint32_t)result_of((struct step){model->bound ? TURN_COMBINED : TURN_TAKE, group_of(receiver), 0, 0, false});
+    return (uint32_t)result_of(
+        (struct step){model->bound ? TURN_COMBINED : TURN_TAKE, group_of(receiver), 0, 0, false});
 }
 
 /* The queue as each call finds it: what is a model's state isn't in it. */
@@ -386,7 +390,8 @@ static struct step step_after(uint32_t node) {
     was_refused = false;
     for (uint32_t at = node; nodes[at].before != 0; at = nodes[at].before) result_count++;
     if (result_count > LONGEST) abort();
-    for (uint32_t at = node, k = (uint32_t)result_count; nodes[at].before != 0; at = nodes[at].before) results[--k] = nodes[at].result;
+    for (uint32_t at = node, k = (uint32_t)result_count; nodes[at].before != 0; at = nodes[at].before)
+        results[--k] = nodes[at].result;
     if (setjmp(at_next_step)) return next_step;
     return (struct step){DONE, 0, make_call(model->calls[nodes[node].process][nodes[node].call]), 0, false};
 }
@@ -554,7 +559,8 @@ struct state {
     uint8_t sent, taken[GROUPS], closed, is_marked;
     bool is_unanswered; /* a call returned before its answer */
     uint8_t has_lock; /* which process, from 1 */
-    /* What the call of each process has; and of each side, in order, the processes, from 1, whose calls aren't served. */
+    /* What the call of each process has; and of each side, in order, the processes, from 1, whose calls aren't
+     * served. */
     uint8_t has[PROCESSES], chains[1 + GROUPS][PROCESSES];
     uint8_t waiting, ended; /* of the line of calls that wait for their answer */
     struct store buffers[PROCESSES][STORES];
@@ -573,7 +579,8 @@ static uint64_t hash_of(const struct state *state) {
     uint64_t hash = 0;
     uint64_t words[sizeof *state / 8];
     memcpy(words, state, sizeof words);
-    for (size_t at = 0; at < sizeof *state / 8; at++) hash = (hash ^ words[at] ^ hash >> 32) * UINT64_C(0x9e3779b97f4a7c15);
+    for (size_t at = 0; at < sizeof *state / 8; at++)
+        hash = (hash ^ words[at] ^ hash >> 32) * UINT64_C(0x9e3779b97f4a7c15);
     return hash ^ hash >> 29;
 }
 
@@ -730,7 +737,8 @@ static void search_after(const struct state *state, int process) {
     case SLEEP:
         if (state->sleeps[process] == ASLEEP) {
             if (step.has_time && step.line != SERVED) advance(next, process, ETIMEDOUT);
-            if (state->woken_for_nothing[process] < model->wakes_for_nothing) next.woken_for_nothing[process]++, advance(next, process, 0);
+            if (state->woken_for_nothing[process] < model->wakes_for_nothing)
+                next.woken_for_nothing[process]++, advance(next, process, 0);
         } else if (state->sleeps[process] == WOKEN || (uint32_t)before != (uint32_t)step.value) {
             advance(next, process, 0);
         } else {
@@ -831,8 +839,8 @@ static void check_bell(const struct state *state, int bell) {
     if (has_something && !is_readable && !is_rung && !is_due) breaks("a descriptor misses something");
 }
 
-/* Whether the items of groups that have left stay, or the queue isn't closed just when all have left: no model with such
- * groups has a close. */
+/* Whether the items of groups that have left stay, or the queue isn't closed just when all have left: no model with
+ * such groups has a close. */
 static void check_left(const struct state *state) {
     bool have_all = true;
     for (int group = 1; group <= model->groups; group++) {

@@ -1,9 +1,9 @@
-/* What the library does with memory: linked with --wrap for malloc, posix_memalign, realloc and free, so that each of its
- * allocations is counted and can be refused.
+/* What the library does with memory: linked with --wrap for malloc, posix_memalign, realloc and free, so that each of
+ * its allocations is counted and can be refused.
  *
  * An opening that is refused memory says so, whichever of its allocations that is, leaves the handles empty and keeps
- * nothing. No later call takes memory, but a send of vahepito.h that needs a further queue. The last handle frees all, and none before it
- * frees the queue. */
+ * nothing. No later call takes memory, but a send of vahepito.h that needs a further queue. The last handle frees all,
+ * and none before it frees the queue. */
 #include "handles.h"
 
 #include <errno.h>
@@ -63,13 +63,15 @@ static void check(int holds, const char *what) {
 enum { SENDERS = 2, RECEIVERS = 3, MOST_GROUPS = 2, MOST_PASSES = SENDERS + MOST_GROUPS * RECEIVERS };
 
 /* One receiver of each group takes: the take returns this code and total, and an item has this body. */
-static void take_in_each(uint32_t groups, vahepito_handle *receivers, int k, uint32_t code, uint64_t body, uint64_t total) {
+static void take_in_each(uint32_t groups, vahepito_handle *receivers, int k, uint32_t code, uint64_t body,
+                         uint64_t total) {
     for (uint32_t g = 0; g < groups; g++) {
         uint64_t number = 0;
         uint32_t served = 0;
         vahepito_word_item item = {0};
         check(vahepito_begin_take(&receivers[g * RECEIVERS + k]) == VAHEPITO_BEGUN, "begun");
-        check(vahepito_turn_take(&receivers[g * RECEIVERS + k], &item, &number, &served) == code, "the group's take is told so");
+        check(vahepito_turn_take(&receivers[g * RECEIVERS + k], &item, &number, &served) == code,
+              "the group's take is told so");
         check(item.body == body && number == total && served == 1, "and what it got");
     }
 }
@@ -137,7 +139,8 @@ static void use_queue(uint32_t groups) {
     check(vahepito_accepted(&senders[0], &accepted) == VAHEPITO_DONE && accepted == 3, "three are accepted");
     check(vahepito_taken(&receivers[0], 1, &taken) == VAHEPITO_DONE && taken == 3, "and taken");
     check(vahepito_is_shut(&senders[1], &shut) == VAHEPITO_DONE && shut == 1, "it is shut");
-    check(vahepito_accepted(&receivers[2], &accepted) == VAHEPITO_BUSY && accepted == 0, "a pass with a call doesn't look");
+    check(vahepito_accepted(&receivers[2], &accepted) == VAHEPITO_BUSY && accepted == 0,
+          "a pass with a call doesn't look");
     check(asked == opening && blocks == kept, "no look takes memory or frees any");
     refused = 0;
 
@@ -151,7 +154,8 @@ static void use_queue(uint32_t groups) {
     check(blocks == 0, "the last handle frees the queue");
 }
 
-/* The queue of vahepito.h: its opening, and the further queue that a send needs, each refused each of its allocations. */
+/* The queue of vahepito.h: its opening, and the further queue that a send needs, each refused each of its
+ * allocations. */
 static void use_row(void) {
     vahepito_attributes attributes = VAHEPITO_ATTRIBUTES;
     vahepito_queue *queue;
@@ -163,36 +167,43 @@ static void use_row(void) {
         asked = 0;
         code = vahepito_create_as(&attributes, &queue);
         if (asked < refused) break;
-        check(code == VAHEPITO_NO_MEMORY && queue == NULL && blocks == 0, "want of memory is told, and nothing is kept");
+        check(code == VAHEPITO_NO_MEMORY && queue == NULL && blocks == 0,
+              "want of memory is told, and nothing is kept");
     }
     check(code == VAHEPITO_DONE, "the queue is opened where nothing is refused");
     const long kept = blocks;
     for (uint64_t number = 0; number < 2; number++) {
         asked = 0;
-        check(vahepito_send(queue, number, &place) == VAHEPITO_ACCEPTED && place == number && asked == 0, "a send takes no memory");
+        check(vahepito_send(queue, number, &place) == VAHEPITO_ACCEPTED && place == number && asked == 0,
+              "a send takes no memory");
     }
     for (refused = 1;; refused++) {
         asked = 0;
         code = vahepito_send(queue, 2, &place);
         if (asked < refused) break;
-        check(code == VAHEPITO_NO_MEMORY && place == 0 && blocks == kept, "a send that needs a further queue is refused, and nothing has changed");
+        check(code == VAHEPITO_NO_MEMORY && place == 0 && blocks == kept,
+              "a send that needs a further queue is refused, and nothing has changed");
     }
     refused = 0;
     check(code == VAHEPITO_ACCEPTED && place == 2 && blocks > kept, "and then it is accepted");
     for (uint32_t group = 1; group <= 2; group++)
         for (uint64_t number = 0; number < 3; number++)
-            check(vahepito_take(queue, group, &item, NULL) == VAHEPITO_GOT && item.words[0] == number && item.place == number, "each group takes all");
+            check(vahepito_take(queue, group, &item, NULL) == VAHEPITO_GOT && item.words[0] == number &&
+                      item.place == number,
+                  "each group takes all");
     check(blocks == kept, "the queue that both groups have left is freed");
     vahepito_destroy(queue, NULL, NULL);
     check(blocks == 0, "and in the end all");
 }
 
-/* A queue without a bound, and the most bytes that its further queue asks for, perhaps after each of the allocations was refused once. */
+/* A queue without a bound, and the most bytes that its further queue asks for, perhaps after each of the allocations
+ * was refused once. */
 static size_t further_queue(int are_refused) {
     vahepito_queue *const queue = vahepito_create(0);
     uint32_t code;
     check(queue != NULL, "the queue is opened");
-    for (uint64_t item = 0; item < 64; item++) check(vahepito_send(queue, item, NULL) == VAHEPITO_ACCEPTED, "there is room for 64 items");
+    for (uint64_t item = 0; item < 64; item++)
+        check(vahepito_send(queue, item, NULL) == VAHEPITO_ACCEPTED, "there is room for 64 items");
     for (refused = are_refused;; refused++) {
         asked = 0, largest = 0;
         code = vahepito_send(queue, 64, NULL);

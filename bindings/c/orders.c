@@ -1,6 +1,6 @@
-/* Memory that is ordered by a queue alone: what was written before a close is read after the end, after a send that is refused
- * and after a further close; a queue of one is a lock; and a queue of three lends five buffers. The thread sanitizer, which
- * learns of this order from the header, reports no race.
+/* Memory that is ordered by a queue alone: what was written before a close is read after the end, after a send that is
+ * refused and after a further close; a queue of one is a lock; and a queue of three lends five buffers. The thread
+ * sanitizer, which learns of this order from the header, reports no race.
  *
  * It ends with status 0 if each thread read what the order says. */
 #include "checks.h"
@@ -15,7 +15,8 @@ static pthread_t threads[THREADS];
 static void open_for(uint32_t capacity) { queue = opened(capacity, 1); }
 
 static void start(void *(*body)(void *)) {
-    for (int k = 0; k < THREADS; k++) check(!pthread_create(&threads[k], NULL, body, k % 2 ? &threads[k] : NULL), "a thread starts");
+    for (int k = 0; k < THREADS; k++)
+        check(!pthread_create(&threads[k], NULL, body, k % 2 ? &threads[k] : NULL), "a thread starts");
 }
 
 static void join_and_free(void) {
@@ -31,7 +32,8 @@ static void *reads_summary(void *sends) {
     uint32_t code;
     if (sends) {
         while ((code = vahepito_send(queue, 7, NULL)) == VAHEPITO_ACCEPTED) {}
-        check(code == VAHEPITO_CLOSED && summary == 42, "what was written before the close is seen after a send that is refused");
+        check(code == VAHEPITO_CLOSED && summary == 42,
+              "what was written before the close is seen after a send that is refused");
         check(vahepito_close(queue, NULL) == VAHEPITO_ALREADY, "it was closed");
     } else {
         while ((code = vahepito_take(queue, 1, NULL, NULL)) == VAHEPITO_GOT) {}
@@ -58,7 +60,8 @@ static void *closes_too(void *unused) {
 static void closes(void *(*body)(void *), int items) {
     open_for(CAPACITY);
     summary = is_closed = 0;
-    for (int k = 0; k < CAPACITY && items == 0; k++) check(vahepito_send(queue, 1, NULL) == VAHEPITO_ACCEPTED, "it is full");
+    for (int k = 0; k < CAPACITY && items == 0; k++)
+        check(vahepito_send(queue, 1, NULL) == VAHEPITO_ACCEPTED, "it is full");
     start(body);
     for (int k = 0; k < items; k++) check(vahepito_send(queue, 1, NULL) == VAHEPITO_ACCEPTED, "an item is sent");
     summary = 42;

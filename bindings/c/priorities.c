@@ -1,11 +1,12 @@
-/* A thread of high priority doesn't hold up the thread that it waits for. A thread under SCHED_FIFO sends and takes in an endless loop,
- * on the same processor as an ordinary thread that does the same. It interrupts the ordinary thread in the middle of calls, and has
- * to wait for the answers of its own calls until that thread goes on. If it only yielded, it would run until the kernel takes the processor
- * from all threads of its class, which is so once they have had most of a second.
+/* A thread of high priority doesn't hold up the thread that it waits for. A thread under SCHED_FIFO sends and takes in
+ * an endless loop, on the same processor as an ordinary thread that does the same. It interrupts the ordinary thread in
+ * the middle of calls, and has to wait for the answers of its own calls until that thread goes on. If it only yielded,
+ * it would run until the kernel takes the processor from all threads of its class, which is so once they have had most
+ * of a second.
  *
- * So what counts is the thread's own processor time, however busy the machine is. The test ends with status 0 if no send with its take took
- * half of the time that the kernel lets the class have, and with 77 if it may not set the class or if there is none. Only calls that
- * wait for neither room nor an item are made. */
+ * So what counts is the thread's own processor time, however busy the machine is. The test ends with status 0 if no
+ * send with its take took half of the time that the kernel lets the class have, and with 77 if it may not set the class
+ * or if there is none. Only calls that wait for neither room nor an item are made. */
 #define _GNU_SOURCE
 #include "checks.h"
 
@@ -24,7 +25,8 @@ static long now(clockid_t clock) {
     return time.tv_sec * 1000000000L + time.tv_nsec;
 }
 
-/* For how many nanoseconds threads of the class may run before the kernel lets others run; its default if it doesn't say so. */
+/* For how many nanoseconds threads of the class may run before the kernel lets others run; its default if it doesn't
+ * say so. */
 static long share_of_the_class(void) {
     long microseconds = 0;
     FILE *file = fopen("/proc/sys/kernel/sched_rt_runtime_us", "r");
@@ -72,6 +74,7 @@ int main(void) {
     __atomic_store_n(&is_over, 1, __ATOMIC_RELAXED);
     pthread_join(thread, NULL);
     vahepito_destroy(queue, NULL, NULL);
-    fprintf(stderr, "C: priorities: %ld pairs, the longest took %.3f ms of the processor\n", pairs, (double)longest / 1e6);
+    fprintf(stderr, "C: priorities: %ld pairs, the longest took %.3f ms of the processor\n", pairs,
+            (double)longest / 1e6);
     return longest >= share_of_the_class() / 2;
 }

@@ -1,4 +1,5 @@
-/* vahepito.hpp: threads send pairs and take them, they are copied and moved, calls wait until a moment, and the last sender closes. */
+/* vahepito.hpp: threads send pairs and take them, they are copied and moved, calls wait until a moment, and the last
+ * sender closes. */
 #include "vahepito.hpp"
 
 #include <cstdio>
@@ -42,9 +43,11 @@ void one_thread() {
     vahepito::receiver<int> receiver = std::move(receivers[0]);
     check(receiver.take() == -7, "it is as it was sent");
     check(!receiver.try_take() && !receiver.ended() && !receiver.take_until(soon()), "there is none");
-    check(code_of([](auto &it) { it.take(); }, receivers[0]) == vahepito::moved, "a receiver that was moved from takes nothing");
+    check(code_of([](auto &it) { it.take(); }, receivers[0]) == vahepito::moved,
+          "a receiver that was moved from takes nothing");
     { vahepito::sender<int> other = std::move(sender); }
-    check(code_of([](auto &it) { it.send(1); }, sender) == vahepito::moved && !sender.close(), "nor does a sender send");
+    check(code_of([](auto &it) { it.send(1); }, sender) == vahepito::moved && !sender.close(),
+          "nor does a sender send");
     check(copy.send(9), "a queue with a sender is open");
     vahepito::receiver<int> second = receiver;
     { auto last = std::move(copy); }
@@ -64,7 +67,8 @@ void defaults_and_moments() {
     config.groups = 0;
     auto [sender, receivers] = vahepito::open<int>(config);
     check(receivers.size() == 1 && sender.send(7) && receivers[0].take() == 7, "no groups are one");
-    check(!receivers[0].take_until(vahepito::moment::min()) && !receivers[0].ended(), "the first moment of all has come");
+    check(!receivers[0].take_until(vahepito::moment::min()) && !receivers[0].ended(),
+          "the first moment of all has come");
 }
 
 struct counted {
@@ -77,7 +81,8 @@ void receivers_go() {
     vahepito::config config;
     config.capacity = 1, config.groups = 2;
     auto [sender, receivers] = vahepito::open<int>(config);
-    check(sender.send(1) && sender.try_send(2) == vahepito::sent::full && sender.length() == 1, "there is room for one");
+    check(sender.send(1) && sender.try_send(2) == vahepito::sent::full && sender.length() == 1,
+          "there is room for one");
     receivers.pop_back();
     check(sender.length() == 1 && receivers[0].take() == 1 && sender.send(2), "a group that leaves holds no room");
     vahepito::receiver<int> other = receivers[0];
@@ -90,8 +95,11 @@ void receivers_go() {
 void batches_and_pointers() {
     auto [sender, receivers] = vahepito::open<int>({});
     std::vector<int> numbers{1, 2, 3};
-    check(sender.send_many(numbers) == 3 && receivers[0].take_many(2) == std::vector<int>{1, 2}, "up to as many as there are");
-    check(receivers[0].take_many(5) == std::vector<int>{3} && sender.descriptor() >= 0 && receivers[0].descriptor() >= 0, "and the rest");
+    check(sender.send_many(numbers) == 3 && receivers[0].take_many(2) == std::vector<int>{1, 2},
+          "up to as many as there are");
+    check(receivers[0].take_many(5) == std::vector<int>{3} && sender.descriptor() >= 0 &&
+              receivers[0].descriptor() >= 0,
+          "and the rest");
     check(sender.close() && receivers[0].take_many(5).empty() && receivers[0].ended(), "and none at the end");
     int alive = 0, left = 0;
     {
@@ -99,14 +107,16 @@ void batches_and_pointers() {
         config.capacity = 2;
         auto [owner, takers] = vahepito::open<std::unique_ptr<counted>>(config);
         auto refused = std::make_unique<counted>(alive);
-        check(owner.send(std::make_unique<counted>(alive)) && owner.send(std::make_unique<counted>(alive)), "there is room for two");
+        check(owner.send(std::make_unique<counted>(alive)) && owner.send(std::make_unique<counted>(alive)),
+              "there is room for two");
         check(owner.try_send(std::move(refused)) == vahepito::sent::full && refused, "what isn't accepted stays");
         const auto taken = takers[0].take();
         check(taken && (*taken)->count == &alive && alive == 3, "what is taken is the taker's");
     }
     check(alive == 0, "and what is left is freed");
     {
-        auto [first, second] = vahepito::open<int>({}, [&left](std::uint32_t group, int item) { left += static_cast<int>(group) * item; });
+        auto [first, second] =
+            vahepito::open<int>({}, [&left](std::uint32_t group, int item) { left += static_cast<int>(group) * item; });
         check(first.send(7) && first.send(8) && second[0].take() == 7, "one is taken");
     }
     check(left == 8, "and the other one given at the end");
@@ -131,7 +141,8 @@ std::uint64_t many_threads() {
             });
     for (std::uint32_t thread = 0; thread < each; thread++)
         threads.emplace_back([sender = first]() mutable {
-            for (std::uint64_t number = 0; number < items; number++) check(sender.send({number, double(number) / 2, 'v'}), "it is open");
+            for (std::uint64_t number = 0; number < items; number++)
+                check(sender.send({number, double(number) / 2, 'v'}), "it is open");
         });
     { auto last = std::move(first); }
     for (auto &thread : threads) thread.join();

@@ -1,4 +1,5 @@
-/* Races that the thread sanitizer has to report though they are beside a queue, as no promise of the header's order covers them.
+/* Races that the thread sanitizer has to report though they are beside a queue, as no promise of the header's order
+ * covers them.
  *
  *     races queues    written before a send to one queue, and read after the take of an equal item of another one
  *     races items     written before a send, and read after the take of an equal item that was sent before it
@@ -23,11 +24,15 @@ static void await_stage(int number) {
 
 static void next_stage(void) { __atomic_fetch_add(&stage, 1, __ATOMIC_RELAXED); }
 
-static void sends(vahepito_queue *queue) { check(vahepito_send(queue, 3, NULL) == VAHEPITO_ACCEPTED, "an item is sent"); }
+static void sends(vahepito_queue *queue) {
+    check(vahepito_send(queue, 3, NULL) == VAHEPITO_ACCEPTED, "an item is sent");
+}
 
 static uint32_t takes(vahepito_queue *queue) { return vahepito_take_now(queue, 1, NULL, NULL); }
 
-static void closes(vahepito_queue *queue) { check(vahepito_close(queue, NULL) == VAHEPITO_SHUT, "the queue is closed"); }
+static void closes(vahepito_queue *queue) {
+    check(vahepito_close(queue, NULL) == VAHEPITO_SHUT, "the queue is closed");
+}
 
 static void *writes(void *unused) {
     if (is("items")) await_stage(1);

@@ -1,9 +1,9 @@
 /* The code of each call by a handle in each state, on one thread.
  *
- * A handle is empty, or its pass is a sender or a receiver, idle or with a call that was begun. Each call by a handle is
- * made once in each of these six, of a queue of its own, and the code is compared with a table. If it is refused it
- * returns no number and no item, and changes nothing: what was begun is answered then, and the first item is the first. It
- * ends with status 0 if each call returned what it has to. */
+ * A handle is empty, or its pass is a sender or a receiver, idle or with a call that was begun. Each call by a handle
+ * is made once in each of these six, of a queue of its own, and the code is compared with a table. If it is refused it
+ * returns no number and no item, and changes nothing: what was begun is answered then, and the first item is the first.
+ * It ends with status 0 if each call returned what it has to. */
 #include "by_handles.h"
 
 #include <stddef.h>
@@ -22,14 +22,22 @@ struct told {
 
 static const uint64_t two[2] = {7, 8};
 
-static uint32_t begin_send_words(vahepito_handle *pass, struct told *told) { return (void)told, vahepito_begin_send_words(pass, two, 1); }
-static uint32_t turn_send(vahepito_handle *pass, struct told *told) { return vahepito_turn_send(pass, &told->number, &told->served); }
-static uint32_t try_send(vahepito_handle *pass, struct told *told) { return vahepito_try_send(pass, 7, &told->number, &told->served); }
+static uint32_t begin_send_words(vahepito_handle *pass, struct told *told) {
+    return (void)told, vahepito_begin_send_words(pass, two, 1);
+}
+static uint32_t turn_send(vahepito_handle *pass, struct told *told) {
+    return vahepito_turn_send(pass, &told->number, &told->served);
+}
+static uint32_t try_send(vahepito_handle *pass, struct told *told) {
+    return vahepito_try_send(pass, 7, &told->number, &told->served);
+}
 static uint32_t try_send_words(vahepito_handle *pass, struct told *told) {
     return vahepito_try_send_words(pass, two, 1, &told->number, &told->served);
 }
 static uint32_t begin_close(vahepito_handle *pass, struct told *told) { return (void)told, vahepito_begin_close(pass); }
-static uint32_t turn_close(vahepito_handle *pass, struct told *told) { return vahepito_turn_close(pass, &told->number, &told->served); }
+static uint32_t turn_close(vahepito_handle *pass, struct told *told) {
+    return vahepito_turn_close(pass, &told->number, &told->served);
+}
 static uint32_t begin_take(vahepito_handle *pass, struct told *told) { return (void)told, vahepito_begin_take(pass); }
 static uint32_t turn_take(vahepito_handle *pass, struct told *told) {
     return vahepito_turn_take(pass, &told->item, &told->number, &told->served);
@@ -45,7 +53,9 @@ static uint32_t try_take_words(vahepito_handle *pass, struct told *told) {
 }
 static uint32_t accepted(vahepito_handle *pass, struct told *told) { return vahepito_accepted(pass, &told->number); }
 static uint32_t taken(vahepito_handle *pass, struct told *told) { return vahepito_taken(pass, 1, &told->number); }
-static uint32_t taken_of_none(vahepito_handle *pass, struct told *told) { return vahepito_taken(pass, 2, &told->number); }
+static uint32_t taken_of_none(vahepito_handle *pass, struct told *told) {
+    return vahepito_taken(pass, 2, &told->number);
+}
 static uint32_t is_shut(vahepito_handle *pass, struct told *told) { return vahepito_is_shut(pass, &told->number); }
 static uint32_t drop(vahepito_handle *pass, struct told *told) { return (void)told, vahepito_drop(pass); }
 
@@ -57,7 +67,8 @@ static uint32_t drop(vahepito_handle *pass, struct told *told) { return (void)to
 #define DONE VAHEPITO_DONE
 
 /* The calls, what each writes (a number with how many calls were served, an item, one of words, or a count), and the
- * code for a handle that is empty, an idle sender, one with a send, with a close, an idle receiver, and one with a take. */
+ * code for a handle that is empty, an idle sender, one with a send, with a close, an idle receiver, and one with a
+ * take. */
 enum { NUMBER = 1, ITEM = 2, WORDS = 4, COUNT = 8 };
 static const struct row {
     const char *name;
@@ -126,16 +137,19 @@ static void is_as_before(enum state state, vahepito_handle *pass) {
     holds(code == next[state].code && told.number == 0 && told.served == 1, state, next[state].what);
 }
 
-/* What a call wrote, where nothing was passed: 0 in each field, but for how many calls its turn served, if it had one. */
+/* What a call wrote, where nothing was passed: 0 in each field, but for how many calls its turn served, if it had
+ * one. */
 static void wrote_nothing(const struct row *row, enum state state, const struct told *told) {
     const vahepito_word_item *item = &told->item;
     const vahepito_item *words = &told->words;
     const int turned = row->codes[state] > BEGUN;
     if (row->writes & NUMBER) holds(told->number == 0 && told->served == (turned ? 1 : 0), state, "no number is told");
     if (row->writes & COUNT) holds(told->number == 0, state, "nothing is counted");
-    if (row->writes & ITEM) holds(item->place == 0 && item->sender == 0 && item->number == 0 && item->body == 0, state, "no item is told");
+    if (row->writes & ITEM)
+        holds(item->place == 0 && item->sender == 0 && item->number == 0 && item->body == 0, state, "no item is told");
     if (row->writes & WORDS) {
-        holds(words->place == 0 && words->sender == 0 && words->number == 0 && words->count == 0, state, "no item is told");
+        holds(words->place == 0 && words->sender == 0 && words->number == 0 && words->count == 0, state,
+              "no item is told");
         for (int at = 0; at < VAHEPITO_MOST_WORDS; at++) holds(words->words[at] == 0, state, "nor a word of one");
     }
 }

@@ -3,10 +3,11 @@
  *     cc -O2 -pthread ring.c -o ring && ./ring LOG [right|early|hasty] [ITEMS] [stops]
  *     ccq judge LOG
  *
- * The ring is like that of Dmitry Vyukov: each place has a number that says whose turn it is. `early` plants a fault: now and then
- * a send gives its place to the takes before it has written the item. `hasty` is the ring as he published it: a call that finds
- * another one at work at its place says that there is no item or no room. Each of two threads sends this number of items
- * (5,000), and two take until all is sent and the ring is empty. With `stops` these threads are stopped in the middle of calls. */
+ * The ring is like that of Dmitry Vyukov: each place has a number that says whose turn it is. `early` plants a fault:
+ * now and then a send gives its place to the takes before it has written the item. `hasty` is the ring as he published
+ * it: a call that finds another one at work at its place says that there is no item or no room. Each of two threads
+ * sends this number of items (5,000), and two take until all is sent and the ring is empty. With `stops` these threads
+ * are stopped in the middle of calls. */
 #ifndef _GNU_SOURCE
 #define _GNU_SOURCE
 #endif
@@ -30,9 +31,10 @@ static struct place places[CAPACITY];
 static _Atomic uint64_t next_send, next_take;
 static bool early, hasty, stops;
 
-/* The place of the next call, whose turn has to be its number and `shift` more; NULL if the other side's number says that there
- * is no room or no item. If it doesn't say so, a call of the other side is at work at the place, and this one waits: NULL would
- * be wrong, as an item whose send has returned may be after that place. The hasty ring gives NULL. */
+/* The place of the next call, whose turn has to be its number and `shift` more; NULL if the other side's number says
+ * that there is no room or no item. If it doesn't say so, a call of the other side is at work at the place, and this
+ * one waits: NULL would be wrong, as an item whose send has returned may be after that place. The hasty ring gives
+ * NULL. */
 static struct place *claim(_Atomic uint64_t *next, _Atomic uint64_t *other, uint64_t shift, uint64_t *number) {
     const uint64_t room = shift == 0 ? CAPACITY : 0;
     uint64_t at = atomic_load(next);

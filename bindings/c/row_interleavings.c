@@ -1,25 +1,30 @@
 /* The row of vahepito_queue.c is one queue: its code in every interleaving of small models.
  *
- * A process makes calls of vahepito.h, on a stack of its own. The code runs as it is. A state is the bytes of the queue, of its parts and of the
- * stacks, and the search visits all states that the processes reach. The proved library is a model: a bounded queue with a close, whose
- * calls take one step each. In some models a call is begun, takes effect at any moment after that, and then is asked for its answer. The lock, the
- * futex and memory are models too. Memory may be refused for a further queue.
+ * A process makes calls of vahepito.h, on a stack of its own. The code runs as it is. A state is the bytes of the
+ * queue, of its parts and of the stacks, and the search visits all states that the processes reach. The proved library
+ * is a model: a bounded queue with a close, whose calls take one step each. In some models a call is begun, takes
+ * effect at any moment after that, and then is asked for its answer. The lock, the futex and memory are models too.
+ * Memory may be refused for a further queue.
  *
- * This file is compiled twice. With SOURCE, the name of a file, it is the code, compiled as for the thread sanitizer: so the code calls the
- * functions __tsan_ below at each of its accesses. Without SOURCE it is the search.
+ * This file is compiled twice. With SOURCE, the name of a file, it is the code, compiled as for the thread sanitizer:
+ * so the code calls the functions __tsan_ below at each of its accesses. Without SOURCE it is the search.
  *
- * A process may be stopped before each atomic access, each lock and each call of the library or of the system. It isn't stopped before a
- * plain access or an unlock. So each plain access has to keep rules, and a state in which one is broken is wrong: what changes is accessed plainly
- * under the lock alone, what doesn't change isn't written, an atomic isn't accessed plainly, what is freed isn't accessed, and a part is freed
- * under the lock, when no process has accessed it plainly since the last step of that process. Nor is a process stopped where that makes no
- * difference: at bells, of which there are none; at the counts of lines, if no call of the model waits; at loads, under the lock, of what is stored
- * under the lock alone; and while all seats are taken. A step that no other process hinders or sees comes first.
+ * A process may be stopped before each atomic access, each lock and each call of the library or of the system. It isn't
+ * stopped before a plain access or an unlock. So each plain access has to keep rules, and a state in which one is
+ * broken is wrong: what changes is accessed plainly under the lock alone, what doesn't change isn't written, an atomic
+ * isn't accessed plainly, what is freed isn't accessed, and a part is freed under the lock, when no process has
+ * accessed it plainly since the last step of that process. Nor is a process stopped where that makes no difference: at
+ * bells, of which there are none; at the counts of lines, if no call of the model waits; at loads, under the lock, of
+ * what is stored under the lock alone; and while all seats are taken. A step that no other process hinders or sees
+ * comes first.
  *
- * The code keeps the rules of which crates/cc_row proves that a row by them is one queue (`threads_make_rows`), and that nobody uses a queue
- * that is freed (`left_queues_rest`). A call is made in a seat, at a queue that was the last one, or its group's, at some moment since the seat was taken.
- * A seat is given back without a call. A further queue is appended if the last one was closed and the row wasn't; a group goes on to the next
- * queue if a take of the group found the end; who takes the lock finds the last queue of an open row open. A queue is freed once the senders and
- * all groups have gone on, and each seat was free since, or taken later, or said that its call is at another queue; then that call is.
+ * The code keeps the rules of which crates/cc_row proves that a row by them is one queue (`threads_make_rows`), and
+ * that nobody uses a queue that is freed (`left_queues_rest`). A call is made in a seat, at a queue that was the last
+ * one, or its group's, at some moment since the seat was taken. A seat is given back without a call. A further queue is
+ * appended if the last one was closed and the row wasn't; a group goes on to the next queue if a take of the group
+ * found the end; who takes the lock finds the last queue of an open row open. A queue is freed once the senders and all
+ * groups have gone on, and each seat was free since, or taken later, or said that its call is at another queue; then
+ * that call is.
  *
  * Nor does it break the rules of a bound (`KeepBound` and `FindsFull` of crates/cc_row/specs/BoundThreads.antt). A send
  * begins at a queue to which all groups have come; or its thread has loaded how many items the last queue had accepted,
@@ -28,9 +33,10 @@
  * a call. A send returns that there is no room, or parks, after a queue had none, or after loads of the same kind that
  * find none. It is a look of the same call each time.
  *
- * The answers are checked by an oracle that knows no row. It is one queue, first in, first out, whose calls take effect at one moment between
- * their begin and their return. With each state go all orders of the calls that explain the answers so far. A length is, for the slowest group, what
- * was accepted at one moment of the call less what was taken at a later one.
+ * The answers are checked by an oracle that knows no row. It is one queue, first in, first out, whose calls take effect
+ * at one moment between their begin and their return. With each state go all orders of the calls that explain the
+ * answers so far. A length is, for the slowest group, what was accepted at one moment of the call less what was taken
+ * at a later one.
  *
  * It ends with status 0 if in each state some order explains the answers and no rule is broken; and if, when no process
  * makes a step, each call has returned or sleeps and would find nothing, and vahepito_destroy gives what is left and
@@ -38,9 +44,9 @@
  * with --faults RULE, if this one of them is broken: so the Makefile compiles it with each fault of row_faults.txt in
  * the code. With --few it has the small models alone, and with --sizes it prints how many states each has.
  *
- * Not searched are moments, descriptors, how a call parks that waits for a seat or its answer (interleavings.c does), and
- * orders of memory that are weaker than the order of the steps. On x86-64 the one store of the code that may be pending
- * gives a seat back. No other process sees more than that the seat is still taken. */
+ * Not searched are moments, descriptors, how a call parks that waits for a seat or its answer (interleavings.c does),
+ * and orders of memory that are weaker than the order of the steps. On x86-64 the one store of the code that may be
+ * pending gives a seat back. No other process sees more than that the seat is still taken. */
 #undef _FORTIFY_SOURCE /* a jump to another stack is none to a caller */
 #ifndef _DEFAULT_SOURCE
 #define _DEFAULT_SOURCE
@@ -57,8 +63,8 @@
 #include <string.h>
 #include <unistd.h>
 
-/* What lies at a place of the queue: numbers that stay; what is accessed under the lock alone; atomics that are stored under the lock alone, and
- * others; the counts of a line; a seat; and words that stay as they are here. */
+/* What lies at a place of the queue: numbers that stay; what is accessed under the lock alone; atomics that are stored
+ * under the lock alone, and others; the counts of a line; a seat; and words that stay as they are here. */
 enum field { FIXED, LOCKED, GUARDED, WORD, LINE, SEAT, QUIET };
 
 /* The bytes of a queue; of it up to a seat before the first one, as seats are numbered from 1; and of a seat. */
@@ -66,7 +72,8 @@ struct layout {
     size_t size, seats, seat;
 };
 
-/* The words that are stored under the lock alone: whether the row is closed, the last queue, and the queue of each group. */
+/* The words that are stored under the lock alone: whether the row is closed, the last queue, and the queue of each
+ * group. */
 enum guarded { CLOSED_WORD, LAST_WORD, AT_WORDS };
 
 extern const struct layout code_layout;
@@ -95,7 +102,8 @@ void model_free(void *memory);
 
 #define LIES_IN(field) ((size_t)((const char *)place - (const char *)&queue->field) < sizeof queue->field)
 
-const struct layout code_layout = {sizeof(vahepito_queue), offsetof(vahepito_queue, seats) - sizeof(call_seat), sizeof(call_seat)};
+const struct layout code_layout = {sizeof(vahepito_queue), offsetof(vahepito_queue, seats) - sizeof(call_seat),
+                                   sizeof(call_seat)};
 
 enum field code_field(const void *of, const void *place, uint32_t *number) {
     const vahepito_queue *const queue = of;
@@ -117,8 +125,8 @@ enum field code_part_field(size_t offset) {
     return is_locked ? LOCKED : FIXED;
 }
 
-/* The last queue of the row, or the queue that a group is at; a pass of a queue; the number of a queue; and whether the row is closed. The
- * search looks here, and not the code. */
+/* The last queue of the row, or the queue that a group is at; a pass of a queue; the number of a queue; and whether the
+ * row is closed. The search looks here, and not the code. */
 #define UNSEEN __attribute__((no_sanitize_thread))
 UNSEEN const void *code_queue_of(const void *of, uint32_t side) {
     const vahepito_queue *const queue = of;
@@ -128,7 +136,8 @@ const void *code_pass_of(const void *part) { return &((const queue_part *)part)-
 UNSEEN uint32_t code_number_of(const void *part) { return (uint32_t)((const queue_part *)part)->number; }
 UNSEEN bool code_is_closed(const void *queue) { return ((const vahepito_queue *)queue)->is_closed; }
 
-/* Before each step of a process: its number, or 0 if it has none yet, and how many threads have one; and after a step. */
+/* Before each step of a process: its number, or 0 if it has none yet, and how many threads have one; and after a
+ * step. */
 void code_begin(size_t seat, uint32_t threads) { thread_offset = seat * sizeof(call_seat), thread_count = threads; }
 size_t code_seat(void) { return thread_offset / sizeof(call_seat); }
 
@@ -140,12 +149,15 @@ size_t code_seat(void) { return thread_offset / sizeof(call_seat); }
 #include <linux/futex.h>
 #include <ucontext.h>
 
-enum { PROCESSES = 4, GROUPS = 2, PLACES = 2, CALLS = 4, ITEMS = 8, QUEUES = 10, BLOCKS = 12, ORDERS = 4096, LONGEST = 2000 };
+enum {
+    PROCESSES = 4, GROUPS = 2, PLACES = 2, CALLS = 4, ITEMS = 8, QUEUES = 10, BLOCKS = 12, ORDERS = 4096,
+    LONGEST = 2000
+};
 enum { MEMORY = 16384, STACK = 65536, UNUSED = 1024, SIDES = 1 + GROUPS };
 enum { MOST_BYTES = PROCESSES * STACK + MEMORY + (1 << 18) }; /* of a state */
 
-/* The calls of each process, in order: a send or a take of group 1 or 2 that waits (s, t, u), or that doesn't (m, n, o); two sends or takes
- * at once (b, k) that don't wait; a close (c); a length (l); whether the queue is closed (i). */
+/* The calls of each process, in order: a send or a take of group 1 or 2 that waits (s, t, u), or that doesn't (m, n,
+ * o); two sends or takes at once (b, k) that don't wait; a close (c); a length (l); whether the queue is closed (i). */
 struct model {
     const char *calls[PROCESSES];
     uint8_t capacity; /* 0: none */
@@ -165,7 +177,9 @@ static const struct model *model;
 /* ---- states */
 
 /* What a step is before which a process is stopped. */
-enum kind { ACCESS, LOOK_FOR_SEAT, TAKE_LOCK, SLEEP, ASLEEP, WAKE, REFUSED, TRY_SEND, TRY_TAKE, CLOSE, BEGIN, TURN, COUNT };
+enum kind {
+    ACCESS, LOOK_FOR_SEAT, TAKE_LOCK, SLEEP, ASLEEP, WAKE, REFUSED, TRY_SEND, TRY_TAKE, CLOSE, BEGIN, TURN, COUNT
+};
 enum status { READY, SLEEPS, RETURNED, OVER };
 
 struct process {
@@ -198,8 +212,8 @@ struct block {
     uint32_t start, size, is_free, is_shown;
 };
 
-/* An order that explains the answers: the queue after it; and of each process nothing, or that its call isn't in the order yet, or a part of
- * the call, or its answer. */
+/* An order that explains the answers: the queue after it; and of each process nothing, or that its call isn't in the
+ * order yet, or a part of the call, or its answer. */
 struct order {
     uint8_t accepted, closed, taken[GROUPS], items[ITEMS];
     uint16_t calls[PROCESSES];
@@ -211,7 +225,8 @@ static struct {
     uint32_t block_count, used, raw_count, order_count;
     uint32_t lock; /* which process, from 1 */
     uint32_t refusals;
-    /* Of each seat that is taken, from 1, with 1 added: the number of the last queue when it was taken, and of the queue of each group. */
+    /* Of each seat that is taken, from 1, with 1 added: the number of the last queue when it was taken, and of the
+     * queue of each group. */
     uint8_t since[1 + PLACES][SIDES];
     uint8_t said[1 + PLACES]; /* and the number of the queue that its call is at, if it says so */
 } world;
@@ -317,8 +332,8 @@ static void plain(const void *place, bool writes) {
     if (block != blocks && !is_locked()) this_process()->reads |= 1u << (block - blocks);
 }
 
-/* Before an atomic access. The load of a look for a seat and the exchange that takes the seat are one step: an exchange that fails is as a load that found
- * the seat taken. */
+/* Before an atomic access. The load of a look for a seat and the exchange that takes the seat are one step: an exchange
+ * that fails is as a load that found the seat taken. */
 static void atomic(const void *place, enum access access, int order) {
     const struct block *const block = block_of(place);
     uint32_t number;
@@ -373,19 +388,22 @@ static void changed(const void *place, uint64_t before) {
         else if (at != before) world.said[number] = (uint8_t)(code_number_of((const void *)at) + 1);
     } else if (field == GUARDED && number == LAST_WORD) {
         const void *const last = (const void *)(uintptr_t)before;
-        if (code_is_closed(queue) || !raw_of_part(last)->closed) is_wrong("a queue is appended to one that isn't closed, or to a closed row");
+        if (code_is_closed(queue) || !raw_of_part(last)->closed)
+            is_wrong("a queue is appended to one that isn't closed, or to a closed row");
         if (found_now(0) != code_number_of(last) + 1) is_wrong("the next number isn't that of the next queue");
     } else if (field == GUARDED && number >= AT_WORDS) {
         const void *const at = (const void *)(uintptr_t)before;
         const uint32_t group = number - AT_WORDS;
         if (!raw_of_part(at)->has_ended[group]) is_wrong("a group goes on from a queue that hasn't ended for it");
-        if (code_number_of(at) >= found_now(0) || found_now(group + 1) != code_number_of(at) + 1) is_wrong("a group doesn't go on to the next queue");
+        if (code_number_of(at) >= found_now(0) || found_now(group + 1) != code_number_of(at) + 1)
+            is_wrong("a group doesn't go on to the next queue");
     }
 }
 
 /* A process has taken the lock: so it may append, or close the row. */
 static void check_open(void) {
-    if (!code_is_closed(queue) && has_close(raw_of_part(code_queue_of(queue, 0)))) is_wrong("the last queue of an open row is closed");
+    if (!code_is_closed(queue) && has_close(raw_of_part(code_queue_of(queue, 0))))
+        is_wrong("the last queue of an open row is closed");
 }
 
 /* ---- the rules of a bound */
@@ -454,8 +472,10 @@ static void check_found(const vahepito_handle *pass, uint32_t side, uint32_t sea
     if (current < 0 || !block) return;
     const uint32_t number = code_number_of(&memory[block->start]);
     if (world.since[seat][side] == 0) is_wrong("a call is made without a seat");
-    if (number + 1 < world.since[seat][side] || number > found_now(side)) is_wrong("a call is made at a queue that wasn't found since the seat was taken");
-    if (world.said[seat] != 0 && number + 1 != world.said[seat]) is_wrong("a call is made at another queue than its seat says");
+    if (number + 1 < world.since[seat][side] || number > found_now(side))
+        is_wrong("a call is made at a queue that wasn't found since the seat was taken");
+    if (world.said[seat] != 0 && number + 1 != world.said[seat])
+        is_wrong("a call is made at another queue than its seat says");
 }
 
 /* A part is freed that was shown. */
@@ -464,7 +484,8 @@ static void check_left(const void *part) {
     for (uint32_t side = 0; side <= model->groups; side++) {
         if (number >= found_now(side)) is_wrong("a queue is freed that isn't left");
         for (uint32_t seat = 1; seat <= model->places; seat++)
-            if (world.since[seat][side] != 0 && (world.said[seat] ? number + 1 == world.said[seat] : number + 1 >= world.since[seat][side]))
+            if (world.since[seat][side] != 0 &&
+                (world.said[seat] ? number + 1 == world.said[seat] : number + 1 >= world.since[seat][side]))
                 is_wrong("a queue is freed that a call may have found");
     }
 }
@@ -480,15 +501,21 @@ static void show(uint64_t pointer) {
     void __tsan_##prefix##read##size(const void *place), __tsan_##prefix##write##size(const void *place); \
     void __tsan_##prefix##read##size(const void *place) { plain(place, false); }                         \
     void __tsan_##prefix##write##size(const void *place) { plain(place, true); }
-PLAIN(, 1) PLAIN(, 2) PLAIN(, 4) PLAIN(, 8) PLAIN(, 16) PLAIN(unaligned_, 2) PLAIN(unaligned_, 4) PLAIN(unaligned_, 8) PLAIN(unaligned_, 16)
+PLAIN(, 1) PLAIN(, 2) PLAIN(, 4) PLAIN(, 8) PLAIN(, 16)
+PLAIN(unaligned_, 2) PLAIN(unaligned_, 4) PLAIN(unaligned_, 8) PLAIN(unaligned_, 16)
 
 void __tsan_read_range(const void *place, size_t size), __tsan_write_range(const void *place, size_t size);
 void __tsan_read_range(const void *place, size_t size) { (void)size, plain(place, false); }
 void __tsan_write_range(const void *place, size_t size) { (void)size, plain(place, true); }
 
-void *__tsan_memcpy(void *to, const void *from, size_t size), *__tsan_memmove(void *to, const void *from, size_t size), *__tsan_memset(void *to, int byte, size_t size);
-void *__tsan_memcpy(void *to, const void *from, size_t size) { return plain(to, true), plain(from, false), memcpy(to, from, size); }
-void *__tsan_memmove(void *to, const void *from, size_t size) { return plain(to, true), plain(from, false), memmove(to, from, size); }
+void *__tsan_memcpy(void *to, const void *from, size_t size), *__tsan_memmove(void *to, const void *from, size_t size),
+    *__tsan_memset(void *to, int byte, size_t size);
+void *__tsan_memcpy(void *to, const void *from, size_t size) {
+    return plain(to, true), plain(from, false), memcpy(to, from, size);
+}
+void *__tsan_memmove(void *to, const void *from, size_t size) {
+    return plain(to, true), plain(from, false), memmove(to, from, size);
+}
 void *__tsan_memset(void *to, int byte, size_t size) { return plain(to, true), memset(to, byte, size); }
 
 /* And at atomic ones. */
@@ -502,39 +529,43 @@ void *__tsan_memset(void *to, int byte, size_t size) { return plain(to, true), m
         return found;                                                                                                \
     }
 
-#define ATOMICS(bits)                                                                                                \
-    uint##bits##_t __tsan_atomic##bits##_load(const uint##bits##_t *place, int order);                               \
-    void __tsan_atomic##bits##_store(uint##bits##_t *place, uint##bits##_t value, int order);                        \
-    int __tsan_atomic##bits##_compare_exchange_strong(uint##bits##_t *place, uint##bits##_t *old, uint##bits##_t value, int order, int other); \
-    uint##bits##_t __tsan_atomic##bits##_compare_exchange_val(uint##bits##_t *place, uint##bits##_t old, uint##bits##_t value, int order, int other); \
-    uint##bits##_t __tsan_atomic##bits##_load(const uint##bits##_t *place, int order) {                              \
-        atomic(place, LOAD, order);                                                                                  \
-        return *place;                                                                                               \
-    }                                                                                                                \
-    void __tsan_atomic##bits##_store(uint##bits##_t *place, uint##bits##_t value, int order) {                       \
-        atomic(place, STORE, order);                                                                                 \
-        const uint##bits##_t before = *place;                                                                        \
-        *place = value;                                                                                              \
-        show(value);                                                                                                 \
-        changed(place, before);                                                                                      \
-    }                                                                                                                \
-    uint##bits##_t __tsan_atomic##bits##_compare_exchange_val(uint##bits##_t *place, uint##bits##_t old, uint##bits##_t value, int order, int other) { \
-        (void)other;                                                                                                 \
-        atomic(place, UPDATE, order);                                                                                \
-        const uint##bits##_t found = *place;                                                                         \
-        if (found == old) *place = value, changed(place, found);                                                     \
-        return found;                                                                                                \
-    }                                                                                                                \
-    int __tsan_atomic##bits##_compare_exchange_strong(uint##bits##_t *place, uint##bits##_t *old, uint##bits##_t value, int order, int other) { \
-        const uint##bits##_t found = __tsan_atomic##bits##_compare_exchange_val(place, *old, value, order, other);   \
-        const bool is_same = found == *old;                                                                          \
-        *old = found;                                                                                                \
-        return is_same;                                                                                              \
-    }                                                                                                                \
-    UPDATES(bits, exchange, value)                                                                                    \
-    UPDATES(bits, fetch_add, found + value)                                                                           \
-    UPDATES(bits, fetch_sub, found - value)                                                                           \
-    UPDATES(bits, fetch_or, found | value)                                                                            \
+#define ATOMICS(bits) \
+    uint##bits##_t __tsan_atomic##bits##_load(const uint##bits##_t *place, int order); \
+    void __tsan_atomic##bits##_store(uint##bits##_t *place, uint##bits##_t value, int order); \
+    int __tsan_atomic##bits##_compare_exchange_strong(uint##bits##_t *place, uint##bits##_t *old, \
+                                                      uint##bits##_t value, int order, int other); \
+    uint##bits##_t __tsan_atomic##bits##_compare_exchange_val(uint##bits##_t *place, uint##bits##_t old, \
+                                                              uint##bits##_t value, int order, int other); \
+    uint##bits##_t __tsan_atomic##bits##_load(const uint##bits##_t *place, int order) { \
+        atomic(place, LOAD, order); \
+        return *place; \
+    } \
+    void __tsan_atomic##bits##_store(uint##bits##_t *place, uint##bits##_t value, int order) { \
+        atomic(place, STORE, order); \
+        const uint##bits##_t before = *place; \
+        *place = value; \
+        show(value); \
+        changed(place, before); \
+    } \
+    uint##bits##_t __tsan_atomic##bits##_compare_exchange_val(uint##bits##_t *place, uint##bits##_t old, \
+                                                              uint##bits##_t value, int order, int other) { \
+        (void)other; \
+        atomic(place, UPDATE, order); \
+        const uint##bits##_t found = *place; \
+        if (found == old) *place = value, changed(place, found); \
+        return found; \
+    } \
+    int __tsan_atomic##bits##_compare_exchange_strong(uint##bits##_t *place, uint##bits##_t *old, \
+                                                      uint##bits##_t value, int order, int other) { \
+        const uint##bits##_t found = __tsan_atomic##bits##_compare_exchange_val(place, *old, value, order, other); \
+        const bool is_same = found == *old; \
+        *old = found; \
+        return is_same; \
+    } \
+    UPDATES(bits, exchange, value) \
+    UPDATES(bits, fetch_add, found + value) \
+    UPDATES(bits, fetch_sub, found - value) \
+    UPDATES(bits, fetch_or, found | value) \
     UPDATES(bits, fetch_and, found & value)
 ATOMICS(8) ATOMICS(32) ATOMICS(64)
 
@@ -586,14 +617,16 @@ void model_free(void *place) {
     if (!is_locked()) is_wrong("memory is freed without the lock");
     if (current >= 0 && block->is_shown) check_left(place);
     for (int other = 0; other < process_count; other++)
-        if (other != current && (processes[other].reads >> (block - blocks) & 1) != 0) is_wrong("a part is freed that a process may read");
+        if (other != current && (processes[other].reads >> (block - blocks) & 1) != 0)
+            is_wrong("a part is freed that a process may read");
     block->is_free = 1;
     memset(&memory[block->start], 0xdd, block->size);
 }
 
 static uint32_t sleepers(uint32_t line) {
     uint32_t count = 0;
-    for (int process = 0; process < process_count; process++) count += processes[process].status == SLEEPS && processes[process].number == line;
+    for (int process = 0; process < process_count; process++)
+        count += processes[process].status == SLEEPS && processes[process].number == line;
     return count;
 }
 
@@ -646,7 +679,9 @@ static struct pass_at find(const vahepito_handle *pass, bool is_sender) {
     return (struct pass_at){raw, side, at % PLACES, &raw->pending[side][at % PLACES]};
 }
 
-static struct pending *pending_at(uint32_t number) { return &raws[number / PLACES / SIDES].pending[number / PLACES % SIDES][number % PLACES]; }
+static struct pending *pending_at(uint32_t number) {
+    return &raws[number / PLACES / SIDES].pending[number / PLACES % SIDES][number % PLACES];
+}
 
 static uint32_t number_of(const vahepito_handle *pass, bool is_sender) {
     const struct pass_at at = find(pass, is_sender);
@@ -693,7 +728,8 @@ static void begin(const vahepito_handle *pass, struct pass_at at, uint8_t kind, 
     *at.pending = (struct pending){kind, item, 0, 0, 0, 0};
 }
 
-uint32_t vahepito_try_send_words(vahepito_handle *sender, const uint64_t *words, size_t count, uint64_t *place, uint32_t *served) {
+uint32_t vahepito_try_send_words(vahepito_handle *sender, const uint64_t *words, size_t count, uint64_t *place,
+                                 uint32_t *served) {
     uint8_t got;
     (void)count, (void)served;
     step(model->has_turns ? BEGIN : TRY_SEND, 0);
@@ -782,9 +818,11 @@ uint32_t vahepito_taken(vahepito_handle *sender, uint32_t group, uint64_t *count
     return VAHEPITO_DONE;
 }
 
-uint32_t vahepito_open_words(const vahepito_config *config, uint32_t groups, uint32_t words, vahepito_handle *senders, size_t sender_count,
-                             vahepito_handle *receivers, size_t receiver_count) {
-    if (groups != model->groups || words != model->words || sender_count != model->places || receiver_count != (size_t)groups * model->places) abort();
+uint32_t vahepito_open_words(const vahepito_config *config, uint32_t groups, uint32_t words, vahepito_handle *senders,
+                             size_t sender_count, vahepito_handle *receivers, size_t receiver_count) {
+    if (groups != model->groups || words != model->words || sender_count != model->places ||
+        receiver_count != (size_t)groups * model->places)
+        abort();
     if (is_refused()) return VAHEPITO_NO_MEMORY;
     if (world.raw_count == QUEUES) abort();
     const uint32_t number = world.raw_count++;
@@ -816,7 +854,8 @@ uint32_t vahepito_drop(vahepito_handle *pass) {
 
 uint32_t vahepito_version(void) { return VAHEPITO_VERSION; }
 void vahepito_sizes(size_t *config, size_t *pass, size_t *item, size_t *words_item) {
-    *config = sizeof(vahepito_config), *pass = sizeof(vahepito_handle), *item = sizeof(vahepito_word_item), *words_item = sizeof(vahepito_item);
+    *config = sizeof(vahepito_config), *pass = sizeof(vahepito_handle), *item = sizeof(vahepito_word_item),
+    *words_item = sizeof(vahepito_item);
 }
 
 /* ---- calls, and the oracle */
@@ -825,16 +864,22 @@ void vahepito_sizes(size_t *config, size_t *pass, size_t *item, size_t *words_it
 static uint8_t item_of(int process, uint32_t call) { return (uint8_t)((uint32_t)process * CALLS + call + 1); }
 
 /* An answer in a word: its code, and a value; of an item its place and the item. */
-static uint32_t answer_as(uint32_t code, uint64_t value) { return ANSWERED | code << 8 | (value < 256 ? (uint32_t)value : 255); }
-static uint32_t got_as(uint64_t place, uint64_t item) { return answer_as(VAHEPITO_GOT, place < 16 && item < 16 ? place << 4 | item : 255); }
+static uint32_t answer_as(uint32_t code, uint64_t value) {
+    return ANSWERED | code << 8 | (value < 256 ? (uint32_t)value : 255);
+}
+static uint32_t got_as(uint64_t place, uint64_t item) {
+    return answer_as(VAHEPITO_GOT, place < 16 && item < 16 ? place << 4 | item : 255);
+}
 
 static uint32_t code_of(uint32_t answer) { return answer >> 8 & 63; }
 
 static uint32_t make_take(uint32_t group, bool waits) {
     vahepito_item item;
     uint64_t total;
-    const uint32_t code = waits ? vahepito_take(queue, group, &item, &total) : vahepito_take_now(queue, group, &item, &total);
-    if (code == VAHEPITO_GOT) return item.count == 1 && item.words[1] == 0 && total == 0 ? got_as(item.place, item.words[0]) : 0;
+    const uint32_t code =
+        waits ? vahepito_take(queue, group, &item, &total) : vahepito_take_now(queue, group, &item, &total);
+    if (code == VAHEPITO_GOT)
+        return item.count == 1 && item.words[1] == 0 && total == 0 ? got_as(item.place, item.words[0]) : 0;
     return item.place == 0 && item.count == 0 && item.words[0] == 0 ? answer_as(code, total) : 0;
 }
 
@@ -892,7 +937,8 @@ static uint32_t send_in(struct order *at, uint8_t item) {
 /* What all groups have taken is forgotten. */
 static uint32_t take_in(struct order *at, uint32_t group) {
     uint8_t *const taken = &at->taken[group - 1];
-    if (*taken == at->accepted) return at->closed ? answer_as(VAHEPITO_ENDED, at->accepted) : answer_as(VAHEPITO_EMPTY, 0);
+    if (*taken == at->accepted)
+        return at->closed ? answer_as(VAHEPITO_ENDED, at->accepted) : answer_as(VAHEPITO_EMPTY, 0);
     const uint32_t got = got_as(*taken, at->items[*taken]);
     ++*taken;
     if (model->groups == 1 || at->taken[2 - group] >= *taken) at->items[*taken - 1] = 0;
@@ -917,7 +963,8 @@ static uint32_t part_in(struct order *at, char call, uint32_t before, uint8_t it
     if (!(before & IN_PART)) return IN_PART | 1u << 8 | (uint32_t)at->accepted << 4;
     const uint32_t group = before >> 8 & 15, accepted = before >> 4 & 15;
     uint32_t most = before & 15;
-    if (at->taken[group - 1] < accepted && accepted - at->taken[group - 1] > most) most = accepted - at->taken[group - 1];
+    if (at->taken[group - 1] < accepted && accepted - at->taken[group - 1] > most)
+        most = accepted - at->taken[group - 1];
     return group == model->groups ? answer_as(VAHEPITO_DONE, most) : IN_PART | (group + 1) << 8 | accepted << 4 | most;
 }
 
@@ -949,7 +996,8 @@ static void add_order(const struct order *it) {
 
 static int compare(const void *one, const void *other) { return memcmp(one, other, sizeof(struct order)); }
 
-/* All orders that extend these by effects of calls that are under way; and of them those that explain the answer of this process. */
+/* All orders that extend these by effects of calls that are under way; and of them those that explain the answer of
+ * this process. */
 static bool is_explained(int process, uint32_t it) {
     struct process *const returned = &processes[process];
     const bool is_refused_call = returned->was_refused && code_of(it) == VAHEPITO_NO_MEMORY;
@@ -963,7 +1011,9 @@ static bool is_explained(int process, uint32_t it) {
     for (uint32_t at = 0; at < world.order_count; at++) {
         struct order *const order = &orders[at];
         /* A send that was refused memory has no effect; of several, those that came before have. */
-        if (is_refused_call ? order->calls[process] != ((it & 255) ? IN_PART | (it & 255) : NOT_YET) : order->calls[process] != it) continue;
+        if (is_refused_call ? order->calls[process] != ((it & 255) ? IN_PART | (it & 255) : NOT_YET)
+                            : order->calls[process] != it)
+            continue;
         order->calls[process] = 0;
         orders[kept++] = *order;
     }
@@ -1031,7 +1081,8 @@ static struct seen hash_of(const unsigned char *bytes, size_t size) {
     for (size_t at = 0; at < size; at += sizeof words) {
         memcpy(words, bytes + at, sizeof words);
         one = fold(words[0] ^ UINT64_C(0xa0761d6478bd642f) ^ one, words[1] ^ UINT64_C(0xe7037ed1a0b428db)) + words[2];
-        other = fold(words[2] ^ UINT64_C(0x8ebc6af09c88c6e3) ^ other, words[3] ^ UINT64_C(0x589965cc75374cc3)) + words[0];
+        other =
+            fold(words[2] ^ UINT64_C(0x8ebc6af09c88c6e3) ^ other, words[3] ^ UINT64_C(0x589965cc75374cc3)) + words[0];
     }
     const uint64_t all = fold(one ^ UINT64_C(0x1d8e4e27c47d124f), other ^ UINT64_C(0xeb44accab455d165));
     const struct seen it = {all, fold(other ^ UINT64_C(0x9e3779b97f4a7c15), one + 1) & ~UINT64_C(1)};
@@ -1040,7 +1091,9 @@ static struct seen hash_of(const unsigned char *bytes, size_t size) {
 
 static struct seen *place_of(struct seen it) {
     size_t at = it.one % seen_room;
-    while ((seen[at].one | seen[at].other) != 0 && (seen[at].one != it.one || (seen[at].other & ~UINT64_C(1)) != it.other)) at = (at + 1) % seen_room;
+    while ((seen[at].one | seen[at].other) != 0 &&
+           (seen[at].one != it.one || (seen[at].other & ~UINT64_C(1)) != it.other))
+        at = (at + 1) % seen_room;
     return &seen[at];
 }
 
@@ -1051,7 +1104,8 @@ static void grow(void) {
     seen = calloc(seen_room, sizeof *seen);
     if (!seen) abort();
     for (size_t at = 0; at < room; at++)
-        if ((before[at].one | before[at].other) != 0) *place_of((struct seen){before[at].one, before[at].other & ~UINT64_C(1)}) = before[at];
+        if ((before[at].one | before[at].other) != 0)
+            *place_of((struct seen){before[at].one, before[at].other & ~UINT64_C(1)}) = before[at];
     free(before);
 }
 
@@ -1115,7 +1169,8 @@ static bool may_sleep(void) {
         bool is_so = true;
         for (int process = 0; process < process_count; process++) {
             struct order next = orders[at];
-            if (processes[process].status == SLEEPS) is_so = is_so && next.calls[process] == NOT_YET && !extend(&next, process);
+            if (processes[process].status == SLEEPS)
+                is_so = is_so && next.calls[process] == NOT_YET && !extend(&next, process);
         }
         if (is_so) return true;
     }
@@ -1165,7 +1220,8 @@ static void check_end(void) {
     if (is_over && _setjmp(scheduler) == 0) fault = destroyed();
 }
 
-/* The moves from this state. If a process makes a step that none of the others' steps hinders or sees, these are its choices alone. */
+/* The moves from this state. If a process makes a step that none of the others' steps hinders or sees, these are its
+ * choices alone. */
 static uint32_t find_moves(struct move *moves) {
     uint32_t count = 0;
     for (int process = 0; process < process_count; process++) {
@@ -1173,7 +1229,8 @@ static uint32_t find_moves(struct move *moves) {
         const uint32_t some = choices(it);
         const bool is_alone = some > 0 && (it->kind == REFUSED || it->kind == BEGIN || it->kind == TURN);
         if (is_alone) count = 0;
-        for (uint32_t at = 0; at < some; at++) moves[count++] = (struct move){(uint32_t)process, at, it->kind, it->number};
+        for (uint32_t at = 0; at < some; at++)
+            moves[count++] = (struct move){(uint32_t)process, at, it->kind, it->number};
         if (is_alone) return count;
     }
     if (!model->has_turns) return count;
@@ -1241,7 +1298,8 @@ static bool search(const struct model *it) {
     memset(seen, 0, seen_room * sizeof *seen);
     state_count = saved_size = depth = 0;
     fault = NULL;
-    attributes.capacity = it->capacity, attributes.groups = it->groups, attributes.places = it->places, attributes.words = it->words;
+    attributes.capacity = it->capacity, attributes.groups = it->groups, attributes.places = it->places,
+    attributes.words = it->words;
     attributes.life = it->life, attributes.per_sender = it->per_sender;
     if (_setjmp(scheduler) == 0 && vahepito_create_as(&attributes, &queue) != VAHEPITO_DONE) abort();
     world.order_count = 1;
@@ -1256,60 +1314,102 @@ static void print_path(void) {
                                         "try send", "try take",        "close", "begin", "turn",  "count"};
     for (uint32_t at = 0; at < depth; at++) {
         if (path[at].process == PROCESSES) fprintf(stderr, "  effect at %u\n", path[at].number);
-        else fprintf(stderr, "  process %u: %s %u choice %u\n", path[at].process, names[path[at].kind], path[at].number, path[at].choice);
+        else
+            fprintf(stderr, "  process %u: %s %u choice %u\n", path[at].process, names[path[at].kind], path[at].number,
+                    path[at].choice);
     }
 }
 
 /* From small ones to large ones. */
 static const struct model models[] = {
-    {{"mmmm", "n", "", ""}, 0, 2, 1, 2, 0, 0, 0, false, THERE, 1}, {{"b", "k", "", ""}, 0, 1, 1, 2, 1, 0, 1, false, THERE, 1},
-    {{"b", "k", "", ""}, 2, 0, 1, 2, 1, 0, 0, false, THERE, 1}, {{"mm", "nn", "", ""}, 2, 0, 1, 1, 1, 0, 0, false, NEW, 1},
-    {{"mn", "mn", "", ""}, 0, 1, 1, 2, 1, 0, 0, false, NEW, 1}, {{"mm", "no", "", ""}, 1, 0, 2, 2, 1, 0, 0, false, THERE, 1},
-    {{"mm", "nn", "", ""}, 1, 0, 1, 1, 1, 0, 1, false, THERE, 1}, {{"mm", "nn", "", ""}, 0, 1, 1, 2, 0, 0, 1, false, THERE, 1},
-    {{"mmm", "nc", "", ""}, 1, 0, 1, 2, 1, 0, 0, false, THERE, 1}, {{"mmm", "no", "", ""}, 1, 0, 2, 2, 2, 0, 0, false, THERE, 1},
-    {{"mm", "n", "n", ""}, 0, 1, 1, 1, 0, 0, 0, false, THERE, 1}, {{"mmm", "nn", "", ""}, 1, 0, 1, 2, 2, 0, 0, false, THERE, 1},
+    {{"mmmm", "n", "", ""}, 0, 2, 1, 2, 0, 0, 0, false, THERE, 1},
+    {{"b", "k", "", ""}, 0, 1, 1, 2, 1, 0, 1, false, THERE, 1},
+    {{"b", "k", "", ""}, 2, 0, 1, 2, 1, 0, 0, false, THERE, 1},
+    {{"mm", "nn", "", ""}, 2, 0, 1, 1, 1, 0, 0, false, NEW, 1},
+    {{"mn", "mn", "", ""}, 0, 1, 1, 2, 1, 0, 0, false, NEW, 1},
+    {{"mm", "no", "", ""}, 1, 0, 2, 2, 1, 0, 0, false, THERE, 1},
+    {{"mm", "nn", "", ""}, 1, 0, 1, 1, 1, 0, 1, false, THERE, 1},
+    {{"mm", "nn", "", ""}, 0, 1, 1, 2, 0, 0, 1, false, THERE, 1},
+    {{"mmm", "nc", "", ""}, 1, 0, 1, 2, 1, 0, 0, false, THERE, 1},
+    {{"mmm", "no", "", ""}, 1, 0, 2, 2, 2, 0, 0, false, THERE, 1},
+    {{"mm", "n", "n", ""}, 0, 1, 1, 1, 0, 0, 0, false, THERE, 1},
+    {{"mmm", "nn", "", ""}, 1, 0, 1, 2, 2, 0, 0, false, THERE, 1},
     {{"mbb", "nn", "", ""}, 2, 0, 1, 2, 2, 0, 0, false, THERE, 1},
     {{"mm", "mn", "", ""}, 2, 0, 1, 2, 1, 0, 0, true, THERE, 1},
-    {{"mm", "c", "c", ""}, 2, 0, 1, 2, 1, 0, 0, false, THERE, 1}, {{"mm", "m", "", ""}, 1, 0, 1, 2, 1, 0, 0, false, THERE, 1},
-    {{"mm", "nn", "", ""}, 2, 0, 1, 1, 1, 0, 0, false, THERE, 1}, {{"mm", "oon", "", ""}, 2, 0, 2, 2, 1, 0, 0, false, THERE, 1},
-    {{"mmm", "nnc", "", ""}, 1, 0, 1, 1, 2, 0, 0, false, THERE, 1}, {{"mm", "nm", "", ""}, 0, 1, 1, 1, 0, 0, 0, true, THERE, 1},
-    {{"mm", "nn", "", ""}, 1, 0, 1, 2, 1, 0, 0, true, THERE, 1}, {{"mm", "nn", "", ""}, 2, 0, 1, 1, 1, 0, 0, true, THERE, 2},
-    {{"m", "m", "n", ""}, 1, 0, 1, 2, 1, 0, 0, false, THERE, 1}, {{"mmmm", "nnn", "", ""}, 3, 0, 2, 2, 2, 0, 0, false, THERE, 1},
-    {{"mm", "m", "nn", ""}, 1, 0, 1, 1, 2, 0, 0, false, THERE, 1}, {{"mn", "mn", "l", ""}, 0, 1, 1, 2, 1, 0, 0, false, THERE, 1},
-    {{"m", "m", "n", ""}, 0, 1, 1, 2, 1, 0, 0, true, THERE, 1}, {{"mmm", "nnn", "", ""}, 0, 1, 1, 2, 1, 0, 0, false, THERE, 1},
-    {{"mmm", "nnn", "", ""}, 2, 0, 1, 1, 2, 0, 0, false, THERE, 1}, {{"mm", "nn", "l", ""}, 0, 1, 1, 2, 0, 0, 0, false, THERE, 1},
-    {{"m", "m", "n", ""}, 1, 0, 1, 2, 1, 0, 0, true, THERE, 1}, {{"ss", "tt", "", ""}, 2, 0, 1, 2, 1, 0, 0, false, THERE, 1},
-    {{"mmmm", "nnm", "", ""}, 2, 0, 1, 2, 4, 0, 0, false, THERE, 1}, {{"m", "m", "n", "c"}, 0, 1, 1, 1, 0, 0, 0, false, THERE, 1},
-    {{"mm", "nn", "l", ""}, 2, 0, 1, 2, 1, 0, 0, false, THERE, 1}, {{"mm", "nm", "", ""}, 0, 1, 1, 2, 0, 0, 0, false, THERE, 1},
-    {{"mm", "no", "l", ""}, 0, 1, 2, 2, 0, 0, 0, false, THERE, 1}, {{"mm", "mm", "", ""}, 2, 0, 1, 1, 1, 0, 0, false, THERE, 1},
-    {{"b", "k", "c", ""}, 1, 0, 1, 2, 1, 0, 0, false, THERE, 1}, {{"m", "m", "n", "n"}, 1, 0, 1, 1, 1, 0, 0, false, THERE, 1},
-    {{"mm", "nn", "ci", ""}, 0, 1, 1, 1, 0, 0, 1, false, THERE, 1}, {{"mm", "m", "n", ""}, 1, 0, 1, 2, 2, 0, 0, false, THERE, 1},
-    {{"mmm", "nnn", "", ""}, 3, 0, 1, 2, 1, 0, 0, false, THERE, 1}, {{"mm", "n", "o", ""}, 0, 1, 2, 2, 1, 0, 0, false, THERE, 1},
-    {{"mmm", "nnn", "", ""}, 2, 0, 1, 2, 1, 0, 0, false, THERE, 1}, {{"mm", "m", "n", ""}, 0, 1, 1, 1, 0, 0, 0, true, THERE, 1},
-    {{"mm", "nn", "n", ""}, 0, 1, 1, 1, 1, 0, 0, false, THERE, 1}, {{"mn", "mn", "c", ""}, 1, 0, 1, 2, 1, 0, 0, false, THERE, 1},
-    {{"mm", "m", "n", ""}, 0, 1, 1, 1, 0, 0, 1, false, THERE, 1}, {{"mm", "n", "o", ""}, 2, 0, 2, 2, 1, 0, 0, false, THERE, 1},
-    {{"ss", "tt", "", ""}, 1, 0, 1, 1, 1, 0, 0, false, THERE, 1}, {{"s", "s", "t", ""}, 1, 0, 1, 1, 2, 0, 0, false, THERE, 1},
-    {{"mm", "nn", "c", ""}, 0, 1, 1, 2, 0, 0, 0, false, THERE, 1}, {{"mm", "n", "n", ""}, 0, 1, 1, 2, 1, 0, 0, false, THERE, 1},
-    {{"mm", "nn", "c", ""}, 2, 0, 1, 2, 1, 0, 0, false, THERE, 1}, {{"mm", "m", "n", ""}, 2, 0, 1, 1, 1, 0, 0, false, THERE, 1},
-    {{"mm", "mm", "", ""}, 2, 0, 1, 2, 1, 0, 1, false, THERE, 1}, {{"sss", "ttt", "", ""}, 1, 0, 1, 2, 2, 0, 0, false, THERE, 1},
-    {{"mnmo", "mnmo", "", ""}, 2, 0, 2, 1, 1, 0, 0, false, THERE, 1}, {{"s", "t", "u", ""}, 1, 0, 2, 1, 1, 0, 0, false, THERE, 1},
-    {{"mm", "nn", "n", ""}, 2, 0, 1, 1, 1, 0, 0, false, THERE, 1}, {{"mm", "n", "o", ""}, 2, 0, 2, 2, 1, 0, 0, true, THERE, 1},
-    {{"mm", "n", "n", ""}, 2, 0, 1, 2, 1, 0, 0, false, THERE, 1}, {{"mm", "nn", "c", ""}, 2, 0, 1, 2, 1, 0, 0, true, THERE, 1},
-    {{"mnmn", "mnmn", "", ""}, 2, 0, 1, 1, 2, 0, 0, false, THERE, 1}, {{"mm", "m", "nn", ""}, 0, 1, 1, 1, 0, 0, 0, false, THERE, 1},
-    {{"ss", "t", "c", ""}, 1, 0, 1, 2, 1, 0, 0, false, THERE, 1}, {{"mnmn", "mnmn", "", ""}, 2, 0, 1, 2, 0, 1, 0, false, THERE, 1},
-    {{"mm", "m", "n", ""}, 2, 0, 1, 2, 0, 1, 0, false, THERE, 1}, {{"s", "s", "t", ""}, 1, 0, 1, 2, 1, 0, 0, false, THERE, 1},
-    {{"mm", "nn", "nn", ""}, 2, 0, 1, 1, 1, 0, 0, false, THERE, 1}, {{"mm", "m", "n", ""}, 2, 0, 1, 2, 1, 0, 0, false, THERE, 1},
-    {{"mm", "m", "n", ""}, 0, 1, 1, 2, 0, 0, 0, false, THERE, 1}, {{"mnmn", "mnmn", "", ""}, 0, 1, 1, 2, 0, 0, 0, false, THERE, 1},
-    {{"ss", "t", "u", ""}, 1, 0, 2, 1, 1, 0, 0, false, THERE, 1}, {{"mnmn", "mnmn", "", ""}, 1, 0, 1, 1, 1, 0, 0, false, THERE, 1},
-    {{"s", "s", "tt", ""}, 1, 0, 1, 1, 1, 0, 0, false, THERE, 1}, {{"mnmn", "mnmn", "", ""}, 2, 0, 1, 2, 1, 0, 0, false, THERE, 1},
-    {{"ss", "t", "t", ""}, 0, 1, 1, 1, 0, 0, 0, false, THERE, 1}, {{"mn", "mn", "mn", ""}, 2, 0, 1, 1, 1, 0, 0, false, THERE, 1},
+    {{"mm", "c", "c", ""}, 2, 0, 1, 2, 1, 0, 0, false, THERE, 1},
+    {{"mm", "m", "", ""}, 1, 0, 1, 2, 1, 0, 0, false, THERE, 1},
+    {{"mm", "nn", "", ""}, 2, 0, 1, 1, 1, 0, 0, false, THERE, 1},
+    {{"mm", "oon", "", ""}, 2, 0, 2, 2, 1, 0, 0, false, THERE, 1},
+    {{"mmm", "nnc", "", ""}, 1, 0, 1, 1, 2, 0, 0, false, THERE, 1},
+    {{"mm", "nm", "", ""}, 0, 1, 1, 1, 0, 0, 0, true, THERE, 1},
+    {{"mm", "nn", "", ""}, 1, 0, 1, 2, 1, 0, 0, true, THERE, 1},
+    {{"mm", "nn", "", ""}, 2, 0, 1, 1, 1, 0, 0, true, THERE, 2},
+    {{"m", "m", "n", ""}, 1, 0, 1, 2, 1, 0, 0, false, THERE, 1},
+    {{"mmmm", "nnn", "", ""}, 3, 0, 2, 2, 2, 0, 0, false, THERE, 1},
+    {{"mm", "m", "nn", ""}, 1, 0, 1, 1, 2, 0, 0, false, THERE, 1},
+    {{"mn", "mn", "l", ""}, 0, 1, 1, 2, 1, 0, 0, false, THERE, 1},
+    {{"m", "m", "n", ""}, 0, 1, 1, 2, 1, 0, 0, true, THERE, 1},
+    {{"mmm", "nnn", "", ""}, 0, 1, 1, 2, 1, 0, 0, false, THERE, 1},
+    {{"mmm", "nnn", "", ""}, 2, 0, 1, 1, 2, 0, 0, false, THERE, 1},
+    {{"mm", "nn", "l", ""}, 0, 1, 1, 2, 0, 0, 0, false, THERE, 1},
+    {{"m", "m", "n", ""}, 1, 0, 1, 2, 1, 0, 0, true, THERE, 1},
+    {{"ss", "tt", "", ""}, 2, 0, 1, 2, 1, 0, 0, false, THERE, 1},
+    {{"mmmm", "nnm", "", ""}, 2, 0, 1, 2, 4, 0, 0, false, THERE, 1},
+    {{"m", "m", "n", "c"}, 0, 1, 1, 1, 0, 0, 0, false, THERE, 1},
+    {{"mm", "nn", "l", ""}, 2, 0, 1, 2, 1, 0, 0, false, THERE, 1},
+    {{"mm", "nm", "", ""}, 0, 1, 1, 2, 0, 0, 0, false, THERE, 1},
+    {{"mm", "no", "l", ""}, 0, 1, 2, 2, 0, 0, 0, false, THERE, 1},
+    {{"mm", "mm", "", ""}, 2, 0, 1, 1, 1, 0, 0, false, THERE, 1},
+    {{"b", "k", "c", ""}, 1, 0, 1, 2, 1, 0, 0, false, THERE, 1},
+    {{"m", "m", "n", "n"}, 1, 0, 1, 1, 1, 0, 0, false, THERE, 1},
+    {{"mm", "nn", "ci", ""}, 0, 1, 1, 1, 0, 0, 1, false, THERE, 1},
+    {{"mm", "m", "n", ""}, 1, 0, 1, 2, 2, 0, 0, false, THERE, 1},
+    {{"mmm", "nnn", "", ""}, 3, 0, 1, 2, 1, 0, 0, false, THERE, 1},
+    {{"mm", "n", "o", ""}, 0, 1, 2, 2, 1, 0, 0, false, THERE, 1},
+    {{"mmm", "nnn", "", ""}, 2, 0, 1, 2, 1, 0, 0, false, THERE, 1},
+    {{"mm", "m", "n", ""}, 0, 1, 1, 1, 0, 0, 0, true, THERE, 1},
+    {{"mm", "nn", "n", ""}, 0, 1, 1, 1, 1, 0, 0, false, THERE, 1},
+    {{"mn", "mn", "c", ""}, 1, 0, 1, 2, 1, 0, 0, false, THERE, 1},
+    {{"mm", "m", "n", ""}, 0, 1, 1, 1, 0, 0, 1, false, THERE, 1},
+    {{"mm", "n", "o", ""}, 2, 0, 2, 2, 1, 0, 0, false, THERE, 1},
+    {{"ss", "tt", "", ""}, 1, 0, 1, 1, 1, 0, 0, false, THERE, 1},
+    {{"s", "s", "t", ""}, 1, 0, 1, 1, 2, 0, 0, false, THERE, 1},
+    {{"mm", "nn", "c", ""}, 0, 1, 1, 2, 0, 0, 0, false, THERE, 1},
+    {{"mm", "n", "n", ""}, 0, 1, 1, 2, 1, 0, 0, false, THERE, 1},
+    {{"mm", "nn", "c", ""}, 2, 0, 1, 2, 1, 0, 0, false, THERE, 1},
+    {{"mm", "m", "n", ""}, 2, 0, 1, 1, 1, 0, 0, false, THERE, 1},
+    {{"mm", "mm", "", ""}, 2, 0, 1, 2, 1, 0, 1, false, THERE, 1},
+    {{"sss", "ttt", "", ""}, 1, 0, 1, 2, 2, 0, 0, false, THERE, 1},
+    {{"mnmo", "mnmo", "", ""}, 2, 0, 2, 1, 1, 0, 0, false, THERE, 1},
+    {{"s", "t", "u", ""}, 1, 0, 2, 1, 1, 0, 0, false, THERE, 1},
+    {{"mm", "nn", "n", ""}, 2, 0, 1, 1, 1, 0, 0, false, THERE, 1},
+    {{"mm", "n", "o", ""}, 2, 0, 2, 2, 1, 0, 0, true, THERE, 1},
+    {{"mm", "n", "n", ""}, 2, 0, 1, 2, 1, 0, 0, false, THERE, 1},
+    {{"mm", "nn", "c", ""}, 2, 0, 1, 2, 1, 0, 0, true, THERE, 1},
+    {{"mnmn", "mnmn", "", ""}, 2, 0, 1, 1, 2, 0, 0, false, THERE, 1},
+    {{"mm", "m", "nn", ""}, 0, 1, 1, 1, 0, 0, 0, false, THERE, 1},
+    {{"ss", "t", "c", ""}, 1, 0, 1, 2, 1, 0, 0, false, THERE, 1},
+    {{"mnmn", "mnmn", "", ""}, 2, 0, 1, 2, 0, 1, 0, false, THERE, 1},
+    {{"mm", "m", "n", ""}, 2, 0, 1, 2, 0, 1, 0, false, THERE, 1},
+    {{"s", "s", "t", ""}, 1, 0, 1, 2, 1, 0, 0, false, THERE, 1},
+    {{"mm", "nn", "nn", ""}, 2, 0, 1, 1, 1, 0, 0, false, THERE, 1},
+    {{"mm", "m", "n", ""}, 2, 0, 1, 2, 1, 0, 0, false, THERE, 1},
+    {{"mm", "m", "n", ""}, 0, 1, 1, 2, 0, 0, 0, false, THERE, 1},
+    {{"mnmn", "mnmn", "", ""}, 0, 1, 1, 2, 0, 0, 0, false, THERE, 1},
+    {{"ss", "t", "u", ""}, 1, 0, 2, 1, 1, 0, 0, false, THERE, 1},
+    {{"mnmn", "mnmn", "", ""}, 1, 0, 1, 1, 1, 0, 0, false, THERE, 1},
+    {{"s", "s", "tt", ""}, 1, 0, 1, 1, 1, 0, 0, false, THERE, 1},
+    {{"mnmn", "mnmn", "", ""}, 2, 0, 1, 2, 1, 0, 0, false, THERE, 1},
+    {{"ss", "t", "t", ""}, 0, 1, 1, 1, 0, 0, 0, false, THERE, 1},
+    {{"mn", "mn", "mn", ""}, 2, 0, 1, 1, 1, 0, 0, false, THERE, 1},
 };
 
 enum { FEW = 44 }; /* of these a slow machine searches */
 
 int main(int count, char **words) {
     const char *const word = count > 1 ? words[1] : "";
-    const bool faults = strcmp(word, "--faults") == 0, few = strcmp(word, "--few") == 0, sizes = strcmp(word, "--sizes") == 0;
+    const bool faults = strcmp(word, "--faults") == 0, few = strcmp(word, "--few") == 0,
+               sizes = strcmp(word, "--sizes") == 0;
     size_t all = 0;
     if (faults && count > 2) wanted = words[2];
     has_rules = !faults || wanted;
@@ -1318,7 +1418,8 @@ int main(int count, char **words) {
         const bool found = search(&models[at]);
         const char *const *const calls = models[at].calls;
         all += state_count;
-        if (sizes || (found && !faults)) fprintf(stderr, "%s %s %s %s: %zu states\n", calls[0], calls[1], calls[2], calls[3], state_count);
+        if (sizes || (found && !faults))
+            fprintf(stderr, "%s %s %s %s: %zu states\n", calls[0], calls[1], calls[2], calls[3], state_count);
         if (!found || (wanted && strcmp(fault, wanted) != 0)) continue;
         if (faults) return printf("%s %s %s %s: %s\n", calls[0], calls[1], calls[2], calls[3], fault) < 0;
         fprintf(stderr, "%s, after these steps:\n", fault);

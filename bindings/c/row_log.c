@@ -2,8 +2,8 @@
  *
  *     row_log LOG CAPACITY [ITEMS]
  *
- * A queue of the row accepts seven items at most, and five sends begin at a place. The last thread that sends closes. ITEMS (1000) is how many
- * items each thread sends. CAPACITY 0 is no bound. */
+ * A queue of the row accepts seven items at most, and five sends begin at a place. The last thread that sends closes.
+ * ITEMS (1000) is how many items each thread sends. CAPACITY 0 is no bound. */
 #ifndef _POSIX_C_SOURCE
 #define _POSIX_C_SOURCE 200809L
 #endif
@@ -25,8 +25,10 @@ static void *sends(void *mine) {
     const uint32_t thread = (uint32_t)(recorder - recorders);
     for (uint64_t number = 1; number <= items;) {
         vahepito_begin_recorded_send(recorder, item_of(thread, number));
-        const uint32_t code = thread % 2 == 0 ? vahepito_send(queue, item_of(thread, number), NULL) : vahepito_send_now(queue, item_of(thread, number), NULL);
-        check(code == VAHEPITO_ACCEPTED || (thread % 2 == 1 && code == VAHEPITO_FULL), "a send is accepted, or there is no room");
+        const uint32_t code = thread % 2 == 0 ? vahepito_send(queue, item_of(thread, number), NULL)
+                                              : vahepito_send_now(queue, item_of(thread, number), NULL);
+        check(code == VAHEPITO_ACCEPTED || (thread % 2 == 1 && code == VAHEPITO_FULL),
+              "a send is accepted, or there is no room");
         vahepito_end_recorded_send(recorder, code == VAHEPITO_ACCEPTED ? VAHEPITO_SENT : VAHEPITO_WAS_FULL);
         if (code == VAHEPITO_ACCEPTED) number++;
         else sched_yield();
@@ -48,8 +50,12 @@ static void *takes(void *mine) {
         vahepito_item item;
         vahepito_begin_recorded_take(recorder);
         code = waits ? vahepito_take(queue, 1, &item, NULL) : vahepito_take_now(queue, 1, &item, NULL);
-        check(code == VAHEPITO_GOT || code == VAHEPITO_ENDED || (!waits && code == VAHEPITO_EMPTY), "a take gets an item, or there is none");
-        vahepito_end_recorded_take(recorder, code == VAHEPITO_GOT ? VAHEPITO_TOOK : code == VAHEPITO_EMPTY ? VAHEPITO_FOUND_NONE : VAHEPITO_FOUND_END,
+        check(code == VAHEPITO_GOT || code == VAHEPITO_ENDED || (!waits && code == VAHEPITO_EMPTY),
+              "a take gets an item, or there is none");
+        vahepito_end_recorded_take(recorder,
+                                   code == VAHEPITO_GOT     ? VAHEPITO_TOOK
+                                   : code == VAHEPITO_EMPTY ? VAHEPITO_FOUND_NONE
+                                                            : VAHEPITO_FOUND_END,
                                    code == VAHEPITO_GOT ? item.words[0] : 0);
         if (code == VAHEPITO_EMPTY) sched_yield();
     } while (code != VAHEPITO_ENDED);
@@ -68,7 +74,8 @@ int main(int count, char **words) {
     attributes.capacity = (uint32_t)strtoul(words[2], NULL, 10), attributes.life = 7, attributes.per_sender = 5;
     check(vahepito_create_as(&attributes, &queue) == VAHEPITO_DONE, "the queue is opened");
     for (int k = 0; k < 2 * EACH; k++) vahepito_recorder_open(&recorders[k], &calls);
-    for (int k = 0; k < 2 * EACH; k++) check(!pthread_create(&threads[k], NULL, k < EACH ? sends : takes, &recorders[k]), "a thread starts");
+    for (int k = 0; k < 2 * EACH; k++)
+        check(!pthread_create(&threads[k], NULL, k < EACH ? sends : takes, &recorders[k]), "a thread starts");
     while (__atomic_load_n(&running, __ATOMIC_SEQ_CST) > 0) {
         const struct timespec pause = {0, 10000000};
         nanosleep(&pause, NULL);

@@ -1,11 +1,13 @@
-/* The row of a queue: small limits, so that a queue is used up after a few items and a further one follows, by many threads; a queue without a
- * bound; no memory for a further queue; what is left at the end; batches; and descriptors for poll.
+/* The row of a queue: small limits, so that a queue is used up after a few items and a further one follows, by many
+ * threads; a queue without a bound; no memory for a further queue; what is left at the end; batches; and descriptors
+ * for poll.
  *
  *     rows [ITEMS]
  *
- * It ends with status 0 if each group got each item once, each sender's in their order and with rising places, there were never more items than
- * the capacity, all memory but a few queues was freed on the way, and each call returned what it has to. ITEMS (300) is how many each of 8
- * threads sends. With RECORD defined it writes a log for `ccq judge` of the queue with one group. */
+ * It ends with status 0 if each group got each item once, each sender's in their order and with rising places, there
+ * were never more items than the capacity, all memory but a few queues was freed on the way, and each call returned
+ * what it has to. ITEMS (300) is how many each of 8 threads sends. With RECORD defined it writes a log for `ccq judge`
+ * of the queue with one group. */
 #include "vahepito_queue.c" /* whose parts it looks into */
 
 #include "checks.h"
@@ -18,7 +20,8 @@ enum { SENDING = 8, TAKING = 4, GROUPS_AT_MOST = 3 };
 
 static uint64_t items = 300;
 static vahepito_queue *queue;
-static int64_t inside; /* how many items are accepted and not taken by the first group, as the threads count them: too few of them */
+/* How many items are accepted and not taken by the first group, as the threads count them: too few of them. */
+static int64_t inside;
 static uint64_t place_counts[SENDING * 4096];
 
 struct shape {
@@ -41,7 +44,8 @@ static void *sends(void *at) {
     for (uint64_t number = 1; number <= items; number++) {
         uint64_t place;
         uint32_t code = VAHEPITO_FULL;
-        while (thread % 3 == 1 && (code = vahepito_send_now(queue, item_of(thread, number), &place)) == VAHEPITO_FULL) sched_yield();
+        while (thread % 3 == 1 && (code = vahepito_send_now(queue, item_of(thread, number), &place)) == VAHEPITO_FULL)
+            sched_yield();
         while (thread % 3 == 2 && code == VAHEPITO_FULL) {
             const struct timespec soon = vahepito_after(50000);
             code = vahepito_send_until(queue, item_of(thread, number), &soon, &place);
@@ -49,7 +53,8 @@ static void *sends(void *at) {
         if (thread % 3 == 0) code = vahepito_send(queue, item_of(thread, number), &place);
         check(code == VAHEPITO_ACCEPTED, "a send is accepted in the end");
         check(number == 1 || place > last, "places rise");
-        check(place < SENDING * items && __atomic_fetch_add(&place_counts[place], 1, __ATOMIC_RELAXED) == 0, "each place is given once");
+        check(place < SENDING * items && __atomic_fetch_add(&place_counts[place], 1, __ATOMIC_RELAXED) == 0,
+              "each place is given once");
         const int64_t now = __atomic_add_fetch(&inside, 1, __ATOMIC_SEQ_CST);
         const uint32_t capacity = vahepito_capacity(queue);
         check(capacity == 0 || now <= (int64_t)capacity, "there are never more items than the capacity");
@@ -71,8 +76,9 @@ static void *takes(void *at) {
         size_t count = 1;
         /* It is counted before it is taken, so that the count is never too high. */
         if (mine->group == 1) __atomic_sub_fetch(&inside, 1, __ATOMIC_SEQ_CST);
-        const uint32_t code = mine->number == 3 && mine->group != 1 ? vahepito_take_many(queue, mine->group, got, 5, NULL, &count, &mine->total)
-                                                                     : vahepito_take(queue, mine->group, got, &mine->total);
+        const uint32_t code = mine->number == 3 && mine->group != 1
+                                  ? vahepito_take_many(queue, mine->group, got, 5, NULL, &count, &mine->total)
+                                  : vahepito_take(queue, mine->group, got, &mine->total);
         if (code == VAHEPITO_ENDED) return NULL;
         check(code == VAHEPITO_GOT && count > 0 && count <= 5, "a take gets an item, or is told the end");
         for (size_t k = 0; k < count; k++) {
@@ -109,8 +115,10 @@ static void many_threads(const struct shape *shape) {
         check(!pthread_create(&sending[k], NULL, sends, &numbers[k]), "a thread starts");
     }
     for (uint32_t k = 0; k < SENDING; k++) check(!pthread_join(sending[k], NULL), "a sender ends");
-    check(!vahepito_is_closed(queue) && vahepito_close(queue, &total) == VAHEPITO_SHUT && total == SENDING * items, "all were accepted");
-    check(vahepito_is_closed(queue) && vahepito_close(queue, &total) == VAHEPITO_ALREADY && total == SENDING * items, "it is closed once");
+    check(!vahepito_is_closed(queue) && vahepito_close(queue, &total) == VAHEPITO_SHUT && total == SENDING * items,
+          "all were accepted");
+    check(vahepito_is_closed(queue) && vahepito_close(queue, &total) == VAHEPITO_ALREADY && total == SENDING * items,
+          "it is closed once");
     uint64_t got[GROUPS_AT_MOST] = {0}, sum[GROUPS_AT_MOST] = {0};
     for (uint32_t k = 0; k < shape->groups * TAKING; k++) {
         check(!pthread_join(taking[k], NULL), "a receiver ends");
@@ -118,7 +126,8 @@ static void many_threads(const struct shape *shape) {
         got[k / TAKING] += workers[k].got, sum[k / TAKING] += workers[k].sum;
     }
     for (uint32_t group = 0; group < shape->groups; group++)
-        check(got[group] == total && sum[group] == SENDING * (items * (items + 1) / 2), "each group got each item once");
+        check(got[group] == total && sum[group] == SENDING * (items * (items + 1) / 2),
+              "each group got each item once");
     const uint64_t opened_in_all = queue->last->number + 1;
     const uint64_t life = shape->life ? shape->life : UINT64_MAX;
     check(life == UINT64_MAX || opened_in_all >= total / life, "there were many queues");
@@ -148,12 +157,15 @@ static void bound_over_queues(uint32_t capacity, uint32_t per_sender, uint64_t l
         if (kind == 0) {
             uint64_t place;
             const uint32_t code = vahepito_send_now(queue, sent, &place);
-            check(code == (sent - least < capacity ? VAHEPITO_ACCEPTED : VAHEPITO_FULL), "there is room, or there is none");
+            check(code == (sent - least < capacity ? VAHEPITO_ACCEPTED : VAHEPITO_FULL),
+                  "there is room, or there is none");
             if (code == VAHEPITO_ACCEPTED) check(place == sent++, "places have no gap");
         } else {
             const uint32_t code = vahepito_take_now(queue, kind, &item, NULL);
-            check(code == (taken[kind - 1] < sent ? VAHEPITO_GOT : VAHEPITO_EMPTY), "there is an item, or there is none");
-            if (code == VAHEPITO_GOT) check(item.words[0] == taken[kind - 1] && item.place == taken[kind - 1], "in order"), taken[kind - 1]++;
+            check(code == (taken[kind - 1] < sent ? VAHEPITO_GOT : VAHEPITO_EMPTY),
+                  "there is an item, or there is none");
+            if (code == VAHEPITO_GOT)
+                check(item.words[0] == taken[kind - 1] && item.place == taken[kind - 1], "in order"), taken[kind - 1]++;
         }
         least = taken[0];
         for (uint32_t group = 1; group < groups; group++)
@@ -177,17 +189,22 @@ static void no_bound(void) {
     vahepito_item item;
     open_as(&shape);
     check(vahepito_capacity(queue) == 0, "it has no bound");
-    for (uint64_t number = 1; number <= 1000; number++) check(vahepito_send_now(queue, number, NULL) == VAHEPITO_ACCEPTED, "there is always room");
+    for (uint64_t number = 1; number <= 1000; number++)
+        check(vahepito_send_now(queue, number, NULL) == VAHEPITO_ACCEPTED, "there is always room");
     check(vahepito_length(queue) == 1000, "they are all there");
-    for (uint64_t number = 1; number <= 990; number++) check(vahepito_take_now(queue, 2, &item, NULL) == VAHEPITO_GOT && item.words[0] == number, "in order");
+    for (uint64_t number = 1; number <= 990; number++)
+        check(vahepito_take_now(queue, 2, &item, NULL) == VAHEPITO_GOT && item.words[0] == number, "in order");
     left_count = left_sum = left_groups = 0;
     vahepito_destroy(queue, is_left, &left_count);
-    check(left_count == 1010 && left_sum == 500500 + 9955 && left_groups == 1000 + 20, "what each group had left was given, for its group");
+    check(left_count == 1010 && left_sum == 500500 + 9955 && left_groups == 1000 + 20,
+          "what each group had left was given, for its group");
     queue = vahepito_create(0);
     check(queue != NULL, "a queue without a bound is opened");
-    for (uint64_t number = 0; number < 20000; number++) check(vahepito_send(queue, number, NULL) == VAHEPITO_ACCEPTED, "there is always room");
+    for (uint64_t number = 0; number < 20000; number++)
+        check(vahepito_send(queue, number, NULL) == VAHEPITO_ACCEPTED, "there is always room");
     check(queue->last->number > 2, "in several queues");
-    for (uint64_t number = 0; number < 20000; number++) check(vahepito_take_now(queue, 1, &item, NULL) == VAHEPITO_GOT && item.words[0] == number, "in order");
+    for (uint64_t number = 0; number < 20000; number++)
+        check(vahepito_take_now(queue, 1, &item, NULL) == VAHEPITO_GOT && item.words[0] == number, "in order");
     check(parts_kept() <= 2, "and those that are done with are freed");
     vahepito_destroy(queue, NULL, NULL);
 }
@@ -199,7 +216,9 @@ static void stalled(void) {
     open_as(&shape);
     queue->seats[5].is_taken = (uintptr_t)queue->first;
     for (uint64_t number = 1; number <= 5000; number++)
-        check(vahepito_send_now(queue, number, NULL) == VAHEPITO_ACCEPTED && vahepito_take_now(queue, 1, &item, NULL) == VAHEPITO_GOT, "the others go on");
+        check(vahepito_send_now(queue, number, NULL) == VAHEPITO_ACCEPTED &&
+                  vahepito_take_now(queue, 1, &item, NULL) == VAHEPITO_GOT,
+              "the others go on");
     check(queue->last->number >= 49 && parts_kept() == 2, "its queue is kept, and no other one that is done with");
     queue->seats[5].is_taken = 0;
     retire_parts(queue);
@@ -210,7 +229,8 @@ static void stalled(void) {
 /* Groups leave: what they have left takes up no room, and the last one closes the queue. */
 static void *leaves(void *unused) {
     vahepito_item item;
-    for (int count = 0; count < 100; count++) check(vahepito_take(queue, 2, &item, NULL) == VAHEPITO_GOT, "the group takes");
+    for (int count = 0; count < 100; count++)
+        check(vahepito_take(queue, 2, &item, NULL) == VAHEPITO_GOT, "the group takes");
     check(vahepito_leave(queue, 2) == VAHEPITO_DONE, "and leaves");
     return unused;
 }
@@ -225,14 +245,20 @@ static void leaving(const struct shape *shape) {
     memset(place_counts, 0, sizeof place_counts);
     inside = INT64_MIN / 2; /* the bound isn't looked at here */
     check(!pthread_create(&thread, NULL, leaves, NULL), "a thread starts");
-    for (uint32_t k = 0; k < SENDING; k++) numbers[k] = k, check(!pthread_create(&sending[k], NULL, sends, &numbers[k]), "a thread starts");
-    while (taken < SENDING * items) check(vahepito_take(queue, 1, &item, NULL) == VAHEPITO_GOT && item.place == taken++, "the other group has all");
+    for (uint32_t k = 0; k < SENDING; k++)
+        numbers[k] = k, check(!pthread_create(&sending[k], NULL, sends, &numbers[k]), "a thread starts");
+    while (taken < SENDING * items)
+        check(vahepito_take(queue, 1, &item, NULL) == VAHEPITO_GOT && item.place == taken++, "the other group has all");
     for (uint32_t k = 0; k < SENDING; k++) check(!pthread_join(sending[k], NULL), "a sender ends");
     check(!pthread_join(thread, NULL) && vahepito_length(queue) == 0, "nothing is left of either");
-    check(vahepito_send_many(queue, words, 1, NULL, NULL) == VAHEPITO_ACCEPTED && vahepito_take(queue, 1, &item, NULL) == VAHEPITO_GOT, "a batch too");
+    check(vahepito_send_many(queue, words, 1, NULL, NULL) == VAHEPITO_ACCEPTED &&
+              vahepito_take(queue, 1, &item, NULL) == VAHEPITO_GOT,
+          "a batch too");
     check(vahepito_length(queue) == 0 && !vahepito_is_closed(queue), "and it is open");
-    check(vahepito_leave(queue, 3) == VAHEPITO_BAD_GROUPS && vahepito_leave(queue, 0) == VAHEPITO_BAD_GROUPS, "no other group leaves");
-    check(vahepito_leave(queue, 1) == VAHEPITO_DONE && vahepito_send(queue, 1, NULL) == VAHEPITO_CLOSED, "the last one closes it");
+    check(vahepito_leave(queue, 3) == VAHEPITO_BAD_GROUPS && vahepito_leave(queue, 0) == VAHEPITO_BAD_GROUPS,
+          "no other group leaves");
+    check(vahepito_leave(queue, 1) == VAHEPITO_DONE && vahepito_send(queue, 1, NULL) == VAHEPITO_CLOSED,
+          "the last one closes it");
     check(vahepito_close(queue, &total) == VAHEPITO_ALREADY && total == SENDING * items + 1, "after all items");
     vahepito_destroy(queue, NULL, NULL);
 }
@@ -248,19 +274,27 @@ static void batches(void) {
     check(vahepito_send_many(queue, words, 0, &now, &count) == VAHEPITO_ACCEPTED && count == 0, "none are none");
     check(vahepito_send_many(queue, words, 6, &now, &count) == VAHEPITO_FULL && count == 4, "four have room");
     errno = 77;
-    check(vahepito_send_many(queue, words, 1, &soon, &count) == VAHEPITO_FULL && count == 0, "and no more, until the moment");
+    check(vahepito_send_many(queue, words, 1, &soon, &count) == VAHEPITO_FULL && count == 0,
+          "and no more, until the moment");
     check(errno == 77, "a wait changes no errno");
-    check(vahepito_take_many(queue, 1, got, 3, NULL, &count, &total) == VAHEPITO_GOT && count == 3 && total == 0, "three are taken");
+    check(vahepito_take_many(queue, 1, got, 3, NULL, &count, &total) == VAHEPITO_GOT && count == 3 && total == 0,
+          "three are taken");
     check(got[0].words[0] == 1 && got[1].words[0] == 2 && got[2].words[0] == 3 && got[2].place == 2, "in order");
-    check(vahepito_take_many(queue, 1, got, 6, NULL, &count, NULL) == VAHEPITO_GOT && count == 1 && got[0].words[0] == 4, "and what is left");
+    check(vahepito_take_many(queue, 1, got, 6, NULL, &count, NULL) == VAHEPITO_GOT && count == 1 &&
+              got[0].words[0] == 4,
+          "and what is left");
     check(vahepito_take_many(queue, 1, got, 6, &now, &count, NULL) == VAHEPITO_EMPTY && count == 0, "and then none");
     check(vahepito_take_many(queue, 1, got, 0, NULL, &count, NULL) == VAHEPITO_EMPTY && count == 0, "none are none");
-    check(vahepito_take_many(queue, 2, got, 6, NULL, &count, &total) == VAHEPITO_BAD_GROUPS && count == 0 && total == 0, "there is one group");
+    check(vahepito_take_many(queue, 2, got, 6, NULL, &count, &total) == VAHEPITO_BAD_GROUPS && count == 0 && total == 0,
+          "there is one group");
     check(vahepito_send_many(queue, words, 2, NULL, &count) == VAHEPITO_ACCEPTED && count == 2, "two have room");
     check(vahepito_close(queue, &total) == VAHEPITO_SHUT && total == 6, "it is closed");
-    check(vahepito_send_many(queue, words, 2, NULL, &count) == VAHEPITO_CLOSED && count == 0, "nothing is accepted then");
-    check(vahepito_take_many(queue, 1, got, 6, NULL, &count, &total) == VAHEPITO_GOT && count == 2 && total == 0, "what was accepted is taken");
-    check(vahepito_take_many(queue, 1, got, 6, NULL, &count, &total) == VAHEPITO_ENDED && count == 0 && total == 6, "and then it ends");
+    check(vahepito_send_many(queue, words, 2, NULL, &count) == VAHEPITO_CLOSED && count == 0,
+          "nothing is accepted then");
+    check(vahepito_take_many(queue, 1, got, 6, NULL, &count, &total) == VAHEPITO_GOT && count == 2 && total == 0,
+          "what was accepted is taken");
+    check(vahepito_take_many(queue, 1, got, 6, NULL, &count, &total) == VAHEPITO_ENDED && count == 0 && total == 6,
+          "and then it ends");
     vahepito_destroy(queue, NULL, NULL);
 }
 
@@ -276,7 +310,8 @@ static void *polls(void *unused) {
     for (;;) {
         uint32_t code;
         check(is_readable(place, 60000), "a descriptor gets readable");
-        while ((code = vahepito_take_now(queue, 1, &item, NULL)) == VAHEPITO_GOT) check(item.words[0] == expected++, "in order");
+        while ((code = vahepito_take_now(queue, 1, &item, NULL)) == VAHEPITO_GOT)
+            check(item.words[0] == expected++, "in order");
         if (code == VAHEPITO_ENDED) break;
     }
     check(expected == 5000, "each item was found");
@@ -291,7 +326,8 @@ static void descriptors(void) {
     check(item >= 0 && room >= 0 && item != room && vahepito_descriptor(queue, 1) == item, "there are two");
     check(vahepito_descriptor(queue, 2) == -1 && errno == EINVAL, "and no more");
     errno = 77;
-    check(vahepito_take_now(queue, 1, NULL, NULL) == VAHEPITO_EMPTY && !is_readable(item, 0), "after a take that found nothing it isn't readable");
+    check(vahepito_take_now(queue, 1, NULL, NULL) == VAHEPITO_EMPTY && !is_readable(item, 0),
+          "after a take that found nothing it isn't readable");
     check(vahepito_send_now(queue, 1, NULL) == VAHEPITO_ACCEPTED && is_readable(item, 0), "after a send it is");
     check(vahepito_send_now(queue, 2, NULL) == VAHEPITO_FULL && !is_readable(room, 0), "there is no room");
     check(vahepito_take_now(queue, 1, NULL, NULL) == VAHEPITO_GOT && is_readable(room, 0), "and then there is");

@@ -1,9 +1,10 @@
-/* One log of two services: each writes lines in its own thread, and one thread writes all of them to the standard output.
+/* One log of two services: each writes lines in its own thread, and one thread writes all of them to the standard
+ * output.
  *
  *     cc -O2 -pthread services.c libvahepito_queue.a libvahepito.a libvahepito_heap.a -o services && ./services [LINES]
  *
- * A line is memory of malloc, and the queue's item is the pointer to it: its service fills it, and the writer frees it. The
- * lines of a service stay in order. If no line comes for a tenth of a second, the writer flushes what it has. */
+ * A line is memory of malloc, and the queue's item is the pointer to it: its service fills it, and the writer frees it.
+ * The lines of a service stay in order. If no line comes for a tenth of a second, the writer flushes what it has. */
 #include <vahepito.h>
 
 #include <pthread.h>

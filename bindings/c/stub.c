@@ -1,6 +1,6 @@
-/* An archive that replaces the proved library in a test, with another version or with other sizes. Its calls return VERSION
- * and ITEM_SIZE, and any other call of it ends the process. Without ITEM_SIZE it has the version alone, for a library that
- * is the proved one but for its version. */
+/* An archive that replaces the proved library in a test, with another version or with other sizes. Its calls return
+ * VERSION and ITEM_SIZE, and any other call of it ends the process. Without ITEM_SIZE it has the version alone, for a
+ * library that is the proved one but for its version. */
 #include <stddef.h>
 #include <stdint.h>
 #include <stdlib.h>

@@ -1,9 +1,11 @@
 /* A thread pool: four threads run the tasks that one thread submits, and end when there are no more. It counts primes.
  *
- *     cc -O2 -pthread thread_pool.c libvahepito_queue.a libvahepito.a libvahepito_heap.a -o thread_pool && ./thread_pool
+ *     cc -O2 -pthread thread_pool.c libvahepito_queue.a libvahepito.a libvahepito_heap.a -o thread_pool &&
+ *     ./thread_pool
  *
- * A task is a pointer to a function and its arguments, and the queue's item is the pointer to it. A submitting thread waits if
- * 64 tasks wait. A task must not submit a further one to its own pool: if all threads did, they would wait for each other. */
+ * A task is a pointer to a function and its arguments, and the queue's item is the pointer to it. A submitting thread
+ * waits if 64 tasks wait. A task must not submit a further one to its own pool: if all threads did, they would wait for
+ * each other. */
 #include <vahepito.h>
 
 #include <pthread.h>

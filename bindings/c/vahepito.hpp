@@ -1,13 +1,15 @@
-/* Vahepito for C++17: senders and receivers of items of a trivially copyable type of up to 32 bytes, or of std::unique_ptr.
+/* Vahepito for C++17: senders and receivers of items of a trivially copyable type of up to 32 bytes, or of
+ * std::unique_ptr.
  *
  *     auto [sender, receivers] = vahepito::open<int>({.capacity = 8, .groups = 2});   (with these names from C++20 on)
  *     sender.send(7);                                 waits for room; false: the queue is closed
- *     std::optional<int> item = receivers[0].take();  waits for an item; none: the queue is closed, and all its items are taken
+ *     std::optional<int> item = receivers[0].take();  waits for an item; none: it is closed, and all items are taken
  *
- * A sender is copied for each thread that sends, and the receiver of a group for each thread that takes: one thread at a time uses
- * a copy, and different copies may be used at once. The drop of the last sender closes the queue, and so does that of the
- * last receiver of all; the group of a last receiver leaves. The drop of the last of all frees it. A unique_ptr goes to the
- * receiver if its send is accepted, in a queue of one group. Groups, codes and waits are those of vahepito.h. */
+ * A sender is copied for each thread that sends, and the receiver of a group for each thread that takes: one thread at
+ * a time uses a copy, and different copies may be used at once. The drop of the last sender closes the queue, and so
+ * does that of the last receiver of all; the group of a last receiver leaves. The drop of the last of all frees it. A
+ * unique_ptr goes to the receiver if its send is accepted, in a queue of one group. Groups, codes and waits are those
+ * of vahepito.h. */
 #ifndef VAHEPITO_HPP
 #define VAHEPITO_HPP
 
@@ -31,7 +33,8 @@ constexpr std::uint32_t moved = 9;
 /* A call that can't be made: an opening or a send is refused memory, say, or the object was moved from. */
 class error : public std::runtime_error {
 public:
-    explicit error(std::uint32_t number) : std::runtime_error(number == moved ? "the object was moved from" : vahepito_text(number)), code(number) {}
+    explicit error(std::uint32_t number)
+        : std::runtime_error(number == moved ? "the object was moved from" : vahepito_text(number)), code(number) {}
     const std::uint32_t code;
 };
 
@@ -91,7 +94,9 @@ template <class T> struct as_words {
 /* What it points to goes with it, if the send is accepted. */
 template <class V> struct as_words<std::unique_ptr<V>> {
     using argument = std::unique_ptr<V> &&;
-    static void write(std::uint64_t *to, const std::unique_ptr<V> &item) { *to = reinterpret_cast<std::uintptr_t>(item.get()); }
+    static void write(std::uint64_t *to, const std::unique_ptr<V> &item) {
+        *to = reinterpret_cast<std::uintptr_t>(item.get());
+    }
     static void is_sent(std::unique_ptr<V> &item) { (void)item.release(); }
     static std::unique_ptr<V> read(const std::uint64_t *from) {
         return std::unique_ptr<V>(reinterpret_cast<V *>(static_cast<std::uintptr_t>(*from)));
@@ -119,12 +124,15 @@ public:
     bool send(argument item) {
         return result(vahepito_send_words(at(), copy(item), detail::words<T>, nullptr), item) == sent::accepted;
     }
-    sent try_send(argument item) { return result(vahepito_send_words_now(at(), copy(item), detail::words<T>, nullptr), item); }
+    sent try_send(argument item) {
+        return result(vahepito_send_words_now(at(), copy(item), detail::words<T>, nullptr), item);
+    }
     sent send_until(argument item, moment until) {
         const timespec time = detail::time_of(until);
         return result(vahepito_send_words_until(at(), copy(item), detail::words<T>, &time, nullptr), item);
     }
-    /* Sends these, one after another, and waits for room. Returns how many were accepted: fewer if the queue is closed. */
+    /* Sends these, one after another, and waits for room. Returns how many were accepted: fewer if the queue is
+     * closed. */
     std::size_t send_many(std::vector<T> &items) {
         std::size_t count = 0;
         while (count < items.size() && send(static_cast<argument>(items[count]))) count++;
@@ -149,7 +157,9 @@ private:
 
 template <class T> class receiver : detail::share {
 public:
-    receiver(std::shared_ptr<detail::queue> its, std::uint32_t number) : share(std::move(its)), group(number) { count()++; }
+    receiver(std::shared_ptr<detail::queue> its, std::uint32_t number) : share(std::move(its)), group(number) {
+        count()++;
+    }
     receiver(const receiver &other) : share(other), group(other.group), is_ended(other.is_ended) {
         if (of) count()++;
     }
@@ -198,9 +208,11 @@ private:
     bool is_ended = false;
 };
 
-/* Opens a queue: its sender, and a receiver for each group. At the end `left` gets each item that a group hasn't taken. */
+/* Opens a queue: its sender, and a receiver for each group. At the end `left` gets each item that a group hasn't
+ * taken. */
 template <class T>
-std::pair<sender<T>, std::vector<receiver<T>>> open(const config &config, std::function<void(std::uint32_t group, T item)> left = nullptr) {
+std::pair<sender<T>, std::vector<receiver<T>>> open(const config &config,
+                                                    std::function<void(std::uint32_t group, T item)> left = nullptr) {
     constexpr bool is_copied = std::is_trivially_copyable_v<T>;
     static_assert(sizeof(T) <= 8 * VAHEPITO_MOST_WORDS, "an item has at most 32 bytes");
     vahepito_attributes attributes = VAHEPITO_ATTRIBUTES;

@@ -1,5 +1,5 @@
-/* Records the calls on any queue, as a log that `ccq judge` judges: is it linearizable (docs/JUDGE.md)? This header needs
- * nothing else of vahepito, and no library is linked.
+/* Records the calls on any queue, as a log that `ccq judge` judges: is it linearizable (docs/JUDGE.md)? This header
+ * needs nothing else of vahepito, and no library is linked.
  *
  *     vahepito_log log;
  *     vahepito_log_open(&log, "LOG");                          once; 0, or -1 with errno
@@ -14,31 +14,32 @@
  *     vahepito_log_round(&log);                                now and then, by any thread
  *     vahepito_log_close(&log);                                at the end; 0 if the log is whole, or -1 with errno
  *
- * Items are numbers, and no two sends that are accepted have the same. A thread uses its own recorder alone, which isn't
- * moved, and begins no call before its last one has ended; if it gives that one up, it calls vahepito_give_up first. That call
- * is then one that hasn't returned, and later calls have a new thread's name.
+ * Items are numbers, and no two sends that are accepted have the same. A thread uses its own recorder alone, which
+ * isn't moved, and begins no call before its last one has ended; if it gives that one up, it calls vahepito_give_up
+ * first. That call is then one that hasn't returned, and later calls have a new thread's name.
  *
- * The log is written in rounds: if a recorder is full, at each vahepito_log_round, and at the end. After a round the file is
- * the log of the run up to a moment of that round: pending calls are in it as calls that haven't returned. So the log is
- * right if the program hangs or is killed, and lacks only what came after the last round. Let the thread that waits for the
- * others do a round every tenth of a second. If a round is killed while it writes, the log is refused, by the line that
- * begins with `!`.
+ * The log is written in rounds: if a recorder is full, at each vahepito_log_round, and at the end. After a round the
+ * file is the log of the run up to a moment of that round: pending calls are in it as calls that haven't returned. So
+ * the log is right if the program hangs or is killed, and lacks only what came after the last round. Let the thread
+ * that waits for the others do a round every tenth of a second. If a round is killed while it writes, the log is
+ * refused, by the line that begins with `!`.
  *
  * A write that fails ends the log early, and so does a limit, of which there is none unless `log.limit` is set after
- * vahepito_log_open, in bytes. The file is then as the last round left it, and vahepito_log_close returns -1, with errno of the first
- * write that failed, or EFBIG for the limit. The last line says so too: {"ends":"whole"} or {"ends":"early"}; the log of a
- * program that was killed has neither.
+ * vahepito_log_open, in bytes. The file is then as the last round left it, and vahepito_log_close returns -1, with
+ * errno of the first write that failed, or EFBIG for the limit. The last line says so too: {"ends":"whole"} or
+ * {"ends":"early"}; the log of a program that was killed has neither.
  *
- * The stamps are those of vahepito_log_now(&log), which a caller can read too. The lines of two files of one such clock are one
- * log, if the names of their threads differ and this one comes last.
+ * The stamps are those of vahepito_log_now(&log), which a caller can read too. The lines of two files of one such clock
+ * are one log, if the names of their threads differ and this one comes last.
  *
- * With VAHEPITO_RECORD_STOPS defined before the header (Linux), threads can be stopped in the middle of their calls: see
- * vahepito_stop_threads below. Faults that need a thread to be interrupted between two of its steps are found far sooner so.
+ * With VAHEPITO_RECORD_STOPS defined before the header (Linux), threads can be stopped in the middle of their calls:
+ * see vahepito_stop_threads below. Faults that need a thread to be interrupted between two of its steps are found far
+ * sooner so.
  *
- * A call costs two reads of the monotonic clock, two fences and some ten stores. Of 256 calls one takes a lock, before it
- * begins, and may do a round, which takes about half a microsecond a line. The package rust/record says why a round is right:
- * it reads the clock before it reads the recorders, and a call that isn't seen then began after that moment, or had no effect
- * yet.
+ * A call costs two reads of the monotonic clock, two fences and some ten stores. Of 256 calls one takes a lock, before
+ * it begins, and may do a round, which takes about half a microsecond a line. The package rust/record says why a round
+ * is right: it reads the clock before it reads the recorders, and a call that isn't seen then began after that moment,
+ * or had no effect yet.
  *
  * It needs gcc or clang, and POSIX: with -std=c99 or c11, define _POSIX_C_SOURCE as 200809L before the first header. */
 #ifndef VAHEPITO_RECORD_H
@@ -65,8 +66,8 @@ enum { VAHEPITO_IS_CLOSE = 8, VAHEPITO_HAS_CLOSED = 10, VAHEPITO_ACTS = 9 };
 enum { VAHEPITO_RECORDED = 256 };
 typedef struct { uint64_t begin, end, item, what; } vahepito_recorded;
 
-/* The calls of a thread that aren't written yet. Of `stage` the half is how many have ended; it's odd while one is pending.
- * `thread` is the system's number of the thread that made the last call, if threads can be stopped. */
+/* The calls of a thread that aren't written yet. Of `stage` the half is how many have ended; it's odd while one is
+ * pending. `thread` is the system's number of the thread that made the last call, if threads can be stopped. */
 typedef struct vahepito_recorder {
     struct vahepito_log *log;
     struct vahepito_recorder *next;
@@ -75,8 +76,8 @@ typedef struct vahepito_recorder {
     vahepito_recorded calls[VAHEPITO_RECORDED];
 } vahepito_recorder;
 
-/* All recorders; of the file the bytes that stay, the text behind them, of calls that were pending in the last round, and its size;
- * the most bytes; why nothing more is written, an errno; a lock. */
+/* All recorders; of the file the bytes that stay, the text behind them, of calls that were pending in the last round,
+ * and its size; the most bytes; why nothing more is written, an errno; a lock. */
 typedef struct vahepito_log {
     vahepito_recorder *first;
     uint64_t names, kept, start, limit;
@@ -107,17 +108,22 @@ static inline void vahepito_lock_log(vahepito_log *log) {
     while (__atomic_exchange_n(&log->lock, 1, __ATOMIC_ACQUIRE)) sched_yield();
 }
 
-static inline vahepito_recorded *vahepito_call_of(vahepito_recorder *mine, uint64_t call) { return &mine->calls[call % VAHEPITO_RECORDED]; }
+static inline vahepito_recorded *vahepito_call_of(vahepito_recorder *mine, uint64_t call) {
+    return &mine->calls[call % VAHEPITO_RECORDED];
+}
 
 /* Writes the line of a call, which had ended or not. The precision 0 writes no number for 0. */
 static inline void vahepito_put_line(FILE *text, vahepito_recorder *mine, uint64_t call, int ended) {
     vahepito_recorded *const it = vahepito_call_of(mine, call);
     const uint64_t what = VAHEPITO_GET(it->what, RELAXED) & (ended ? ~(uint64_t)0 : (uint64_t)VAHEPITO_ACTS);
     const int answered = (what & ~(uint64_t)VAHEPITO_ACTS) != 0, take = (what & VAHEPITO_IS_TAKE) != 0;
-    const char *const answer = what == VAHEPITO_WAS_FULL ? ",\"answer\":\"full\"" : what == VAHEPITO_WAS_CLOSED ? ",\"answer\":\"closed\""
-        : what == VAHEPITO_FOUND_END ? ",\"answer\":\"ended\"" : "";
-    fprintf(text, "{\"thread\":\"%" PRIu64 "\",\"begin\":%" PRIu64 "%s%.0" PRIu64, mine->name, VAHEPITO_GET(it->begin, RELAXED),
-        answered ? ",\"end\":" : "", answered ? VAHEPITO_GET(it->end, RELAXED) : 0);
+    const char *const answer = what == VAHEPITO_WAS_FULL     ? ",\"answer\":\"full\""
+                               : what == VAHEPITO_WAS_CLOSED ? ",\"answer\":\"closed\""
+                               : what == VAHEPITO_FOUND_END  ? ",\"answer\":\"ended\""
+                                                             : "";
+    fprintf(text, "{\"thread\":\"%" PRIu64 "\",\"begin\":%" PRIu64 "%s%.0" PRIu64, mine->name,
+            VAHEPITO_GET(it->begin, RELAXED), answered ? ",\"end\":" : "",
+            answered ? VAHEPITO_GET(it->end, RELAXED) : 0);
     if (what & VAHEPITO_IS_CLOSE) fprintf(text, ",\"close\":true}\n");
     else if (take && what != VAHEPITO_TOOK) fprintf(text, ",\"take\":null%s}\n", answer);
     else fprintf(text, ",\"%s\":[%" PRIu64 "]%s}\n", take ? "take" : "send", VAHEPITO_GET(it->item, RELAXED), answer);
@@ -145,8 +151,8 @@ static inline void vahepito_log_cut(const vahepito_log *log, uint64_t size) {
     if (ftruncate(log->file, (off_t)size) != 0) return;
 }
 
-/* Writes the log up to now. The lines of pending calls come last, and the next round writes over them: what it writes is no
- * shorter. If that fails, the file is put back to what the last round left. */
+/* Writes the log up to now. The lines of pending calls come last, and the next round writes over them: what it writes
+ * is no shorter. If that fails, the file is put back to what the last round left. */
 static inline void vahepito_log_round(vahepito_log *log) {
     vahepito_recorder *one;
     uint64_t moment, call, ended = 0;
@@ -160,14 +166,16 @@ static inline void vahepito_log_round(vahepito_log *log) {
     /* A recorder's first call that isn't written is pending, or is left to the next round */
     for (one = log->first; one; one = one->next) {
         const uint64_t calls = VAHEPITO_GET(one->stage, ACQUIRE) / 2;
-        for (call = one->written; call < calls && VAHEPITO_GET(vahepito_call_of(one, call)->end, RELAXED) < moment; call++)
+        for (call = one->written; call < calls && VAHEPITO_GET(vahepito_call_of(one, call)->end, RELAXED) < moment;
+             call++)
             if (text) vahepito_put_line(text, one, call, 1);
         VAHEPITO_SET(one->written, call, RELEASE);
     }
     if (text) ended = (uint64_t)ftello(text);
     for (one = log->first; one && text; one = one->next) {
         call = one->written;
-        if (VAHEPITO_GET(one->stage, ACQUIRE) > 2 * call && VAHEPITO_GET(vahepito_call_of(one, call)->begin, RELAXED) < moment)
+        if (VAHEPITO_GET(one->stage, ACQUIRE) > 2 * call &&
+            VAHEPITO_GET(vahepito_call_of(one, call)->begin, RELAXED) < moment)
             vahepito_put_line(text, one, call, 0);
     }
     if (!log->over && (!text || fclose(text) != 0)) log->over = ENOMEM;
@@ -210,8 +218,8 @@ static inline void vahepito_recorder_open(vahepito_recorder *mine, vahepito_log 
     VAHEPITO_SET(log->lock, 0, RELEASE);
 }
 
-/* Writes all calls and the last line, and closes the file. A call that is pending now hasn't returned, and later calls aren't
- * written. 0 if the log is whole, or -1 with errno. */
+/* Writes all calls and the last line, and closes the file. A call that is pending now hasn't returned, and later calls
+ * aren't written. 0 if the log is whole, or -1 with errno. */
 static inline int vahepito_log_close(vahepito_log *log) {
     const char *line;
     const size_t size = sizeof VAHEPITO_ENDS_EARLY - 1;
@@ -234,17 +242,18 @@ static inline int vahepito_log_close(vahepito_log *log) {
 }
 
 #ifdef VAHEPITO_RECORD_STOPS
-/* Stops of threads in the middle of their calls, for tests: again and again a thread whose recorded call is pending sleeps for 20
- * to 220 microseconds, and the others go on.
+/* Stops of threads in the middle of their calls, for tests: again and again a thread whose recorded call is pending
+ * sleeps for 20 to 220 microseconds, and the others go on.
  *
- *     vahepito_stops_open();                                   once, before threads start; 0, or -1 with errno: EBUSY if the signal
- *                                                              has a handler
+ *     vahepito_stops_open();                                   once, before threads start; 0, or -1 with errno: EBUSY
+ *                                                              if the signal has a handler
  *     vahepito_stop_threads(&log, 100);                        by the thread that waits for the others: for 100 ms
  *
- * Limits. The thread gets the signal SIGURG, of which the program may have no other handler. A system call that it interrupts is
- * restarted if it can be; nanosleep, poll, select, epoll_wait, the queues and semaphores of System V, and waits with a time
- * limit return EINTR, which the queue has to expect. The handler needs some kilobytes of the thread's stack, takes no lock and leaves errno as it was.
- * A thread that blocks SIGURG isn't stopped. A stop takes effect a microsecond after it was sent: it may come after the call. */
+ * Limits. The thread gets the signal SIGURG, of which the program may have no other handler. A system call that it
+ * interrupts is restarted if it can be; nanosleep, poll, select, epoll_wait, the queues and semaphores of System V, and
+ * waits with a time limit return EINTR, which the queue has to expect. The handler needs some kilobytes of the thread's
+ * stack, takes no lock and leaves errno as it was. A thread that blocks SIGURG isn't stopped. A stop takes effect a
+ * microsecond after it was sent: it may come after the call. */
 #if !defined _DEFAULT_SOURCE && !defined _GNU_SOURCE
 #error "VAHEPITO_RECORD_STOPS needs _DEFAULT_SOURCE or _GNU_SOURCE, defined before the first header"
 #endif
@@ -282,7 +291,8 @@ static inline int vahepito_stops_open(void) {
     mine.sa_handler = vahepito_stop;
     mine.sa_flags = SA_RESTART;
     sigemptyset(&mine.sa_mask);
-    /* Sleeps of this thread, and of those that it starts later, are as short as they say: 50 microseconds less than usual */
+    /* Sleeps of this thread, and of those that it starts later, are as short as they say: 50 microseconds less than
+     * usual */
     prctl(PR_SET_TIMERSLACK, 1ul);
     return sigaction(SIGURG, &mine, NULL);
 }
@@ -346,12 +356,24 @@ static inline void vahepito_end_recorded(vahepito_recorder *mine, uint64_t what,
     VAHEPITO_SET(mine->stage, mine->stage + 1, RELEASE);
 }
 
-static inline void vahepito_begin_recorded_send(vahepito_recorder *mine, uint64_t item) { vahepito_begin_recorded(mine, 0, item); }
-static inline void vahepito_end_recorded_send(vahepito_recorder *mine, unsigned answer) { vahepito_end_recorded(mine, answer, 0); }
-static inline void vahepito_begin_recorded_take(vahepito_recorder *mine) { vahepito_begin_recorded(mine, VAHEPITO_IS_TAKE, 0); }
-static inline void vahepito_end_recorded_take(vahepito_recorder *mine, unsigned answer, uint64_t item) { vahepito_end_recorded(mine, answer, item); }
-static inline void vahepito_begin_recorded_close(vahepito_recorder *mine) { vahepito_begin_recorded(mine, VAHEPITO_IS_CLOSE, 0); }
-static inline void vahepito_end_recorded_close(vahepito_recorder *mine) { vahepito_end_recorded(mine, VAHEPITO_HAS_CLOSED, 0); }
+static inline void vahepito_begin_recorded_send(vahepito_recorder *mine, uint64_t item) {
+    vahepito_begin_recorded(mine, 0, item);
+}
+static inline void vahepito_end_recorded_send(vahepito_recorder *mine, unsigned answer) {
+    vahepito_end_recorded(mine, answer, 0);
+}
+static inline void vahepito_begin_recorded_take(vahepito_recorder *mine) {
+    vahepito_begin_recorded(mine, VAHEPITO_IS_TAKE, 0);
+}
+static inline void vahepito_end_recorded_take(vahepito_recorder *mine, unsigned answer, uint64_t item) {
+    vahepito_end_recorded(mine, answer, item);
+}
+static inline void vahepito_begin_recorded_close(vahepito_recorder *mine) {
+    vahepito_begin_recorded(mine, VAHEPITO_IS_CLOSE, 0);
+}
+static inline void vahepito_end_recorded_close(vahepito_recorder *mine) {
+    vahepito_end_recorded(mine, VAHEPITO_HAS_CLOSED, 0);
+}
 
 /* Notes that the pending call won't return. */
 static inline void vahepito_give_up(vahepito_recorder *mine) {

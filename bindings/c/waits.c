@@ -2,8 +2,8 @@
  *
  *     waits [ITEMS]
  *
- * It ends with status 0 if each item was taken once, each receiver saw each sender's items in order, all calls that waited
- * returned at the close, and each call returned what it has to. If a wake-up is lost it ends by a signal.
+ * It ends with status 0 if each item was taken once, each receiver saw each sender's items in order, all calls that
+ * waited returned at the close, and each call returned what it has to. If a wake-up is lost it ends by a signal.
  * ITEMS (250) is how many items each sender sends. */
 #ifndef _POSIX_C_SOURCE
 #define _POSIX_C_SOURCE 200809L
@@ -32,7 +32,8 @@ static pthread_t sending[MANY], taking[MANY];
 
 static void open_for(uint32_t capacity) { queue = opened(capacity, 1); }
 
-/* No call is in a line, or was notified and isn't, and none is parked or has a seat. How many calls ended beside parked ones is any number. */
+/* No call is in a line, or was notified and isn't, and none is parked or has a seat. How many calls ended beside parked
+ * ones is any number. */
 static void free_queue(void) {
     check(queue->senders.counts == 0 && queue->served.waiting != PARKED, "no send waits");
     for (int k = 0; k < MOST_GROUPS; k++) check(queue->receivers[k].counts == 0, "no take waits");
@@ -137,7 +138,9 @@ static void refusals(void) {
     check(vahepito_send_words_now(queue, words, 2, NULL) == VAHEPITO_LONG, "in each call");
     check(vahepito_send(queue, 5, &number) == VAHEPITO_ACCEPTED && number == 0, "a send is accepted");
     for (int round = 0; round < 2; round++) {
-        check(vahepito_send_words(queue, words, 0, &number) == VAHEPITO_BAD_WORDS && vahepito_send_words(queue, words, 5, NULL) == VAHEPITO_BAD_WORDS, "no such item");
+        check(vahepito_send_words(queue, words, 0, &number) == VAHEPITO_BAD_WORDS &&
+                  vahepito_send_words(queue, words, 5, NULL) == VAHEPITO_BAD_WORDS,
+              "no such item");
         check(vahepito_send_words(queue, words, 2, &number) == VAHEPITO_LONG && number == 0, "waits for room");
         check(vahepito_send_now(queue, 6, &number) == VAHEPITO_FULL && number == 0, "which there isn't");
     }
@@ -156,8 +159,8 @@ static void *sends_second(void *unused) {
     return unused;
 }
 
-/* A send that waits for room begins few sends, however long it waits: at most nine until it has parked and was woken once. The
- * first item was sent at the same place. */
+/* A send that waits for room begins few sends, however long it waits: at most nine until it has parked and was woken
+ * once. The first item was sent at the same place. */
 static void tries_are_few(void) {
     vahepito_item item;
     open_for(1);
@@ -235,7 +238,8 @@ static void batches_wake_at_once(void) {
     start(&taking[0], takes_of_a_batch, NULL);
     while (!has_waiting(&queue->receivers[0])) sleep_for(1);
     let_them_sleep();
-    check(vahepito_send_many(queue, words, BATCH, NULL, &sent) == VAHEPITO_ACCEPTED && sent == BATCH, "a batch is sent");
+    check(vahepito_send_many(queue, words, BATCH, NULL, &sent) == VAHEPITO_ACCEPTED && sent == BATCH,
+          "a batch is sent");
     __atomic_store_n(&is_over, 1, __ATOMIC_SEQ_CST);
     check(!pthread_join(taking[0], NULL), "a receiver ends");
     check(vahepito_length(queue) == BATCH - 1, "and the rest is there");
@@ -281,7 +285,8 @@ static void pace_is_noted(void) {
 
 static void *takes_to_its_end(void *receiver) {
     vahepito_item item;
-    check(vahepito_take(queue, 1, &item, NULL) == VAHEPITO_GOT && item.words[0] == 7, "a take gets its item all the same");
+    check(vahepito_take(queue, 1, &item, NULL) == VAHEPITO_GOT && item.words[0] == 7,
+          "a take gets its item all the same");
     (void)pthread_setcancelstate(PTHREAD_CANCEL_DISABLE, NULL);
     return receiver;
 }
@@ -316,7 +321,8 @@ static void moments(void) {
     check(vahepito_take_until(queue, 1, NULL, &wrong, NULL) == VAHEPITO_EMPTY, "no such moment comes");
     moment = vahepito_after(UINT64_MAX);
     check(moment.tv_nsec >= 0 && moment.tv_nsec < 1000000000, "the last moment has nanoseconds that are some");
-    check((uint64_t)(moment.tv_sec - vahepito_after(0).tv_sec) - UINT64_MAX / 1000000000 <= 1, "and comes in 584 years");
+    check((uint64_t)(moment.tv_sec - vahepito_after(0).tv_sec) - UINT64_MAX / 1000000000 <= 1,
+          "and comes in 584 years");
     moment = vahepito_after(30000000);
     check(vahepito_take_until(queue, 1, &item, &moment, NULL) == VAHEPITO_EMPTY, "no item comes");
     check(nanoseconds(CLOCK_MONOTONIC) - from >= 30000000, "until the moment");
@@ -336,8 +342,8 @@ static void moments(void) {
     free_queue();
 }
 
-/* Sends and takes of 64 threads, of which a half have little time for each call, in two groups, with a capacity of three, and
- * with fewer places than threads.
+/* Sends and takes of 64 threads, of which a half have little time for each call, in two groups, with a capacity of
+ * three, and with fewer places than threads.
  * Now and then a thread pauses for so long that others park. */
 struct worker {
     uint64_t got, sum;
@@ -369,9 +375,11 @@ static void *takes_in_time(void *at) {
     vahepito_item item;
     for (;;) {
         const struct timespec soon = vahepito_after(50000);
-        const uint32_t code = mine->has_time ? vahepito_take_until(queue, mine->group, &item, &soon, NULL) : vahepito_take(queue, mine->group, &item, NULL);
+        const uint32_t code = mine->has_time ? vahepito_take_until(queue, mine->group, &item, &soon, NULL)
+                                             : vahepito_take(queue, mine->group, &item, NULL);
         if (code == VAHEPITO_ENDED) return NULL;
-        check(code == VAHEPITO_GOT || (mine->has_time && code == VAHEPITO_EMPTY), "a take gets an item, or its time is over");
+        check(code == VAHEPITO_GOT || (mine->has_time && code == VAHEPITO_EMPTY),
+              "a take gets an item, or its time is over");
         if (code == VAHEPITO_GOT) mine->got++, mine->sum += item.words[0];
         pauses(mine->got);
     }
@@ -397,7 +405,8 @@ static void many_threads(void) {
         sum[k / (MANY / 2)] += takes[k].sum;
     }
     for (int group = 0; group < 2; group++)
-        check(got[group] == MANY * items && sum[group] == MANY * (items * (items + 1) / 2), "each group has each item once");
+        check(got[group] == MANY * items && sum[group] == MANY * (items * (items + 1) / 2),
+              "each group has each item once");
     free_queue();
 }
 

@@ -1,8 +1,9 @@
 /* Bodies of one to four words in C.
  *
- * On one thread: what an opening and a send refuse, what a queue of bodies of one word refuses, and each number of words
- * sent and taken. Then two threads send 1,000 bodies each of one to four words through room for four, and two take until
- * the end. It ends with status 0 if each item came with the words that were sent, and each refusal was returned. */
+ * On one thread: what an opening and a send refuse, what a queue of bodies of one word refuses, and each number of
+ * words sent and taken. Then two threads send 1,000 bodies each of one to four words through room for four, and two
+ * take until the end. It ends with status 0 if each item came with the words that were sent, and each refusal was
+ * returned. */
 #include "by_handles.h"
 
 #include <pthread.h>
@@ -104,11 +105,14 @@ static void no_room(struct queue *queue) {
     vahepito_item item;
     uint64_t number = 99;
     uint32_t served = 99;
-    check(send_words_by(&queue->senders[0], five, 2, &number) == VAHEPITO_ACCEPTED && number == 9, "two words are sent");
+    check(send_words_by(&queue->senders[0], five, 2, &number) == VAHEPITO_ACCEPTED && number == 9,
+          "two words are sent");
     check(vahepito_try_take(receiver, &one, &number, &served) == VAHEPITO_WIDE, "one word has no room for them");
-    check(one.place == 0 && one.sender == 0 && one.number == 0 && one.body == 0 && number == 0 && served == 0, "nothing is told");
+    check(one.place == 0 && one.sender == 0 && one.number == 0 && one.body == 0 && number == 0 && served == 0,
+          "nothing is told");
     check(take_by(receiver, &one, NULL) == VAHEPITO_WIDE, "for a take that waits neither");
-    check(vahepito_turn_take_words(receiver, &item, &number, &served) == VAHEPITO_NOT_BEGUN, "no take was begun by them");
+    check(vahepito_turn_take_words(receiver, &item, &number, &served) == VAHEPITO_NOT_BEGUN,
+          "no take was begun by them");
     check(vahepito_begin_take(receiver) == VAHEPITO_BEGUN, "a take is begun");
     check(vahepito_turn_take(receiver, &one, &number, &served) == VAHEPITO_WIDE, "nor does its turn tell one word");
     check(finish_take_words(receiver, &item, NULL) == VAHEPITO_GOT, "it goes on with all words");
