@@ -1,5 +1,5 @@
-# What vahepito.h or vahepito.3 says of the library, a line each: `function NAME`, `code NAME`, and `returns FUNCTION CODE`
-# for each code that a call lists. `make check` compares the two.
+# What vahepito.h or vahepito.3 says of the library, a line each: `function NAME`, `code NAME`, and
+# `returns FUNCTION CODE` for each code that a call lists. `make check` compares the two.
 #
 #     awk -f manual.awk vahepito.h | sort -u
 #     awk -f manual.awk vahepito.3 | sort -u

@@ -1,7 +1,8 @@
-# Gives the target vahepito::vahepito: headers and archives of the folder in which this file lies, wherever that is. The target
-# vahepito::strict has the library with no plain store in its place, as it was proved and built, and vahepito::shared the shared
-# library. A shared object in which an archive is linked exports none of its functions.
-if(NOT CMAKE_SYSTEM_NAME STREQUAL "Linux" OR NOT CMAKE_SYSTEM_PROCESSOR MATCHES "^(@PROCESSORS@)$" OR NOT CMAKE_SIZEOF_VOID_P EQUAL 8)
+# Gives the target vahepito::vahepito: headers and archives of the folder in which this file lies, wherever that is. The
+# target vahepito::strict has the library with no plain store in its place, as it was proved and built, and
+# vahepito::shared the shared library. A shared object in which an archive is linked exports none of its functions.
+if(NOT CMAKE_SYSTEM_NAME STREQUAL "Linux" OR NOT CMAKE_SYSTEM_PROCESSOR MATCHES "^(@PROCESSORS@)$"
+        OR NOT CMAKE_SIZEOF_VOID_P EQUAL 8)
   set(vahepito_FOUND FALSE)
   set(vahepito_NOT_FOUND_MESSAGE "its archives are for Linux on the processor @PROCESSORS@ with 64 bits")
   return()
@@ -27,13 +28,15 @@ if(NOT TARGET vahepito::vahepito)
   # The queue, over either of them.
   add_library(vahepito::vahepito STATIC IMPORTED)
   add_library(vahepito::strict STATIC IMPORTED)
-  set_target_properties(vahepito::vahepito PROPERTIES INTERFACE_LINK_LIBRARIES "vahepito::default_calls;Threads::Threads")
+  set_target_properties(vahepito::vahepito PROPERTIES
+    INTERFACE_LINK_LIBRARIES "vahepito::default_calls;Threads::Threads")
   set_target_properties(vahepito::strict PROPERTIES INTERFACE_LINK_LIBRARIES "vahepito::strict_calls;Threads::Threads")
   set_target_properties(vahepito::vahepito vahepito::strict PROPERTIES
     IMPORTED_LINK_INTERFACE_LANGUAGES C
     IMPORTED_LOCATION "${vahepito_lib}/libvahepito_queue.a"
     INTERFACE_INCLUDE_DIRECTORIES "${vahepito_include}"
-    INTERFACE_LINK_OPTIONS "LINKER:--exclude-libs,libvahepito_queue.a:libvahepito.a:libvahepito_strict.a:libvahepito_heap.a")
+    INTERFACE_LINK_OPTIONS
+      "LINKER:--exclude-libs,libvahepito_queue.a:libvahepito.a:libvahepito_strict.a:libvahepito_heap.a")
   add_library(vahepito::shared SHARED IMPORTED)
   set_target_properties(vahepito::shared PROPERTIES
     IMPORTED_LOCATION "${vahepito_lib}/@SONAME@"
