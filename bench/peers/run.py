@@ -15,7 +15,8 @@ the slowest calls are measured, and the table `tail` is written; with --busy-tai
 and the table `busy_tail`. With --steps the exports are timed with the same atomic steps by hand, and the table `steps` is written.
 With --unbounded queues without a bound are timed, and the table `unbounded` is written. With --pinned short bursts of pinned threads
 are timed, of which those count in which no thread lost its processor, and the table `pinned` is written: also on a busy machine.
-With --c the queue of vahepito.h is timed beside queues of libraries for C and C++, with the adapters of bench/judged, and the table `c` is written.
+With --c the queue of vahepito.h is timed beside queues of libraries for C and C++, with the adapters of bench/judged, and the
+table `c` is written.
 --all measures all but the steps and the queues without a bound, in some N + 300 seconds, then writes README's table (bench/readme.py).
 """
 import argparse
@@ -435,9 +436,9 @@ def without_bound(programs, there, seconds):
 
 # The queue of vahepito.h beside others in C and C++.
 
-IN_C = {"vahepito": "`vahepito.h`", "mutex": "mutex and condition variables", "glib": "`GAsyncQueue`", "tbb_bounded": "TBB's bounded queue",
-        "ck_ring_mpmc": "`ck_ring`", "boost_bounded": "boost::lockfree", "urcu_wfcqueue": "liburcu's wfcqueue",
-        "urcu_rculfqueue": "its rculfqueue"}
+IN_C = {"vahepito": "`vahepito.h`", "mutex": "mutex and condition variables", "glib": "`GAsyncQueue`",
+        "tbb_bounded": "TBB's bounded queue", "ck_ring_mpmc": "`ck_ring`", "boost_bounded": "boost::lockfree",
+        "urcu_wfcqueue": "liburcu's wfcqueue", "urcu_rculfqueue": "its rculfqueue"}
 WAIT_IN_C = ["vahepito", "mutex", "glib", "tbb_bounded"]
 
 
@@ -451,7 +452,8 @@ def build_in_c():
     room.mkdir(parents=True, exist_ok=True)
     queue = os.path.join(room, "vahepito_queue.o")
     judged.told(["cc", "-std=c11", "-O2", "-c", os.path.join(bindings, "c", "vahepito_queue.c"), "-o", queue])
-    archives = [os.path.join(bindings, f"rust/lib/x86_64-unknown-linux-gnu/libvahepito{name}.a") for name in ("", "_heap")]
+    kept = os.path.join(bindings, "rust", "lib", "x86_64-unknown-linux-gnu")
+    archives = [os.path.join(kept, f"libvahepito{name}.a") for name in ("", "_heap")]
     words = ["-DPLACES=64", "-I", str(judged.SOURCES), "-I", os.path.join(bindings, "c")]
     program, = judged.build_c(room, [os.path.join(HERE, "src", "waits.cpp"), queue, *archives], words)
     packages = {one.name: one.package for one in judged.C.queues}
@@ -473,7 +475,8 @@ def in_c(seconds):
     times = timed(shapes, queues, seconds)
     told = lambda it: "" if it is None else f"{short(it[1])} ({short(it[0])}–{short(it[2])})"
     cells = {key: told(quartiles({key: [[time] for time in of]}, key, 0)) for key, of in times.items()}
-    return [["", *(IN_C[name] for name in names)], *([at, *(cells.get((at, name), "") for name in names)] for at in shapes)]
+    rows = [[at, *(cells.get((at, name), "") for name in names)] for at in shapes]
+    return [["", *(IN_C[name] for name in names)], *rows]
 
 
 # The pictures.
