@@ -3,11 +3,11 @@ use Rattle.std.proofs.Common.{◌≡◌, ◌≢◌, ℕ, suc, ◌+◌, ◌<◌, 
 use Rattle.std.specs.List.{slice_get}
 use Rattle.cc_judge.specs.Names.{Act, Call, Kind, Rules, Index, Lists, Shut, Spell, Stay}
 use Rattle.cc_judge.specs.Order.{EndsBefore}
-use Rattle.cc_judge.specs.Faults.{Did, Differ, TakenTwice, Passed, WasClosed, WasOpen, Reopened, ClosedEarly, BeganBy, BeganAfter}
+use Rattle.cc_judge.specs.Faults.{Did, Differ, NeverSent, TakenTwice, Passed, WasClosed, WasOpen, Reopened, ClosedEarly, BeganBy, BeganAfter}
 use Rattle.cc_judge.specs.Table.{IsIndex, Twice}
 use Rattle.cc_judge.specs.Counts.{SentBy, MoreLeft, AreEnough, IsInside, TookOver, LeftBehind, NeverEmpty, EndedWithItems}
 use Rattle.cc_judge.specs.Faultless.{IsWritten, NoFault}
-use Rattle.cc_judge.specs.Sweeps.{IsShut, IsOpen, IsShutAt, AreLists, IsSpell, IsLatest, IsLast, AreTaken, WasSent, KeepsClosed, IsPair, KeepsTurn, KeepTurns, IsNone, HasMoment, HasEnd, MayBeEmpty, EmptyAt, HasEndedIf, IsWrittenCall, IsOfLefts}
+use Rattle.cc_judge.specs.Sweeps.{IsShut, IsOpen, IsShutAt, AreLists, IsSpell, IsLatest, IsPassedLast, AreTaken, WasSent, KeepsClosed, IsPair, KeepsTurn, KeepTurns, IsNone, HasMoment, HasEnd, MayBeEmpty, EmptyAt, HasEndedIf, IsWrittenCall, IsOfLefts}
 use Rattle.std.proofs.lemmas.Bool.{cases_lt}
 use Rattle.std.proofs.lemmas.Option.{slice_get_within}
 use Rattle.std.proofs.lemmas.List.Sorted.{Contains-permutation, IsPermutation-sym}
@@ -72,9 +72,10 @@ keeps_shut rules calls s close shut did begun none = record {
 -- ---- items that were taken
 
 module _ (rules : Rules) (calls : List Call) (written : IsWritten calls) (later_send later_take begin end : ℕ) (pair : IsPair calls later_send later_take begin end) where
-  pub took_over_so : (s : Spell) → KeepsClosed rules calls → IsLast rules calls begin s → end < s.until → TookOver calls s.send s.take later_send later_take
-  took_over_so s keeps last less =
+  pub took_over_so : (lists : Lists) (s : Spell) → KeepsClosed rules calls → IsPassedLast rules calls lists begin end s → TookOver calls s.send s.take later_send later_take
+  took_over_so lists s keeps last =
       let spell = last.spell in
+      let less = last.later in
       let begins = spell.begins in
       record {
         earlier = passed_by calls s.send s.take spell.item written spell.sent spell.took;
@@ -231,6 +232,57 @@ has_end rules calls place begin end false so none at judged e d ends = absurd (c
 
 -- ---- stays that a fault shows
 
+-- of the first items this one was sent last that was sent before the one time and taken after the other
+pub record PassedTo (rules : Rules) (calls : List Call) (spells : List Spell) (begin end upto : ℕ) (s : Spell) : Type 0 where
+  pub spell : IsSpell rules calls s
+  pub before : s.from < begin
+  pub later : end < s.until
+  pub last : (k : ℕ) (t : Spell) → k < upto → slice_get spells k ≡ Some t → t.from < begin → end < t.until → t.from ≤ s.from
+
+pub passed_first : (rules : Rules) (calls : List Call) (spells : List Spell) (begin end : ℕ) (s : Spell) → IsSpell rules calls s → s.from < begin → end < s.until → PassedTo rules calls spells begin end 0 s
+passed_first rules calls spells begin end s spell before later = record { spell = spell; before = before; later = later; last = λ k t less. absurd (omega (arith, less)) }
+
+pub passed_more : (rules : Rules) (calls : List Call) (lists : Lists) (begin end i : ℕ) (last other s : Spell) → AreLists rules calls lists → slice_get lists.spells.items i ≡ Some other → ((s ≡ last) ⊎ ((s ≡ other) × (other.from < begin) × (end < other.until))) → last.from ≤ s.from → (other.from < begin → end < other.until → other.from ≤ s.from) → PassedTo rules calls lists.spells.items begin end i last → PassedTo rules calls lists.spells.items begin end (i + 1) s
+passed_more rules calls lists begin end i last other s l other_is either most too so_far = elim either [
+  | inl same ↦ record {
+    spell = subst (IsSpell rules calls) (sym same) so_far.spell;
+    before = subst (λ (x : Spell). x.from < begin) (sym same) so_far.before;
+    later = subst (λ (x : Spell). end < x.until) (sym same) so_far.later;
+    last = upto;
+  }
+  | inr same ↦ record {
+    spell = subst (IsSpell rules calls) (sym same.0) (l.spells.each i other other_is);
+    before = subst (λ (x : Spell). x.from < begin) (sym same.0) same.1;
+    later = subst (λ (x : Spell). end < x.until) (sym same.0) same.2;
+    last = upto;
+  }
+]
+  where
+    upto : (k : ℕ) (t : Spell) → k < i + 1 → slice_get lists.spells.items k ≡ Some t → t.from < begin → end < t.until → t.from ≤ s.from
+    upto k t below is before later = elim (cases_lt k i) [
+      | inl less ↦ let le = so_far.last k t less is before later in omega (arith, le, most)
+      | inr not_less ↦
+          let here : k ≡ i = omega (arith, below, not_less) in
+          let one : t ≡ other = some_is t other (sym is ∙ ap (slice_get lists.spells.items) here ∙ other_is) in
+          subst (λ (x : Spell). x.from ≤ s.from) (sym one) (too (subst (λ (x : Spell). x.from < begin) one before) (subst (λ (x : Spell). end < x.until) one later))
+    ]
+
+pub passed_kept : (rules : Rules) (calls : List Call) (lists : Lists) (begin end i : ℕ) (passed last : Spell) → IsSpell rules calls passed → passed.from < begin → end < passed.until → last.from < passed.from → length lists.spells.items ≤ i → PassedTo rules calls lists.spells.items begin end i last → IsPassedLast rules calls lists begin end passed
+passed_kept rules calls lists begin end i passed last spell before later less past so_far = record {
+  spell = spell;
+  before = before;
+  later = later;
+  last = λ k t is early late. let within = slice_get_within lists.spells.items k t is in let le = so_far.last k t (omega (arith, within, past)) is early late in omega (arith, le, less);
+}
+
+pub passed_end : (rules : Rules) (calls : List Call) (lists : Lists) (begin end i : ℕ) (s : Spell) → length lists.spells.items ≤ i → PassedTo rules calls lists.spells.items begin end i s → IsPassedLast rules calls lists begin end s
+passed_end rules calls lists begin end i s past so_far = record {
+  spell = so_far.spell;
+  before = so_far.before;
+  later = so_far.later;
+  last = λ k t is. let within = slice_get_within lists.spells.items k t is in so_far.last k t (omega (arith, within, past)) is;
+}
+
 pub first_untaken : (calls : List Call) → AreUntaken calls []
 first_untaken calls k send is = absurd (cc (is))
 
@@ -345,6 +397,14 @@ taken_twice_so calls first second written t = record {
   apart = t.apart;
   took = record { call = t.one.call; call_is = t.one.call_is; act_is = t.one.act_is; ended = written.took first t.item t.one };
   took_again = record { call = t.other.call; call_is = t.other.call_is; act_is = t.other.act_is; ended = written.took second t.item t.other };
+}
+
+-- no call sent an item that is past all that were sent
+pub never_past : (calls : List Call) (items take : ℕ) → IsWritten calls → ((place item : ℕ) → Did calls place (Act.Send item) → item < items) → ((item : ℕ) × Did calls take (Act.Took item)) → ((item : ℕ) → Did calls take (Act.Took item) → items ≤ item) → NeverSent calls take
+never_past calls items take written below (item, did) past = record {
+  item = item;
+  took = record { call = did.call; call_is = did.call_is; act_is = did.act_is; ended = written.took take item did };
+  none = λ i sent. let less = below i item sent in let le = past item did in omega (arith, less, le);
 }
 
 -- no two sends of one item

@@ -31,3 +31,4 @@ pub mod Cuts
 pub mod Ranks
 pub mod Marks
 pub mod Late
+pub mod Until

@@ -3,20 +3,19 @@ use Rattle.std.proofs.Common.{◌≡◌, ◌≢◌, ℕ, zero, suc, ◌+◌, ◌
 use Rattle.std.specs.List.{slice_get, slice_set}
 use Rattle.std.proofs.lemmas.Bool.{cases_lt}
 use Rattle.std.proofs.lemmas.Option.{slice_get_within}
-use Rattle.cc_judge.specs.Names.{Act, Call, Fault, Index, Kind, Rules, Tie, Verdict}
+use Rattle.cc_judge.specs.Names.{Act, Call, Fault, Rules, Tie, Verdict}
 use Rattle.cc_judge.specs.Order.{IsLinearizable, of_any_capacity}
 use Rattle.cc_judge.specs.Room.{FullsArePossible}
-use Rattle.cc_judge.specs.Faults.{Did}
-use Rattle.cc_judge.specs.Table.{IsTable, IsIndex, act_of}
+use Rattle.cc_judge.specs.Faults.{Did, Differ}
 use Rattle.cc_judge.specs.Faultless.{IsWritten, NoFault}
 use Rattle.cc_judge.specs.Sweeps.{AreSorted}
-use Rattle.cc_judge.specs.Cuts.{IsEarlier, IsLater, MeetAt, AreLone, AreMeetings, AreApart, AreShort, MayBeCut, AreMarked, CutBy, CutCall, IsCut, AreWithoutTies, begin_part, end_part, place_of}
-use Rattle.cc_judge.specs.Verdict.{Stands, IsVerdict}
+use Rattle.cc_judge.specs.Cuts.{IsEarlier, IsLater, MeetAt, AreLone, AreMeetings, AreApart, AreShort, MayBeCut, AreMarked, AreEach, CutBy, CutCall, IsCut, AreWithoutTies, begin_part, end_part, place_of}
+use Rattle.cc_judge.specs.Verdict.{AreSentBelow, StandsFirst, IsVerdict}
 use Rattle.cc_judge.proofs.Turns.{nat_cases, set_at, set_elsewhere}
 use Rattle.cc_judge.proofs.Shares.{end_cases}
 use Rattle.cc_judge.proofs.Cuts.{cut_logs_are_exact, none_some, some_is, one_end, one_call}
 use Rattle.cc_judge.proofs.Listing.{ListOf, rises, at_pushed, last_pushed}
-use Rattle.cc_judge.proofs.NoOrder.{differ, no_order}
+use Rattle.cc_judge.proofs.Until.{no_first}
 use Rattle.cc_judge.proofs.Faultless.{faultless_logs_have_orders}
 
 less_or : (k i : ℕ) → k < i + 1 → (k < i) ⊎ (k ≡ i)
@@ -177,9 +176,9 @@ lone calls ties may = record {
 
 -- ---- the cut calls
 
-pub record CutTo (ties : List Tie) (calls cut : List Call) (upto : ℕ) : Type 0 where
-  pub long : length cut ≡ upto
-  pub each : (k : ℕ) (c : Call) → k < upto → slice_get calls k ≡ Some c → (d : Call) × (slice_get cut k ≡ Some d) × CutCall ties k c d
+pub record EachTo (Relates : (place : ℕ) → (whole part : Call) → Type 0) (calls others : List Call) (upto : ℕ) : Type 0 where
+  pub long : length others ≡ upto
+  pub each : (k : ℕ) (c : Call) → k < upto → slice_get calls k ≡ Some c → (d : Call) × (slice_get others k ≡ Some d) × Relates k c d
 
 pub cut_so : (ties : List Tie) (place : ℕ) (earlier later : List Bool) (e l : Bool) (c d : Call) → AreMarked ties false earlier → AreMarked ties true later → slice_get earlier place ≡ Some e → slice_get later place ≡ Some l → CutBy e l c d → CutCall ties place c d
 cut_so ties place earlier later e l c d early late e_is l_is by = record {
@@ -197,15 +196,15 @@ cut_so ties place earlier later e l c d early late e_is l_is by = record {
     ends true is time at = inl (early.marked place is, at)
     ends false is time at = inr (λ x. early.others place x.0 x.1 is x.2 x.3, at)
 
-pub cut_more : (ties : List Tie) (calls cut : List Call) (i : ℕ) (c d : Call) → slice_get calls i ≡ Some c → CutCall ties i c d → CutTo ties calls cut i → CutTo ties calls (cut ++ d ∷ []) (i + 1)
-cut_more ties calls cut i c d is so so_far = record {
+pub each_more : (Relates : (place : ℕ) → (whole part : Call) → Type 0) (calls cut : List Call) (i : ℕ) (c d : Call) → slice_get calls i ≡ Some c → Relates i c d → EachTo Relates calls cut i → EachTo Relates calls (cut ++ d ∷ []) (i + 1)
+each_more Relates calls cut i c d is so so_far = record {
   long = longer cut ∙ omega (arith, so_far.long);
   each = λ k x below k_is. elim (less_or k i below) [
     | inl less ↦ let had = so_far.each k x less k_is in (had.0, at_pushed cut d had.0 k had.1, had.2)
     | inr here ↦ (
       d,
       ap (slice_get (cut ++ d ∷ [])) (here ∙ sym so_far.long) ∙ last_pushed cut d,
-      subst (λ (n : ℕ). CutCall ties n x d) (sym here) (subst (λ (y : Call). CutCall ties i y d) (one_call calls i c x is (sym (ap (slice_get calls) here) ∙ k_is)) so),
+      subst (λ (n : ℕ). Relates n x d) (sym here) (subst (λ (y : Call). Relates i y d) (one_call calls i c x is (sym (ap (slice_get calls) here) ∙ k_is)) so),
     )
   ];
 }
@@ -219,34 +218,28 @@ slice_has [] k less = absurd (omega (arith, less))
 slice_has (x ∷ xs) zero less = (x, refl)
 slice_has (x ∷ xs) (suc k) less = slice_has xs k (omega (arith, less))
 
-pub is_cut : (ties : List Tie) (calls cut : List Call) (i : ℕ) → i ≡ length calls → CutTo ties calls cut i → IsCut ties calls cut
-is_cut ties calls cut i end so_far = record {
+pub are_each : (Relates : (place : ℕ) → (whole part : Call) → Type 0) (calls cut : List Call) (i : ℕ) → i ≡ length calls → EachTo Relates calls cut i → AreEach Relates calls cut
+are_each Relates calls cut i end so_far = record {
   there = λ k c is. so_far.each k c (let less = slice_get_within calls k c is in omega (arith, less, end)) is;
   back = λ k d is.
       let less = slice_get_within cut k d is in
       let long = so_far.long in
       let c = slice_has calls k (omega (arith, less, long, end)) in
       let had = so_far.each k c.0 (omega (arith, less, long)) c.1 in
-      (c.0, c.1, subst (CutCall ties k c.0) (one_call cut k had.0 d had.1 is) had.2);
+      (c.0, c.1, subst (Relates k c.0) (one_call cut k had.0 d had.1 is) had.2);
 }
 
 -- ---- what holds of the cut log
 
 module _ (ties : List Tie) (calls cut : List Call) (may : MayBeCut calls ties) (k : IsCut ties calls cut) where
-  did_cut : (place : ℕ) (act : Act) → Did calls place act → Did cut place act
-  did_cut place act did = let d = k.there place did.call did.call_is in record { call = d.0; call_is = d.1; act_is = d.2.act ∙ did.act_is }
-
   did_whole : (place : ℕ) (act : Act) → Did cut place act → Did calls place act
   did_whole place act did = let c = k.back place did.call did.call_is in record { call = c.0; call_is = c.1; act_is = sym c.2.act ∙ did.act_is }
 
-  table_cut : (kind : Kind) (table : List (Option ℕ)) → IsTable calls kind table → IsTable cut kind table
-  table_cut kind table is = record {
-    all = λ place item did. is.all place item (did_whole place (act_of kind item) did);
-    each = λ place item had. did_cut place (act_of kind item) (is.each place item had);
-  }
+  pub cut_differ : Differ calls → Differ cut
+  cut_differ differ item i j one other = differ item i j (did_whole i (Act.Send item) one) (did_whole j (Act.Send item) other)
 
-  pub index_cut : (index : Index) → IsIndex calls index → IsIndex cut index
-  index_cut index is = record { sends = table_cut Kind.Send index.sends.items is.sends; takes = table_cut Kind.Take index.takes.items is.takes }
+  pub cut_below : (items : ℕ) → AreSentBelow calls items → AreSentBelow cut items
+  cut_below items below place item did = below place item (did_whole place (Act.Send item) did)
 
   cut_some : (place : ℕ) (c d : Call) → CutCall ties place c d → IsSome c.end → IsSome d.end
   cut_some place c d so some = elim (end_cases c.end) [
@@ -295,22 +288,22 @@ module _ (ties : List Tie) (calls cut : List Call) (may : MayBeCut calls ties) (
 
 -- ---- verdicts
 
-pub fault_so : (rules : Rules) (calls : List Call) (index : Index) (fault : Fault) → IsIndex calls index → Stands rules calls fault → IsVerdict rules calls (Verdict.Fault fault)
-fault_so rules calls index fault indexed stands = (inl stands, no_order rules calls fault (differ calls index.sends.items indexed.sends) stands)
+pub fault_so : (rules : Rules) (calls : List Call) (fault : Fault) → Differ calls → StandsFirst rules calls fault → IsVerdict rules calls (Verdict.Fault fault)
+fault_so rules calls fault differ s = (inl s, no_first rules calls fault differ s)
 
 -- a log with an order that was found
 pub clean_so : (rules : Rules) (calls : List Call) → IsLinearizable (of_any_capacity rules) calls → NoFault rules calls × FullsArePossible rules calls → IsVerdict rules calls Verdict.Clean
 clean_so rules calls order fine = (order, inl fine.1)
 
-module _ (rules plain : Rules) (calls cut : List Call) (index : Index) (indexed : IsIndex calls index) (written : IsWritten calls) (may : MayBeCut calls rules.ties.items) (k : IsCut rules.ties.items calls cut) (same : AreWithoutTies rules plain) where
-  pub cut_fault : (fault : Fault) → Stands plain cut fault → IsVerdict rules calls (Verdict.Fault fault)
+module _ (rules plain : Rules) (calls cut : List Call) (differ : Differ calls) (written : IsWritten calls) (may : MayBeCut calls rules.ties.items) (k : IsCut rules.ties.items calls cut) (same : AreWithoutTies rules plain) where
+  pub cut_fault : (fault : Fault) → StandsFirst plain cut fault → IsVerdict rules calls (Verdict.Fault fault)
   cut_fault fault stands = (
     inr (record { plain = plain; same = same; cut = cut; may = may; cut_is = k; stands = stands }),
-    λ order. no_order plain cut fault (differ cut index.sends.items (index_cut rules.ties.items calls cut may k index indexed).sends) stands (cut_logs_are_exact.exact rules plain calls cut same (lone calls rules.ties.items may) k order),
+    λ order. no_first plain cut fault (cut_differ rules.ties.items calls cut may k differ) stands (cut_logs_are_exact.exact rules plain calls cut same (lone calls rules.ties.items may) k order),
   )
 
   cut_order : NoFault plain cut → IsLinearizable (of_any_capacity rules) calls
-  cut_order fine = cut_logs_are_exact.sound (of_any_capacity rules) (of_any_capacity plain) calls cut (record { capacity = refl; closes = same.closes; none = same.none }) (lone calls rules.ties.items may) k (faultless_logs_have_orders plain cut same.none (differ cut index.sends.items (index_cut rules.ties.items calls cut may k index indexed).sends) (written_cut rules.ties.items calls cut may k written) fine)
+  cut_order fine = cut_logs_are_exact.sound (of_any_capacity rules) (of_any_capacity plain) calls cut (record { capacity = refl; closes = same.closes; none = same.none }) (lone calls rules.ties.items may) k (faultless_logs_have_orders plain cut same.none (cut_differ rules.ties.items calls cut may k differ) (written_cut rules.ties.items calls cut may k written) fine)
 
   pub cut_clean : NoFault plain cut × FullsArePossible plain cut → IsVerdict rules calls Verdict.Clean
   cut_clean fine = (cut_order fine.0, inr (record { plain = plain; same = same; cut = cut; may = may; cut_is = k; possible = fine.1 }))

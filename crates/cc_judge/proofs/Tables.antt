@@ -105,6 +105,9 @@ tabled_end calls kind table i end so_far = record {
   each = so_far.each;
 }
 
+pub tabled_below : (calls : List Call) (kind : Kind) (table : List (Option ℕ)) (items : ℕ) → IsTable calls kind table → length table ≡ items → (place item : ℕ) → Did calls place (act_of kind item) → item < items
+tabled_below calls kind table items is long place item did = let within = slice_get_within table item (Some place) (is.all place item did) in omega (arith, within, long)
+
 -- an item without a place in the table has no call of the kind
 pub absent : (calls : List Call) (kind : Kind) (table : List (Option ℕ)) (item : ℕ) → IsTable calls kind table → slice_get table item ≡ Some None → (place : ℕ) → Did calls place (act_of kind item) → ⊥
 absent calls kind table item is none place did = let both : Some (Some place) ≡ Some None = sym (is.all place item did) ∙ none in cc

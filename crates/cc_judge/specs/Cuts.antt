@@ -33,10 +33,14 @@ pub record CutCall (ties : List Tie) (place : ℕ) (whole cut : Call) : Type 0 w
   pub open_end : whole.end ≡ None → cut.end ≡ None
   pub end : (time : ℕ) → whole.end ≡ Some time → (IsEarlier ties place × (cut.end ≡ Some (4 * time + 1))) ⊎ ((IsEarlier ties place → ⊥) × (cut.end ≡ Some (4 * time + 3)))
 
--- the second log has the calls of the first so
-pub record IsCut (ties : List Tie) (calls cut : List Call) : Type 0 where
-  pub there : (place : ℕ) (c : Call) → slice_get calls place ≡ Some c → (d : Call) × (slice_get cut place ≡ Some d) × CutCall ties place c d
-  pub back : (place : ℕ) (d : Call) → slice_get cut place ≡ Some d → (c : Call) × (slice_get calls place ≡ Some c) × CutCall ties place c d
+-- the second log has the calls of the first, each as the relation says
+pub record AreEach (Relates : (place : ℕ) → (whole part : Call) → Type 0) (calls others : List Call) : Type 0 where
+  pub there : (place : ℕ) (c : Call) → slice_get calls place ≡ Some c → (d : Call) × (slice_get others place ≡ Some d) × Relates place c d
+  pub back : (place : ℕ) (d : Call) → slice_get others place ≡ Some d → (c : Call) × (slice_get calls place ≡ Some c) × Relates place c d
+
+-- the second log has the calls of the first, cut so
+abbrev pub IsCut : (ties : List Tie) → (calls cut : List Call) → Type 0
+IsCut ties calls cut = AreEach (CutCall ties) calls cut
 
 -- the same rules, but for calls that only their lines order
 pub record AreWithoutTies (rules plain : Rules) : Type 0 where

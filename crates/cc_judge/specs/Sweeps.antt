@@ -186,11 +186,18 @@ pub record IsPair (calls : List Call) (send take begin end : ℕ) : Type 0 where
 abbrev pub KeepsTurn : Rules → List Call → (begin end : ℕ) → Type 0
 KeepsTurn rules calls begin end = AreTaken rules calls begin end × AreEnough rules calls begin end
 
+-- the item was sent before the one time and taken after the other; of all such items it was sent last
+pub record IsPassedLast (rules : Rules) (calls : List Call) (lists : Lists) (begin end : ℕ) (s : Spell) : Type 0 where
+  pub spell : IsSpell rules calls s
+  pub before : s.from < begin
+  pub later : end < s.until
+  pub last : (k : ℕ) (t : Spell) → slice_get lists.spells.items k ≡ Some t → t.from < begin → end < t.until → t.from ≤ s.from
+
 -- the item that an item overtook which was sent and taken at these times, or that it overtook none
-abbrev pub IsPassed : Rules → List Call → (begin end : ℕ) → Passed → Type 0
-IsPassed rules calls begin end Passed.None = KeepsTurn rules calls begin end
-IsPassed rules calls begin end (Passed.Taken s) = IsLast rules calls begin s × (end < s.until)
-IsPassed rules calls begin end Passed.Left = MoreLeft rules calls begin end
+abbrev pub IsPassed : Rules → List Call → Lists → (begin end : ℕ) → Passed → Type 0
+IsPassed rules calls lists begin end Passed.None = KeepsTurn rules calls begin end
+IsPassed rules calls lists begin end (Passed.Taken s) = IsPassedLast rules calls lists begin end s
+IsPassed rules calls lists begin end Passed.Left = MoreLeft rules calls begin end
 
 -- the stay is one of items that are left
 abbrev pub IsOfLefts : Stay → Type 0

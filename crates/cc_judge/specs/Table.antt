@@ -1,5 +1,5 @@
 -- The places at which each item of a log was sent and taken.
-use Rattle.std.specs.Prelude.{◌≡◌, ◌≢◌, ℕ, ◌≤◌, List, Option, Some, None, slice_get, slice_set}
+use Rattle.std.specs.Prelude.{◌≡◌, ◌≢◌, ℕ, ◌<◌, ◌≤◌, List, Option, Some, None, slice_get, slice_set}
 use Rattle.cc_judge.specs.Names.{Act, Call, Kind, Found, Entry, Index}
 use Rattle.cc_judge.specs.Faults.{Did}
 
@@ -32,9 +32,9 @@ IsFound calls kind (Found.Each table) = IsTable calls kind table.items
 IsFound calls kind (Found.Twice first second) = Twice calls kind first second
 IsFound calls kind (Found.Stray place) = (item : ℕ) × Did calls place (act_of kind item)
 
--- a call was found to have an item past the number of items: then it has
+-- the items of all calls of this kind are below the number of items; or that of this one isn't
 abbrev pub IsPast : (items : ℕ) → List Call → Kind → Found → Type 0
-IsPast items calls kind (Found.Each table) = Unit {0}
+IsPast items calls kind (Found.Each table) = (place item : ℕ) → Did calls place (act_of kind item) → item < items
 IsPast items calls kind (Found.Twice first second) = Unit {0}
 IsPast items calls kind (Found.Stray place) = (item : ℕ) → Did calls place (act_of kind item) → items ≤ item
 

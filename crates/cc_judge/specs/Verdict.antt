@@ -8,6 +8,7 @@ use Rattle.cc_judge.specs.Faultless.{IsWritten}
 use Rattle.cc_judge.specs.Cuts.{AreWithoutTies, MayBeCut, IsCut}
 use Rattle.cc_judge.specs.Room.{FullsArePossible}
 use Rattle.cc_judge.specs.Table.{IsIndex}
+use Rattle.cc_judge.specs.Until.{IsUntil}
 
 -- no call took the item that the call at this place sent
 pub record IsUntaken (calls : List Call) (send : ℕ) : Type 0 where
@@ -48,6 +49,15 @@ Stands rules calls (Fault.ClosedEarly call) = ClosedEarly rules calls call
 Stands rules calls (Fault.NotFull call) = NotFull rules calls call
 Stands rules calls (Fault.TooMany call sends) = TooMany rules calls call sends.items
 
+-- The log has the fault until a time. Until no earlier time has it a fault: it has a legal order, of a queue of whatever capacity, if no
+-- calls are ordered only by their lines.
+pub record StandsFirst (rules : Rules) (calls : List Call) (fault : Fault) : Type 0 where
+  pub time : ℕ
+  pub part : List Call
+  pub part_is : IsUntil time calls part
+  pub stands : Stands rules part fault
+  pub first : rules.ties.items ≡ [] → (earlier : ℕ) → earlier < time → (early : List Call) → IsUntil earlier calls early → IsLinearizable (of_any_capacity rules) early
+
 -- the log has the fault, or the log has it that is cut between the calls that only their lines order
 pub record StandsInCut (rules : Rules) (calls : List Call) (fault : Fault) : Type 0 where
   pub plain : Rules
@@ -55,7 +65,7 @@ pub record StandsInCut (rules : Rules) (calls : List Call) (fault : Fault) : Typ
   pub cut : List Call
   pub may : MayBeCut calls rules.ties.items
   pub cut_is : IsCut rules.ties.items calls cut
-  pub stands : Stands plain cut fault
+  pub stands : StandsFirst plain cut fault
 
 pub record FullsFitInCut (rules : Rules) (calls : List Call) : Type 0 where
   pub plain : Rules
@@ -70,10 +80,10 @@ abbrev pub FullsFit : Rules → List Call → Type 0
 FullsFit rules calls = FullsArePossible rules calls ⊎ FullsFitInCut rules calls
 
 -- The verdict is right: a clean log has a legal order, of a queue of whatever capacity, and each of its full answers is possible by
--- itself; one with a fault has the fault, and no legal order.
+-- itself; one with a fault has the fault, which shows before any other, and no legal order.
 abbrev pub IsVerdict : Rules → List Call → Verdict → Type 0
 IsVerdict rules calls Verdict.Clean = IsLinearizable (of_any_capacity rules) calls × FullsFit rules calls
-IsVerdict rules calls (Verdict.Fault fault) = (Stands rules calls fault ⊎ StandsInCut rules calls fault) × (IsLinearizable rules calls → ⊥)
+IsVerdict rules calls (Verdict.Fault fault) = (StandsFirst rules calls fault ⊎ StandsInCut rules calls fault) × (IsLinearizable rules calls → ⊥)
 IsVerdict rules calls Verdict.Undecided = Unit {0}
 
 -- the items of a log are below a number
@@ -90,15 +100,14 @@ AreOrdered rules calls = (rules.ties.items ≡ []) ⊎ MayBeCut calls rules.ties
 abbrev pub IsDecided : Rules → List Call → (items : ℕ) → Verdict → Type 0
 IsDecided rules calls items verdict = verdict ≡ Verdict.Undecided → AreOrdered rules calls → Differ calls → AreBelow calls items → IsWritten calls → ⊥
 
--- an index of the log, or its verdict
-abbrev pub Indexes : Rules → List Call → Indexed → Type 0
-Indexes rules calls (Indexed.Index index) = IsIndex calls index
-Indexes rules calls (Indexed.Due verdict) = IsVerdict rules calls verdict
+-- the items that were sent are below a number
+abbrev pub AreSentBelow : List Call → (items : ℕ) → Type 0
+AreSentBelow calls items = (place item : ℕ) → Did calls place (Act.Send item) → item < items
 
--- so does a verdict that is due without an index
-abbrev pub IsDecidedBy : Rules → List Call → (items : ℕ) → Indexed → Type 0
-IsDecidedBy rules calls items (Indexed.Index index) = Unit {0}
-IsDecidedBy rules calls items (Indexed.Due verdict) = IsDecided rules calls items verdict
+-- an index of the log, or its fault
+abbrev pub Indexes : List Call → Indexed → Type 0
+Indexes calls (Indexed.Index index) = IsIndex calls index
+Indexes calls (Indexed.Fault fault) = (rules : Rules) → Stands rules calls fault
 
 -- the law: a fault leaves a log of items that differ without a legal order
 abbrev pub FaultsHaveNoOrder : Type 0

@@ -1,7 +1,7 @@
 //! The verdict on a log.
-ghost use Rattle.std.specs.Prelude.{◌≡◌, ℕ, [], IfOk, IfSome, IfNone};
-ghost use Rattle.cc_judge.specs.Names.{Kind, Rules, Verdict, Fault};
-ghost use Rattle.cc_judge.specs.Table.{IsIndex, Twice};
+ghost use Rattle.std.specs.Prelude.{◌≡◌, ℕ, [], IfOk, IfSome, IfNone, IsTrue, IsFalse};
+ghost use Rattle.cc_judge.specs.Names.{Rules, Verdict};
+ghost use Rattle.cc_judge.specs.Table.{IsIndex};
 ghost use Rattle.cc_judge.specs.Faults.{Differ};
 ghost use Rattle.cc_judge.specs.Room.{FullsArePossible};
 ghost use Rattle.cc_judge.specs.Complete.{LogsWithoutFaultsHaveOrders};
@@ -13,7 +13,8 @@ ghost use Rattle.cc_judge.specs.Late.{
   WindowsAreLinearizable,
 };
 ghost use Rattle.cc_judge.specs.Sweeps.{AreLists, IsShutAt, MayBeEmpty};
-ghost use Rattle.cc_judge.specs.Verdict.{IsVerdict, AreOrdered, IsDecided, IsDecidedBy, Stands, Indexes, FaultsHaveNoOrder};
+ghost use Rattle.cc_judge.specs.Order.{IsLinearizable, of_any_capacity};
+ghost use Rattle.cc_judge.specs.Verdict.{IsVerdict, AreOrdered, AreSentBelow, IsDecided, Stands, StandsFirst, Indexes, FaultsHaveNoOrder};
 
 use crate::closing::close_fault;
 use crate::crowd::{Crowded, too_many};
@@ -22,8 +23,9 @@ use crate::faults::Index;
 use crate::lists::{Lists, lists_of};
 use crate::nones::{first_none, stays_of};
 use crate::order::is_order;
-use crate::overfull::is_too_many;
+use crate::overfull::{end_at, is_too_many};
 use crate::overtaking::{take_fault, turn_fault};
+use crate::prefix::{after, calls_until, ends_of, last_end, next_time};
 use crate::room::{capacity_of, not_full};
 use crate::search::{Sought, seek};
 use crate::share::share;
@@ -96,46 +98,33 @@ pub enum Verdict {
     Undecided,
 }
 
-/// The index of a log, or the verdict that is due without one.
+/// The index of a log, or its fault: two calls took one item, or one took an item that no call sent.
 #[derive(Drop)]
 pub enum Indexed {
     /// The index.
     Index(Index),
-    /// The verdict.
-    Due(Verdict),
+    /// The fault.
+    Fault(Fault),
 }
 
-/// The verdict if two calls took one item.
-fn twice(rules: &Rules, calls: &[Call], first: usize, second: usize) -> Verdict
-    requires differ { Differ calls.now }
+/// Finds the places at which each item was sent and taken.
+fn index_of(alloc: Global, calls: &[Call], items: usize) -> Result<Indexed, AllocError>
     requires written { IsWritten calls.now }
-    requires twice { Twice calls.now Kind.Take first second }
-    ensures right { IsVerdict rules.now calls.now result }
-    ensures decided { result ≡ Verdict.Undecided → ⊥ }
-{
-    Verdict::Fault(Fault::TakenTwice { first, second })
-}
-
-/// Finds the places at which each item was sent and taken, or the verdict that is due without that.
-fn index_of(
-    alloc: Global,
-    rules: &Rules,
-    calls: &[Call],
-    items: usize,
-) -> Result<Indexed, AllocError>
-    requires { IsWritten calls.now }
-    ensures indexed { IfOk result (Indexes rules.now calls.now) }
-    ensures decided { IfOk result (IsDecidedBy rules.now calls.now items) }
+    requires differ { Differ calls.now }
+    requires below { AreSentBelow calls.now items }
+    ensures { IfOk result (Indexes calls.now) }
 {
     let sends = match find(alloc, calls, items, Kind::Send)? {
         Found::Each(sends) => sends,
-        Found::Twice(..) => return Ok(Indexed::Due(Verdict::Undecided)),
-        Found::Stray(_) => return Ok(Indexed::Due(Verdict::Undecided)),
+        Found::Twice(take, _) => return Ok(Indexed::Fault(Fault::NeverSent { take })),
+        Found::Stray(take) => return Ok(Indexed::Fault(Fault::NeverSent { take })),
     };
     let takes = match find(alloc, calls, items, Kind::Take)? {
         Found::Each(takes) => takes,
-        Found::Twice(first, second) => return Ok(Indexed::Due(twice(rules, calls, first, second))),
-        Found::Stray(_) => return Ok(Indexed::Due(Verdict::Undecided)),
+        Found::Twice(first, second) => {
+            return Ok(Indexed::Fault(Fault::TakenTwice { first, second }));
+        }
+        Found::Stray(take) => return Ok(Indexed::Fault(Fault::NeverSent { take })),
     };
     Ok(Indexed::Index(Index { sends, takes }))
 }
@@ -288,18 +277,84 @@ fn found_of(
     room_fault(alloc, rules, calls, index)
 }
 
-/// The verdict on a log that its times order.
-fn timed(alloc: Global, rules: &Rules, calls: &[Call], index: &Index) -> Result<Verdict, AllocError>
-    requires index { IsIndex calls.now index.now }
+/// The fault of a log, if it has one that doesn't rest on ties.
+fn found_in(
+    alloc: Global,
+    rules: &Rules,
+    calls: &[Call],
+    items: usize,
+) -> Result<Option<Fault>, AllocError>
     requires written { IsWritten calls.now }
+    requires differ { Differ calls.now }
+    requires below { AreSentBelow calls.now items }
+    ensures some { IfOk result (λ found. IfSome found (Stands rules.now calls.now)) }
+    ensures none { IfOk result (λ found. IfNone found (NoFault rules.now calls.now × FullsArePossible rules.now calls.now)) }
+{
+    match index_of(alloc, calls, items)? {
+        Indexed::Index(index) => found_of(alloc, rules, calls, &index),
+        Indexed::Fault(fault) => Ok(Some(fault)),
+    }
+}
+
+/// A call at whose end a fault shows, by its place.
+fn shown_by(fault: &Fault) -> usize {
+    match fault {
+        Fault::NeverSent { take } | Fault::TakenBeforeSent { take, .. } => *take,
+        Fault::TakenTwice { second, .. } => *second,
+        Fault::Overtaken { later_take, .. } => *later_take,
+        Fault::Reopened { send, .. } => *send,
+        Fault::NotEmpty { call, .. }
+        | Fault::ClosedEarly { call }
+        | Fault::NotFull { call }
+        | Fault::TooMany { call, .. } => *call,
+    }
+}
+
+/// The fault that shows first in a log with this fault: the one of the log until the least time until which it has one. It looks at
+/// the log until as many times as it takes to halve the number of ends until one is left, and mostly at three.
+fn first_fault(
+    alloc: Global,
+    rules: &Rules,
+    calls: &[Call],
+    items: usize,
+    found: Fault,
+) -> Result<Fault, AllocError>
+    requires written { IsWritten calls.now }
+    requires differ { Differ calls.now }
+    requires below { AreSentBelow calls.now items }
+    requires stands { Stands rules.now calls.now found }
+    ensures { IfOk result (StandsFirst rules.now calls.now) }
+{
+    let ends = ends_of(alloc, calls)?;
+    let mut first = found;
+    let (mut low, mut high) = (0, last_end(calls));
+    while low < high {
+        let time = next_time(&ends, low, high, end_at(calls, shown_by(&first)));
+        let part = calls_until(alloc, calls, time)?;
+        match found_in(alloc, rules, part.as_slice(), items)? {
+            Some(fault) => {
+                first = fault;
+                high = time;
+            }
+            None => low = after(time, high),
+        }
+    }
+    Ok(first)
+}
+
+/// The verdict on a log that its times order.
+fn timed(alloc: Global, rules: &Rules, calls: &[Call], items: usize) -> Result<Verdict, AllocError>
+    requires written { IsWritten calls.now }
+    requires differ { Differ calls.now }
+    requires below { AreSentBelow calls.now items }
     requires none { rules.now.ties.items ≡ [] }
     ensures right { IfOk result (IsVerdict rules.now calls.now) }
     ensures decided { IfOk result (λ verdict. verdict ≡ Verdict.Undecided → ⊥) }
 {
-    match found_of(alloc, rules, calls, index)? {
-        Some(fault) => Ok(Verdict::Fault(fault)),
-        None => Ok(Verdict::Clean),
+    if let Some(fault) = found_in(alloc, rules, calls, items)? {
+        return Ok(Verdict::Fault(first_fault(alloc, rules, calls, items, fault)?));
     }
+    Ok(Verdict::Clean)
 }
 
 /// The verdict on a log that was cut.
@@ -308,67 +363,95 @@ fn cut_up(
     rules: &Rules,
     calls: &[Call],
     cut: &[Call],
-    index: &Index,
+    items: usize,
 ) -> Result<Verdict, AllocError>
-    requires index { IsIndex calls.now index.now }
     requires written { IsWritten calls.now }
+    requires differ { Differ calls.now }
+    requires below { AreSentBelow calls.now items }
     requires may { MayBeCut calls.now rules.now.ties.items }
     requires cut { IsCut rules.now.ties.items calls.now cut.now }
     ensures right { IfOk result (IsVerdict rules.now calls.now) }
     ensures decided { IfOk result (λ verdict. verdict ≡ Verdict.Undecided → ⊥) }
 {
-    match found_of(alloc, &without_ties(alloc, rules), cut, index)? {
-        Some(fault) => Ok(Verdict::Fault(fault)),
-        None => Ok(Verdict::Clean),
+    let plain = without_ties(alloc, rules);
+    if let Some(fault) = found_in(alloc, &plain, cut, items)? {
+        return Ok(Verdict::Fault(first_fault(alloc, &plain, cut, items, fault)?));
     }
+    Ok(Verdict::Clean)
 }
 
-/// The verdict on a log in which only their lines order more than two calls that meet at a time: a fault that doesn't rest on ties, or
-/// an order that is sought, and checked.
-#[tactic(auto, using(crate::proofs::Parts::clean_so))]
-fn sought(
-    alloc: Global,
-    rules: &Rules,
-    calls: &[Call],
-    index: &Index,
-) -> Result<Verdict, AllocError>
-    requires index { IsIndex calls.now index.now }
+/// An order of a log in which only their lines order more than two calls that meet at a time, if one is found.
+fn has_order(alloc: Global, rules: &Rules, calls: &[Call], items: usize) -> Result<bool, AllocError>
     requires written { IsWritten calls.now }
-    ensures { IfOk result (IsVerdict rules.now calls.now) }
+    requires differ { Differ calls.now }
+    requires below { AreSentBelow calls.now items }
+    ensures { IfOk result (λ has. IsTrue has → IsLinearizable (of_any_capacity rules.now) calls.now) }
 {
-    if let Some(fault) = found_of(alloc, rules, calls, index)? {
-        return Ok(Verdict::Fault(fault));
-    }
+    let Indexed::Index(index) = index_of(alloc, calls, items)? else {
+        return Ok(false);
+    };
     let ranks = ranks_of(alloc, calls)?;
-    let view = view_of(rules, calls, index, ranks.as_slice());
+    let view = view_of(rules, calls, &index, ranks.as_slice());
     let shares = share(alloc, &view)?;
     let Sought { order, stuck } = seek(alloc, &view, &shares)?;
-    if stuck.is_none() && is_order(alloc, rules, calls, order.as_slice())? {
+    if stuck.is_some() {
+        return Ok(false);
+    }
+    is_order(alloc, rules, calls, order.as_slice())
+}
+
+/// The verdict on such a log: a fault that doesn't rest on ties, or an order that is sought, and checked.
+#[tactic(auto, using(crate::proofs::Parts::clean_so))]
+fn sought(alloc: Global, rules: &Rules, calls: &[Call], items: usize) -> Result<Verdict, AllocError>
+    requires written { IsWritten calls.now }
+    requires differ { Differ calls.now }
+    requires below { AreSentBelow calls.now items }
+    ensures { IfOk result (IsVerdict rules.now calls.now) }
+{
+    if let Some(fault) = found_in(alloc, rules, calls, items)? {
+        return Ok(Verdict::Fault(first_fault(alloc, rules, calls, items, fault)?));
+    }
+    if has_order(alloc, rules, calls, items)? {
         Ok(Verdict::Clean)
     } else {
         Ok(Verdict::Undecided)
     }
 }
 
-/// The verdict on a log that has this index.
+/// The verdict on a log whose sends have different items, below `items`.
 fn verdict_by(
     alloc: Global,
     rules: &Rules,
     calls: &[Call],
-    index: &Index,
+    items: usize,
 ) -> Result<Verdict, AllocError>
-    requires index { IsIndex calls.now index.now }
     requires written { IsWritten calls.now }
+    requires differ { Differ calls.now }
+    requires below { AreSentBelow calls.now items }
     ensures right { IfOk result (IsVerdict rules.now calls.now) }
     ensures decided { IfOk result (λ verdict. verdict ≡ Verdict.Undecided → AreOrdered rules.now calls.now → ⊥) }
 {
     if rules.ties.is_empty() {
-        return timed(alloc, rules, calls, index);
+        return timed(alloc, rules, calls, items);
     }
     match cut_of(alloc, rules, calls)? {
-        Some(cut) => cut_up(alloc, rules, calls, cut.as_slice(), index),
-        None => sought(alloc, rules, calls, index),
+        Some(cut) => cut_up(alloc, rules, calls, cut.as_slice(), items),
+        None => sought(alloc, rules, calls, items),
     }
+}
+
+/// Whether the sends have different items, below this number.
+fn do_differ(alloc: Global, calls: &[Call], items: usize) -> Result<bool, AllocError>
+    ensures differ { IfOk result (λ so. IsTrue so → Differ calls.now) }
+    ensures below { IfOk result (λ so. IsTrue so → AreSentBelow calls.now items) }
+    ensures others { IfOk result (λ so. IsFalse so → Differ calls.now → AreSentBelow calls.now items → ⊥) }
+{
+    let _sends = match find(alloc, calls, items, Kind::Send)? {
+        Found::Each(sends) => sends,
+        Found::Twice(..) => return Ok(false),
+        Found::Stray(_) => return Ok(false),
+    };
+    Ok(true)
 }
 
 /// The verdict on a log whose items are below `items`. It takes memory in proportion to the log, and O(n log n) if few calls are under
@@ -390,8 +473,10 @@ pub fn judge(
     if !is_written(calls) {
         return Ok(Verdict::Undecided);
     }
-    match index_of(alloc, rules, calls, items)? {
-        Indexed::Index(index) => verdict_by(alloc, rules, calls, &index),
-        Indexed::Due(verdict) => Ok(verdict),
+    let apart = do_differ(alloc, calls, items)?;
+    if apart {
+        verdict_by(alloc, rules, calls, items)
+    } else {
+        Ok(Verdict::Undecided)
     }
 }

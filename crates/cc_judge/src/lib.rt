@@ -19,6 +19,7 @@ mod nones;
 mod order;
 mod overfull;
 mod overtaking;
+mod prefix;
 mod room;
 mod search;
 mod share;

@@ -151,7 +151,7 @@ fn held_at(
         None => None,
     };
     Ok(Held {
-        stay: stay_of_lefts(alloc, lists, left, closed)?,
+        stay: stay_of_lefts(alloc, lists, left, left, closed)?,
         until,
     })
 }

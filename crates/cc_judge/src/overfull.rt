@@ -124,7 +124,7 @@ fn are_more_left(calls: &[Call], index: &Index, sends: &[usize], number: usize, 
 }
 
 /// When the call at this place ended, if it did.
-fn end_of(calls: &[Call], place: usize) -> Option<u64>
+pub fn end_at(calls: &[Call], place: usize) -> Option<u64>
     ensures { IfSome result (λ end. (one : Call) × (slice_get calls.now place ≡ Some one) × (one.end ≡ Some end)) }
 {
     call_at(calls, place)?.end
@@ -141,7 +141,7 @@ pub fn is_too_many(
     requires { IsIndex calls.now index.now }
     ensures { IsTrue result → TooMany rules.now calls.now call sends.now }
 {
-    let (Some(number), Some(end)) = (capacity_of(rules), end_of(calls, call)) else {
+    let (Some(number), Some(end)) = (capacity_of(rules), end_at(calls, call)) else {
         return false;
     };
     are_more_taken(calls, index, sends, number, end)

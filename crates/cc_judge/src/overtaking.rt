@@ -1,15 +1,15 @@
 //! The faults of items that were taken: each is found, or there is none.
-ghost use Rattle.std.specs.Prelude.{◌≡◌, ℕ, List, IfOk, IfSome, IfNone};
+ghost use Rattle.std.specs.Prelude.{◌≡◌, ℕ, ◌<◌, ◌≤◌, ◌⊎◌, List, IfOk, IfSome, IfNone};
 ghost use Rattle.cc_judge.specs.Names.{Call, Act, Rules};
 ghost use Rattle.cc_judge.specs.Faults.{Did};
 ghost use Rattle.cc_judge.specs.Table.{IsIndex};
 ghost use Rattle.cc_judge.specs.Faultless.{IsWritten};
-ghost use Rattle.cc_judge.specs.Sweeps.{AreLists, WasSent, KeepsTurn, KeepTurns, KeepsClosed, IsPair, IsPassed, IsOfLefts};
+ghost use Rattle.cc_judge.specs.Sweeps.{AreLists, WasSent, KeepsTurn, KeepTurns, KeepsClosed, IsPair, IsPassed, IsPassedLast, IsSpell, IsOfLefts};
 ghost use Rattle.cc_judge.specs.Verdict.{Stands, IsStay};
 
 use crate::decide::Fault;
 use crate::faults::{Index, ends_before};
-use crate::lists::{Lists, Spell, are_enough, before, latest_before};
+use crate::lists::{Lists, Spell, are_enough, before, latest_before, upto};
 use crate::table::{call_at, place_in};
 use crate::{Act, Call, Stay};
 use std::alloc::{AllocError, Global};
@@ -62,26 +62,27 @@ pub fn take_fault(calls: &[Call], index: &Index) -> Option<Fault>
 /// How many sends of items that are left a stay names at most.
 const NAMED: usize = 20;
 
-/// This many items that are left, of those whose sends were done first.
+/// Of the items that are left and whose sends were done first, this many, the `count` whose sends were done last.
 pub fn stay_of_lefts(
     alloc: Global,
     lists: &Lists,
     number: usize,
+    count: usize,
     closed: Option<usize>,
 ) -> Result<Stay, AllocError>
     ensures lefts { IfOk result IsOfLefts }
     ensures stay { IfOk result (λ s. (rules : Rules) (calls : List Call) → AreLists rules calls lists.now → IsStay calls s) }
 {
     let mut sends = Vec::new(alloc);
-    for (at, (_, send)) in lists.lefts.iter().enumerate() {
-        if number <= at || NAMED <= at {
+    for at in number.saturating_sub(count.min(NAMED))..number {
+        let Some((_, send)) = lists.lefts.get(at) else {
             break;
-        }
+        };
         sends.push(*send)?;
     }
     sends.sort()?;
-    let more = number.saturating_sub(sends.len());
-    let next = match lists.waits.get(number.saturating_sub(1)) {
+    let more = count.saturating_sub(sends.len());
+    let next = match lists.waits.get(count.saturating_sub(1)) {
         Some((_, take)) => Some(*take),
         None => None,
     };
@@ -135,12 +136,40 @@ pub enum Passed {
     Left,
 }
 
-/// The items that an item overtook, if its send began and its take ended at these times.
+/// Of two items the other, if its send was done before the one time and its take began after the other, and its send was done no earlier.
+fn sent_later(last: Spell, other: Spell, begin: u64, end: u64) -> Spell
+    ensures either { (result ≡ last) ⊎ ((result ≡ other) × (other.from < begin) × (end < other.until)) }
+    ensures most { last.from ≤ result.from }
+    ensures too { other.from < begin → end < other.until → other.from ≤ result.from }
+{
+    if other.from < begin && end < other.until && last.from <= other.from {
+        other
+    } else {
+        last
+    }
+}
+
+/// The item that was sent last of this one and those whose sends were done before the one time and whose takes began after the other.
+fn last_passed(lists: &Lists, begin: u64, end: u64, passed: Spell) -> Spell
+    ensures { (rules : Rules) (calls : List Call) → AreLists rules calls lists.now → IsSpell rules calls passed → passed.from < begin → end < passed.until → IsPassedLast rules calls lists.now begin end result }
+{
+    let mut last = passed;
+    for spell in &lists.spells {
+        last = sent_later(last, *spell, begin, end);
+    }
+    if last.from < passed.from {
+        passed
+    } else {
+        last
+    }
+}
+
+/// The item that an item overtook and that was sent last, if the send of that began and its take ended at these times.
 fn passed_by(lists: &Lists, begin: u64, end: u64) -> Passed
-    ensures { (rules : Rules) (calls : List Call) → AreLists rules calls lists.now → IsPassed rules calls begin end result }
+    ensures { (rules : Rules) (calls : List Call) → AreLists rules calls lists.now → IsPassed rules calls lists.now begin end result }
 {
     match latest_before(lists, begin) {
-        Some(spell) if end < spell.until => Passed::Taken(spell),
+        Some(spell) if end < spell.until => { Passed::Taken(last_passed(lists, begin, end, spell)) }
         _ if are_enough(lists, begin, end) => Passed::None,
         _ => Passed::Left,
     }
@@ -164,7 +193,10 @@ fn pair_fault(alloc: Global, lists: &Lists, pair: Pair) -> Result<Option<Fault>,
             take,
             closed: None,
         },
-        Passed::Left => stay_of_lefts(alloc, lists, before(&lists.lefts, begin), None)?,
+        Passed::Left => {
+            let count = upto(&lists.waits, end).saturating_add(1);
+            stay_of_lefts(alloc, lists, before(&lists.lefts, begin), count, None)?
+        }
     };
     Ok(Some(Fault::Overtaken {
         stay,

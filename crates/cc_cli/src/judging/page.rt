@@ -6,7 +6,7 @@ ghost use Rattle.cc_cli.specs.Names.{AnswerFault};
 
 use crate::judging::choice::{Choice, beside_fault, first_calls};
 use crate::judging::fault_page::{BACK, FRONT, MIDDLE};
-use crate::judging::verdict_line::found_end;
+use crate::judging::verdict_line::{found_end, taker};
 use cc_io::{Sink, WriteFault, write_bytes};
 use cc_judge::{Fault, Stay, Verdict};
 use cc_log::{Log, Said, Shown, body_text};
@@ -114,7 +114,12 @@ fn push_stay(alloc: Global, text: &mut String, log: &Log, stay: &Stay) -> Result
                 text.push_str(format!(in alloc; ",\"more\":{more}")?.as_str())?;
             }
             if let Some(next) = next {
-                push_line(alloc, text, log, "next", *next)?;
+                let key = if taker(log, stay).is_some() {
+                    "take"
+                } else {
+                    "next"
+                };
+                push_line(alloc, text, log, key, *next)?;
             }
         }
     }

@@ -78,15 +78,42 @@ fn sends(alloc: Global, log: &Log, stay: &Stay) -> Result<String, AllocError> {
     }
 }
 
-/// When the item of a stay left the queue.
-fn leaves(alloc: Global, log: &Log, stay: &Stay) -> Result<String, AllocError> {
+/// The act of the call at a place.
+fn act_at(log: &Log, place: usize) -> Option<Act> {
+    Some(log.calls.get(place)?.act)
+}
+
+/// The place of the call that took the item of a stay, also if the item is left until that call begins.
+pub fn taker(log: &Log, stay: &Stay) -> Option<usize> {
     match stay {
-        Stay::Taken { take, .. } => format!(in alloc; "taken by {}", line(alloc, log, *take)?),
+        Stay::Taken { take, .. } => Some(*take),
         Stay::Left {
+            sends,
+            more: 0,
             next: Some(next),
             ..
-        } => format!(in alloc; "not taken before {} began", line(alloc, log, *next)?),
-        Stay::Left { next: None, .. } => String::from_str(alloc, "never taken"),
+        } if sends.len() == 1 => {
+            match (act_at(log, *sends.get(0)?), act_at(log, *next)) {
+                (Some(Act::Send(item)), Some(Act::Took(other))) if item == other => Some(*next),
+                _ => None,
+            }
+        }
+        Stay::Left { .. } => None,
+    }
+}
+
+/// When the item of a stay left the queue.
+fn leaves(alloc: Global, log: &Log, stay: &Stay) -> Result<String, AllocError> {
+    match (taker(log, stay), stay) {
+        (Some(take), _) => format!(in alloc; "taken by {}", line(alloc, log, take)?),
+        (
+            None,
+            Stay::Left {
+                next: Some(next),
+                ..
+            },
+        ) => format!(in alloc; "not taken before {} began", line(alloc, log, *next)?),
+        _ => String::from_str(alloc, "never taken"),
     }
 }
 

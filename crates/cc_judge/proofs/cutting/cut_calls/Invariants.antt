@@ -1,5 +1,6 @@
-use Rattle.cc_judge.proofs.Parts.{CutTo}
+use Rattle.cc_judge.specs.Cuts.{CutCall}
+use Rattle.cc_judge.proofs.Parts.{EachTo}
 use Rattle.cc_judge.proofs.cutting.cut_calls.Given as goal
 
 abbrev pub invariant-loop-place : goal.invariant-loop-place
-invariant-loop-place l = CutTo l.ties l.calls l.cut.items l.place
+invariant-loop-place l = EachTo (CutCall l.ties) l.calls l.cut.items l.place

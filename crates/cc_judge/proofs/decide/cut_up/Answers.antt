@@ -1,14 +1,26 @@
-use Rattle.cc_judge.proofs.Parts.{index_cut, written_cut, cut_fault, cut_clean}
+use Rattle.cc_judge.proofs.Parts.{cut_differ, cut_below, written_cut, cut_fault, cut_clean}
 use Rattle.cc_judge.proofs.decide.cut_up.Goals as goal
 
-pub found_of-requires-clause-index : goal.found_of-requires-clause-index
-found_of-requires-clause-index c = index_cut c.args.rules.now.ties.items c.args.calls.now c.args.cut.now c.requires.may c.requires.cut c.args.index.now c.requires.index
+pub found_in-requires-clause-written : goal.found_in-requires-clause-written
+found_in-requires-clause-written c = written_cut c.args.rules.now.ties.items c.args.calls.now c.args.cut.now c.requires.may c.requires.cut c.requires.written
 
-pub found_of-requires-clause-written : goal.found_of-requires-clause-written
-found_of-requires-clause-written c = written_cut c.args.rules.now.ties.items c.args.calls.now c.args.cut.now c.requires.may c.requires.cut c.requires.written
+pub found_in-requires-clause-differ : goal.found_in-requires-clause-differ
+found_in-requires-clause-differ c = cut_differ c.args.rules.now.ties.items c.args.calls.now c.args.cut.now c.requires.may c.requires.cut c.requires.differ
+
+pub found_in-requires-clause-below : goal.found_in-requires-clause-below
+found_in-requires-clause-below c = cut_below c.args.rules.now.ties.items c.args.calls.now c.args.cut.now c.requires.may c.requires.cut c.args.items c.requires.below
+
+pub first_fault-requires-clause-written : goal.first_fault-requires-clause-written
+first_fault-requires-clause-written c = written_cut c.args.rules.now.ties.items c.args.calls.now c.args.cut.now c.requires.may c.requires.cut c.requires.written
+
+pub first_fault-requires-clause-differ : goal.first_fault-requires-clause-differ
+first_fault-requires-clause-differ c = cut_differ c.args.rules.now.ties.items c.args.calls.now c.args.cut.now c.requires.may c.requires.cut c.requires.differ
+
+pub first_fault-requires-clause-below : goal.first_fault-requires-clause-below
+first_fault-requires-clause-below c = cut_below c.args.rules.now.ties.items c.args.calls.now c.args.cut.now c.requires.may c.requires.cut c.args.items c.requires.below
 
 pub returns-in-Some-clause-right : goal.returns-in-Some-clause-right
-returns-in-Some-clause-right c = cut_fault c.args.rules.now c.without_ties.result c.args.calls.now c.args.cut.now c.args.index.now c.requires.index c.requires.written c.requires.may c.requires.cut c.without_ties.ensures c.in-Some.fault (rw c.in-Some.is at c.in_ok-fault.ensures.some)
+returns-in-Some-clause-right c = cut_fault c.args.rules.now c.without_ties-plain.result c.args.calls.now c.args.cut.now c.requires.differ c.requires.written c.requires.may c.requires.cut c.without_ties-plain.ensures c.in_ok-first_fault.field-0 c.in_ok-first_fault.ensures
 
 pub returns-clause-right : goal.returns-clause-right
-returns-clause-right c = cut_clean c.args.rules.now c.without_ties.result c.args.calls.now c.args.cut.now c.args.index.now c.requires.index c.requires.written c.requires.may c.requires.cut c.without_ties.ensures (rw c.in-None.is at c.in_ok-fault.ensures.none)
+returns-clause-right c = cut_clean c.args.rules.now c.without_ties-plain.result c.args.calls.now c.args.cut.now c.requires.differ c.requires.written c.requires.may c.requires.cut c.without_ties-plain.ensures (rw c.in_default.is at c.in_ok-fault.ensures.none)

@@ -1,5 +1,5 @@
 use Rattle.std.proofs.Common.{◌≡◌, ℕ, ◌+◌, List, length, Option, sym, ap, ◌∙◌, subst}
-use Rattle.cc_judge.proofs.Tables.{TabledTo, tabled_skip, tabled_new, tabled_twice, tabled_end, as_long, did_here, stray_past}
+use Rattle.cc_judge.proofs.Tables.{TabledTo, tabled_skip, tabled_new, tabled_twice, tabled_end, tabled_below, as_long, did_here, stray_past}
 use Rattle.cc_judge.proofs.table.find.Goals as goal
 use Rattle.cc_judge.proofs.table.find.Goals.{in-Some+in_ok-enter+in-New, in_default}
 
@@ -28,3 +28,6 @@ returns-in-Stray-clause-past c =
 
 pub returns-clause-found : goal.returns-clause-found
 returns-clause-found c = tabled_end _ _ _ _ c.loop-place-test.false c.loop-place.invariant.0
+
+pub returns-clause-past : goal.returns-clause-past
+returns-clause-past c = tabled_below c.args.calls.now c.args.kind c.loop-place.table.items c.args.items (tabled_end _ _ _ _ c.loop-place-test.false c.loop-place.invariant.0) c.loop-place.invariant.1
