@@ -9,7 +9,8 @@ items of these that are still in the queue, and often the close. Half of the win
 None may be accused, whatever the judge's rules are: each is of a correct queue. Some are cut by the program too, which has to say the
 same. Then two takes of a window are exchanged, the
 first of which ended before the second began, of items sent one after another; or a send that found the queue closed is
-said to have been accepted. These have to be found. And of each window some calls are dropped, wherever they are, and it is said to end early in place
+said to have been accepted. These have to be found, the latter also in a window that the program cuts behind the only
+close. And of each window some calls are dropped, wherever they are, and it is said to end early in place
 of beginning late: it isn't accused.
 """
 
@@ -18,6 +19,7 @@ import json
 import os
 import queue
 import random
+import re
 import subprocess
 import sys
 import threading
@@ -190,6 +192,19 @@ def reopened(calls):
     return None
 
 
+def behind_close(calls):
+    """The calls with one close, the first that ended; the same with a send accepted of two that found the queue closed
+    behind it; and the moment behind it. Or None."""
+    closes = sorted((call for call in calls if "close" in call), key=lambda call: call["end"])
+    if not closes:
+        return None
+    kept = [call for call in calls if call is closes[0] or "close" not in call]
+    first, *later = [call for call in kept if call.get("answer") == "closed" and closes[0]["end"] < call["begin"]]
+    accepted = next(call for call in later if first["end"] < call["begin"])
+    plant = {key: value for key, value in accepted.items() if key != "answer"}
+    return kept, [plant if call is accepted else call for call in kept], closes[0]["end"] + 1
+
+
 def judged(options, text, first=LATE):
     """What the program says of a log that begins late, or doesn't."""
     run = subprocess.run([PROGRAM, "judge", *options], input=first + text, capture_output=True, text=True, check=False)
@@ -227,7 +242,11 @@ def cut_wrongly(calls, number, start, until):
     """What is wrong if the program cuts the log itself: at both moments, and at the second, with the capacity and with every call
     before it."""
     whole = text_of(calls)
-    due = judged([], text_of(within(calls, "end", start, until)))
+    kept = within(calls, "end", start, until)
+    # Closes are judged if the log has one, in the window or not.
+    lacks = any("close" in call for call in calls) and not any("close" in call for call in kept)
+    due = judged([], text_of(kept + [{"thread": "close", "begin": 0, "close": True}] * lacks))
+    due = (due[0], re.sub(r"(?<=clean: )\d+", lambda calls: str(int(calls[0]) - lacks), due[1]))
     both = judged(["--from", str(start), f"--until={until}"], whole, "")
     has_calls = within(calls, "begin", 0, until)
     first = judged(["--until", str(until), "--capacity", str(CAPACITY)], whole, "") if has_calls else (0, "")
@@ -248,6 +267,13 @@ def judge_windows():
     logs = [record(kind, seed) for seed, kind in enumerate([Library, Locked, Locked, Library])]
     sys.setswitchinterval(switch)
     full = closes = faults = 0
+    for legal, plant, moment in filter(None, map(behind_close, logs)):
+        faults += 1
+        for calls, due in ((legal, 0), (plant, 1)):
+            status, said = judged(["--from", str(moment)], text_of(calls), "")
+            if status != due:
+                print(f"windows: a window behind the close has the status {status}, not {due}: {said}", end="")
+                right = False
     with ThreadPoolExecutor(os.cpu_count()) as pool:
         for wrong, has_full, has_close, plants in pool.map(lambda number: judged_window(logs, number), range(WINDOWS)):
             full, closes, faults = full + has_full, closes + has_close, faults + plants

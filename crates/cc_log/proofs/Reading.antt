@@ -1,5 +1,5 @@
 -- Reading a log line by line.
-use Rattle.std.proofs.Common.{◌≡◌, ◌≢◌, ◌+◌, ◌++◌, ◌<◌, ◌||◌, is_some, ℕ, Bool, true, false, List, [], ◌∷◌, length, nat_eq, nat_lt, if◌then◌else◌, Option, Result, Ok, Err, refl, sym, ap, subst, ◌∙◌, map, arith, true≢false}
+use Rattle.std.proofs.Common.{◌≡◌, ◌+◌, ◌++◌, ◌<◌, ◌||◌, is_some, ℕ, Bool, true, false, List, [], ◌∷◌, length, nat_eq, if◌then◌else◌, Option, Result, Ok, Err, refl, sym, ap, subst, ◌∙◌}
 use Rattle.std.specs.Result.{IsErrAnd}
 use Rattle.std.specs.HashMap.{keys}
 use Rattle.std.proofs.lemmas.Bool.{lt-ltb}
@@ -8,8 +8,8 @@ use Rattle.cc_log.specs.Answers.{Gives, GivesOfInput, IsLongLine, Refuses, Refus
 use Rattle.cc_log.specs.Lines.{GivesLine, HasInput, HasLines, IsAhead, IsSound, IsTooLong, held, is_blank, line_limit, lines_of}
 use Rattle.cc_log.specs.declared.lines.Lines.{Lines}
 use Rattle.cc_judge.specs.Late.{padded}
-use Rattle.cc_log.specs.Log.{Known, Refusal, Spelled, no_calls, ◌>>=◌, at_first, bad_line, bodies_of, calls_of, has_close, if_some, is_early, is_part, log_of, numbers_of, spelled, ties_of, tree_of, with_line, with_lines, with_tree}
-use Rattle.cc_log.specs.State.{IsStep, Shows}
+use Rattle.cc_log.specs.Log.{Known, Refusal, Spelled, no_calls, ◌>>=◌, at_first, bad_line, bodies_of, calls_of, if_some, is_early, is_part, log_of, numbers_of, spelled, ties_of, tree_of, with_line, with_lines, with_tree}
+use Rattle.cc_log.specs.State.{Shows}
 use Rattle.cc_log.proofs.Ahead.{some_ahead, some_input}
 use Rattle.std.specs.Result.{OnOk}
 use Rattle.cc_log.specs.Written.{IsWellFormed}
@@ -133,11 +133,11 @@ pub finished : (options : Options) (s : State) (known : Known) (part : Bool) (ca
 finished options s known part calls items shows some count part_is is =
     let same : part ≡ is_part known = part_is ∙ part_given options s known shows in
     let due = λ (b : Bool). λ (closes : Bool). padded b closes (calls_of options.skew known.before) (length (bodies_of known.before)) in
-    let whole : calls ≡ padded (is_part known) (has_close known.before) (calls_of options.skew known.before) (length (bodies_of known.before)) =
+    let whole : calls ≡ padded (is_part known) known.closes (calls_of options.skew known.before) (length (bodies_of known.before)) =
     is ∙ ap (λ n. padded part s.log.rules.closes s.log.calls.items n) (count ∙ ap length shows.bodies) ∙ ap (λ cs. padded part s.log.rules.closes cs (length (bodies_of known.before))) shows.calls
     ∙ ap (λ b. due b s.log.rules.closes) same ∙ ap (λ b. due (is_part known) b) shows.closes in
     ap (λ b. if b then Err no_calls else Ok (spelled options.skew known)) (ap (λ n. nat_eq n 0) (sym (has_calls options s known shows)) ∙ some)
-    ∙ ap (λ cs. Ok (record { part = is_part known; ends = known.ends; calls = cs; items = length (bodies_of known.before); lines = numbers_of known.before; closes = has_close known.before; ties = ties_of options.skew known.before })) (sym whole)
+    ∙ ap (λ cs. Ok (record { part = is_part known; ends = known.ends; calls = cs; items = length (bodies_of known.before); lines = numbers_of known.before; closes = known.closes; ties = ties_of options.skew known.before })) (sym whole)
     ∙ ap (λ b. Ok (record { part = is_part known; ends = known.ends; calls = calls; items = length (bodies_of known.before); lines = numbers_of known.before; closes = b; ties = ties_of options.skew known.before })) (sym shows.closes)
     ∙ ap (λ ts. Ok (record { part = is_part known; ends = known.ends; calls = calls; items = length (bodies_of known.before); lines = numbers_of known.before; closes = s.log.rules.closes; ties = ts })) (sym shows.ties)
     ∙ ap (λ b. Ok (record { part = b; ends = known.ends; calls = calls; items = length (bodies_of known.before); lines = numbers_of known.before; closes = s.log.rules.closes; ties = s.log.rules.ties.items })) (sym same)

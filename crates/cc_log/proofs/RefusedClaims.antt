@@ -1,6 +1,12 @@
 -- The definitions refuse these claims.
-use Rattle.std.proofs.Common.{◌≡◌, arith}
+use Rattle.std.proofs.Common.{Bool, false, Result, Ok, Err, ap, arith}
+use Rattle.cc_log.specs.Log.{Known, Refusal}
 use Rattle.cc_log.specs.Refused.{RefusedClaims}
+
+-- whether closes are judged then
+abbrev closes_in : Result Known Refusal → Bool
+closes_in (Ok known) = known.closes
+closes_in (Err refusal) = false
 
 pub claims_refused : RefusedClaims
 claims_refused = record {
@@ -12,5 +18,6 @@ claims_refused = record {
   skewed_tie_lost = λ claim. absurd (cc claim);
   early_is_whole = λ claim. absurd (cc claim);
   goes_on_after_end = λ claim. absurd (cc claim);
+  close_outside_lost = λ window e claim. let lost = ap closes_in claim in absurd (cc lost);
   items_lost = λ calls ties place item sent well. let less = well.below.sent place item sent in absurd (omega (arith, less));
 }

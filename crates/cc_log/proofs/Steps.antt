@@ -7,7 +7,7 @@ use Rattle.serde_json.specs.Data.{Data}
 use Rattle.cc_log.specs.Names.{Ending, Last, Line, LineFault, LogFault, Options, Said, State, Window}
 use Rattle.cc_log.specs.Answers.{Refuses}
 use Rattle.cc_log.specs.Line.{Body, begins_late, ending_in, line_of, thread_of}
-use Rattle.cc_log.specs.Log.{Entry, Known, Refusal, ◌>>=◌, after_last, allowed, call_of, calls_of, bodies_of, differs, entry_of, has_close, is_close, is_first, item_in, last_of, or_refusal, sender_of, sends, tie_with, ties_of, not_ended, with_call, with_cut, with_end, with_entry, with_item, with_tree}
+use Rattle.cc_log.specs.Log.{Entry, Known, Refusal, ◌>>=◌, after_last, allowed, call_of, calls_of, bodies_of, differs, entry_of, is_close, is_first, item_in, last_of, or_refusal, sender_of, sends, tie_with, ties_of, not_ended, with_call, with_close, with_cut, with_end, with_entry, with_item, with_tree}
 use Rattle.cc_log.specs.Window.{cut}
 use Rattle.cc_log.proofs.Fair.{IsRead, cut_read, fair, line_read}
 use Rattle.cc_log.specs.State.{Added, Adds, IsStep, Shows, last_in, sender_in}
@@ -79,7 +79,7 @@ shown_after options s new known e read shows added =
           ∙ ap (λ n. ties_of options.skew known.before ++ tie_with n added.place e.line.begin (last_in s e.thread)) skew
           ∙ ap (λ p. ties_of options.skew known.before ++ tie_with options.skew p e.line.begin (last_in s e.thread)) place
           ∙ ap (λ last. ties_of options.skew known.before ++ tie_with options.skew (length known.before) e.line.begin last) (shows.lasts e.thread);
-      closes = added.closes ∙ ap (λ (b : Bool). if is_close e.line.said then true else b) shows.closes;
+      closes = added.closes ∙ shows.closes;
       fair = (fair e.line read added.low, sym (decided options s known e shows) ∙ added.is_allowed, shows.fair);
     }
 
@@ -100,7 +100,30 @@ first_when options s known shows = ap (λ n. nat_eq n 0 && not known.late) (sym 
 
 -- what comes of a line that describes a call
 abbrev cut_entry : Known → Entry → Result Known Refusal
-cut_entry known e = with_cut known e (cut known.window e.line)
+cut_entry known e = with_cut (with_close known e.line.said) e (cut known.window e.line)
+
+-- the state after that notes a close
+abbrev pub noted : State → (closes : Bool) → State
+noted s closes = record s { log = record s.log { rules = record s.log.rules { closes = closes } } }
+
+-- it shows what is known then
+noted_shows : (options : Options) (s : State) (known : Known) (said : Said) (closes : Bool) → closes ≡ (if is_close said then true else s.log.rules.closes)
+    → Shows options s known → Shows options (noted s closes) (with_close known said)
+noted_shows options s known said closes is shows = record {
+  options_is = shows.options_is;
+  window = shows.window;
+  capacity = shows.capacity;
+  late = shows.late;
+  ends = shows.ends;
+  bodies = shows.bodies;
+  senders = shows.senders;
+  lasts = shows.lasts;
+  calls = shows.calls;
+  lines = shows.lines;
+  ties = shows.ties;
+  closes = is ∙ ap (λ (b : Bool). if is_close said then true else b) shows.closes;
+  fair = shows.fair;
+}
 
 -- the window of the state is that of what is known
 window_is : (options : Options) (s : State) (known : Known) → Shows options s known → s.log.options.window ≡ known.window
@@ -108,14 +131,15 @@ window_is options s known shows = ap (λ (o : Options). o.window) shows.options_
 
 -- such a call, as it is judged
 tree_of_cut : (options : Options) (s : State) (known : Known) (number : ℕ) (d : Data) (e : Entry) (o : Option Line) → Shows options s known
-    → entry_of number d ≡ Ok e → cut s.log.options.window e.line ≡ o → with_call known number d ≡ with_cut known e o
+    → entry_of number d ≡ Ok e → cut s.log.options.window e.line ≡ o → with_call known number d ≡ with_cut (with_close known e.line.said) e o
 tree_of_cut options s known number d e o shows is cuts =
-    ap (λ r. r >>= cut_entry known) is ∙ ap (with_cut known e) (ap (λ (w : Window). cut w e.line) (sym (window_is options s known shows)) ∙ cuts)
+    ap (λ r. r >>= cut_entry known) is ∙ ap (with_cut (with_close known e.line.said) e) (ap (λ (w : Window). cut w e.line) (sym (window_is options s known shows)) ∙ cuts)
 
 -- one outside of the window
-pub step_of_none : (options : Options) (s : State) (known : Known) (number : ℕ) (d : Data) (e : Entry) → Shows options s known
-    → entry_of number d ≡ Ok e → cut s.log.options.window e.line ≡ None → IsStep options (with_call known number d) (Ok tt) s
-step_of_none options s known number d e shows is cuts = (known, tree_of_cut options s known number d e None shows is cuts, shows)
+pub step_of_none : (options : Options) (s : State) (known : Known) (number : ℕ) (d : Data) (e : Entry) (closes : Bool) → Shows options s known
+    → closes ≡ (if is_close e.line.said then true else s.log.rules.closes)
+    → entry_of number d ≡ Ok e → cut s.log.options.window e.line ≡ None → IsStep options (with_call known number d) (Ok tt) (noted s closes)
+step_of_none options s known number d e closes shows notes is cuts = (with_close known e.line.said, tree_of_cut options s known number d e None shows is cuts, noted_shows options s known e.line.said closes notes shows)
 
 -- its line is one that was read
 value_or : {A : Type 0} → A → Result A Refusal → A
@@ -137,10 +161,11 @@ entry_read : (number : ℕ) (d : Data) (e : Entry) → entry_of number d ≡ Ok 
 entry_read number d e is = line_read d e.line (read_if number (line_of d) e.line (entry_by number d e (or_refusal number (line_of d)) (or_refusal number (thread_of d)) is))
 
 -- one within
-pub step_of_call : (options : Options) (s new : State) (known : Known) (number : ℕ) (d : Data) (e : Entry) (line : Line) (result : Result (Unit {0}) LogFault) → Shows options s known
-    → entry_of number d ≡ Ok e → cut s.log.options.window e.line ≡ Some line → Adds s new (record { number = e.number; thread = e.thread; line = line }) result → IsStep options (with_call known number d) result new
-step_of_call options s new known number d e line result shows is cuts adds =
-    subst (λ due. IsStep options due result new) (sym (tree_of_cut options s known number d e (Some line) shows is cuts)) (step_of_entry options s new known (record { number = e.number; thread = e.thread; line = line }) result (cut_read s.log.options.window e.line line (entry_read number d e is) cuts) shows adds)
+pub step_of_call : (options : Options) (s new : State) (known : Known) (number : ℕ) (d : Data) (e : Entry) (line : Line) (closes : Bool) (result : Result (Unit {0}) LogFault) → Shows options s known
+    → closes ≡ (if is_close e.line.said then true else s.log.rules.closes)
+    → entry_of number d ≡ Ok e → cut s.log.options.window e.line ≡ Some line → Adds (noted s closes) new (record { number = e.number; thread = e.thread; line = line }) result → IsStep options (with_call known number d) result new
+step_of_call options s new known number d e line closes result shows notes is cuts adds =
+    subst (λ due. IsStep options due result new) (sym (tree_of_cut options s known number d e (Some line) shows is cuts)) (step_of_entry options (noted s closes) new (with_close known e.line.said) (record { number = e.number; thread = e.thread; line = line }) result (cut_read s.log.options.window e.line line (entry_read number d e is) cuts) (noted_shows options s known e.line.said closes notes shows) adds)
 
 pub refused_call : (known : Known) (number : ℕ) (d : Data) (fault : LogFault) → Refuses fault (entry_of number d) → Refuses fault (with_call known number d)
 refused_call known number d fault h = refused_first fault (entry_of number d) (cut_entry known) h

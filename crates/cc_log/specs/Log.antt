@@ -136,10 +136,6 @@ abbrev pub is_close : Said → Bool
 is_close Said.Close = true
 is_close _ = false
 
-abbrev pub has_close : List Entry → Bool
-has_close [] = false
-has_close (e ∷ before) = if is_close e.line.said then true else has_close before
-
 -- ---- the log
 
 -- the calls of a log and the number of their items, the numbers of their lines, whether it is a part that may lack calls, how it says
@@ -153,15 +149,17 @@ pub record Spelled : Type 0 where
   pub closes : Bool
   pub ties : List Tie
 
--- the lines so far: the part of the log that is judged, whether they say that the log begins late and how it ends, and their calls
+-- the lines so far: the part of the log that is judged, whether they say that the log begins late and how it ends, whether one closes
+-- the queue, in the part or not, and the calls of the part
 pub record Known : Type 0 where
   pub window : Window
   pub late : Bool
+  pub closes : Bool
   pub ends : Option Ending
   pub before : List Entry
 
 abbrev pub at_first : Window → Known
-at_first window = record { window = window; late = false; ends = None; before = [] }
+at_first window = record { window = window; late = false; closes = false; ends = None; before = [] }
 
 abbrev pub or_refusal : {A : Type 0} → (number : ℕ) → Result A LineFault → Result A Refusal
 or_refusal number (Ok x) = Ok x
@@ -194,9 +192,13 @@ with_cut known e (Some line) = with_entry known (record { number = e.number; thr
 abbrev pub is_first : Known → Bool
 is_first known = (length known.before == 0) && not known.late
 
+-- a call of the log may be a close, whether it is judged or not
+abbrev pub with_close : Known → Said → Known
+with_close known said = record known { closes = if is_close said then true else known.closes }
+
 -- the call that the tree of a line describes, as it is judged
 abbrev pub with_call : Known → (number : ℕ) → Data → Result Known Refusal
-with_call known number d = entry_of number d >>= (λ e. with_cut known e (cut known.window e.line))
+with_call known number d = entry_of number d >>= (λ e. with_cut (with_close known e.line.said) e (cut known.window e.line))
 
 -- the same, unless the line says how the log ends: such a line adds no call
 abbrev pub with_end : Known → (number : ℕ) → Data → Option Ending → Result Known Refusal
@@ -256,10 +258,10 @@ abbrev pub spelled : (skew : ℕ) → Known → Spelled
 spelled skew known = record {
   part = is_part known;
   ends = known.ends;
-  calls = padded (is_part known) (has_close known.before) (calls_of skew known.before) (length (bodies_of known.before));
+  calls = padded (is_part known) known.closes (calls_of skew known.before) (length (bodies_of known.before));
   items = length (bodies_of known.before);
   lines = numbers_of known.before;
-  closes = has_close known.before;
+  closes = known.closes;
   ties = ties_of skew known.before;
 }
 

@@ -8,7 +8,7 @@ use Rattle.cc_judge.specs.Faults.{Differ}
 use Rattle.cc_judge.specs.Late.{AreOfPart, IsSound, Weaker}
 use Rattle.cc_judge.specs.Order.{IsLinearizable}
 use Rattle.cc_judge.specs.Verdict.{IsVerdict}
-use Rattle.cc_log.specs.Log.{Known, bodies_of, calls_of, has_close, is_part, spelled}
+use Rattle.cc_log.specs.Log.{Known, bodies_of, calls_of, is_part, spelled}
 
 -- The law: no correct queue is accused for what a part lacks. `calls` are those that the lines of the part describe, as they were; the
 -- part may say less of them. The `lacked` calls are in no line, whenever they began and ended. If all of them together have a legal
@@ -16,5 +16,5 @@ use Rattle.cc_log.specs.Log.{Known, bodies_of, calls_of, has_close, is_part, spe
 abbrev pub PartsHaveNoFault : Type 0
 PartsHaveNoFault = (skew : ℕ) (known : Known) (whole rules : Rules) (calls lacked : List Call) → is_part known ≡ true
     → Weaker calls (calls_of skew known.before) → IsSound (calls_of skew known.before) (length (bodies_of known.before))
-    → AreOfPart whole rules (calls_of skew known.before) → rules.closes ≡ has_close known.before → Differ (calls ++ lacked)
+    → AreOfPart whole rules (calls_of skew known.before) → rules.closes ≡ known.closes → Differ (calls ++ lacked)
     → IsLinearizable whole (calls ++ lacked) → (fault : Fault) → IsVerdict rules (spelled skew known).calls (Verdict.Fault fault) → ⊥

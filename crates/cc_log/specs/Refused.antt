@@ -1,11 +1,11 @@
 -- Refused claims: for each kind of mistake a small case, and a claim about it that doesn't hold.
-use Rattle.std.specs.Prelude.{◌≡◌, ℕ, List, [], ◌∷◌, codes, false, Some, Ok}
+use Rattle.std.specs.Prelude.{◌≡◌, ℕ, List, [], ◌∷◌, codes, false, None, Some, Ok}
 use Rattle.cc_judge.specs.Faults.{Did}
-use Rattle.cc_log.specs.Names.{Act, Call, Ending, Last, Tie}
+use Rattle.cc_log.specs.Names.{Act, Call, Ending, Last, Said, Tie, Window}
 use Rattle.cc_log.specs.Form.{members_in}
 use Rattle.cc_log.specs.Line.{Body, end_from}
 use Rattle.cc_log.specs.Written.{IsWellFormed}
-use Rattle.cc_log.specs.Log.{is_early, item_of, not_ended, tie_with}
+use Rattle.cc_log.specs.Log.{Entry, at_first, is_early, item_of, not_ended, tie_with, with_close, with_cut}
 
 -- a claim that doesn't hold
 abbrev pub Refused : Type 0 → Type 0
@@ -36,5 +36,7 @@ pub record RefusedClaims : Type 0 where
   pub early_is_whole : Refused (is_early (Some Ending.Early) ≡ false)
   -- a line may come after the one that says how the log ends
   pub goes_on_after_end : Refused (not_ended 3 (Some Ending.Whole) ≡ Ok tt)
+  -- a close that isn't in the part of the log that is judged says nothing
+  pub close_outside_lost : (window : Window) (e : Entry) → Refused (with_cut (with_close (at_first window) Said.Close) e None ≡ Ok (at_first window))
   -- a log with a send has no items
   pub items_lost : (calls : List Call) (ties : List Tie) (place item : ℕ) → Did calls place (Act.Send item) → Refused (IsWellFormed 0 calls 0 ties)

@@ -1,11 +1,11 @@
 -- The state of the reader of a log after the lines so far.
-use Rattle.std.specs.Prelude.{ℕ, ◌≡◌, ◌<◌, ◌^◌, ◌++◌, List, [], ◌∷◌, if◌then◌else◌, length, true, Option, Some, None, option_and_then, string_bytes, Result, Ok, Err}
+use Rattle.std.specs.Prelude.{ℕ, ◌≡◌, ◌<◌, ◌^◌, ◌++◌, List, [], ◌∷◌, if◌then◌else◌, length, Option, Some, option_and_then, string_bytes, Result, Ok, Err}
 use Rattle.std.specs.Str.{bytes_eq}
 use Rattle.std.specs.HashMap.{HashMap, get, get_by_text, keys}
 use Rattle.cc_log.specs.Names.{Last, Log, LogFault, Options, Parsed, State}
 use Rattle.cc_log.specs.Answers.{Refuses}
 use Rattle.cc_log.specs.Line.{Body}
-use Rattle.cc_log.specs.Log.{Entry, Known, Refusal, Spelled, allowed, bodies_of, call_of, calls_of, has_close, is_close, item_in, last_of, numbers_of, same_body, sender_of, sends, tie_with, ties_of, with_item}
+use Rattle.cc_log.specs.Log.{Entry, Known, Refusal, Spelled, allowed, bodies_of, call_of, calls_of, item_in, last_of, numbers_of, same_body, sender_of, sends, tie_with, ties_of, with_item}
 use Rattle.cc_log.specs.Written.{AreFair}
 
 -- the line that sent a body, as the table of the items has it
@@ -33,7 +33,7 @@ pub record Shows (options : Options) (s : State) (known : Known) : Type 0 where
   pub calls : s.log.calls.items ≡ calls_of options.skew known.before
   pub lines : s.log.notes.lines.items ≡ numbers_of known.before
   pub ties : s.log.rules.ties.items ≡ ties_of options.skew known.before
-  pub closes : s.log.rules.closes ≡ has_close known.before
+  pub closes : s.log.rules.closes ≡ known.closes
   pub fair : AreFair known.before
 
 -- the state after a line, by what is due of that
@@ -57,7 +57,7 @@ pub record Added (old new : State) (e : Entry) : Type 0 where
   pub calls : new.log.calls.items ≡ old.log.calls.items ++ call_of old.log.options.skew (keys old.items) e.line ∷ []
   pub lines : new.log.notes.lines.items ≡ old.log.notes.lines.items ++ e.number ∷ []
   pub ties : new.log.rules.ties.items ≡ old.log.rules.ties.items ++ tie_with old.log.options.skew place e.line.begin (last_in old e.thread)
-  pub closes : new.log.rules.closes ≡ (if is_close e.line.said then true else old.log.rules.closes)
+  pub closes : new.log.rules.closes ≡ old.log.rules.closes
 
 abbrev pub Adds : (old new : State) → Entry → Result (Unit {0}) LogFault → Type 0
 Adds old new e (Ok done) = Added old new e

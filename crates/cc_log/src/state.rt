@@ -155,7 +155,6 @@ fn add(alloc: Global, state: &mut State, parsed: Parsed, number: usize) -> Resul
         thread,
     )?;
     state.log.calls.push(call_of(line, skew, act))?;
-    state.log.rules.closes = has_close(line.said, state.log.rules.closes);
     Ok(())
 }
 
@@ -177,11 +176,12 @@ fn check_goes_on(ends: Option<Ending>, number: usize) -> Result<(), LogFault>
     }
 }
 
-/// Adds the call of a tree, if it is in the window.
+/// Adds the call of a tree, if it is in the window. A close outside of the window says that closes are judged, too.
 fn add_call(alloc: Global, state: &mut State, tree: &Value, number: usize) -> Result<(), LogFault>
     ensures { (options : Options) (known : Known) → Shows options state.old known → IsStep options (with_call known number (view tree.now)) result state.new }
 {
     let parsed = read_call(alloc, tree, number)?;
+    state.log.rules.closes = has_close(parsed.line.said, state.log.rules.closes);
     let Some(line) = cut(state.log.options.window, parsed.line) else {
         return Ok(());
     };

@@ -46,5 +46,5 @@ returns c =
           (c.call_of.ensures ∙ ap (λ a. record { begin = c.args.parsed.line.begin - c.args.state.now.log.options.skew; end = option_map (λ end. min (end + c.args.state.now.log.options.skew) (2 ^ 64 - 1)) c.args.parsed.line.end; act = a }) c.in_ok-act.ensures.act);
       lines = c.in_ok-note.ensures.lines;
       ties = c.in_ok-note_tie.ensures.ties ∙ ap (λ last. c.args.state.now.log.rules.ties.items ++ tie_with c.args.state.now.log.options.skew c.in_ok-place.place c.args.parsed.line.begin last) same;
-      closes = c.has_close-state.ensures;
+      closes = refl;
     }
