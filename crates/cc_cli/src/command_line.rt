@@ -291,7 +291,7 @@ The first line may be {\"begins\":\"late\"}, the last one {\"ends\":\"whole\"} o
 Options, before or behind LOG:
   --page        writes the answer as a page for a browser that draws the calls; needs no network
   --capacity N  the queue holds at most N items: judges that, and the answer full
-  --skew N      clocks may differ by N: a call may have begun N earlier and ended N later
+  --skew N      each clock may be wrong by N: a call may have begun N earlier and ended N later
   --from T      judges calls that ended at T or later, as a log that begins late
   --until T     judges calls that began before T; those that ended at T or later haven't returned
 

@@ -1,5 +1,5 @@
 //! The options of a line of `judge`, which the parser of command lines doesn't see: how many items the queue holds, by how much
-//! clocks may differ, which part of the log is judged, and whether the answer is a page.
+//! each clock may be wrong, which part of the log is judged, and whether the answer is a page.
 ghost use Rattle.std.specs.Prelude.{◌≡◌, ◌<◌, ◌-◌, ◌^◌, map, option_map, slice_get, string_bytes};
 ghost use Rattle.std.specs.Result.{result_map_both};
 ghost use Rattle.cc_io.specs.FaultLine.{Told};
@@ -13,7 +13,7 @@ use cc_log::{Options, Window};
 pub enum Numbered {
     /// How many items the queue holds.
     Capacity,
-    /// By how much clocks may differ.
+    /// By how much each clock may be wrong.
     Skew,
     /// The time from which on the log is judged.
     From,
