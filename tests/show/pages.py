@@ -320,9 +320,9 @@ def looks():
     return not wrong
 
 
-# Logs, each a line of calls: thread, begin, end or -, what it did, its item or -, and its answer if it has one; `late`
-# first, if the log begins late. Each has the status and the beginning of the verdict that is due, the options, and the
-# lines that its page shows.
+# Logs, each a line of calls: thread, begin, end or -, what it did, its item or -, and its answer if it has one;
+# `late` first, if the log begins late. Each has the status and the beginning of the verdict that is due, the options, the lines
+# that its page shows, and, if it isn't that of a log without a capacity or an end, the shades and the bars.
 LOGS = [
     (1, "never sent", [], "a 1 2 take 9; b 2 3 send 8; b 4 5 send 7", [1, 2]),
     (1, "taken before sent", [], "a 1 3 take 7; b 2 3 send 5; b 5 8 send 7", [1, 2, 3]),
@@ -335,12 +335,21 @@ LOGS = [
     (1, "not empty", ["--skew", "3"],
      "a 10 20 send 18446744073709551615; b 30 40 take -; b 50 60 take 18446744073709551615; c 70 80 send "
      "18446744073709551614", [1, 2, 3]),
-    (1, "not empty", [], "a 1 5 close -; b 2 - send 7; c 6 7 take -; c 8 9 take 7", [1, 2, 3, 4]),
+    (1, "not empty", [], "a 1 5 close -; b 2 - send 7; c 6 7 take -; c 8 9 take 7", [1, 2, 3, 4],
+     ["impossible from 6 to 7", "item 7, from 5 to 8"]),
     (1, "not empty", [], "late; a 1 2 close -; b 3 4 take -; b 5 6 take 7", [2, 3, 4]),
     (1, "open after closed", [], "a 1 2 close -; b 3 4 send 7; c 5 6 take 7", [1, 2, 3]),
+    (1, "not empty", [], "b 1 10 send 7; a 2 9 close -; c 6 8 take - ended; c 12 14 take 7", [1, 2, 3, 4],
+     ["impossible from 6 to 8", "item 7, from 2 to 12"]),
+    (1, "not empty", [], "b 1 20 send 7; a 7 9 close -; c 6 12 take - ended; c 21 22 take 7", [1, 2, 3, 4],
+     ["impossible from 7 to 12", "item 7, from 7 to 21"]),
     (1, "closed early", [], "a 1 2 take - ended; b 3 4 close -", [1]),
-    (1, "not full", ["--capacity", "2"], "a 1 2 send 1; a 4 9 send 2 full; b 5 6 take 1", [2, 3]),
-    (1, "too many", ["--capacity", "1"], "a 1 2 send 1; a 3 4 send 2; b 5 6 take 1", [1, 2, 3]),
+    (1, "not full", ["--capacity", "2"], "a 1 2 send 1; a 4 9 send 2 full; b 5 6 take 1", [1, 2, 3],
+     ["impossible from 4 to 9", "item 1, from 1 to 6"]),
+    (1, "too many", ["--capacity", "1"], "a 1 2 send 1; a 3 4 send 2; b 5 6 take 1", [1, 2, 3],
+     ["impossible from 4 to 5", "item 1, from 2 to 5", "item 2, from 4 on"]),
+    (1, "too many", ["--capacity", "1"], "a 1 2 send 1; a 3 4 send 2; c 6 - take -; b 7 8 take 1", [1, 2, 3, 4],
+     ["impossible from 4 to 6", "item 1, from 2 to 7", "item 2, from 4 on"]),
     (0, "clean", [], "a 1 2 send 1; a 3 4 send 2 closed; b 5 6 take 1; b 7 8 take -", [1, 2, 3, 4]),
 ]
 
@@ -357,6 +366,12 @@ def log_of(text):
         call[act] = True if act == "close" else None if item == "-" else [int(item)]
         calls.append(call | ({"answer": words[5]} if len(words) > 5 else {}))
     return calls
+
+
+def chained_log(count):
+    """A take that found none beside this many items, one after another."""
+    items = [f"s {10 * k + 1} {10 * k + 2} send {k}; r {10 * k + 15} {10 * k + 16} take {k}" for k in range(count)]
+    return log_of("; ".join([f"t 5 {10 * count} take -", *items]))
 
 
 def large_log(count):
@@ -379,25 +394,34 @@ def judged_page(calls, options):
     return line.stdout.decode().strip(), page.stdout.decode(), line.returncode
 
 
-def judged_job(calls, line, page, shown):
-    """What a page has to show. The lit calls are those that the line of the verdict names."""
+def judged_job(calls, line, page, shown, marks=None, says=""):
+    """What a page has to show. The lit calls are those that the line of the verdict names, and the first close if a
+    take found the end."""
     places = re.findall(r"\blines? (\d+(?:(?:, | and )\d+)*)", line) if line.startswith("judge fault") else []
     named = {int(number) for place in places for number in re.findall(r"\d+", place)}
+    closes = [number for number, call in enumerate(calls, 1) if "close" in call]
+    if "closed and empty" in line:
+        named.add(min(closes, key=lambda number: calls[number - 1]["begin"]))
     item = lambda number: calls[number - 1].get("send") or calls[number - 1].get("take")
     items = [item(number) for number in named if item(number)]
     return {"test": "judged", "page": page, "line": line, "shown": shown, "named": sorted(named),
             "same": [number for number in shown if number not in named and item(number) in items],
-            "threads": sorted({calls[number - 1]["thread"] for number in shown}), "never": bool(named)}
+            "threads": sorted({calls[number - 1]["thread"] for number in shown}), "never": bool(named),
+            "marks": marks, "says": says}
 
 
 def judged():
     jobs = []
-    for status, kind, options, text, shown in LOGS:
+    for status, kind, options, text, shown, *marks in LOGS:
         calls = log_of(text)
         line, page, found = judged_page(calls, options)
         if found != status or kind not in line:
             sys.exit(f"{kind}: the status is {found}, of {line}")
-        jobs.append(judged_job(calls, line, page, shown))
+        jobs.append(judged_job(calls, line, page, shown, *marks))
+    calls = chained_log(25)
+    line, page, _ = judged_page(calls, [])
+    # The last take began when the call had ended, and took none of the first 20 items.
+    jobs.append(judged_job(calls, line, page, list(range(1, 51)), says=" and then 5 others, one after another"))
     calls = large_log(100_000)
     line, page, _ = judged_page(calls, [])
     shown = [json.loads(call)["line"] for call in re.search(r'id="calls">([^<]*)', page)[1].splitlines()]

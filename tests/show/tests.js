@@ -777,6 +777,8 @@ const tests = {
       same(lines('same'), job.same, 'of the same items');
       same([...$('names').querySelectorAll('div')].slice(-job.threads.length).map(name => name.textContent).sort(), job.threads, 'lanes');
       assert((page.querySelectorAll('.never').length > 0) === job.never, 'shaded moments');
+      if (job.marks) same([...page.querySelectorAll('.never title, .sure title')].map(title => title.textContent), job.marks, 'shades and bars');
+      assert($('why').textContent.includes(job.says), 'the text is ' + $('why').textContent);
       assert(page.documentElement.scrollWidth <= view.innerWidth, 'the page is ' + page.documentElement.scrollWidth + ' wide');
       assert(contrasted(page, view, () => ' by ' + scale) > 10, 'the page has few texts');
     }

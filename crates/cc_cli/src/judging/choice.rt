@@ -1,12 +1,14 @@
 //! Which calls the page of a judged log shows: those that the fault names, those of the same items, and some at the same times.
 
-use cc_judge::{Fault, Stay};
+use crate::judging::verdict_line::{MANY, first_close, found_end};
+use cc_judge::{Act, Call, Fault, Stay};
 use cc_log::{Body, Log, Said};
 use indexmap::IndexSet;
 use std::alloc::{AllocError, Global};
 
-/// How many calls are shown at most only because they overlap one that the fault names.
-const BESIDE_LIMIT: usize = 300;
+/// How many items of a bounded queue have bars at most, and how many calls are shown at most only because they overlap
+/// one that the fault names.
+const LIMIT: usize = 300;
 
 /// How many calls are shown at most of a log without a fault.
 const FIRST: usize = 100;
@@ -61,7 +63,12 @@ fn mark_stay(marks: &mut Vec<bool>, stay: &Stay) {
     }
 }
 
-/// Marks the calls that a fault names.
+/// The sends of too many items that a page names: of many the first.
+pub fn named_sends(sends: &[usize]) -> &[usize] {
+    &sends[..sends.len().min(LIMIT)]
+}
+
+/// Marks the calls that a fault names: of many items those of the first.
 fn mark_named(marks: &mut Vec<bool>, fault: &Fault) {
     match fault {
         Fault::NeverSent { take } => mark(marks, *take),
@@ -84,7 +91,7 @@ fn mark_named(marks: &mut Vec<bool>, fault: &Fault) {
         }
         Fault::NotEmpty { call, stays } => {
             mark(marks, *call);
-            for stay in stays {
+            for stay in stays.iter().take(MANY) {
                 mark_stay(marks, stay);
             }
         }
@@ -95,10 +102,127 @@ fn mark_named(marks: &mut Vec<bool>, fault: &Fault) {
         Fault::ClosedEarly { call } | Fault::NotFull { call } => mark(marks, *call),
         Fault::TooMany { call, sends } => {
             mark(marks, *call);
-            for send in sends {
+            for send in named_sends(sends.as_slice()) {
                 mark(marks, *send);
             }
         }
+    }
+}
+
+/// Of each item the call that took it.
+fn takes(alloc: Global, log: &Log) -> Result<Vec<Option<Call>>, AllocError> {
+    let mut takes = vec![in alloc; None; log.items]?;
+    for call in &log.calls {
+        if let Act::Took(item) = call.act {
+            if let Some(take) = takes.as_mut_slice().get_mut(item as usize) {
+                *take = Some(*call);
+            }
+        }
+    }
+    Ok(takes)
+}
+
+/// The begins of the takes that haven't returned, in order.
+fn waits(alloc: Global, log: &Log) -> Result<Vec<u64>, AllocError> {
+    let mut waits = Vec::new(alloc);
+    for call in &log.calls {
+        if matches!(call.act, Act::Taking) {
+            waits.push(call.begin)?;
+        }
+    }
+    waits.sort()?;
+    Ok(waits)
+}
+
+/// The call that took the item that a call sent.
+fn take_of(takes: &[Option<Call>], send: &Call) -> Option<Call> {
+    let Act::Send(item) = send.act else {
+        return None;
+    };
+    takes.get(item as usize).copied()?
+}
+
+/// Until when a queue held too many of the items of these sends: until enough of their takes had begun, counting takes that
+/// haven't returned, that the rest fits. None if the rest never fits.
+pub fn held_until(alloc: Global, log: &Log, sends: &[usize]) -> Result<Option<u64>, AllocError> {
+    let takes = takes(alloc, log)?;
+    let mut begins = Vec::new(alloc);
+    for send in sends {
+        if let Some(call) = log.calls.get(*send) {
+            if let Some(take) = take_of(takes.as_slice(), call) {
+                begins.push(take.begin)?;
+            }
+        }
+    }
+    let untaken = sends.len() - begins.len().min(sends.len());
+    let waits = waits(alloc, log)?;
+    begins.extend_from_slice(&waits[..untaken.min(waits.len())])?;
+    begins.sort()?;
+    let capacity = log.rules.capacity.unwrap_or(0) as usize;
+    let more = sends.len().saturating_sub(capacity).saturating_sub(1);
+    Ok(begins.get(more).copied())
+}
+
+/// Marks the first sends of items that can have been in the queue at a time of this call.
+fn mark_inside(
+    alloc: Global,
+    log: &Log,
+    full: &Call,
+    marks: &mut Vec<bool>,
+) -> Result<(), AllocError> {
+    let takes = takes(alloc, log)?;
+    let end = full.end.unwrap_or(u64::MAX);
+    let mut inside = 0usize;
+    for (place, call) in log.calls.iter().enumerate() {
+        let is_gone = match take_of(takes.as_slice(), call) {
+            Some(take) => take.end.unwrap_or(u64::MAX) < full.begin,
+            None => false,
+        };
+        if inside < LIMIT && matches!(call.act, Act::Send(_)) && call.begin <= end && !is_gone {
+            mark(marks, place);
+            inside = inside.saturating_add(1);
+        }
+    }
+    Ok(())
+}
+
+/// Marks the first takes that haven't returned, which may have got items of a queue that held too many.
+fn mark_waits(log: &Log, marks: &mut Vec<bool>) {
+    let mut waits = 0usize;
+    for (place, call) in log.calls.iter().enumerate() {
+        if waits < LIMIT && matches!(call.act, Act::Taking) {
+            mark(marks, place);
+            waits = waits.saturating_add(1);
+        }
+    }
+}
+
+/// Marks the calls that a page of a fault always has: those that the fault names, the first close if a take found the
+/// end, the sends of the items that can have been in a queue that wasn't full, and the takes that haven't returned if the
+/// queue held too many.
+fn mark_fault(
+    alloc: Global,
+    log: &Log,
+    fault: &Fault,
+    marks: &mut Vec<bool>,
+) -> Result<(), AllocError> {
+    mark_named(marks, fault);
+    match fault {
+        Fault::NotEmpty { call, .. } if found_end(log, *call) => {
+            if let Some(close) = first_close(log) {
+                mark(marks, close);
+            }
+            Ok(())
+        }
+        Fault::NotFull { call } => match log.calls.get(*call).copied() {
+            Some(full) => mark_inside(alloc, log, &full, marks),
+            None => Ok(()),
+        },
+        Fault::TooMany { .. } => {
+            mark_waits(log, marks);
+            Ok(())
+        }
+        _ => Ok(()),
     }
 }
 
@@ -178,7 +302,7 @@ fn mark_beside(log: &Log, bodies: &IndexSet<Body>, spans: &[Span], marks: &mut V
         if is_among(shown.line.said, bodies) {
             mark(marks, place);
         } else if overlaps(log, place, spans) {
-            if beside < BESIDE_LIMIT {
+            if beside < LIMIT {
                 mark(marks, place);
                 beside = beside.saturating_add(1);
             } else {
@@ -193,7 +317,7 @@ fn mark_beside(log: &Log, bodies: &IndexSet<Body>, spans: &[Span], marks: &mut V
 /// one of those that it names the first 300 in the log's order.
 pub fn beside_fault(alloc: Global, log: &Log, fault: &Fault) -> Result<Choice, AllocError> {
     let mut marks = vec![in alloc; false; log.calls.len()]?;
-    mark_named(&mut marks, fault);
+    mark_fault(alloc, log, fault, &mut marks)?;
     let bodies = bodies(alloc, log, marks.as_slice())?;
     let spans = spans(alloc, log, marks.as_slice())?;
     let left_out = mark_beside(log, &bodies, spans.as_slice(), &mut marks);

@@ -25,33 +25,33 @@ background: var(--back); vertical-align: -1px; }\n.key .is-fault { background: v
 ); } .key .is-same { background: var(--same); border-color: var(--same-line); }\n.key .is-sure { background: var(--sur\
 e); border-color: var(--sure-line); border-style: dashed; }\n#picture { position: relative; display: grid; grid-templa\
 te-columns: auto minmax(0, 1fr); }\n#names { padding-right: 8px; }\n#names div { height: 34px; line-height: 34px; max-\
-width: 150px; overflow: hidden; text-overflow: ellipsis; white-space: nowrap; font-size: 13.5px; }\n#names div.ticks \
-{ height: 24px; }\n#scroll { overflow-x: auto; }\nsvg { display: block; }\nsvg text { font: 12.5px system-ui, sans-ser\
-if; fill: var(--ink); pointer-events: none; }\nsvg .tick { fill: var(--dim); font-size: 11.5px; }\nsvg .lane { stroke\
-: var(--line); } svg .grid { stroke: var(--line); stroke-dasharray: 2 4; }\n.call { cursor: pointer; outline: none; }\
-\n.call rect { fill: var(--back); stroke: var(--edge); stroke-width: 1.5; }\n.call.same rect { fill: var(--same); stro\
-ke: var(--same-line); }\n.call.fault rect { fill: var(--fault); stroke: var(--fault); } .call.fault text { fill: var(-\
--on-fault); font-weight: 600; }\n.call .open { stroke: none; }\n.call:focus-visible rect, .call.here rect { stroke: va\
-r(--ink); stroke-width: 3; }\n.sure rect { fill: var(--sure); stroke: var(--sure-line); stroke-width: 1.5; stroke-dash\
-array: 5 3; }\n.never { fill: var(--fault); opacity: 0.13; }\n#call { min-height: 1.5em; margin: 8px 0 0; }\ntable { b\
-order-collapse: collapse; font-size: 14px; }\n.wide { overflow-x: auto; }\ntd, th { text-align: left; padding: 3px 14p\
-x 3px 0; border-bottom: 1px solid var(--line); vertical-align: top; }\ntd.number, th.number { text-align: right; font-\
-variant-numeric: tabular-nums; }\n@media (max-width: 520px) { #names div { max-width: 84px; } header, main { padding: \
-0 8px; } }\n@media print {\n  :root { --back: #fff; --card: #fff; --ink: #000; --dim: #444; --line: #bbb; --edge: #555\
-; --fault: #b3261e; --on-fault: #fff; --same: #fff0b8; --same-line: #b98900; --sure: #dcefe4; --sure-line: #1a7548; }\
-\n  fieldset, #keys { display: none; }\n  #scroll { overflow: visible; } #scroll svg { width: 100%; height: auto; }\
-\n  .card { border: 0; padding: 0; break-inside: avoid; }\n  * { print-color-adjust: exact; }\n}\n</style>\n</head>\n<\
-body>\n<header>\n<h1 id=\"verdict\"></h1>\n<p id=\"why\"></p>\n</header>\n<main>\n<section class=\"card\" aria-labelle\
-dby=\"calls-title\">\n<h2 id=\"calls-title\">Calls, each from its begin to its end</h2>\n<fieldset id=\"scale\"><legen\
-d>Time</legend>\n<label><input type=\"radio\" name=\"scale\" value=\"order\" checked>its order alone</label>\n<label><\
-input type=\"radio\" name=\"scale\" value=\"clock\">by the clock</label>\n</fieldset>\n<div id=\"picture\"><div id=\"n\
-ames\" aria-hidden=\"true\"></div><div id=\"scroll\" tabindex=\"-1\"></div></div>\n<ul class=\"key\" id=\"key\"></ul>\
-\n<p id=\"call\" aria-live=\"polite\"></p>\n<p class=\"dim\" id=\"keys\">Left and right: the call that began before o\
-r after. Up and down: the next thread. Home and End: the first and the last call.</p>\n</section>\n<section class=\"ca\
-rd\" aria-labelledby=\"named-title\">\n<h2 id=\"named-title\">The calls of the fault, and those of the same items</h2>\
-\n<div class=\"wide\"><table><thead><tr><th class=\"number\">line</th><th>thread</th><th>call</th><th class=\"number\"\
->begin</th><th class=\"number\">end</th></tr></thead><tbody id=\"named\"></tbody></table></div>\n</section>\n<p class=\
-\"dim\" id=\"rest\"></p>\n</main>\n<script type=\"text/plain\" id=\"fault\">";
+width: 150px; overflow: hidden; text-overflow: ellipsis; white-space: nowrap; font-size: 13.5px; }\n#scroll { overflow\
+-x: auto; }\nsvg { display: block; }\nsvg text { font: 12.5px system-ui, sans-serif; fill: var(--ink); pointer-events\
+: none; }\nsvg .tick { fill: var(--dim); font-size: 11.5px; }\nsvg .lane { stroke: var(--line); } svg .grid { stroke: \
+var(--line); stroke-dasharray: 2 4; }\n.call { cursor: pointer; outline: none; }\n.call rect { fill: var(--back); stro\
+ke: var(--edge); stroke-width: 1.5; }\n.call.same rect { fill: var(--same); stroke: var(--same-line); }\n.call.fault r\
+ect { fill: var(--fault); stroke: var(--fault); } .call.fault text { fill: var(--on-fault); font-weight: 600; }\n.cal\
+l .open { stroke: none; }\n.call:focus-visible rect, .call.here rect { stroke: var(--ink); stroke-width: 3; }\n.sure r\
+ect { fill: var(--sure); stroke: var(--sure-line); stroke-width: 1.5; stroke-dasharray: 5 3; }\n.never { fill: var(--f\
+ault); opacity: 0.13; }\n#call { min-height: 1.5em; margin: 8px 0 0; }\ntable { border-collapse: collapse; font-size: \
+14px; }\n.wide { overflow-x: auto; }\ntd, th { text-align: left; padding: 3px 14px 3px 0; border-bottom: 1px solid var\
+(--line); vertical-align: top; }\ntd.number, th.number { text-align: right; font-variant-numeric: tabular-nums; }\n@me\
+dia (max-width: 520px) { #names div { max-width: 84px; } header, main { padding: 0 8px; } }\n@media print {\n  :root \
+{ --back: #fff; --card: #fff; --ink: #000; --dim: #444; --line: #bbb; --edge: #555; --fault: #b3261e; --on-fault: #fff\
+; --same: #fff0b8; --same-line: #b98900; --sure: #dcefe4; --sure-line: #1a7548; }\n  fieldset, #keys { display: none; \
+}\n  #scroll { overflow: visible; } #scroll svg { width: 100%; height: auto; }\n  .card { border: 0; padding: 0; break\
+-inside: avoid; }\n  * { print-color-adjust: exact; }\n}\n</style>\n</head>\n<body>\n<header>\n<h1 id=\"verdict\"></h1\
+>\n<p id=\"why\"></p>\n</header>\n<main>\n<section class=\"card\" aria-labelledby=\"calls-title\">\n<h2 id=\"calls-tit\
+le\">Calls, each from its begin to its end</h2>\n<fieldset id=\"scale\"><legend>Time</legend>\n<label><input type=\"ra\
+dio\" name=\"scale\" value=\"order\" checked>its order alone</label>\n<label><input type=\"radio\" name=\"scale\" valu\
+e=\"clock\">by the clock</label>\n</fieldset>\n<div id=\"picture\"><div id=\"names\" aria-hidden=\"true\"></div><div i\
+d=\"scroll\" tabindex=\"-1\"></div></div>\n<ul class=\"key\" id=\"key\"></ul>\n<p id=\"call\" aria-live=\"polite\"></p\
+>\n<p class=\"dim\" id=\"keys\">Left and right: the call that began before or after. Up and down: the next thread. Hom\
+e and End: the first and the last call.</p>\n</section>\n<section class=\"card\" aria-labelledby=\"named-title\">\n<h\
+2 id=\"named-title\">The calls of the fault, and those of the same items</h2>\n<div class=\"wide\"><table><thead><tr><\
+th class=\"number\">line</th><th>thread</th><th>call</th><th class=\"number\">begin</th><th class=\"number\">end</th><\
+/tr></thead><tbody id=\"named\"></tbody></table></div>\n</section>\n<p class=\"dim\" id=\"rest\"></p>\n</main>\n<scrip\
+t type=\"text/plain\" id=\"fault\">";
 
 /// The text between the fault and the calls.
 pub const MIDDLE: &[u8] = b"\
@@ -60,7 +60,7 @@ pub const MIDDLE: &[u8] = b"\
 /// The text after the calls.
 pub const BACK: &[u8] = b"\
 </script>\n<script>\n'use strict';\n(() => {\nconst $ = id => document.getElementById(id);\nconst SVG = 'http://www.w3\
-.org/2000/svg';\nconst ROW = 34, TICKS = 24, NARROW = 26;\n\n\
+.org/2000/svg';\nconst ROW = 34, THIN = 8, MANY = 20, TICKS = 24, NARROW = 26;\n\n\
 const lines = id => $(id).textContent.split('\\n').filter(line => line);\nconst fault = JSON.parse(lines('fault')[0]);\
 \nconst skew = BigInt(fault.skew || 0), LATEST = (1n << 64n) - 1n;\n// A call's times, which are below 2^64, become bi\
 g integers: those of its line, and those of which it is judged, which are\n// wider by the skew.\nconst parse = text =\
@@ -79,49 +79,70 @@ alue === undefined ? null : String(value));\nconst kind = call => ('send' in cal
 nst line = number => 'line ' + number;\nconst list = (words, and) => (words.length < 2 ? words.join('') : words.slice(\
 0, -1).join(', ') + ' ' + and + ' ' + words[words.length - 1]);\nconst of = number => (at.get(number) && its(at.get(nu\
 mber)) !== null ? 'item ' + its(at.get(number)) : 'the item of line ' + number);\n\n\
-// ---- the fault: the calls that it names, why they have no order, and when an item was in the queue for certain\ncon\
-st stays = fault.stays || [];\nconst named = [...new Set([fault.take, fault.send, fault.first, fault.second, fault.clo\
-sed, fault.call, ...(fault.sends || []), ...stays.flatMap(stay => [...stay.sends, stay.take, stay.next, stay.closed])]\
-.filter(Number.isInteger))];\nconst items = new Set(named.map(number => at.get(number)).filter(Boolean).map(its).filte\
-r(value => value !== null));\nconst role = call => (named.includes(call.line) ? 'fault' : its(call) !== null && items.\
-has(its(call)) ? 'same' : '');\nconst left = stay => (stay.sends.length > 1 ? 'one of ' + list([...stay.sends.map(of)\
-, ...(stay.more ? [stay.more + ' others'] : [])], 'and') : of(stay.sends.length ? stay.sends[0] : stay.take));\n// An \
-item whose send hadn't ended may count since the queue was closed.\nconst sent = stay => left(stay) + (stay.closed ? '\
-, sent before the queue was closed (' + line(stay.closed) + '),' : '');\nconst until = stay => (stay.take ? 'until ' \
-+ line(stay.take) + ' began to take it' : stay.next ? 'at least until ' + line(stay.next) + ' began' : 'to the end, si\
-nce no call took it');\nconst WHY = {\n  'never sent': f => 'Line ' + f.take + ' took ' + of(f.take) + ', and no accep\
-ted send sent it. No order has a send of this item before the take.',\n  'taken before sent': f => 'The take of ' + of\
-(f.take) + ' (' + line(f.take) + ') had ended before its send (' + line(f.send) + ') began. Each order that agrees wit\
-h real time has the take first, and a queue can\\'t return an item that it doesn\\'t have.',\n  'taken twice': f => 'L\
-ines ' + f.first + ' and ' + f.second + ' both took ' + of(f.first) + '. A queue returns each item once.',\n  'overtak\
-en': f => 'The send of ' + left(stays[0]) + ' (' + list(stays[0].sends.map(line), 'and') + ') had ended before the sen\
-d of ' + of(f.send) + ' (' + line(f.send) + ') began, so the first is ahead of the second in the queue. Line ' + f.tak\
-e + ' took the second, while the first was in the queue ' + until(stays[0]) + '.',\n  'open after closed': f => 'Line \
-' + f.closed + (at.get(f.closed) && kind(at.get(f.closed)) === 'close' ? ' closed the queue' : ' found the queue close\
-d') + ', and had ended before line ' + f.send + ' began. That send was not told that the queue is closed. A closed que\
-ue stays closed.',\n  'closed early': f => 'Line ' + f.call + ' found the queue closed, and had ended before any clos\
-e began.',\n  'not full': f => 'Line ' + f.call + ' found the queue full. At no moment of this call can the queue hav\
-e held ' + f.capacity + ' items: count each item whose send had begun, but none whose take had ended.',\n  'too many'\
-: f => 'When line ' + f.call + ' had ended, the sends of ' + (f.sends.length > 20 ? f.sends.length + ' lines' : list(f\
-.sends.map(line), 'and')) + ' had ended too. So few takes had begun that may have their items that more than ' + f.cap\
-acity + ' of them were in the queue.',\n  'not empty': f => 'Line ' + f.take + (f.ended ? ' found the queue closed an\
-d empty. At each moment of this call at which the queue can have been closed' : ' found the queue empty. At each momen\
-t of this call') + ' an item was in the queue for certain: ' + list(stays.map(stay => sent(stay) + ' ' + until(stay))\
-, 'and then') + '.',\n};\nconst sure = stays.map(stay => {\n  const sends = stay.sends.map(number => at.get(number)).f\
-ilter(Boolean);\n  const out = at.get(stay.take || stay.next);\n  const from = sends.map(call => call.end).reduce((a, \
-b) => (a === null || b === null ? null : a > b ? a : b), sends.length ? sends[0].end : null);\n  return from === null \
-? null : { name: left(stay), from, to: out ? out.begin : null };\n}).filter(Boolean);\n// The moments at which no orde\
-r can have what the fault says: of each call that it accuses.\nconst accused = { 'never sent': [fault.take], 'taken be\
-fore sent': [], 'taken twice': [fault.first, fault.second], 'overtaken': [fault.take], 'not empty': [fault.take], 'ope\
-n after closed': [fault.send], 'closed early': [fault.call], 'not full': [fault.call], 'too many': [fault.call] }[faul\
-t.kind] || [];\nconst never = accused.map(number => at.get(number)).filter(Boolean).map(call => ({ from: call.begin, t\
-o: call.end }));\nif (fault.kind === 'taken before sent' && at.get(fault.take) && at.get(fault.send)) never.push({ fro\
-m: at.get(fault.take).end, to: at.get(fault.send).begin });\n\n\
-// ---- the times: their order alone, or the clock\nconst times = [...new Set(calls.flatMap(call => (call.end === nul\
-l ? [call.begin] : [call.begin, call.end])).map(String))].map(BigInt).sort((a, b) => (a < b ? -1 : 1));\nconst rank = \
-new Map(times.map((time, k) => [String(time), k]));\nconst first = times[0] || 0n, last = times[times.length - 1] || 1\
-n;\nconst chosen = () => document.querySelector('input[name=scale]:checked').value;\nconst threads = [...new Set(calls\
-.map(call => call.thread))];\n\n\
+// ---- the fault: the calls that it names, why they have no order, and when an item was in the queue, or can have bee\
+n\nconst stays = fault.stays || [];\nconst named = [...new Set([fault.take, fault.send, fault.first, fault.second, fau\
+lt.closed, fault.close, fault.call, ...(fault.sends || []), ...stays.flatMap(stay => [...stay.sends, stay.take, stay.n\
+ext, stay.closed])].filter(Number.isInteger))];\nconst items = new Set(named.map(number => at.get(number)).filter(Bool\
+ean).map(its).filter(value => value !== null));\nconst role = call => (named.includes(call.line) ? 'fault' : its(call\
+) !== null && items.has(its(call)) ? 'same' : '');\nconst left = stay => (stay.sends.length > 1 ? 'one of ' + list([..\
+.stay.sends.map(of), ...(stay.more ? [stay.more + ' others'] : [])], 'and') : of(stay.sends.length ? stay.sends[0] : s\
+tay.take));\n// An item whose send hadn't ended may count since the queue was closed.\nconst sent = stay => left(stay\
+) + (stay.closed ? ', sent before the queue was closed' + (stay.closed === fault.take ? '' : ' (' + line(stay.closed) \
++ ')') + ',' : '');\nconst until = stay => (stay.take ? 'until ' + line(stay.take) + ' began to take it' : stay.next \
+? 'at least until ' + line(stay.next) + ' began' : 'to the end, since no call took it');\nconst others = f => (f.other\
+s ? [f.others + ' others, one after another, which are not drawn'] : []);\nconst ends = f => (f.until ? ' until ' + f.\
+until + '.' : ', and to the end.');\nconst sends = f => (f.more || f.sends.length > MANY ? f.sends.length + (f.more |\
+| 0) + ' lines' : list(f.sends.map(line), 'and'));\nconst WHY = {\n  'never sent': f => 'Line ' + f.take + ' took ' + \
+of(f.take) + ', and no accepted send sent it. No order has a send of this item before the take.',\n  'taken before sen\
+t': f => 'The take of ' + of(f.take) + ' (' + line(f.take) + ') had ended before its send (' + line(f.send) + ') began\
+. Each order that agrees with real time has the take first, and a queue can\\'t return an item that it doesn\\'t have.\
+',\n  'taken twice': f => 'Lines ' + f.first + ' and ' + f.second + ' both took ' + of(f.first) + '. A queue returns e\
+ach item once.',\n  'overtaken': f => 'The send of ' + left(stays[0]) + ' (' + list(stays[0].sends.map(line), 'and') \
++ ') had ended before the send of ' + of(f.send) + ' (' + line(f.send) + ') began, so the first is ahead of the secon\
+d in the queue. Line ' + f.take + ' took the second, while the first was in the queue ' + until(stays[0]) + '.',\n  'o\
+pen after closed': f => 'Line ' + f.closed + (at.get(f.closed) && kind(at.get(f.closed)) === 'close' ? ' closed the qu\
+eue' : ' found the queue closed') + ', and had ended before line ' + f.send + ' began. That send was not told that th\
+e queue is closed. A closed queue stays closed.',\n  'closed early': f => 'Line ' + f.call + ' found the queue closed\
+, and had ended before any close began.',\n  'not full': f => 'Line ' + f.call + ' found the queue full. At no moment \
+of this call can the queue have held ' + f.capacity + ' items: count each item whose send had begun, but none whose ta\
+ke had ended.',\n  'too many': f => 'When line ' + f.call + ' had ended, the sends of ' + sends(f) + ' had ended too. \
+So few takes had begun that may have their items that more than '\n    + f.capacity + ' of them were in the queue' + e\
+nds(f) + (f.more ? ' The first ' + f.sends.length + ' are drawn.' : ''),\n  'not empty': f => 'Line ' + f.take + (f.en\
+ded ? ' found the queue closed and empty' + (f.close ? ', and no close began before ' + line(f.close) : '') + '. At ea\
+ch moment of this call at which the queue can have been closed' : ' found the queue empty. At each moment of this call\
+')\n    + ' an item was in the queue for certain: ' + list([...stays.map(stay => sent(stay) + ' ' + until(stay)), ...o\
+thers(f)], 'and then') + '.',\n};\nconst there = numbers => numbers.map(number => at.get(number)).filter(Boolean);\nco\
+nst greatest = moments => moments.reduce((a, b) => (a === null || b === null ? null : a > b ? a : b));\n// No close be\
+gan before this moment, and no accepted send comes after the close.\nconst close = at.get(fault.close);\nconst shut = \
+sends => greatest([close ? close.begin : 0n, ...sends.map(call => call.begin)]);\nconst barOfStay = stay => {\n  cons\
+t sends = there(stay.sends);\n  const out = at.get(stay.take || stay.next);\n  const end = sends.length ? greatest(sen\
+ds.map(call => call.end)) : null;\n  // An item that was sent before the close counts since the queue was closed; if \
+a take found the end, since it can have been.\n  const closed = at.get(stay.closed);\n  const since = closed && sends.\
+length ? (fault.ended ? shut(sends) : closed.end) : null;\n  const from = since !== null && (end === null || since < e\
+nd) ? since : end;\n  return from === null ? null : { name: left(stay), from, to: out ? out.begin : null };\n};\ncons\
+t takes = new Map(calls.filter(call => kind(call) === 'take' && its(call) !== null).map(call => [its(call), call]));\n\
+const leaves = (send, to) => (takes.has(its(send)) ? takes.get(its(send))[to] : null);\nconst barOfSend = (send, from\
+, to) => ({ name: 'item ' + its(send), from: send[from], to: leaves(send, to) });\nconst blamed = at.get(fault.kind ==\
+= 'not empty' ? fault.take : fault.call);\nconst during = bar => blamed && bar.from <= blamed.end && (bar.to === null \
+|| bar.to >= blamed.begin);\nconst bars = {\n  'too many': () => there(fault.sends).map(send => barOfSend(send, 'end'\
+, 'begin')),\n  'not full': () => calls.filter(call => kind(call) === 'send' && !call.answer)\n    .map(send => barOfS\
+end(send, 'begin', 'end')).filter(during),\n};\nconst sure = bars[fault.kind] ? bars[fault.kind]() : stays.map(barOfSt\
+ay).filter(Boolean);\nconst BAR = {\n  'not full': 'the item can have been in the queue',\n  'too many': 'the item is \
+in the queue, unless a take that has not returned got it',\n}[fault.kind] || 'the item is in the queue for certain';\n\
+// The moments at which no order can have what the fault says: of each call that it accuses, and those at which the qu\
+eue\n// held too many.\nconst accused = { 'never sent': [fault.take], 'taken twice': [fault.first, fault.second], 'ove\
+rtaken': [fault.take], 'not empty': [fault.take], 'open after closed': [fault.send], 'closed early': [fault.call], 'no\
+t full': [fault.call] }[fault.kind] || [];\nconst never = there(accused).map(call => ({ from: call.begin, to: call.en\
+d }));\nif (fault.kind === 'taken before sent' && at.get(fault.take) && at.get(fault.send)) never.push({ from: at.get(\
+fault.take).end, to: at.get(fault.send).begin });\nif (fault.kind === 'too many' && blamed) never.push({ from: blamed.\
+end, to: fault.until ? BigInt(fault.until) : null });\nif (fault.ended && never.length) never[0].from = greatest([neve\
+r[0].from, shut(there(stays.flatMap(stay => stay.sends)))]);\n\n\
+// ---- the times: their order alone, or the clock\nconst spans = [...calls.map(call => ({ from: call.begin, to: call.\
+end })), ...sure, ...never];\nconst moments = spans.flatMap(span => (span.to === null ? [span.from] : [span.from, span\
+.to]));\nconst times = [...new Set(moments.map(String))].map(BigInt).sort((a, b) => (a < b ? -1 : 1));\nconst rank = n\
+ew Map(times.map((time, k) => [String(time), k]));\nconst first = times[0] || 0n, last = times[times.length - 1] || 1n\
+;\nconst chosen = () => document.querySelector('input[name=scale]:checked').value;\nconst threads = [...new Set(calls.\
+map(call => call.thread))];\n\n\
 const make = (name, more, inside) => {\n  const element = document.createElementNS(SVG, name);\n  for (const key in mo\
 re) element.setAttribute(key, more[key]);\n  for (const child of inside || []) element.append(child);\n  return elemen\
 t;\n};\nconst text = (words, more) => { const element = make('text', more); element.textContent = words; return elemen\
@@ -130,28 +151,33 @@ function draw() {\n  const room = Math.max(300, $('scroll').clientWidth - 2);\n 
 \n  const wide = order ? Math.max(room, (times.length + 1) * NARROW) : Math.max(room, Math.min(4000, times.length * 12\
 ));\n  const span = last > first ? Number(last - first) : 1;\n  const x = time => 6 + (time === null ? wide - 12 : ord\
 er ? rank.get(String(time)) / Math.max(1, times.length) * (wide - 30) : Number(time - first) / span * (wide - 60));\
-\n  const rows = sure.length + threads.length;\n  const high = TICKS + rows * ROW;\n  const svg = make('svg', { width\
-: wide, height: high, viewBox: '0 0 ' + wide + ' ' + high, role: 'group', 'aria-label': 'The calls of each thread, ove\
-r time' });\n  never.forEach(moment => svg.append(make('rect', { class: 'never', x: x(moment.from), y: TICKS, width: M\
-ath.max(2, x(moment.to) - x(moment.from)), height: high - TICKS })));\n  // the times that have room for their number\
-\n  let past = -1;\n  times.forEach(time => {\n    const where = x(time);\n    svg.append(make('line', { class: 'grid'\
-, x1: where, x2: where, y1: TICKS - 4, y2: high }));\n    if (where < past) return;\n    svg.append(text(String(time)\
-, { class: 'tick', x: where, y: 14 }));\n    past = where + String(time).length * 7 + 10;\n  });\n  for (let row = 0; \
-row <= rows; row++) svg.append(make('line', { class: 'lane', x1: 0, x2: wide, y1: TICKS + row * ROW, y2: TICKS + row \
-* ROW }));\n  sure.forEach((stay, row) => {\n    const y = TICKS + row * ROW;\n    svg.append(make('g', { class: 'sure\
-' }, [make('rect', { x: x(stay.from), y: y + 8, width: Math.max(3, x(stay.to) - x(stay.from)), height: ROW - 16, rx: \
-3 })]));\n  });\n  const shown = new Map();\n  calls.forEach(call => {\n    const y = TICKS + (sure.length + threads.i\
-ndexOf(call.thread)) * ROW, from = x(call.begin), to = x(call.end);\n    const is = role(call), words = short(call);\
-\n    const group = make('g', { class: 'call ' + is, tabindex: -1, role: 'button', 'aria-label': long(call) + (is === \
-'fault' ? ', named by the fault' : is === 'same' ? ', of an item of the fault' : '') },\n      [make('rect', { x: from\
-, y: y + 4, width: Math.max(4, to - from), height: ROW - 8, rx: 4, 'stroke-dasharray': call.end === null ? '5 3' : 'no\
-ne' })]);\n    if (words.length * 7 + 8 <= to - from) group.append(text(words, { x: from + 5, y: y + 21 }));\n    cons\
-t title = make('title'); title.textContent = long(call); group.append(title);\n    group.addEventListener('click', () \
-=> choose(call));\n    group.addEventListener('focus', () => tell(call));\n    shown.set(call, group);\n    svg.append\
-(group);\n  });\n  $('scroll').replaceChildren(svg);\n  const name = (words, kind) => { const element = document.creat\
-eElement('div'); element.textContent = words; if (kind) element.className = kind; return element; };\n  $('names').rep\
-laceChildren(name('', 'ticks'), ...sure.map(stay => name(stay.name)), ...threads.map(thread => name(thread)));\n  retu\
-rn shown;\n}\n\n\
+\n  const bar = sure.length > MANY ? THIN : ROW, lanes = TICKS + sure.length * bar, high = lanes + threads.length * RO\
+W;\n  const svg = make('svg', { width: wide, height: high, viewBox: '0 0 ' + wide + ' ' + high, role: 'group', 'aria-l\
+abel': 'The calls of each thread, over time' });\n  const titled = words => { const title = make('title'); title.textC\
+ontent = words; return title; };\n  const lasts = span => 'from ' + span.from + (span.to === null ? ' on' : ' to ' + s\
+pan.to);\n  never.forEach(moment => {\n    const width = Math.max(2, x(moment.to) - x(moment.from));\n    const place \
+= { class: 'never', x: x(moment.from), y: TICKS, width, height: high - TICKS };\n    svg.append(make('rect', place, [t\
+itled('impossible ' + lasts(moment))]));\n  });\n  // the times that have room for their number\n  let past = -1;\n  t\
+imes.forEach(time => {\n    const where = x(time);\n    svg.append(make('line', { class: 'grid', x1: where, x2: where\
+, y1: TICKS - 4, y2: high }));\n    if (where < past) return;\n    svg.append(text(String(time), { class: 'tick', x: w\
+here, y: 14 }));\n    past = where + String(time).length * 7 + 10;\n  });\n  const barEdges = bar === ROW ? sure.map((\
+stay, row) => TICKS + row * ROW) : [TICKS];\n  const edges = [...barEdges, ...threads.map((thread, row) => lanes + ro\
+w * ROW), high];\n  edges.forEach(y => svg.append(make('line', { class: 'lane', x1: 0, x2: wide, y1: y, y2: y })));\
+\n  sure.forEach((stay, row) => {\n    const inset = bar / 4 - 0.5;\n    const width = Math.max(3, x(stay.to) - x(stay\
+.from)), y = TICKS + row * bar + inset;\n    const rect = make('rect', { x: x(stay.from), y, width, height: bar - 2 * \
+inset, rx: bar / 12 });\n    svg.append(make('g', { class: 'sure' }, [rect, titled(stay.name + ', ' + lasts(stay))]));\
+\n  });\n  const shown = new Map();\n  calls.forEach(call => {\n    const y = lanes + threads.indexOf(call.thread) * R\
+OW, from = x(call.begin), to = x(call.end);\n    const is = role(call), words = short(call);\n    const group = make('\
+g', { class: 'call ' + is, tabindex: -1, role: 'button', 'aria-label': long(call) + (is === 'fault' ? ', named by the \
+fault' : is === 'same' ? ', of an item of the fault' : '') },\n      [make('rect', { x: from, y: y + 4, width: Math.ma\
+x(4, to - from), height: ROW - 8, rx: 4, 'stroke-dasharray': call.end === null ? '5 3' : 'none' })]);\n    if (words.l\
+ength * 7 + 8 <= to - from) group.append(text(words, { x: from + 5, y: y + 21 }));\n    group.append(titled(long(call)\
+));\n    group.addEventListener('click', () => choose(call));\n    group.addEventListener('focus', () => tell(call));\
+\n    shown.set(call, group);\n    svg.append(group);\n  });\n  $('scroll').replaceChildren(svg);\n  const name = (wor\
+ds, height) => {\n    const element = document.createElement('div');\n    element.textContent = words;\n    if (height\
+) element.style.height = height + 'px';\n    return element;\n  };\n  const barNames = bar === ROW ? sure.map(stay => \
+name(stay.name)) : [name(sure.length + ' items', sure.length * bar)];\n  $('names').replaceChildren(name('', TICKS), .\
+..barNames, ...threads.map(thread => name(thread)));\n  return shown;\n}\n\n\
 let drawn = draw(), here = calls.find(call => named.includes(call.line)) || calls[0];\nfunction tell(call) {\n  here \
 = call;\n  for (const [one, group] of drawn) { group.classList.toggle('here', one === call); group.setAttribute('tabin\
 dex', one === call ? 0 : -1); }\n  $('call').textContent = long(call) + '.';\n}\nfunction choose(call) { drawn.get(cal\
@@ -171,16 +197,16 @@ $('why').textContent = WHY[fault.kind] ? WHY[fault.kind](fault) : verdict === 'c
 t agrees with real time, in which a queue gives the same answers.' : verdict === 'fault' ? 'The calls that the fault n\
 ames have no legal order.' : 'Neither an order nor a fault was found.';\nconst key = (kind, words) => { const element \
 = document.createElement('li'), box = document.createElement('i'); box.className = kind; element.append(box, words); r\
-eturn element; };\nif (verdict === 'fault') $('key').append(key('is-fault', 'named by the fault; its moments are shade\
-d'), key('is-same', 'of an item of the fault'), key('', 'another call'), ...(sure.length ? [key('is-sure', 'the item i\
-s in the queue for certain')] : []));\ncalls.filter(call => role(call)).forEach(call => {\n  const row = document.crea\
-teElement('tr');\n  [call.line, call.thread, short(call), call.said.begin, call.end === null ? 'not returned' : call.s\
-aid.end].forEach((value, k) => {\n    const cell = document.createElement('td');\n    cell.textContent = value;\n    i\
-f (k !== 1 && k !== 2) cell.className = 'number';\n    row.append(cell);\n  });\n  $('named').append(row);\n});\n$('na\
-med-title').parentElement.hidden = verdict !== 'fault';\n$('rest').textContent = calls.length === fault.calls ? 'All \
-' + fault.calls + ' calls of the log are shown.' : verdict !== 'fault' ? 'The first ' + calls.length + ' of ' + fault.\
-calls + ' calls of the log are shown.' : calls.length + ' of ' + fault.calls + ' calls of the log are shown: those tha\
-t the fault names, those of the same items, and calls at the same time' + (fault.left_out ? ' (' + fault.left_out + ' \
-more at that time are left out)' : '') + '.' + (skew ? ' The picture has each call as it is judged: from ' + skew + ' \
-before its begin to ' + skew + ' after its end.' : '');\n$('scale').addEventListener('change', redraw);\nwindow.addEve\
-ntListener('resize', redraw);\nif (here) tell(here);\n})();\n</script>\n</body>\n</html>\n";
+eturn element; };\nif (verdict === 'fault') $('key').append(key('is-fault', 'named by the fault; the impossible moment\
+s are shaded'), key('is-same', 'of an item of the fault'), key('', 'another call'), ...(sure.length ? [key('is-sure', \
+BAR)] : []));\ncalls.filter(call => role(call)).forEach(call => {\n  const row = document.createElement('tr');\n  [cal\
+l.line, call.thread, short(call), call.said.begin, call.end === null ? 'not returned' : call.said.end].forEach((value\
+, k) => {\n    const cell = document.createElement('td');\n    cell.textContent = value;\n    if (k !== 1 && k !== 2) \
+cell.className = 'number';\n    row.append(cell);\n  });\n  $('named').append(row);\n});\n$('named-title').parentEleme\
+nt.hidden = verdict !== 'fault';\n$('rest').textContent = calls.length === fault.calls ? 'All ' + fault.calls + ' call\
+s of the log are shown.' : verdict !== 'fault' ? 'The first ' + calls.length + ' of ' + fault.calls + ' calls of the l\
+og are shown.' : calls.length + ' of ' + fault.calls + ' calls of the log are shown: those that the fault names, thos\
+e of the same items, and calls at the same time' + (fault.left_out ? ' (' + fault.left_out + ' more at that time are l\
+eft out)' : '') + '.' + (skew ? ' The picture has each call as it is judged: from ' + skew + ' before its begin to ' \
++ skew + ' after its end.' : '');\n$('scale').addEventListener('change', redraw);\nwindow.addEventListener('resize', r\
+edraw);\nif (here) tell(here);\n})();\n</script>\n</body>\n</html>\n";

@@ -4,9 +4,9 @@ ghost use Rattle.std.specs.Prelude.{◌≡◌, ◌<◌, ◌+◌, ◌-◌, ◌^�
 ghost use Rattle.cc_cli.specs.Judged.{failed_writes};
 ghost use Rattle.cc_cli.specs.Names.{AnswerFault};
 
-use crate::judging::choice::{Choice, beside_fault, first_calls};
+use crate::judging::choice::{Choice, beside_fault, first_calls, held_until, named_sends};
 use crate::judging::fault_page::{BACK, FRONT, MIDDLE};
-use crate::judging::verdict_line::{found_end, taker};
+use crate::judging::verdict_line::{MANY, first_close, found_end, taker};
 use cc_io::{Sink, WriteFault, write_bytes};
 use cc_judge::{Fault, Stay, Verdict};
 use cc_log::{Log, Said, Shown, body_text};
@@ -110,9 +110,7 @@ fn push_stay(alloc: Global, text: &mut String, log: &Log, stay: &Stay) -> Result
             ..
         } => {
             push_sends(alloc, text, log, sends.as_slice())?;
-            if *more > 0 {
-                text.push_str(format!(in alloc; ",\"more\":{more}")?.as_str())?;
-            }
+            push_more(alloc, text, "more", *more)?;
             if let Some(next) = next {
                 let key = if taker(log, stay).is_some() {
                     "take"
@@ -141,10 +139,7 @@ fn push_two(
     push_line(alloc, text, log, second.0, second.1)
 }
 
-/// How many stays a page names at most.
-const MANY: usize = 20;
-
-/// Appends stays: of many the first.
+/// Appends stays: of many the first, and how many others there are.
 fn push_stays(
     alloc: Global,
     text: &mut String,
@@ -156,7 +151,16 @@ fn push_stays(
         text.push_str(if at == 0 { "" } else { "," })?;
         push_stay(alloc, text, log, stay)?;
     }
-    text.push_str("]")
+    text.push_str("]")?;
+    push_more(alloc, text, "others", stays.len().saturating_sub(MANY))
+}
+
+/// Appends a key and how many more there are, if there are any.
+fn push_more(alloc: Global, text: &mut String, key: &str, more: usize) -> Result<(), AllocError> {
+    if more == 0 {
+        return Ok(());
+    }
+    text.push_str(format!(in alloc; ",\"{key}\":{more}")?.as_str())
 }
 
 /// The name of a fault's pattern.
@@ -186,7 +190,8 @@ fn push_bounded(
     push_line(alloc, text, log, "call", call)
 }
 
-/// Appends the line of a take that found none, whether it found the end, and the stays of the items that were there.
+/// Appends the line of a take that found none, whether it found the end and which close began first, and the stays of the
+/// items that were there.
 fn push_not_empty(
     alloc: Global,
     text: &mut String,
@@ -197,11 +202,15 @@ fn push_not_empty(
     push_line(alloc, text, log, "take", call)?;
     if found_end(log, call) {
         text.push_str(",\"ended\":true")?;
+        if let Some(close) = first_close(log) {
+            push_line(alloc, text, log, "close", close)?;
+        }
     }
     push_stays(alloc, text, log, stays)
 }
 
-/// Appends the line of a call after which a queue held too many items, and the lines of their sends.
+/// Appends the line of a call after which a queue held too many items, the lines of their sends, of many the first, and
+/// until when there were too many.
 fn push_too_many(
     alloc: Global,
     text: &mut String,
@@ -211,7 +220,14 @@ fn push_too_many(
 ) -> Result<(), AllocError> {
     push_bounded(alloc, text, log, call)?;
     text.push_str(",")?;
-    push_sends(alloc, text, log, sends)
+    let named = named_sends(sends);
+    push_sends(alloc, text, log, named)?;
+    let more = sends.len().saturating_sub(named.len());
+    push_more(alloc, text, "more", more)?;
+    match held_until(alloc, log, sends)? {
+        Some(until) => text.push_str(format!(in alloc; ",\"until\":\"{until}\"")?.as_str()),
+        None => Ok(()),
+    }
 }
 
 /// Appends the lines that a fault names.

@@ -61,8 +61,8 @@ fn lines_and(
     Ok(text)
 }
 
-/// How many lines the line of a verdict names at most of a queue that held too many items.
-const MANY: usize = 20;
+/// How many items the line of a verdict and its page name at most of one call.
+pub const MANY: usize = 20;
 
 /// The numbers of the lines of the calls at these places: of many the first.
 fn first_lines_at(alloc: Global, log: &Log, places: &[usize]) -> Result<String, AllocError> {
@@ -164,6 +164,21 @@ pub fn found_end(log: &Log, place: usize) -> bool {
         None => false,
     };
     is_end && log.rules.closes
+}
+
+/// The place of the close that began first.
+pub fn first_close(log: &Log) -> Option<usize> {
+    let mut first: Option<(u64, usize)> = None;
+    for (place, call) in log.calls.iter().enumerate() {
+        if matches!(call.act, Act::Close) {
+            match first {
+                Some((begin, _)) if begin <= call.begin => {}
+                _ => first = Some((call.begin, place)),
+            }
+        }
+    }
+    let (_, place) = first?;
+    Some(place)
 }
 
 /// The text of a take that had ended before the send of its item began.
