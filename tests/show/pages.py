@@ -321,8 +321,8 @@ def looks():
 
 
 # Logs, each a line of calls: thread, begin, end or -, what it did, its item or -, and its answer if it has one;
-# `late` first, if the log begins late. Each has the status and the beginning of the verdict that is due, the options, the lines
-# that its page shows, and, if it isn't that of a log without a capacity or an end, the shades and the bars.
+# `late` first, if the log begins late. Each has the status and the beginning of the verdict that is due, the options,
+# the lines that its page shows, and, if it isn't that of a log without a capacity or an end, the shades and the bars.
 LOGS = [
     (1, "never sent", [], "a 1 2 take 9; b 2 3 send 8; b 4 5 send 7", [1, 2]),
     (1, "taken before sent", [], "a 1 3 take 7; b 2 3 send 5; b 5 8 send 7", [1, 2, 3]),
