@@ -5,7 +5,7 @@ ghost use Rattle.cc_judge.specs.Until.{HaveEnded, IsCallUntil, IsOver, IsUntil, 
 use crate::{Act, Call};
 use std::alloc::{AllocError, Global};
 
-/// What is known of a call that hasn't returned by this act of it.
+/// The act of a call as it is known while the call hasn't returned.
 fn act_until(act: Act) -> Act
     ensures { result ≡ act_until act }
 {
@@ -27,7 +27,7 @@ fn is_over(call: Call, time: u64) -> bool
     }
 }
 
-/// What is known of a call by a time.
+/// A call as it is known by a time.
 fn call_until(call: Call, time: u64) -> Call
     ensures { IsCallUntil time call result }
 {
