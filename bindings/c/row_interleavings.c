@@ -26,12 +26,14 @@
  * groups have gone on, and each seat was free since, or taken later, or said that its call is at another queue; then
  * that call is.
  *
- * Nor does it break the rules of a bound (`KeepBound` and `FindsFull` of crates/cc_row/specs/BoundThreads.antt). A send
- * begins at a queue to which all groups have come; or its thread has loaded how many items the last queue had accepted,
- * while no other sender had a call there, then found room for each group by what the group had taken of the queue that
- * it was at, and no sender began a call there since. A close begins where all groups have come, or while no sender has
- * a call. A send returns that there is no room, or parks, after a queue had none, or after loads of the same kind that
- * find none. It is a look of the same call each time.
+ * Nor does it break the rules of a bound (`KeepBound` and `FindsFull` of crates/cc_row/specs/BoundThreads.antt, and
+ * `ReturnLate` of BoundedRuns.antt). A send begins at a queue to which all groups have come; or its thread has loaded
+ * how many items the last queue had accepted, while no other sender had a call there, then found room for each group by
+ * what the group had taken of the queue that it was at, and no sender began a call there since. A close begins where
+ * all groups have come, or while no sender has a call. A send returns that there is no room, or parks, after a queue
+ * had none, or after loads of the same kind that find none. It is a look of the same call each time. The row is marked
+ * as closed by the store of `is_closed`. A look that finds no room begins before that, and no call returns Shut,
+ * Already, Closed or Ended before that.
  *
  * The answers are checked by an oracle that knows no row. It is one queue, first in, first out, whose calls take effect
  * at one moment between their begin and their return. With each state go all orders of the calls that explain the
@@ -190,9 +192,9 @@ struct process {
     uint32_t answer, seat;
     uint32_t reads; /* the blocks that it accessed plainly since its last step */
     /* Its look at the counts in this call: at which queue, with 1 added, and how many items the row had accepted by
-     * then; while no other sender had a call there or began one, for which groups it found room; and whether there was
-     * none, by this look or by the queue. */
-    uint8_t looks_at, accepted, is_alone, has_room, finds_full;
+     * then; whether the row was marked as closed; while no other sender had a call there or began one, for which groups
+     * it found room; and whether there was none, by this look or by the queue. */
+    uint8_t looks_at, accepted, is_late, is_alone, has_room, finds_full;
 };
 
 /* A call of the library that is begun, and its answer once it has taken effect. */
@@ -429,6 +431,7 @@ static void looked(uint32_t number, uint32_t group) {
     struct process *const it = this_process();
     if (group == 0) {
         it->looks_at = (uint8_t)(number + 1), it->accepted = (uint8_t)accepted_below(number + 1);
+        it->is_late = code_is_closed(queue);
         it->is_alone = number == queue_now(0) && !has_sender(number), it->has_room = it->finds_full = 0;
         return;
     }
@@ -440,7 +443,7 @@ static void looked(uint32_t number, uint32_t group) {
 }
 
 static void forget_look(struct process *it) {
-    it->looks_at = it->accepted = it->is_alone = it->has_room = it->finds_full = 0;
+    it->looks_at = it->accepted = it->is_late = it->is_alone = it->has_room = it->finds_full = 0;
 }
 
 /* A sender begins a send or a close at this queue, which has no call of it yet. */
@@ -464,6 +467,16 @@ static void check_bound(uint32_t number, bool closes) {
 /* A call of this process relies on it that there was no room. */
 static void check_full(void) {
     if (!this_process()->finds_full) breaks("there is no room by a wrong look");
+    if (this_process()->is_late) breaks("a look that gets Full begins after the mark");
+}
+
+/* A call of this process returns with this code. */
+static void check_return(uint32_t code) {
+    const bool says_shut = code == VAHEPITO_SHUT || code == VAHEPITO_ALREADY || code == VAHEPITO_CLOSED ||
+                           code == VAHEPITO_ENDED;
+    if (says_shut && !code_is_closed(queue)) breaks("a call says that the row is shut before the mark");
+    if (code == VAHEPITO_FULL) check_full();
+    forget_look(this_process());
 }
 
 /* A process makes a call by the pass of this side of this seat. */
@@ -717,7 +730,7 @@ static uint32_t answer(struct pass_at at, uint64_t *value, uint8_t *got) {
     const uint32_t code = it->code;
     *value = it->value, *got = it->got;
     memset(it, 0, sizeof *it);
-    if (current >= 0 && at.side == 0) this_process()->finds_full = code == VAHEPITO_FULL;
+    if (current >= 0 && at.side == 0) this_process()->is_late = 0, this_process()->finds_full = code == VAHEPITO_FULL;
     return code;
 }
 
@@ -913,8 +926,7 @@ static void run_process(void) {
         const char call = model->calls[current][this_process()->call];
         if (!call) this_process()->status = OVER, stop(), abort();
         this_process()->answer = make_call(call, item_of(current, this_process()->call));
-        if (code_of(this_process()->answer) == VAHEPITO_FULL) check_full();
-        forget_look(this_process());
+        check_return(code_of(this_process()->answer));
         this_process()->status = RETURNED;
         stop();
     }
