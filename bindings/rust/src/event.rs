@@ -29,8 +29,8 @@
 //! | an item's drop | the drop of a last handle | the item is out of the queue, the channel is closed or goes on without the group | is raised once all are dropped |
 //! | | a send that finds a lost group in the queue | a further queue is in place, the send's item is in `Unsent`, or sent | ends |
 //! | | the drop of a future or a selected operation | the future is out of the line, the pair is gone | is raised after the other drops |
-//! | | `ItemWords::unpack`, of the last share | the copy is made | ends |
-//! | an item's clone | `ItemWords::unpack`, in a take of a group | the item is taken, and one that waits for room is notified | is raised once the share is given up |
+//! | | `Item::unpack`, of the last share | the copy is made | ends |
+//! | an item's clone | `Item::unpack`, in a take of a group | the item is taken, and one that waits for room is notified | is raised once the share is given up |
 //! | items and wakers that are left | the drop of the channel, if futures or operations were forgotten | both sides are gone | is raised once all of its list are dropped |
 //! | the expression of a selected item | `select!`, while the operation is held | the room is reserved, or the pair is made | leaves the select; the operation's drop gives back the room or the pair |
 //! | a payload's drop | the end of a panic | all of the above | ends; the second payload is forgotten |

@@ -1,8 +1,11 @@
-//! Items as bodies of the queue.
+//! Items as bodies of the queue, whatever their type is.
 //!
 //! An item of up to 32 bytes is its body: its bytes are copied into one to four words, and out of them.
 //! A larger one lies in a box, and the body is the word of its pointer. So does an item that several groups
 //! get: its body is sent once, and taken once by each group.
+//!
+//! **The code below the handles is compiled once**, and not for each type of items: it has items as [`Item`], with the [`Kind`] of
+//! their type. A handle knows the type. It packs what it sends, and unpacks what the channel gives it.
 #![allow(unsafe_code)]
 
 use crate::event::ignore_panics;
@@ -11,159 +14,245 @@ use std::marker::PhantomData;
 use std::mem::{ManuallyDrop, MaybeUninit, forget, size_of};
 use std::panic::{AssertUnwindSafe, catch_unwind, resume_unwind};
 use std::sync::atomic::{AtomicUsize, Ordering};
+use std::sync::{Arc, Mutex};
 
 /// The greatest number of bytes of an item that travels in a body itself. From 9 bytes on a box costs fewer instructions than the
 /// words: 895 a pair of 32 bytes in place of 1,096. But one thread asks for its memory and another one frees it: between four pairs of
 /// threads an item of 16 to 32 bytes takes 1.5 to 2.4 times as long in a box.
 const INLINE: usize = size_of::<Words>();
 
-/// Copies an item for a group that isn't the last one.
-pub type Copies<T> = fn(&T) -> T;
+/// In a handle: all items of its channel are of this type. So a handle is `Send` and `Sync` if the items are `Send`.
+pub type Of<T> = PhantomData<Arc<Mutex<T>>>;
 
-/// Whether items of this type, or of groups, lie in boxes.
-const fn is_boxed<T>(copies: Option<Copies<T>>) -> bool {
-    copies.is_some() || size_of::<T>() > INLINE
+/// What the channel has to know of the type of its items.
+pub struct Kind {
+    /// How many words a body has.
+    pub words: usize,
+    /// Whether an item lies in a [`Boxed`], and the word is its pointer.
+    is_boxed: bool,
+    /// Gives up a share of the item, and drops the item with the last one.
+    drop: unsafe fn(&Words),
+    /// Writes a copy of an item, for a group that isn't the last one.
+    copy: Option<unsafe fn(from: *const (), to: *mut ())>,
 }
 
-/// How many words the bodies have that are such items, or pointers to them.
-pub const fn words_of<T>(copies: Option<Copies<T>>) -> usize {
-    match size_of::<T>().div_ceil(8) {
-        2.. if !is_boxed(copies) => size_of::<T>().div_ceil(8),
-        _ => 1,
+impl Kind {
+    /// Of items that one receiver each gets.
+    pub fn alone<T>() -> &'static Kind {
+        const { &Kind::new::<T>(None) }
+    }
+
+    /// Of items that groups of receivers get.
+    pub fn of_groups<T: Clone>() -> &'static Kind {
+        const { &Kind::new::<T>(Some(copy::<T>)) }
+    }
+
+    const fn new<T>(copy: Option<unsafe fn(*const (), *mut ())>) -> Kind {
+        let is_boxed = copy.is_some() || size_of::<T>() > INLINE;
+        let words = match size_of::<T>().div_ceil(8) {
+            words @ 2.. if !is_boxed => words,
+            _ => 1,
+        };
+        let drop = if is_boxed {
+            drop_boxed::<T>
+        } else {
+            drop_inline::<T>
+        };
+        Kind {
+            words,
+            is_boxed,
+            drop,
+            copy,
+        }
     }
 }
 
+/// # Safety
+///
+/// They point to a `T`, and to room for one.
+unsafe fn copy<T: Clone>(from: *const (), to: *mut ()) {
+    // SAFETY: the caller says so.
+    unsafe { to.cast::<T>().write((*from.cast::<T>()).clone()) }
+}
+
+/// # Safety
+///
+/// The words are a `T`, which isn't used after this.
+unsafe fn drop_inline<T>(words: &Words) {
+    // SAFETY: the caller says so.
+    drop(unsafe { get::<T>(words) });
+}
+
+/// # Safety
+///
+/// The words are a pointer to a `Boxed<T>`, and their share isn't used after this.
+unsafe fn drop_boxed<T>(words: &Words) {
+    // SAFETY: the caller says so.
+    drop(unsafe { open::<T>(words) });
+}
+
 /// An item in a box.
+#[repr(C)]
 struct Boxed<T> {
     /// How many groups haven't taken it. Its sender alone has it before it is sent.
     left: AtomicUsize,
     item: T,
 }
 
-/// An item on its way, as the words of a body. It owns the item, or its group's share of it.
-pub struct ItemWords<T> {
-    words: Words,
-    copies: Option<Copies<T>>,
-    item: PhantomData<T>,
+/// The words with this value in them.
+fn words_with<V>(value: V) -> Words {
+    assert!(size_of::<V>() <= INLINE);
+    let mut words = [MaybeUninit::uninit(); 4];
+    // SAFETY: the words have room for the value, and may be less aligned than it.
+    unsafe { words.as_mut_ptr().cast::<V>().write_unaligned(value) };
+    words
 }
 
-impl<T> ItemWords<T> {
-    /// Puts an item into words. It is shared by groups if there is a function that copies it.
-    #[inline]
-    pub fn pack(item: T, copies: Option<Copies<T>>) -> ItemWords<T> {
-        if is_boxed(copies) {
-            let left = AtomicUsize::new(1);
-            let at = Box::into_raw(Box::new(Boxed { left, item }));
-            // SAFETY: it is a box of its own.
-            unsafe { ItemWords::of(at, copies) }
-        } else {
-            // SAFETY: it is the item, which lies in no box.
-            unsafe { ItemWords::of(item, None) }
-        }
-    }
+/// # Safety
+///
+/// The words have a `V` in them, which isn't used after it was moved out.
+#[inline]
+unsafe fn get<V>(words: &Words) -> V {
+    // SAFETY: the caller says so.
+    unsafe { words.as_ptr().cast::<V>().read_unaligned() }
+}
 
-    /// With this value in the words: the item, or a pointer to its box.
+/// Gives up a share of an item, and gives the item if it was the last one.
+///
+/// # Safety
+///
+/// The words are a pointer to a `Boxed<T>`, and their share isn't used after this.
+unsafe fn open<T>(words: &Words) -> Option<T> {
+    // SAFETY: the caller says so.
+    let at = unsafe { get::<*mut Boxed<T>>(words) };
+    // SAFETY: the box is there as long as this share of it is.
+    let left = unsafe { &(*at).left };
+    // All uses of the other shares happen before the item is used or dropped.
+    if left.fetch_sub(1, Ordering::AcqRel) != 1 {
+        return None;
+    }
+    // SAFETY: this was the last share, so nobody else has the box.
+    Some(unsafe { Box::from_raw(at) }.item)
+}
+
+/// An item on its way, as the words of a body. It owns the item, or its group's share of it.
+pub struct Item {
+    words: Words,
+    kind: &'static Kind,
+}
+
+impl Item {
+    /// Puts an item into words.
     ///
     /// # Safety
     ///
-    /// It is a pointer to a `Boxed<T>` that nobody else has, if such items lie in boxes; and else a `T`.
-    unsafe fn of<V>(value: V, copies: Option<Copies<T>>) -> ItemWords<T> {
-        assert!(size_of::<V>() <= INLINE);
-        let mut words = [MaybeUninit::uninit(); 4];
-        // SAFETY: the words have room for the value, and may be less aligned than it. They are those of a
-        // packed item that is made here.
-        unsafe {
-            words.as_mut_ptr().cast::<V>().write_unaligned(value);
-            ItemWords::taken(words, copies)
-        }
+    /// The kind is one of `T`.
+    #[inline]
+    pub unsafe fn pack<T>(item: T, kind: &'static Kind) -> Item {
+        let words = if size_of::<T>() > INLINE || kind.is_boxed {
+            let left = AtomicUsize::new(1);
+            words_with(Box::into_raw(Box::new(Boxed { left, item })))
+        } else {
+            words_with(item)
+        };
+        Item { words, kind }
+    }
+
+    /// One that no groups get, and isn't of a channel.
+    pub fn alone<T>(item: T) -> Item {
+        // SAFETY: it is the kind of its type.
+        unsafe { Item::pack(item, Kind::alone::<T>()) }
     }
 
     /// An item that was taken, by its words.
     ///
     /// # Safety
     ///
-    /// They are the words of an item of `T` that was sent, to as many groups as its share says, and this
-    /// group takes it for the first time; and `copies` is as it was there.
-    pub unsafe fn taken(words: Words, copies: Option<Copies<T>>) -> ItemWords<T> {
-        ItemWords {
-            words,
-            copies,
-            item: PhantomData,
-        }
+    /// They are the words of an item of this kind that was sent, to as many groups as its share says, and this
+    /// group takes it for the first time.
+    #[inline]
+    pub unsafe fn taken(words: Words, kind: &'static Kind) -> Item {
+        Item { words, kind }
     }
 
-    /// Reads the value that `of` has put into the words.
-    ///
-    /// # Safety
-    ///
-    /// It is a `V`, and isn't used after it was moved out.
-    unsafe fn get<V>(&self) -> V {
-        // SAFETY: `of` wrote it there, or into the words of which these are a copy.
-        unsafe { self.words.as_ptr().cast::<V>().read_unaligned() }
-    }
-
-    /// The pointer to its box, if it lies in one.
-    fn pointer(&self) -> Option<*mut Boxed<T>> {
-        // SAFETY: then the words are that pointer, by `pack`.
-        is_boxed(self.copies).then(|| unsafe { self.get() })
-    }
-
-    /// The same by reference.
-    fn boxed(&self) -> Option<&Boxed<T>> {
-        // SAFETY: the box is there as long as this share of it is.
-        self.pointer().map(|at| unsafe { &*at })
+    /// How many shares of it there are, if it lies in a box.
+    #[inline]
+    fn shares(&self) -> Option<&AtomicUsize> {
+        // SAFETY: then the word is a pointer to a `Boxed<T>`, which begins with them, and is there as long as this share is.
+        let shares = || unsafe { &*get::<*const AtomicUsize>(&self.words) };
+        self.kind.is_boxed.then(shares)
     }
 
     /// Sets the number of shares of an item that the caller alone has: the groups that are to get it, or
     /// 1 for its one owner.
+    #[inline]
     fn set_shares(&self, groups: usize) {
-        if let Some(boxed) = self.boxed() {
-            boxed.left.store(groups, Ordering::Relaxed);
+        if let Some(shares) = self.shares() {
+            shares.store(groups, Ordering::Relaxed);
         }
     }
 
     /// The item. If other groups are to take it, a copy: this runs user code. A panic of the copy is raised again
     /// once the share is given up; one of the item's drop ends here, since the copy is there.
-    #[inline]
-    pub fn unpack(self) -> T {
-        if let (Some(copies), Some(boxed)) = (self.copies, self.boxed()) {
-            if boxed.left.load(Ordering::Acquire) != 1 {
-                let copy = catch_unwind(AssertUnwindSafe(|| copies(&boxed.item)));
-                ignore_panics([self], drop); // the share may be the last one by now
-                return copy.unwrap_or_else(|panic| resume_unwind(panic));
-            }
-        }
-        let this = ManuallyDrop::new(self);
-        // SAFETY: the packed item isn't used after this, nor dropped. It has the last share of the item.
-        unsafe { this.open().expect("nobody else has a share") }
-    }
-
-    /// Gives up this share, and gives the item if it was the last one.
     ///
     /// # Safety
     ///
-    /// The packed item isn't used after this.
-    unsafe fn open(&self) -> Option<T> {
-        let Some(at) = self.pointer() else {
-            // SAFETY: the words are the item, by `pack`.
-            return Some(unsafe { self.get() });
-        };
-        // SAFETY: the box is there as long as this share of it is.
-        let left = unsafe { &(*at).left };
-        // All uses of the other shares happen before the item is used or dropped.
-        if left.fetch_sub(1, Ordering::AcqRel) != 1 {
-            return None;
+    /// Its kind is one of `T`.
+    #[inline]
+    pub unsafe fn unpack<T>(self) -> T {
+        let this = ManuallyDrop::new(self);
+        if size_of::<T>() <= INLINE && !this.kind.is_boxed {
+            // SAFETY: the words are the item, by `pack`, and it isn't used after this, nor dropped.
+            return unsafe { get(&this.words) };
         }
-        // SAFETY: this was the last share, so nobody else has the box.
-        Some(unsafe { Box::from_raw(at) }.item)
+        // SAFETY: the caller says so, and the item is in a box, by `pack`.
+        unsafe { ManuallyDrop::into_inner(this).unpack_boxed() }
+    }
+
+    /// The item in its box, or a copy.
+    ///
+    /// # Safety
+    ///
+    /// The item is a `T` that lies in a box.
+    unsafe fn unpack_boxed<T>(self) -> T {
+        if let (Some(copy), Some(shares)) = (self.kind.copy, self.shares()) {
+            if shares.load(Ordering::Acquire) != 1 {
+                // SAFETY: the caller says so.
+                return unsafe { self.copy(copy) };
+            }
+        }
+        let this = ManuallyDrop::new(self);
+        // SAFETY: the caller says so. The item isn't used after this, nor dropped.
+        unsafe { open(&this.words) }.expect("nobody else has a share")
+    }
+
+    /// A copy of an item that lies in a box. Its share is given up.
+    ///
+    /// # Safety
+    ///
+    /// The item is a `T`, and this copies such items.
+    #[cold]
+    unsafe fn copy<T>(self, copy: unsafe fn(*const (), *mut ())) -> T {
+        let mut item = MaybeUninit::<T>::uninit();
+        let copied = catch_unwind(AssertUnwindSafe(|| {
+            // SAFETY: the caller says so, and the box is there as long as this share of it is.
+            unsafe {
+                let boxed = get::<*const Boxed<T>>(&self.words);
+                copy((&raw const (*boxed).item).cast(), item.as_mut_ptr().cast());
+            }
+        }));
+        ignore_panics([self], drop); // the share may be the last one by now
+        copied.unwrap_or_else(|panic| resume_unwind(panic));
+        // SAFETY: the copy was written there.
+        unsafe { item.assume_init() }
     }
 }
 
 /// Drops the item, or gives the share of it up. This runs user code.
-impl<T> Drop for ItemWords<T> {
+impl Drop for Item {
     fn drop(&mut self) {
-        // SAFETY: the packed item goes.
-        drop(unsafe { self.open() });
+        // SAFETY: the words are those of an item of this kind, which goes.
+        unsafe { (self.kind.drop)(&self.words) };
     }
 }
 
@@ -171,32 +260,51 @@ impl<T> Drop for ItemWords<T> {
 ///
 /// It stays where it is, and an attempt marks it as sent before the queue is called; only a refusal takes the mark back. So no user
 /// code runs between the queue's acceptance and the mark, and unwinding drops no item that the queue has.
-pub struct Unsent<T> {
-    packed: ManuallyDrop<ItemWords<T>>,
+pub struct Unsent {
+    item: ManuallyDrop<Item>,
     is_sent: bool,
 }
 
-impl<T> Unsent<T> {
+impl Unsent {
     #[inline]
-    pub fn pack(item: T, copies: Option<Copies<T>>) -> Unsent<T> {
+    pub fn new(item: Item) -> Unsent {
         Unsent {
-            packed: ManuallyDrop::new(ItemWords::pack(item, copies)),
+            item: ManuallyDrop::new(item),
             is_sent: false,
         }
     }
 
     /// Attempts to send to this number of groups, by this call of the queue, and returns its code.
     #[inline]
-    pub fn send_by(&mut self, groups: usize, send: impl FnOnce(&Words) -> u32) -> u32 {
+    pub fn send_by(&mut self, groups: usize, send: impl FnOnce(&Words, usize) -> u32) -> u32 {
         assert!(!self.is_sent, "the item isn't sent yet");
         self.is_sent = true;
-        self.packed.set_shares(groups);
-        let code = send(&self.packed.words);
+        self.item.set_shares(groups);
+        let code = send(&self.item.words, self.item.kind.words);
         if code != code::ACCEPTED {
-            self.packed.set_shares(1);
+            self.item.set_shares(1);
             self.is_sent = false;
         }
         code
+    }
+
+    /// Takes the item out: it is sent from now on, unless it is put back.
+    pub fn take(&mut self) -> Item {
+        assert!(!self.is_sent, "the item isn't sent yet");
+        self.is_sent = true;
+        // SAFETY: by the mark nobody uses it here any more.
+        unsafe { ManuallyDrop::take(&mut self.item) }
+    }
+
+    /// The item, if it isn't sent.
+    pub fn left(&mut self) -> Option<Item> {
+        (!self.is_sent).then(|| self.take())
+    }
+
+    /// Puts an item in the place of the one that was sent.
+    pub fn put_back(&mut self, item: Item) {
+        assert!(self.is_sent, "there is room for an item");
+        *self = Unsent::new(item);
     }
 
     /// Ends it after the item was sent, without a look whether there is something to drop.
@@ -205,24 +313,12 @@ impl<T> Unsent<T> {
         debug_assert!(self.is_sent);
         forget(self);
     }
-
-    /// The item, which wasn't sent.
-    #[inline]
-    pub fn into_inner(self) -> T {
-        let this = ManuallyDrop::new(self);
-        assert!(!this.is_sent, "the item isn't sent yet");
-        // SAFETY: the packed item wasn't sent, and isn't used after this, nor dropped.
-        unsafe { this.packed.open() }.expect("an item that isn't sent has one owner")
-    }
 }
 
 /// Drops an item that wasn't sent. This runs user code.
-impl<T> Drop for Unsent<T> {
+impl Drop for Unsent {
     #[inline]
     fn drop(&mut self) {
-        if !self.is_sent {
-            // SAFETY: the packed item wasn't sent or taken out, by the mark, and this is its end.
-            unsafe { ManuallyDrop::drop(&mut self.packed) }
-        }
+        drop(self.left());
     }
 }

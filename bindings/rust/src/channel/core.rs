@@ -9,17 +9,16 @@
 //!
 //! **Order of locks**: the list of groups, all seats, the row, a line. A holder of a seat makes one call of the queue, and
 //! takes no other lock; that of a row takes the row's lock. User code (an item's drop or copy, a waker) runs while none is held.
-use super::body::{Copies, ItemWords, Unsent, words_of};
+use super::body::{Item, Kind, Unsent};
 use super::pool::{Pool, QueueHandle, SeatGuard};
 use super::rendezvous::Rendezvous;
 use super::row::{Row, Shape};
 use super::side::{Shared, Source};
 use crate::backoff::{PACE, Wait, for_others};
-use crate::event::{Again, Apart, Event, Panics, Try, drop_each, ignore_panics, lock};
+use crate::event::{Again, Apart, Event, Panics, Try, ignore_panics, lock};
 use crate::queue::handle::{self, Handle, code, hands_over, has_taken, unexpected};
 use crate::queue::{self, Config, MOST_GROUPS, OpenError};
 use std::iter;
-use std::mem;
 use std::sync::atomic::{AtomicBool, AtomicUsize, Ordering};
 use std::sync::{Arc, Mutex, OnceLock, Weak};
 use std::time::Duration;
@@ -121,20 +120,52 @@ impl<V> PerGroup<V> {
     }
 }
 
-pub struct Core<T> {
+/// What became of a call that was tried.
+#[derive(Clone, Copy, Debug, PartialEq)]
+pub enum Outcome {
+    Done,
+    /// Not done: the channel is closed.
+    Closed,
+}
+
+/// Why a take found no item.
+pub enum NoItem {
+    /// There may be one later.
+    Yet(Again),
+    /// The channel has ended.
+    Ended,
+}
+
+impl From<Again> for NoItem {
+    fn from(again: Again) -> NoItem {
+        NoItem::Yet(again)
+    }
+}
+
+/// A take that is tried until it is done. It gives None at the end of the channel.
+pub fn or_end(taken: Result<Item, NoItem>) -> Try<Option<Item>> {
+    match taken {
+        Ok(item) => Ok(Some(item)),
+        Err(NoItem::Ended) => Ok(None),
+        Err(NoItem::Yet(again)) => Err(again),
+    }
+}
+
+pub struct Core {
     /// The configuration of its queue, once each side has all its seats; of a row, that of the first one.
     pub config: Config,
-    pub copies: Option<Copies<T>>,
+    /// That of its items.
+    pub kind: &'static Kind,
     /// The locks that it has in place of queues, if it has capacity 0.
-    pub rendezvous: Option<Box<Rendezvous<T>>>,
+    pub rendezvous: Option<Box<Rendezvous>>,
     /// Its queues, if they are a row.
     pub row: Option<Box<Row>>,
     pub senders: Side,
     pub groups: PerGroup<Side>,
     /// The part that the senders share, once there is a first one.
-    pub sender: OnceLock<Weak<Shared<T>>>,
+    pub sender: OnceLock<Weak<Shared>>,
     /// The part that the receivers of each group share, once it has a first one.
-    pub receivers: PerGroup<OnceLock<Weak<Source<T>>>>,
+    pub receivers: PerGroup<OnceLock<Weak<Source>>>,
     closed: AtomicBool,
     /// The groups that the queue has, in its order. A further queue takes its place under this lock. Of a row all groups.
     pub in_queue: Mutex<Vec<usize>>,
@@ -142,38 +173,14 @@ pub struct Core<T> {
     /// That grows under the lock of the groups. Of a row with a limit it is there for good, so that each send asks for
     /// room: see [`limit`](super::limit).
     pub hints: AtomicUsize,
-    /// The items of selected takes, until they are handed over. By it this is `Send` and `Sync` if items are `Send`.
-    kept: Mutex<Kept<T>>,
 }
 
-/// Items by numbers. There are some at the end if selected operations were forgotten.
-struct Kept<T> {
-    /// The number of the last one.
-    last: u64,
-    items: Vec<(u64, T)>,
-}
-
-impl<T> Drop for Core<T> {
-    fn drop(&mut self) {
-        let kept = mem::take(&mut lock(&self.kept).items);
-        if !kept.is_empty() {
-            drop_each(kept.into_iter().map(|it| it.1));
-        }
-    }
-}
-
-impl<T> Core<T> {
-    /// Opens a channel. Its groups share items if there is a function that copies them. Each side has one seat at first, if
-    /// there are few items to be moved over once a side gets its others.
-    pub fn open(
-        config: Config,
-        groups: u32,
-        copies: Option<Copies<T>>,
-    ) -> Result<Arc<Self>, OpenError> {
-        let words = words_of(copies);
+impl Core {
+    /// Opens a channel. Each side has one seat at first, if there are few items to be moved over once a side gets its others.
+    pub fn open(config: Config, groups: u32, kind: &'static Kind) -> Result<Arc<Self>, OpenError> {
         if config.capacity > MOST_MOVED {
-            let sides = queue::open(&config, groups, words)?;
-            return Ok(Core::with_sides(config, copies, None, sides));
+            let sides = queue::open(&config, groups, kind.words)?;
+            return Ok(Core::with_sides(config, kind, None, sides));
         }
         let (senders, receivers) = (1, 1);
         let first = Config {
@@ -186,9 +193,9 @@ impl<T> Core<T> {
         // A number that is too large is refused.
         let count = receivers.len().min(groups as usize);
         let all = &mut receivers[..count];
-        handle::fill(&first, groups, words, &mut sender, all)?;
+        handle::fill(&first, groups, kind.words, &mut sender, all)?;
         let receivers = receivers.into_iter().take(count).map(iter::once);
-        Ok(Core::new(config, copies, None, None, sender, receivers))
+        Ok(Core::new(config, kind, None, None, sender, receivers))
     }
 
     /// Opens a channel over a row of queues of this shape. It holds this number of items at most; if there is none, any number.
@@ -196,47 +203,48 @@ impl<T> Core<T> {
         shape: &Shape,
         limit: Option<usize>,
         groups: u32,
-        copies: Option<Copies<T>>,
+        kind: &'static Kind,
     ) -> Result<Arc<Self>, OpenError> {
-        let (row, sides) = Row::open(shape, limit, groups, words_of(copies))?;
-        Ok(Core::with_sides(shape.first, copies, Some(row), sides))
+        let (row, sides) = Row::open(shape, limit, groups, kind.words)?;
+        Ok(Core::with_sides(shape.first, kind, Some(row), sides))
     }
 
     /// With these passes: those of the senders, and then those of each group.
     fn with_sides(
         config: Config,
-        copies: Option<Copies<T>>,
+        kind: &'static Kind,
         row: Option<Row>,
         sides: Vec<Vec<Handle>>,
-    ) -> Arc<Core<T>> {
+    ) -> Arc<Core> {
         let mut sides = sides.into_iter();
         let senders = sides.next().expect("a channel has senders");
-        Core::new(config, copies, None, row.map(Box::new), senders, sides)
+        Core::new(config, kind, None, row.map(Box::new), senders, sides)
     }
 
     /// A channel of capacity 0. Its sides have no pass.
-    pub fn of_rendezvous(config: Config) -> Arc<Core<T>> {
+    pub fn of_rendezvous(config: Config, kind: &'static Kind) -> Arc<Core> {
         let rendezvous = Some(Box::new(Rendezvous::new()));
         let none = || [Handle::empty()];
-        Core::new(config, None, rendezvous, None, none(), iter::once(none()))
+        let groups = iter::once(none());
+        Core::new(config, kind, rendezvous, None, none(), groups)
     }
 
     /// With these passes of the senders, and those of each group.
     fn new<I: IntoIterator<Item = Handle>>(
         config: Config,
-        copies: Option<Copies<T>>,
-        rendezvous: Option<Box<Rendezvous<T>>>,
+        kind: &'static Kind,
+        rendezvous: Option<Box<Rendezvous>>,
         row: Option<Box<Row>>,
         senders: impl IntoIterator<Item = Handle>,
         groups: impl ExactSizeIterator<Item = I>,
-    ) -> Arc<Core<T>> {
+    ) -> Arc<Core> {
         let shares = groups.len();
         let mut sides = groups.map(|it| Side::new(it, shares));
         let first = sides.next().expect("a channel has a group");
         let has_limit = row.as_ref().is_some_and(|it| it.limit.is_some());
         Arc::new(Core {
             config,
-            copies,
+            kind,
             rendezvous,
             row,
             senders: Side::new(senders, shares),
@@ -246,10 +254,6 @@ impl<T> Core<T> {
             closed: AtomicBool::new(false),
             in_queue: Mutex::new((1..=shares).collect()),
             hints: AtomicUsize::new(if has_limit { RESERVED } else { 0 }),
-            kept: Mutex::new(Kept {
-                last: 0,
-                items: vec![],
-            }),
         })
     }
 
@@ -309,53 +313,69 @@ impl<T> Core<T> {
         side.seats.acquire_another()
     }
 
-    /// Tries to send this item. Returns whether it is sent; if not,
-    /// the channel is closed. If there is no room, a take or a loss of receivers notifies; if there is no memory
+    /// Tries to send this item. If there is no room, a take or a loss of receivers notifies; if there is no memory
     /// for a further queue, nobody notifies when there is.
     #[inline]
-    pub fn try_send(&self, item: &mut Unsent<T>) -> Try<bool> {
-        let seat = self.acquire_seat(&self.senders);
-        let hints = self.hints.load(Ordering::SeqCst);
-        if hints != 0 {
-            return self.send_with_hints(item, seat, hints);
+    pub fn try_send(&self, item: &mut Unsent) -> Try<Outcome> {
+        if let Some(rendezvous) = &self.rendezvous {
+            return rendezvous.try_send(item);
         }
-        self.send_or_again(item, seat)
+        let seat = self.acquire_seat(&self.senders);
+        match self.hints.load(Ordering::SeqCst) {
+            0 => self.send_at(item, seat),
+            hints => self.send_with_hints(item, seat, hints),
+        }
     }
 
-    /// Sends by this seat. If the queue refuses, it tries once more.
+    /// Tries to send at this seat.
     #[inline]
-    pub fn send_or_again(&self, item: &mut Unsent<T>, mut seat: SeatGuard) -> Try<bool> {
+    pub fn send_at(&self, item: &mut Unsent, mut seat: SeatGuard) -> Try<Outcome> {
         let code = self.send_by(&mut seat, item);
-        self.end_send(item, code, seat)
+        self.end_send(item, code, seat, Core::try_send)
     }
 
-    /// Ends a send by this seat, to which the queue gave this code. If the queue refused, it tries once more.
+    /// Ends a send at this seat, to which the queue gave this code. If the queue refused, it tries once more, in this way.
     #[inline]
-    pub fn end_send(&self, item: &mut Unsent<T>, code: u32, seat: SeatGuard) -> Try<bool> {
+    pub fn end_send(
+        &self,
+        item: &mut Unsent,
+        code: u32,
+        seat: SeatGuard,
+        again: fn(&Core, &mut Unsent) -> Try<Outcome>,
+    ) -> Try<Outcome> {
         match code {
             code::ACCEPTED => drop(seat),
-            code => return self.send_again(item, code, seat),
+            code => return self.send_refused(item, code, seat, again),
         }
         self.notify_item();
-        Ok(true)
+        Ok(Outcome::Done)
     }
 
-    /// Tries once more to send an item that the queue of this seat refused with this code.
     #[cold]
-    fn send_again(&self, item: &mut Unsent<T>, code: u32, seat: SeatGuard) -> Try<bool> {
+    #[inline(never)]
+    fn send_refused(
+        &self,
+        item: &mut Unsent,
+        code: u32,
+        seat: SeatGuard,
+        again: fn(&Core, &mut Unsent) -> Try<Outcome>,
+    ) -> Try<Outcome> {
         match &self.row {
             Some(row) => self.send_further(row, item, code, seat),
-            None => Ok(self.retry_after_refusal(code, seat)? && self.try_send(item)?),
+            None => match self.replace_refusing(code, seat)? {
+                Outcome::Done => again(self, item),
+                Outcome::Closed => Ok(Outcome::Closed),
+            },
         }
     }
 
     /// Sends by this seat. Returns the queue's code.
     #[inline]
-    pub fn send_by(&self, seat: &mut SeatGuard, item: &mut Unsent<T>) -> u32 {
+    pub fn send_by(&self, seat: &mut SeatGuard, item: &mut Unsent) -> u32 {
         let (pass, line) = seat.pass();
-        let code = item.send_by(pass.shares, |words| {
+        let code = item.send_by(pass.shares, |words, count| {
             hands_over(self);
-            pass.handle.send(words, words_of(self.copies), line)
+            pass.handle.send(words, count, line)
         });
         if code == code::ACCEPTED {
             seat.count_one();
@@ -368,9 +388,8 @@ impl<T> Core<T> {
         self.groups.iter().for_each(|group| group.line.notify_one());
     }
 
-    /// After the queue of this seat refused an item with this code. Returns whether a further try is to be made; if not,
-    /// the channel is closed.
-    pub fn retry_after_refusal(&self, code: u32, mut seat: SeatGuard) -> Try<bool> {
+    /// After the queue of this seat refused an item with this code: there is another queue now, if the channel isn't closed.
+    pub fn replace_refusing(&self, code: u32, mut seat: SeatGuard) -> Try<Outcome> {
         let &mut QueueHandle { queue, shares, .. } = seat.pass().0;
         drop(seat);
         // Whether a lost group is in the queue, and holds up the others.
@@ -386,7 +405,7 @@ impl<T> Core<T> {
         }
         let mut in_queue = lock(&self.in_queue);
         if self.is_closed() {
-            return Ok(false);
+            return Ok(Outcome::Closed);
         }
         let mut left_by_lost = vec![];
         if self.senders.seats.acquire().pass().0.queue == queue {
@@ -397,19 +416,19 @@ impl<T> Core<T> {
         // The item isn't sent yet, but this call may go on for others: it doesn't panic.
         ignore_panics(left_by_lost, drop);
         self.senders.line.notify_all(&mut Panics::default());
-        Ok(true)
+        Ok(Outcome::Done)
     }
 
     /// Takes an item of the queue for a group; of a row, of the seat's queue. Gives the code if there is none, or no queue.
     #[inline]
-    pub fn take(&self, group: usize) -> Result<ItemWords<T>, u32> {
+    pub fn take(&self, group: usize) -> Result<Item, u32> {
         if self.rendezvous.is_some() {
             return Err(code::EMPTY);
         }
         let mut seat = self.acquire_seat(self.groups.of(group));
-        let packed = self.take_by(&mut seat)?;
+        let item = self.take_by(&mut seat)?;
         self.count_taken(seat);
-        Ok(packed)
+        Ok(item)
     }
 
     /// Counts an item that was taken by this seat, and notifies.
@@ -421,65 +440,51 @@ impl<T> Core<T> {
         self.senders.line.notify_one();
     }
 
-    /// Tries to take an item for a group. Gives None at the end of the channel.
+    /// Tries to take an item for a group.
     #[inline]
-    pub fn try_recv(&self, group: usize) -> Try<Option<ItemWords<T>>> {
+    pub fn try_recv(&self, group: usize) -> Result<Item, NoItem> {
         if let Some(rendezvous) = &self.rendezvous {
-            let item = rendezvous.try_take()?;
-            return Ok(item.map(|item| ItemWords::pack(item, None)));
+            return rendezvous.try_take();
         }
         let found_none = &self.groups.of(group).found_none;
         if found_none.load(Ordering::Relaxed) {
             self.look_before_take(group)?;
             found_none.store(false, Ordering::Relaxed);
         }
-        match self.take(group) {
-            Ok(packed) => Ok(Some(packed)),
-            Err(code) => self.recv_after(group, code),
-        }
+        self.take(group)
+            .or_else(|code| self.recv_after(group, code))
     }
 
-    /// After a queue returned this code in place of an item: at its end tries the next queue, if they are a row. Gives None at the end
-    /// of the channel.
+    /// After a queue returned this code in place of an item: at its end tries the next queue, if they are a row.
     #[cold]
     #[inline(never)]
-    fn recv_after(&self, group: usize, code: u32) -> Try<Option<ItemWords<T>>> {
+    fn recv_after(&self, group: usize, code: u32) -> Result<Item, NoItem> {
         match (code, &self.row) {
             (code::EMPTY, _) => {
                 self.side(group).found_none.store(true, Ordering::Relaxed);
-                return Err(Again::WhenNotified);
+                return Err(NoItem::Yet(Again::WhenNotified));
             }
             (code::ENDED, Some(row)) => return self.take_in_row(row, group),
             (code::ENDED, None) => self.set_closed(),
             (code, _) => unexpected(code),
         }
-        Ok(None)
+        Err(NoItem::Ended)
     }
 
-    /// Keeps the item of a selected take, under the number that this returns.
-    pub fn keep(&self, item: T) -> u64 {
-        let mut kept = lock(&self.kept);
-        kept.last += 1;
-        let number = kept.last;
-        kept.items.push((number, item));
-        number
-    }
-
-    /// The item that is kept under this number.
-    pub fn take_kept(&self, number: u64) -> Option<T> {
-        let mut kept = lock(&self.kept);
-        let at = kept.items.iter().rposition(|it| it.0 == number)?;
-        Some(kept.items.swap_remove(at).1)
+    /// Takes what is left for this group, one item after another.
+    pub fn drain(&self, group: usize) -> impl Iterator<Item = Item> {
+        iter::from_fn(move || self.try_recv(group).ok())
     }
 
     /// Takes an item by this seat. Gives the queue's code if there is none.
     #[allow(unsafe_code)]
-    pub fn take_by(&self, seat: &mut SeatGuard) -> Result<ItemWords<T>, u32> {
+    #[inline]
+    pub fn take_by(&self, seat: &mut SeatGuard) -> Result<Item, u32> {
         let (pass, line) = seat.pass();
-        let words = pass.handle.take(words_of(self.copies), line)?;
-        // SAFETY: what is in the queue was sent as the words of parcels, with these `copies`; each was
+        let words = pass.handle.take(self.kind.words, line)?;
+        // SAFETY: what is in the queue was sent as the words of items of this kind; each was
         // for as many groups as the queue has; and a group takes each item of the queue once.
-        Ok(unsafe { ItemWords::taken(words, self.copies) })
+        Ok(unsafe { Item::taken(words, self.kind) })
     }
 
     /// Closes the channel. Returns whether it was open.
@@ -549,7 +554,7 @@ impl<T> Core<T> {
         self.notify_all(&mut panics);
         panics.run_each(left_by_lost.into_iter().flatten(), drop);
         for group in lost {
-            panics.run_each(iter::from_fn(|| self.try_recv(group).ok()?), drop);
+            panics.run_each(self.drain(group), drop);
         }
         panics.raise();
     }

@@ -6,7 +6,8 @@
 //!
 //! **Panics of wakers** that are dropped end in the poll that is done, whose result would be lost; another poll
 //! raises the first of them again at its end, and so does the drop of a future.
-use super::body::ItemWords;
+use super::body::{Item, Unsent};
+use super::core::{Core, Outcome, or_end};
 use super::rendezvous::{OfferState, TakerState};
 use super::select::Case;
 use super::side::Source;
@@ -20,7 +21,7 @@ use std::task::{Context, Poll, Waker};
 /// needs no second try: the notification that takes it out is to come.
 fn poll_in_line<R>(
     ticket: &mut Option<Ticket>,
-    case: &impl Case,
+    case: Case,
     waker: &Waker,
     panics: &mut Panics,
     mut attempt: impl FnMut() -> Try<R>,
@@ -44,7 +45,7 @@ fn poll_in_line<R>(
 }
 
 /// Leaves the line without a further try.
-fn leave_line(ticket: Option<Ticket>, case: &impl Case, panics: &mut Panics) {
+fn leave_line(ticket: Option<Ticket>, case: Case, panics: &mut Panics) {
     if let Some(ticket) = ticket {
         case.line().pass_on(ticket, panics);
     }
@@ -74,10 +75,65 @@ enum Takes {
     Meets(TakerState),
 }
 
+impl Takes {
+    fn of(source: &Source) -> Takes {
+        match Case::Take(source).meeting_place() {
+            None => Takes::InLine(None),
+            Some(_) => Takes::Meets(TakerState::Idle),
+        }
+    }
+
+    /// Gives None if the channel is closed.
+    fn poll(&mut self, source: &Source, waker: &Waker, panics: &mut Panics) -> Poll<Option<Item>> {
+        let case = Case::Take(source);
+        match (self, case.meeting_place()) {
+            (Takes::Meets(taker), Some(core)) => core.poll_met(taker, waker, panics),
+            (Takes::InLine(ticket), _) => {
+                poll_in_line(ticket, case, waker, panics, || or_end(source.try_take()))
+            }
+            (Takes::Meets(_), None) => Poll::Ready(None),
+        }
+    }
+
+    fn end(self, source: &Source, panics: &mut Panics) {
+        let case = Case::Take(source);
+        match (self, case.meeting_place()) {
+            (Takes::Meets(taker), Some(core)) => core.leave_met(taker, panics),
+            (Takes::InLine(ticket), _) => leave_line(ticket, case, panics),
+            (Takes::Meets(_), None) => {}
+        }
+    }
+}
+
 /// How far a send is. It has its item until that is sent, posted or handed back.
-enum Sends<T> {
-    InLine(Option<T>, Option<Ticket>),
-    Meets(OfferState<T>),
+enum Sends {
+    InLine(Unsent, Option<Ticket>),
+    Meets(OfferState),
+}
+
+impl Sends {
+    /// Gives the item back if the channel is closed.
+    fn poll(&mut self, core: &Core, waker: &Waker, panics: &mut Panics) -> Poll<Option<Item>> {
+        match self {
+            Sends::Meets(offer) => core.poll_posted(offer, waker, panics),
+            Sends::InLine(item, ticket) => {
+                let attempt = || core.try_send(item);
+                let sent = poll_in_line(ticket, Case::Send(core), waker, panics, attempt);
+                sent.map(|sent| (sent == Outcome::Closed).then(|| item.take()))
+            }
+        }
+    }
+
+    /// Gives the item back that isn't sent.
+    fn end(self, core: &Core, panics: &mut Panics) -> Option<Item> {
+        match self {
+            Sends::Meets(offer) => core.withdraw(offer, panics),
+            Sends::InLine(mut item, ticket) => {
+                leave_line(ticket, Case::Send(core), panics);
+                item.left()
+            }
+        }
+    }
 }
 
 /// A take: see [`recv_async`](crate::Receiver::recv_async).
@@ -97,16 +153,11 @@ impl<T> Unpin for RecvFuture<'_, T> {}
 
 impl<'a, T> RecvFuture<'a, T> {
     pub(super) fn new(receiver: Cow<'a, Receiver<T>>) -> Self {
-        let state = match &*receiver.0 {
-            Source::Channel(shared) if shared.core.rendezvous.is_some() => {
-                Takes::Meets(TakerState::Idle)
-            }
-            Source::Timer(timer) if timer.capacity() != 0 => {
-                panic!("a timer has no future: use the runtime's")
-            }
-            _ => Takes::InLine(None),
-        };
-        let state = Some(state);
+        if let Source::Timer(timer) = &*receiver.0 {
+            let has_items = timer.capacity() != 0;
+            assert!(!has_items, "a timer has no future: use the runtime's");
+        }
+        let state = Some(Takes::of(&receiver.0));
         RecvFuture { receiver, state }
     }
 
@@ -136,22 +187,11 @@ impl<T> Future for RecvFuture<'_, T> {
     type Output = Result<T, RecvError>;
 
     fn poll(mut self: Pin<&mut Self>, context: &mut Context<'_>) -> Poll<Self::Output> {
-        let (this, waker) = (&mut *self, context.waker());
-        let receiver = &*this.receiver;
-        let taken = poll_state(&mut this.state, |state, panics| {
-            match (state, &*receiver.0) {
-                (Takes::Meets(taker), _) => receiver.poll_met(taker, waker, panics),
-                (Takes::InLine(ticket), Source::Channel(shared)) => {
-                    let attempt = || shared.try_take();
-                    let taken = poll_in_line(ticket, receiver, waker, panics, attempt);
-                    taken.map(|packed| packed.map(ItemWords::unpack))
-                }
-                (Takes::InLine(ticket), Source::Timer(timer)) => {
-                    poll_in_line(ticket, receiver, waker, panics, || timer.try_recv())
-                }
-            }
+        let RecvFuture { receiver, state } = &mut *self;
+        let taken = poll_state(state, |state, panics| {
+            state.poll(&receiver.0, context.waker(), panics)
         });
-        taken.map(|item| item.ok_or(RecvError))
+        taken.map(|item| item.map(|item| receiver.unpack(item)).ok_or(RecvError))
     }
 }
 
@@ -160,11 +200,8 @@ impl<T> Drop for RecvFuture<'_, T> {
         let Some(state) = self.state.take() else {
             return;
         };
-        let (receiver, mut panics) = (&*self.receiver, Panics::default());
-        match state {
-            Takes::InLine(ticket) => leave_line(ticket, receiver, &mut panics),
-            Takes::Meets(taker) => receiver.leave_met(taker, &mut panics),
-        }
+        let mut panics = Panics::default();
+        state.end(&self.receiver.0, &mut panics);
         panics.raise();
     }
 }
@@ -180,7 +217,7 @@ fmt_by_text! { impl<T> Debug for RecvFuture<'_, T>: _ => "RecvFuture { .. }" }
 pub struct SendFuture<'a, T> {
     /// It borrows the sender, or has it.
     sender: Cow<'a, Sender<T>>,
-    state: Option<Sends<T>>,
+    state: Option<Sends>,
 }
 
 // No item is pinned.
@@ -188,9 +225,10 @@ impl<T> Unpin for SendFuture<'_, T> {}
 
 impl<'a, T> SendFuture<'a, T> {
     pub(super) fn new(sender: Cow<'a, Sender<T>>, item: T) -> Self {
+        let mut item = sender.pack(item);
         let state = Some(match sender.core().rendezvous {
-            None => Sends::InLine(Some(item), None),
-            Some(_) => Sends::Meets(OfferState::Here(Some(item))),
+            None => Sends::InLine(item, None),
+            Some(_) => Sends::Meets(OfferState::Here(Some(item.take()))),
         });
         SendFuture { sender, state }
     }
@@ -220,14 +258,11 @@ impl<T> Future for SendFuture<'_, T> {
     type Output = Result<(), SendError<T>>;
 
     fn poll(mut self: Pin<&mut Self>, context: &mut Context<'_>) -> Poll<Self::Output> {
-        let (this, waker) = (&mut *self, context.waker());
-        let sender = &*this.sender;
-        poll_state(&mut this.state, |state, panics| match state {
-            Sends::Meets(offer) => sender.poll_posted(offer, waker, panics),
-            Sends::InLine(item, ticket) => {
-                poll_in_line(ticket, sender, waker, panics, || sender.try_send_from(item))
-            }
-        })
+        let SendFuture { sender, state } = &mut *self;
+        let left = poll_state(state, |state, panics| {
+            state.poll(sender.core(), context.waker(), panics)
+        });
+        left.map(|item| item.map_or(Ok(()), |it| Err(SendError(sender.unpack(it)))))
     }
 }
 
@@ -236,14 +271,8 @@ impl<T> Drop for SendFuture<'_, T> {
         let Some(state) = self.state.take() else {
             return;
         };
-        let (sender, mut panics) = (&*self.sender, Panics::default());
-        let item = match state {
-            Sends::InLine(item, ticket) => {
-                leave_line(ticket, sender, &mut panics);
-                item
-            }
-            Sends::Meets(offer) => sender.withdraw(offer, &mut panics),
-        };
+        let mut panics = Panics::default();
+        let item = state.end(self.sender.core(), &mut panics);
         panics.run_each(item, drop);
         panics.raise();
     }

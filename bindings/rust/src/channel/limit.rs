@@ -11,7 +11,7 @@
 //!
 //! The counts of given room alone don't say so: of two takes the later one may have counted its item, and the earlier one not yet.
 use super::body::Unsent;
-use super::core::{Core, Side};
+use super::core::{Core, Outcome, Side};
 use super::pool::SeatGuard;
 use super::row::Row;
 use crate::event::{Again, Try, lock};
@@ -69,7 +69,7 @@ impl Row {
     }
 }
 
-impl<T> Core<T> {
+impl Core {
     /// Gets room for an item, if there is some.
     fn get_room(&self, row: &Row) -> bool {
         let taken_by_all = || self.alive().map(|group| group.seats.count()).min();
@@ -108,37 +108,37 @@ impl<T> Core<T> {
     pub fn send_within_limit<'a>(
         &'a self,
         row: &Row,
-        item: &mut Unsent<T>,
+        item: &mut Unsent,
         mut seat: SeatGuard<'a>,
-    ) -> Try<bool> {
+    ) -> Try<Outcome> {
         while !self.get_room(row) {
             drop(seat);
             self.row_seems_to_have_room(row)?;
             if self.is_closed() {
-                return Ok(false);
+                return Ok(Outcome::Closed);
             }
             seat = self.senders.seats.acquire();
         }
         let code = self.send_by(&mut seat, item);
-        let sent = self.end_send(item, code, seat);
-        if sent != Ok(true) {
+        let sent = self.end_send(item, code, seat, Core::try_send);
+        if sent != Ok(Outcome::Done) {
             self.give_back_room();
         }
         sent
     }
 
-    /// Reserves room for one send. Returns whether it has; if not, the channel is closed.
-    pub fn reserve_in_row(&self, row: &Row) -> Try<bool> {
+    /// Reserves room for one send.
+    pub fn reserve_in_row(&self, row: &Row) -> Try<Outcome> {
         while !self.get_room(row) {
             self.row_seems_to_have_room(row)?;
             if self.is_closed() {
-                return Ok(false);
+                return Ok(Outcome::Closed);
             }
         }
-        let is_closed = self.is_closed();
-        if is_closed {
+        if self.is_closed() {
             self.give_back_room();
+            return Ok(Outcome::Closed);
         }
-        Ok(!is_closed)
+        Ok(Outcome::Done)
     }
 }

@@ -503,7 +503,10 @@ impl Runs {
     fn open(&self, capacity: usize) -> Run {
         let other = channel(self.other.unwrap_or(1)).unwrap();
         let groups = self.groups as u32;
-        let copies = (self.groups > 1).then_some(u32::clone as Copies<u32>);
+        let kind = match groups {
+            1 => Kind::alone::<u32>(),
+            _ => Kind::of_groups::<u32>(),
+        };
         let (sender, receivers) = match (capacity, self.row) {
             (0, _) => {
                 let (sender, receiver) = channel(0).unwrap();
@@ -516,12 +519,12 @@ impl Runs {
                     per_sender: self.per_sender.saturating_add(capacity as u32),
                     ..config(capacity)
                 };
-                open(config, groups, copies).unwrap()
+                open(config, groups, kind).unwrap()
             }
             (_, Some(places)) => {
                 let shape = small_shape(places, self.life, self.per_sender);
                 let limit = (capacity != NO_LIMIT).then_some(capacity);
-                handles(Core::open_row(&shape, limit, groups, copies).unwrap())
+                handles(Core::open_row(&shape, limit, groups, kind).unwrap())
             }
         };
         let receivers = receivers.iter().cycle().take(THREADS);

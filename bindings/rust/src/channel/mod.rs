@@ -35,17 +35,18 @@ pub use error::{
 };
 pub use future::{RecvFuture, SendFuture};
 pub use receiver::{Drain, IntoIter, Iter, Receiver, TryIter, WeakReceiver};
-pub use select::{Select, SelectedOperation};
 #[doc(hidden)]
-pub use select::{TakeArm, select_arms};
+pub use select::{Arm, select_arms};
+pub use select::{Select, SelectedOperation};
 pub use sender::{Sender, WeakSender};
 pub use timer::{after, at, never, tick};
 
-use self::body::Copies;
+use self::body::Kind;
 use self::core::Core;
 use self::row::Shape;
 use self::side::Shared;
 use crate::queue::{Config, OpenError};
+use std::marker::PhantomData;
 use std::sync::Arc;
 
 /// The configuration of a queue with this number of places.
@@ -66,29 +67,25 @@ fn shape() -> Shape {
 }
 
 /// A channel with a queue of this capacity; or with a row of them, if one isn't enough.
-fn of_capacity<T>(
-    capacity: usize,
-    groups: u32,
-    copies: Option<Copies<T>>,
-) -> Result<Arc<Core<T>>, OpenError> {
+fn of_capacity(capacity: usize, groups: u32, kind: &'static Kind) -> Result<Arc<Core>, OpenError> {
     if capacity <= MOST_PLACES {
-        Core::open(config(capacity), groups, copies)
+        Core::open(config(capacity), groups, kind)
     } else {
-        Core::open_row(&shape(), Some(capacity), groups, copies)
+        Core::open_row(&shape(), Some(capacity), groups, kind)
     }
 }
 
-/// The first handles of a channel of one group.
-fn pair<T>(core: Arc<Core<T>>) -> (Sender<T>, Receiver<T>) {
-    let receiver = Receiver(Shared::of_group(&core, 1));
-    (Sender(Shared::of_senders(core)), receiver)
+/// The first handles of a channel, which was opened with a kind of this type.
+fn pair<T>(core: Arc<Core>) -> (Sender<T>, Receiver<T>) {
+    let receiver = Receiver(Shared::of_group(&core, 1), PhantomData);
+    (Sender(Shared::of_senders(core), PhantomData), receiver)
 }
 
-/// The first handles of a channel.
-fn handles<T>(core: Arc<Core<T>>) -> (Sender<T>, Vec<Receiver<T>>) {
-    let receiver = |group| Receiver(Shared::of_group(&core, group));
+/// The same, with a receiver of each group.
+fn handles<T>(core: Arc<Core>) -> (Sender<T>, Vec<Receiver<T>>) {
+    let receiver = |group| Receiver(Shared::of_group(&core, group), PhantomData);
     let receivers = (1..=core.groups.len()).map(receiver).collect();
-    (Sender(Shared::of_senders(core)), receivers)
+    (Sender(Shared::of_senders(core), PhantomData), receivers)
 }
 
 /// Opens a channel of items of one type, and gives its first sender and its first receiver.
@@ -127,9 +124,10 @@ fn handles<T>(core: Arc<Core<T>>) -> (Sender<T>, Vec<Receiver<T>>) {
 /// The linked library is another one than this crate is for; or lack of memory for the queue.
 #[doc(alias("mpsc", "mpmc", "sync_channel"))]
 pub fn channel<T>(capacity: usize) -> Result<(Sender<T>, Receiver<T>), OpenError> {
+    let kind = Kind::alone::<T>();
     Ok(pair(match capacity {
-        0 => Core::of_rendezvous(config(0)),
-        _ => of_capacity(capacity, 1, None)?,
+        0 => Core::of_rendezvous(config(0), kind),
+        _ => of_capacity(capacity, 1, kind)?,
     }))
 }
 
@@ -177,7 +175,7 @@ pub fn bounded<T>(capacity: usize) -> Result<(Sender<T>, Receiver<T>), OpenError
 ///
 /// As of [`channel`].
 pub fn unbounded<T>() -> Result<(Sender<T>, Receiver<T>), OpenError> {
-    Ok(pair(Core::open_row(&shape(), None, 1, None)?))
+    Ok(pair(Core::open_row(&shape(), None, 1, Kind::alone::<T>())?))
 }
 
 /// Opens a channel each of whose groups gets every item, and gives its first sender, and the first
@@ -211,7 +209,11 @@ pub fn groups<T: Clone + Sync>(
 ) -> Result<(Sender<T>, Vec<Receiver<T>>), OpenError> {
     // Numbers that are too large are refused as such.
     let groups = groups.try_into().unwrap_or(u32::MAX);
-    Ok(handles(of_capacity(capacity, groups, Some(T::clone))?))
+    Ok(handles(of_capacity(
+        capacity,
+        groups,
+        Kind::of_groups::<T>(),
+    )?))
 }
 
 /// Opens a channel of [`groups`] that holds any number of items, as [`unbounded`] does.
@@ -233,23 +235,22 @@ pub fn unbounded_groups<T: Clone + Sync>(
     groups: usize,
 ) -> Result<(Sender<T>, Vec<Receiver<T>>), OpenError> {
     let groups = groups.try_into().unwrap_or(u32::MAX);
-    let core = Core::open_row(&shape(), None, groups, Some(T::clone))?;
+    let core = Core::open_row(&shape(), None, groups, Kind::of_groups::<T>())?;
     Ok(handles(core))
 }
 
-/// Opens a channel with this configuration. Its groups share items if there is a function that copies
-/// them.
+/// Opens a channel with this configuration.
 #[cfg(test)]
 fn open<T>(
     config: Config,
     groups: u32,
-    copies: Option<Copies<T>>,
+    kind: &'static Kind,
 ) -> Result<(Sender<T>, Vec<Receiver<T>>), OpenError> {
-    Ok(handles(Core::open(config, groups, copies)?))
+    Ok(handles(Core::open(config, groups, kind)?))
 }
 
-/// These don't compile: a handle doesn't go to another thread if its items can't, and no group clones items
-/// on one thread while another reads them unless they are made for it.
+/// These don't compile: a handle doesn't go to another thread if its items can't, no group clones items
+/// on one thread while another reads them unless they are made for it, and no item borrows what is dropped before its channel.
 ///
 /// ```compile_fail,E0277
 /// fn goes<T: Send>() {}
@@ -263,6 +264,19 @@ fn open<T>(
 ///
 /// ```compile_fail,E0277
 /// let _ = vahepito::groups::<std::cell::Cell<u8>>(1, 2);
+/// ```
+///
+/// ```compile_fail,E0597
+/// struct Reads<'a>(&'a String);
+/// impl Drop for Reads<'_> {
+///     fn drop(&mut self) {
+///         println!("{}", self.0);
+///     }
+/// }
+/// let (sender, _receiver) = vahepito::channel(1)?;
+/// let text = String::new();
+/// assert!(sender.try_send(Reads(&text)).is_ok());
+/// # Ok::<(), vahepito::OpenError>(())
 /// ```
 #[cfg(doctest)]
 mod refused {}

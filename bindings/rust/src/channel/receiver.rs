@@ -1,14 +1,12 @@
 //! The receivers of a channel.
-use super::body::ItemWords;
-use super::core::Core;
+use super::body::{Item, Of};
+use super::core::{Core, NoItem, or_end};
 use super::future::RecvFuture;
-use super::rendezvous::Rendezvous;
 use super::side::{Shared, Source};
 use super::{RecvError, RecvTimeoutError, TryRecvError};
 use crate::backoff::FOR_OTHERS;
 use crate::event::{Event, wait};
 use std::borrow::Cow;
-use std::convert::identity;
 use std::iter::FusedIterator;
 use std::marker::PhantomData;
 use std::sync::{Arc, Weak};
@@ -33,23 +31,50 @@ use std::vec;
 /// assert_eq!((receiver.recv(), other.recv()), (Ok(1), Ok(2))); // each item goes to one of them
 /// # Ok::<(), vahepito::OpenError>(())
 /// ```
-pub struct Receiver<T>(pub(super) Arc<Source<T>>);
+pub struct Receiver<T>(pub(super) Arc<Source>, pub(super) Of<T>);
 
-impl<T> Receiver<T> {
+impl Source {
     /// The line in which its calls wait.
-    pub(super) fn line(&self) -> &Event {
-        match &*self.0 {
+    pub fn line(&self) -> &Event {
+        match self {
             Source::Channel(shared) => shared.line(),
             Source::Timer(timer) => &timer.line,
         }
     }
 
-    /// The locks of its channel, if that has capacity 0.
-    pub(super) fn rendezvous(&self) -> Option<&Rendezvous<T>> {
-        match &*self.0 {
-            Source::Channel(shared) => shared.core.rendezvous.as_deref(),
-            Source::Timer(_) => None,
+    /// Tries to take an item.
+    #[inline]
+    pub fn try_take(&self) -> Result<Item, NoItem> {
+        match self {
+            Source::Channel(Shared { core, side }) => core.try_recv(*side),
+            Source::Timer(timer) => timer.try_take(),
         }
+    }
+
+    /// Takes an item, and waits for one until this moment.
+    #[cold]
+    #[inline(never)]
+    fn wait_for_item(&self, until: Option<Instant>) -> Result<Item, RecvTimeoutError> {
+        let attempt = || or_end(self.try_take());
+        let taken = match self {
+            Source::Channel(Shared { core, .. }) if core.rendezvous.is_some() => {
+                core.meet_to_take(until)
+            }
+            Source::Channel(shared) => shared.wait(until, attempt),
+            Source::Timer(timer) => wait(&timer.line, &FOR_OTHERS, until, attempt),
+        };
+        let taken = taken.ok_or(RecvTimeoutError::Timeout)?;
+        taken.ok_or(RecvTimeoutError::Disconnected)
+    }
+}
+
+impl<T> Receiver<T> {
+    /// An item of the channel.
+    #[allow(unsafe_code)]
+    #[inline]
+    pub(super) fn unpack(&self, item: Item) -> T {
+        // SAFETY: all items of the channel are `T`s: their senders say so, which were opened with its receivers.
+        unsafe { item.unpack() }
     }
 
     /// Takes an item, if there is one. It doesn't wait for an item; but if another thread serves the
@@ -72,42 +97,22 @@ impl<T> Receiver<T> {
     /// # Ok::<(), vahepito::OpenError>(())
     /// ```
     pub fn try_recv(&self) -> Result<T, TryRecvError> {
-        let taken = match &*self.0 {
-            Source::Channel(shared) => shared.try_take().map(|it| it.map(ItemWords::unpack)),
-            Source::Timer(timer) => timer.try_recv(),
-        };
-        match taken {
-            Ok(Some(item)) => Ok(item),
-            Ok(None) => Err(TryRecvError::Disconnected),
-            Err(_) => Err(TryRecvError::Empty),
+        match self.0.try_take() {
+            Ok(item) => Ok(self.unpack(item)),
+            Err(NoItem::Yet(_)) => Err(TryRecvError::Empty),
+            Err(NoItem::Ended) => Err(TryRecvError::Disconnected),
         }
     }
 
     /// Takes an item, and waits for one until this moment.
     #[inline]
-    fn recv_until<E>(&self, until: Option<Instant>, or: fn(RecvTimeoutError) -> E) -> Result<T, E> {
+    fn recv_until(&self, until: Option<Instant>) -> Result<T, RecvTimeoutError> {
         if let Source::Channel(Shared { core, side }) = &*self.0 {
-            if let Ok(packed) = core.take(*side) {
-                return Ok(packed.unpack());
+            if let Ok(item) = core.take(*side) {
+                return Ok(self.unpack(item));
             }
         }
-        self.wait_for_item(until).map_err(or)
-    }
-
-    #[inline(never)]
-    fn wait_for_item(&self, until: Option<Instant>) -> Result<T, RecvTimeoutError> {
-        let taken = match &*self.0 {
-            Source::Channel(shared) => {
-                if shared.core.rendezvous.is_some() {
-                    return self.meet_until(until);
-                }
-                let taken = shared.wait(until, || shared.try_take());
-                taken.map(|packed| packed.map(ItemWords::unpack))
-            }
-            Source::Timer(timer) => wait(&timer.line, &FOR_OTHERS, until, || timer.try_recv()),
-        };
-        let taken = taken.ok_or(RecvTimeoutError::Timeout)?;
-        taken.ok_or(RecvTimeoutError::Disconnected)
+        self.0.wait_for_item(until).map(|item| self.unpack(item))
     }
 
     /// Takes an item, and waits while there is none. It parks after a few tries.
@@ -127,7 +132,7 @@ impl<T> Receiver<T> {
     /// ```
     #[inline]
     pub fn recv(&self) -> Result<T, RecvError> {
-        self.recv_until(None, |_| RecvError)
+        self.recv_until(None).map_err(|_| RecvError)
     }
 
     /// Takes an item, and waits for one, but not longer than this.
@@ -147,7 +152,7 @@ impl<T> Receiver<T> {
     /// ```
     pub fn recv_timeout(&self, time: Duration) -> Result<T, RecvTimeoutError> {
         // A moment beyond the clock's range never comes.
-        self.recv_until(Instant::now().checked_add(time), identity)
+        self.recv_until(Instant::now().checked_add(time))
     }
 
     /// Takes an item, and waits for one, but not beyond this moment.
@@ -171,7 +176,7 @@ impl<T> Receiver<T> {
     /// # Ok::<(), vahepito::OpenError>(())
     /// ```
     pub fn recv_deadline(&self, until: Instant) -> Result<T, RecvTimeoutError> {
-        self.recv_until(Some(until), identity)
+        self.recv_until(Some(until))
     }
 
     /// Takes an item, as a future of any runtime. If it is dropped before it is done, nothing was
@@ -448,29 +453,31 @@ impl<T> Receiver<T> {
     /// ```
     #[must_use]
     pub fn downgrade(&self) -> WeakReceiver<T> {
-        WeakReceiver(match &*self.0 {
+        let source = match &*self.0 {
             Source::Channel(Shared { core, side }) => WeakSource::Channel(core.clone(), *side),
             Source::Timer(_) => WeakSource::Timer(Arc::downgrade(&self.0)),
-        })
+        };
+        WeakReceiver(source, PhantomData)
     }
 }
 
 /// A further receiver of its group.
 impl<T> Clone for Receiver<T> {
     fn clone(&self) -> Receiver<T> {
-        Receiver(self.0.clone())
+        Receiver(self.0.clone(), PhantomData)
     }
 }
 
 fmt_by_text! { impl<T> Debug for Receiver<T>: _ => "Receiver { .. }" }
 
 /// A receiver that keeps neither the channel nor its group: see [`Receiver::downgrade`].
-pub struct WeakReceiver<T>(WeakSource<T>);
+pub struct WeakReceiver<T>(WeakSource, Of<T>);
 
 /// The channel with the group; or the timer.
-enum WeakSource<T> {
-    Channel(Arc<Core<T>>, usize),
-    Timer(Weak<Source<T>>),
+#[derive(Clone)]
+enum WeakSource {
+    Channel(Arc<Core>, usize),
+    Timer(Weak<Source>),
 }
 
 impl<T> WeakReceiver<T> {
@@ -490,16 +497,13 @@ impl<T> WeakReceiver<T> {
             WeakSource::Channel(core, group) => core.upgrade_receiver(*group),
             WeakSource::Timer(source) => source.upgrade(),
         };
-        source.map(Receiver)
+        Some(Receiver(source?, PhantomData))
     }
 }
 
 impl<T> Clone for WeakReceiver<T> {
     fn clone(&self) -> WeakReceiver<T> {
-        WeakReceiver(match &self.0 {
-            WeakSource::Channel(core, group) => WeakSource::Channel(core.clone(), *group),
-            WeakSource::Timer(source) => WeakSource::Timer(source.clone()),
-        })
+        WeakReceiver(self.0.clone(), PhantomData)
     }
 }
 

@@ -33,8 +33,9 @@
 //! post notifies: see [`event`](crate::event).
 //!
 //! **Order of locks**: the lines, by their address; the pairs; a waiter. User code runs while none is held.
-use super::select::{Begun, Case as _};
-use super::{Receiver, RecvTimeoutError, SendError, SendTimeoutError, Sender, TrySendError};
+use super::body::{Item, Unsent};
+use super::core::{Core, NoItem, Outcome};
+use super::select::Begun;
 use crate::event::{Again, Panics, Try, ignore_panics, lock, poll_until};
 use std::collections::{BTreeMap, VecDeque};
 use std::mem::{self, swap};
@@ -59,9 +60,6 @@ impl Role {
         }
     }
 }
-
-/// Why a call here finds a rendezvous.
-const MEETS: &str = "the channel has capacity 0";
 
 /// A select of a thread, or a take of a task, that waits until another call meets it.
 pub struct Waiter(Mutex<Waits>);
@@ -131,7 +129,7 @@ impl Waiter {
     /// Takes it off these channels, and returns how it was met before.
     pub fn withdraw(self: &Arc<Waiter>, operations: &[Operation]) -> Option<Meeting> {
         for &Operation { channel, role, .. } in operations {
-            let posted = &mut lock(channel.lines()).posted[role as usize];
+            let posted = &mut lock(&channel.lines).posted[role as usize];
             posted.retain(|other| !Arc::ptr_eq(&other.waiter, self));
         }
         lock(&self.0).met
@@ -165,81 +163,70 @@ impl Met {
     }
 }
 
-/// A channel of capacity 0, whatever its items are.
-pub trait Meets {
-    fn lines(&self) -> &Mutex<Lines>;
-    /// Meets another in this role.
-    fn begin(&self, lines: &mut Lines, role: Role) -> Option<Met>;
-    /// Whether there seems to be one to meet, or nobody will be.
-    fn look(&self, role: Role) -> Try<()>;
-    /// Waits until this pair of a take has its item, and returns whether it has. If not, its send has given it up.
-    fn wait_for_item(&self, pair: u64) -> bool;
-}
-
 /// An operation of a select that may meet another.
 #[derive(Clone, Copy)]
 pub struct Operation<'a> {
     /// Its index in the order of the select.
     pub at: usize,
-    pub channel: &'a dyn Meets,
+    pub channel: &'a Rendezvous,
     pub role: Role,
 }
 
 /// Meets one that is posted for one of these operations, or posts this waiter for all.
 pub fn meet_or_post(operations: &[Operation], waiter: &Arc<Waiter>) -> Option<(usize, Begun)> {
-    let mut all: Vec<_> = operations.iter().map(|it| it.channel.lines()).collect();
+    let mut all: Vec<_> = operations.iter().map(|it| &it.channel.lines).collect();
     all.sort_by_key(|it| ptr::from_ref(*it));
     all.dedup_by_key(|it| ptr::from_ref(*it));
     let mut locked: Vec<_> = all.iter().map(|it| lock(it)).collect();
     let index = |lines| all.partition_point(|it| ptr::from_ref(*it) < ptr::from_ref(lines));
     for &Operation { at, channel, role } in operations {
-        let lines = &mut locked[index(channel.lines())];
+        let lines = &mut locked[index(&channel.lines)];
         if let Some(met) = channel.begin(lines, role) {
             drop(locked);
             return Some((at, met.wake()));
         }
     }
     for &Operation { at, channel, role } in operations {
-        let (waiter, lines) = (waiter.clone(), &mut locked[index(channel.lines())]);
+        let (waiter, lines) = (waiter.clone(), &mut locked[index(&channel.lines)]);
         lines.posted[role as usize].push_back(Posted { waiter, at });
     }
     None
 }
 
 /// A send and a take that have met, until the item is taken or the send gives the pair up.
-struct Pair<T> {
+struct Pair {
     /// The waker of the take, unless it is awake.
     taker: Option<Waker>,
-    item: Option<T>,
+    item: Option<Item>,
     /// Whether the take was dropped before there was an item.
     is_left: bool,
 }
 
 /// A send that is posted with its item.
-struct Offer<T> {
-    item: T,
+struct Offer {
+    item: Item,
     waker: Option<Waker>,
 }
 
-struct Pairs<T> {
+struct Pairs {
     /// The last number of a pair or an offer.
     last: u64,
-    pairs: BTreeMap<u64, Pair<T>>,
-    offers: BTreeMap<u64, Offer<T>>,
+    pairs: BTreeMap<u64, Pair>,
+    offers: BTreeMap<u64, Offer>,
     /// Items of tasks that were dropped.
-    returned: VecDeque<T>,
+    returned: VecDeque<Item>,
     /// Takes meet offers and selected sends in turn.
     is_turn_of_offers: bool,
 }
 
-impl<T> Pairs<T> {
+impl Pairs {
     fn next(&mut self) -> u64 {
         self.last += 1;
         self.last
     }
 
     /// Makes a pair with this item and the waker of its take. The other waker is called.
-    fn push(&mut self, taker: Option<Waker>, item: Option<T>, woken: Option<Waker>) -> Met {
+    fn push(&mut self, taker: Option<Waker>, item: Option<Item>, woken: Option<Waker>) -> Met {
         let number = self.next();
         let pair = Pair {
             taker,
@@ -252,7 +239,7 @@ impl<T> Pairs<T> {
     }
 
     /// Meets the first waiter of the other role that nobody has met, with the item if it is at hand.
-    fn meet(&mut self, lines: &mut Lines, role: Role, item: &mut Option<T>) -> Option<Met> {
+    fn meet(&mut self, lines: &mut Lines, role: Role, item: &mut Option<Item>) -> Option<Met> {
         let posted = &mut lines.posted[role.other() as usize];
         while let Some(Posted { waiter, at }) = posted.pop_front() {
             let pair = self.last + 1;
@@ -274,7 +261,7 @@ impl<T> Pairs<T> {
 }
 
 /// There are some if futures or selected operations were forgotten.
-impl<T> Drop for Pairs<T> {
+impl Drop for Pairs {
     fn drop(&mut self) {
         let (pairs, offers) = (mem::take(&mut self.pairs), mem::take(&mut self.offers));
         let pairs = pairs.into_values().map(|it| (it.item, it.taker));
@@ -288,13 +275,13 @@ impl<T> Drop for Pairs<T> {
     }
 }
 
-pub struct Rendezvous<T> {
+pub struct Rendezvous {
     lines: Mutex<Lines>,
-    pairs: Mutex<Pairs<T>>,
+    pairs: Mutex<Pairs>,
 }
 
-impl<T> Rendezvous<T> {
-    pub fn new() -> Rendezvous<T> {
+impl Rendezvous {
+    pub fn new() -> Rendezvous {
         Rendezvous {
             lines: Mutex::default(),
             pairs: Mutex::new(Pairs {
@@ -308,7 +295,7 @@ impl<T> Rendezvous<T> {
     }
 
     /// Gives the item to a take that is posted. If there is none, or the channel is closed, the lines stay locked.
-    fn give(&self, item: T) -> Result<(), (T, MutexGuard<'_, Lines>)> {
+    fn give(&self, item: Item) -> Result<(), (Item, MutexGuard<'_, Lines>)> {
         let (mut lines, mut item) = (lock(&self.lines), Some(item));
         let met = if lines.is_closed {
             None
@@ -323,25 +310,24 @@ impl<T> Rendezvous<T> {
         Ok(())
     }
 
-    /// Takes an item of one that is posted. Gives None if the channel is closed.
-    pub fn try_take(&self) -> Try<Option<T>> {
-        while let Begun::Met(pair) = try_meet(self, Role::Take)? {
+    /// Takes an item of one that is posted.
+    pub fn try_take(&self) -> Result<Item, NoItem> {
+        while let Begun::Met(pair) = self.try_meet(Role::Take)? {
             if self.wait_for_item(pair) {
-                return Ok(self.take(pair));
+                return self.take(pair).ok_or(NoItem::Ended);
             }
         }
-        Ok(None)
+        Err(NoItem::Ended)
     }
 
     /// Gives the item to one that is posted.
-    pub fn try_send(&self, item: T) -> Result<(), TrySendError<T>> {
-        self.give(item).map_err(|(item, lines)| {
-            if lines.is_closed {
-                TrySendError::Disconnected(item)
-            } else {
-                TrySendError::Full(item)
-            }
-        })
+    pub fn try_send(&self, unsent: &mut Unsent) -> Try<Outcome> {
+        let Err((item, lines)) = self.give(unsent.take()) else {
+            return Ok(Outcome::Done);
+        };
+        unsent.put_back(item);
+        let closed = lines.is_closed.then_some(Outcome::Closed);
+        closed.ok_or(Again::WhenNotified)
     }
 
     /// Whether this pair has its item; or whether it is given up, if it isn't there. Otherwise its item, or that it
@@ -357,13 +343,13 @@ impl<T> Rendezvous<T> {
     }
 
     /// The item of a pair that has it.
-    pub fn take(&self, pair: u64) -> Option<T> {
+    pub fn take(&self, pair: u64) -> Option<Item> {
         lock(&self.pairs).pairs.remove(&pair)?.item
     }
 
     /// Gives an item whose take was dropped to the next take, or keeps it for one. Hands it back if it isn't sent yet,
     /// and the channel is closed.
-    fn hand_on(&self, item: T, is_sent: bool) -> Result<(), T> {
+    fn hand_on(&self, item: Item, is_sent: bool) -> Result<(), Item> {
         match self.give(item) {
             Err((item, lines)) if lines.is_closed && !is_sent => return Err(item),
             Err((item, _lines)) => lock(&self.pairs).returned.push_back(item),
@@ -373,7 +359,7 @@ impl<T> Rendezvous<T> {
     }
 
     /// Gives a pair its item. Hands it back if its take was dropped, and the channel is closed.
-    pub fn send(&self, number: u64, item: T) -> Result<(), T> {
+    pub fn send(&self, number: u64, item: Item) -> Result<(), Item> {
         let mut pairs = lock(&self.pairs);
         let pair = pairs.pairs.get_mut(&number);
         let pair = pair.expect("a pair is there until its send is completed");
@@ -390,7 +376,7 @@ impl<T> Rendezvous<T> {
     }
 
     /// A selected operation gives its pair up. Gives the item that it has already.
-    pub fn give_up(&self, pair: u64) -> Option<T> {
+    pub fn give_up(&self, pair: u64) -> Option<Item> {
         let Pair { item, taker, .. } = lock(&self.pairs).pairs.remove(&pair)?;
         ignore_panics(taker, Waker::wake);
         item
@@ -398,7 +384,7 @@ impl<T> Rendezvous<T> {
 
     /// Gives the item to a take that is posted, or posts it with this waker, and gives its number. It is handed
     /// back if the channel is closed.
-    fn post(&self, item: T, waker: &mut Option<Waker>) -> Result<Option<u64>, T> {
+    fn post(&self, item: Item, waker: &mut Option<Waker>) -> Result<Option<u64>, Item> {
         match self.give(item) {
             Ok(()) => Ok(None),
             Err((item, lines)) if lines.is_closed => Err(item),
@@ -462,7 +448,7 @@ impl<T> Rendezvous<T> {
 
     /// A task's take is no more. Gives the item that it has already. If it has none, its pair stays until the send is
     /// completed.
-    fn leave(&self, taker: TakerState, panics: &mut Panics) -> Option<T> {
+    fn leave(&self, taker: TakerState, panics: &mut Panics) -> Option<Item> {
         let number = self.withdraw_taker(taker, panics)?;
         let mut pairs = lock(&self.pairs);
         let pair = pairs.pairs.get_mut(&number)?;
@@ -475,13 +461,8 @@ impl<T> Rendezvous<T> {
         panics.run_each(taker, drop);
         item
     }
-}
 
-impl<T> Meets for Rendezvous<T> {
-    fn lines(&self) -> &Mutex<Lines> {
-        &self.lines
-    }
-
+    /// Meets another in this role.
     fn begin(&self, lines: &mut Lines, role: Role) -> Option<Met> {
         let takes = role == Role::Take;
         let pairs = &mut *lock(&self.pairs);
@@ -502,7 +483,8 @@ impl<T> Meets for Rendezvous<T> {
         met.or_else(|| takes.then(|| pairs.take_offer()).flatten())
     }
 
-    fn look(&self, role: Role) -> Try<()> {
+    /// Whether there seems to be one to meet, or nobody will be.
+    pub fn look(&self, role: Role) -> Try<()> {
         let lines = lock(&self.lines);
         let pairs = lock(&self.pairs);
         let has_item = role == Role::Take && pairs.offers.len() + pairs.returned.len() > 0;
@@ -510,22 +492,23 @@ impl<T> Meets for Rendezvous<T> {
         Again::unless(has_item || has_waiter || lines.is_closed)
     }
 
-    fn wait_for_item(&self, pair: u64) -> bool {
+    /// Waits until this pair of a take has its item, and returns whether it has. If not, its send has given it up.
+    pub fn wait_for_item(&self, pair: u64) -> bool {
         let poll = |waker: &Waker| self.poll_pair(pair, waker, &mut Panics::default());
         poll_until(None, poll).expect("it waits without end")
     }
-}
 
-/// Meets one that is posted for this operation alone.
-pub fn try_meet(channel: &dyn Meets, role: Role) -> Try<Begun> {
-    let met = channel.begin(&mut lock(channel.lines()), role);
-    Ok(met.ok_or(Again::WhenNotified)?.wake())
+    /// Meets one that is posted for this operation alone.
+    pub fn try_meet(&self, role: Role) -> Try<Begun> {
+        let met = self.begin(&mut lock(&self.lines), role);
+        Ok(met.ok_or(Again::WhenNotified)?.wake())
+    }
 }
 
 /// How far the send of a task is, or that of a thread.
-pub enum OfferState<T> {
+pub enum OfferState {
     /// The item is here, until it is given or handed back.
-    Here(Option<T>),
+    Here(Option<Item>),
     /// It is posted under this number.
     Posted(u64),
 }
@@ -540,31 +523,36 @@ pub enum TakerState {
     Met(u64),
 }
 
-impl<T> Receiver<T> {
-    /// Takes an item of one that sends, and waits for one until this moment.
+impl Core {
+    /// The locks of a channel of capacity 0.
+    fn meeting_place(&self) -> &Rendezvous {
+        let rendezvous = self.rendezvous.as_deref();
+        rendezvous.expect("the channel has capacity 0")
+    }
+
+    /// Takes an item of one that sends, and waits for one until this moment. Gives None after it, and Some(None) if the
+    /// channel is closed.
     #[cold]
-    pub(super) fn meet_until(&self, until: Option<Instant>) -> Result<T, RecvTimeoutError> {
-        let rendezvous = self.rendezvous().expect(MEETS);
+    pub fn meet_to_take(&self, until: Option<Instant>) -> Option<Option<Item>> {
         let (mut taker, mut panics) = (TakerState::Idle, Panics::default());
         let polled = poll_until(until, |waker| self.poll_met(&mut taker, waker, &mut panics));
-        if let Some(item) = polled {
-            return item.ok_or(RecvTimeoutError::Disconnected);
-        }
-        let pair = rendezvous.withdraw_taker(taker, &mut panics);
-        let pair = pair.filter(|pair| rendezvous.wait_for_item(*pair));
-        let item = pair.and_then(|pair| rendezvous.take(pair));
-        item.ok_or(RecvTimeoutError::Timeout)
+        polled.or_else(|| {
+            let rendezvous = self.meeting_place();
+            let pair = rendezvous.withdraw_taker(taker, &mut panics)?;
+            let has_item = rendezvous.wait_for_item(pair);
+            has_item.then(|| rendezvous.take(pair))
+        })
     }
 
     /// One poll of a take: looks for a send, or posts itself, and then looks whether its pair has the item. Gives
     /// None if the channel is closed.
-    pub(super) fn poll_met(
+    pub fn poll_met(
         &self,
         taker: &mut TakerState,
         waker: &Waker,
         panics: &mut Panics,
-    ) -> Poll<Option<T>> {
-        let rendezvous = self.rendezvous().expect(MEETS);
+    ) -> Poll<Option<Item>> {
+        let rendezvous = self.meeting_place();
         loop {
             let pair = match taker {
                 TakerState::Met(pair) => *pair,
@@ -580,7 +568,7 @@ impl<T> Receiver<T> {
                     let waiter = Waiter::new(waker.clone());
                     let Some((_, begun)) = meet_or_post(&[rendezvous.take_alone()], &waiter) else {
                         *taker = TakerState::Posted(waiter);
-                        self.notify_posted();
+                        self.senders.line.notify_one();
                         return Poll::Pending;
                     };
                     panics.run_each(waiter.take_waker(), drop);
@@ -600,24 +588,23 @@ impl<T> Receiver<T> {
     }
 
     /// A task's take is no more: an item that it was given goes to the next take.
-    pub(super) fn leave_met(&self, taker: TakerState, panics: &mut Panics) {
-        let rendezvous = self.rendezvous().expect(MEETS);
+    pub fn leave_met(&self, taker: TakerState, panics: &mut Panics) {
+        let rendezvous = self.meeting_place();
         if let Some(item) = rendezvous.leave(taker, panics) {
             drop(rendezvous.hand_on(item, true));
-            self.line().notify_one();
+            self.notify_item();
         }
     }
-}
 
-impl<T> Sender<T> {
-    /// One poll of a send: gives the item to a take, or posts it, and then looks whether it was taken.
-    pub(super) fn poll_posted(
+    /// One poll of a send: gives the item to a take, or posts it, and then looks whether it was taken. Gives the item back if
+    /// the channel is closed.
+    pub fn poll_posted(
         &self,
-        offer: &mut OfferState<T>,
+        offer: &mut OfferState,
         waker: &Waker,
         panics: &mut Panics,
-    ) -> Poll<Result<(), SendError<T>>> {
-        let rendezvous = self.core().rendezvous.as_ref().expect(MEETS);
+    ) -> Poll<Option<Item>> {
+        let rendezvous = self.meeting_place();
         let left = match offer {
             OfferState::Posted(number) => {
                 let polled = rendezvous.poll_offer(*number, waker, panics);
@@ -633,43 +620,43 @@ impl<T> Sender<T> {
                 panics.run_each(waker, drop);
                 if let Ok(Some(number)) = posted {
                     *offer = OfferState::Posted(number);
-                    self.core().notify_item();
+                    self.notify_item();
                     return Poll::Pending;
                 }
                 posted.err()
             }
         };
-        Poll::Ready(left.map_or(Ok(()), |it| Err(SendError(it))))
+        Poll::Ready(left)
     }
 
     /// A send ends. Gives the item, if nobody has it.
-    pub(super) fn withdraw(&self, offer: OfferState<T>, panics: &mut Panics) -> Option<T> {
-        let rendezvous = self.core().rendezvous.as_ref().expect(MEETS);
+    pub fn withdraw(&self, offer: OfferState, panics: &mut Panics) -> Option<Item> {
         match offer {
             OfferState::Here(item) => item,
             OfferState::Posted(number) => {
-                let Offer { item, waker } = lock(&rendezvous.pairs).offers.remove(&number)?;
+                let Offer { item, waker } =
+                    lock(&self.meeting_place().pairs).offers.remove(&number)?;
                 panics.run_each(waker, drop);
                 Some(item)
             }
         }
     }
 
-    /// Sends to one that takes, and waits for one until this moment.
+    /// Sends to one that takes, and waits for one until this moment: then None.
     #[cold]
-    pub(super) fn meet_until(
-        &self,
-        item: T,
-        until: Option<Instant>,
-    ) -> Result<(), SendTimeoutError<T>> {
-        let (mut offer, mut panics) = (OfferState::Here(Some(item)), Panics::default());
+    pub fn meet_to_send(&self, unsent: &mut Unsent, until: Option<Instant>) -> Option<Outcome> {
+        let (mut offer, mut panics) = (OfferState::Here(Some(unsent.take())), Panics::default());
         let polled = poll_until(until, |waker| {
             self.poll_posted(&mut offer, waker, &mut panics)
         });
-        if let Some(sent) = polled {
-            return Ok(sent?);
-        }
-        let left = self.withdraw(offer, &mut panics);
-        left.map_or(Ok(()), |item| Err(SendTimeoutError::Timeout(item)))
+        let (left, outcome) = match polled {
+            Some(left) => (left, Some(Outcome::Closed)),
+            None => (self.withdraw(offer, &mut panics), None),
+        };
+        let Some(item) = left else {
+            return Some(Outcome::Done);
+        };
+        unsent.put_back(item);
+        outcome
     }
 }

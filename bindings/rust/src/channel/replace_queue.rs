@@ -1,5 +1,5 @@
 //! A further queue in the place of a channel's present one.
-use super::body::{ItemWords, words_of};
+use super::body::Item;
 use super::core::{Core, SENDERS, Side};
 use super::pool::QueueHandle;
 use crate::backoff::Contention;
@@ -9,7 +9,7 @@ use crate::queue::{self, Config};
 use std::sync::TryLockError;
 use std::{iter, ptr};
 
-impl<T> Core<T> {
+impl Core {
     /// Lets this side have all its seats, if it has one alone: a further queue with more passes takes the place of this one. It
     /// does nothing if the channel is closed, if there is no memory, or if another thread has the lock of the groups: then calls
     /// go on with the seat that there is.
@@ -57,8 +57,8 @@ impl<T> Core<T> {
         &self,
         in_queue: &mut Vec<usize>,
         grows: Option<&Side>,
-    ) -> Option<Vec<ItemWords<T>>> {
-        let (words, capacity) = (words_of(self.copies), self.config.capacity as usize);
+    ) -> Option<Vec<Item>> {
+        let (words, capacity) = (self.kind.words, self.config.capacity as usize);
         let is_alive = |&group: &usize| !self.side(group).is_lost();
         let (alive, lost): (Vec<_>, Vec<_>) = in_queue.iter().copied().partition(is_alive);
         let config = self.next_config(&alive, grows);

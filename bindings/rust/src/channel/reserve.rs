@@ -8,7 +8,7 @@
 //! A look before a take, or before a send after a Full, saves the price of a call in vain. It pauses for holders that run, and
 //! then leaves the answer to the queue, which waits for no thread of the other side.
 use super::body::Unsent;
-use super::core::{Core, RESERVED, Side, WAS_FULL};
+use super::core::{Core, Outcome, RESERVED, Side, WAS_FULL};
 use super::pool::{Pool, SeatGuard};
 use crate::event::{Again, Try, lock};
 use crate::queue::handle::code;
@@ -22,7 +22,7 @@ fn wait_for_holders(seats: &Pool) -> bool {
     true
 }
 
-impl<T> Core<T> {
+impl Core {
     /// Whether there seems to be an item for this group, or none will come. If it says no, there was none at
     /// some moment of this call.
     pub fn seems_to_have_item(&self, group: usize) -> Try<()> {
@@ -124,11 +124,11 @@ impl<T> Core<T> {
         Ok(())
     }
 
-    /// Reserves room for one send. Returns whether it has; if not, the channel is closed.
+    /// Reserves room for one send.
     ///
     /// It counts the place first, and then waits until each of the senders' seats was free once. A send that had a seat before
     /// has counted its item then. One that acquires a seat later sees that a place is reserved, and waits for the lock.
-    pub fn reserve(&self) -> Try<bool> {
+    pub fn reserve(&self) -> Try<Outcome> {
         if let Some(row) = &self.row {
             return self.reserve_in_row(row);
         }
@@ -136,8 +136,13 @@ impl<T> Core<T> {
         let _in_queue = lock(&self.in_queue);
         self.hints.fetch_add(RESERVED, Ordering::SeqCst);
         self.senders.seats.wait_for_holders();
-        let has_room = self.has_room_beside_reserved(1).map(|()| !self.is_closed());
-        if has_room != Ok(true) {
+        let has_room = self
+            .has_room_beside_reserved(1)
+            .map(|()| match self.is_closed() {
+                true => Outcome::Closed,
+                false => Outcome::Done,
+            });
+        if has_room != Ok(Outcome::Done) {
             self.hints.fetch_sub(RESERVED, Ordering::SeqCst);
         }
         if has_room.is_err() {
@@ -155,29 +160,14 @@ impl<T> Core<T> {
         self.senders.line.notify_one();
     }
 
-    /// Sends to room that was reserved. Returns whether it is sent; if not, the channel is closed.
-    pub fn send_to_room(&self, item: &mut Unsent<T>) -> bool {
+    /// Sends to room that was reserved.
+    pub fn send_to_room(&self, item: &mut Unsent) -> Outcome {
         loop {
-            let mut seat = self.senders.seats.acquire();
-            let code = self.send_by(&mut seat, item);
-            if code == code::ACCEPTED {
-                if self.row.is_none() {
-                    self.hints.fetch_sub(RESERVED, Ordering::SeqCst);
-                }
-                drop(seat);
-                self.notify_item();
-                return true;
-            }
-            let tried = match &self.row {
-                Some(row) => self.send_further(row, item, code, seat),
-                None => self.retry_after_refusal(code, seat),
-            };
-            match tried {
-                Ok(true) if self.row.is_some() => return true,
-                Ok(true) => {}
-                Ok(false) => {
+            match self.try_send_to_room(item) {
+                Ok(Outcome::Done) => return Outcome::Done,
+                Ok(Outcome::Closed) => {
                     self.give_back_room();
-                    return false;
+                    return Outcome::Closed;
                 }
                 // Memory is wanting for a further queue.
                 Err(_) => thread::sleep(Duration::from_millis(1)),
@@ -185,21 +175,30 @@ impl<T> Core<T> {
         }
     }
 
+    fn try_send_to_room(&self, item: &mut Unsent) -> Try<Outcome> {
+        let mut seat = self.senders.seats.acquire();
+        let code = self.send_by(&mut seat, item);
+        if code == code::ACCEPTED && self.row.is_none() {
+            self.hints.fetch_sub(RESERVED, Ordering::SeqCst);
+        }
+        self.end_send(item, code, seat, Core::try_send_to_room)
+    }
+
     /// Tries to send by this seat, with these hints: looks first whether there is room.
     #[cold]
     #[inline(never)]
     pub fn send_with_hints<'a>(
         &'a self,
-        item: &mut Unsent<T>,
+        item: &mut Unsent,
         seat: SeatGuard<'a>,
         hints: usize,
-    ) -> Try<bool> {
+    ) -> Try<Outcome> {
         if let Some(row) = &self.row {
             return self.send_within_limit(row, item, seat);
         }
         self.look_after_full(hints)?;
         if hints < RESERVED {
-            return self.send_or_again(item, seat);
+            return self.send_at(item, seat);
         }
         drop(seat);
         self.send_beside_reserved(item)
@@ -207,7 +206,7 @@ impl<T> Core<T> {
 
     /// Tries to send while room is reserved for others, under the lock of the groups: so nobody else does, and no more room is
     /// reserved meanwhile.
-    fn send_beside_reserved(&self, item: &mut Unsent<T>) -> Try<bool> {
+    fn send_beside_reserved(&self, item: &mut Unsent) -> Try<Outcome> {
         let in_queue = lock(&self.in_queue);
         if self.reserved() == 0 {
             // By now sends don't wait for the lock.
@@ -218,6 +217,6 @@ impl<T> Core<T> {
         let mut seat = self.senders.seats.acquire();
         let code = self.send_by(&mut seat, item);
         drop(in_queue);
-        self.end_send(item, code, seat)
+        self.end_send(item, code, seat, Core::try_send)
     }
 }

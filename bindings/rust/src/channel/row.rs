@@ -25,15 +25,14 @@
 //! other senders, which wait for the lock then, don't wait for an opening, which takes some ten microseconds.
 //!
 //! **Without memory** for a further queue nothing changes, and the send is tried again later.
-use super::body::{ItemWords, Unsent};
-use super::core::{Core, SENDERS};
+use super::body::{Item, Unsent};
+use super::core::{Core, NoItem, Outcome, SENDERS};
 use super::limit::Limit;
 use super::pool::{QueueHandle, SeatGuard};
 use crate::event::{Again, Try, ignore_panics, lock};
 use crate::queue::handle::{Handle, code, unexpected};
 use crate::queue::{self, Config, OpenError};
 use std::collections::VecDeque;
-use std::iter;
 use std::mem::{self, replace};
 use std::sync::{Mutex, MutexGuard};
 
@@ -273,7 +272,7 @@ impl Locked<'_> {
     }
 }
 
-impl<T> Core<T> {
+impl Core {
     /// The groups of a queue that is appended: those that have receivers. If none has, the channel is about to be closed, and this
     /// queue with it.
     fn groups_of_next(&self, queues: &Queues) -> Vec<usize> {
@@ -286,14 +285,14 @@ impl<T> Core<T> {
     }
 
     /// After the queue of this seat refused an item: the seat goes on to the last queue, behind which it appends one if it
-    /// was there already. Returns whether it has; if not, the channel is closed.
-    fn next_for_senders(&self, row: &Row, seat: &mut SeatGuard) -> Try<bool> {
+    /// was there already.
+    fn next_for_senders(&self, row: &Row, seat: &mut SeatGuard) -> Try<Outcome> {
         // The refused call may have served a close whose caller has the lock.
         seat.wake_served();
         let mut locked = row.lock();
         if seat.pass().0.queue == locked.queues.last_number() {
             if locked.queues.is_closed {
-                return Ok(false);
+                return Ok(Outcome::Closed);
             }
             let groups = self.groups_of_next(&locked.queues);
             let appended = locked.append(row, groups, seat);
@@ -301,7 +300,7 @@ impl<T> Core<T> {
         }
         let last = locked.queues.last_number();
         locked.fetch(SENDERS, last, seat);
-        Ok(true)
+        Ok(Outcome::Done)
     }
 
     /// After the queue of this seat has ended: the seat goes on to the queue that its group is at. Returns whether there is one.
@@ -318,17 +317,17 @@ impl<T> Core<T> {
     pub fn send_further(
         &self,
         row: &Row,
-        item: &mut Unsent<T>,
+        item: &mut Unsent,
         mut code: u32,
         mut seat: SeatGuard,
-    ) -> Try<bool> {
+    ) -> Try<Outcome> {
         while code != code::ACCEPTED {
             match code {
                 code::FULL | code::SPENT | code::WORN | code::CLOSED => {}
                 code => unexpected(code),
             }
-            if !self.next_for_senders(row, &mut seat)? {
-                return Ok(false);
+            if self.next_for_senders(row, &mut seat)? == Outcome::Closed {
+                return Ok(Outcome::Closed);
             }
             code = self.send_by(&mut seat, item);
         }
@@ -337,21 +336,21 @@ impl<T> Core<T> {
         row.open_spare();
         // The item is sent: a panic of others' drops ends here.
         ignore_panics(self.left_by_lost(row), drop);
-        Ok(true)
+        Ok(Outcome::Done)
     }
 
-    /// Tries to take an item for a group, of the queue that it is at or of those behind it. Gives None at the end of the channel.
-    pub fn take_in_row(&self, row: &Row, group: usize) -> Try<Option<ItemWords<T>>> {
+    /// Tries to take an item for a group, of the queue that it is at or of those behind it.
+    pub fn take_in_row(&self, row: &Row, group: usize) -> Result<Item, NoItem> {
         let mut seat = self.side(group).seats.acquire();
         loop {
             match self.take_by(&mut seat) {
-                Ok(packed) => {
+                Ok(item) => {
                     self.count_taken(seat);
-                    return Ok(Some(packed));
+                    return Ok(item);
                 }
-                Err(code::EMPTY) => return Err(Again::WhenNotified),
+                Err(code::EMPTY) => return Err(Again::WhenNotified.into()),
                 Err(code::ENDED) if self.next_for_group(row, group, &mut seat) => {}
-                Err(code::ENDED) => return Ok(None),
+                Err(code::ENDED) => return Err(NoItem::Ended),
                 Err(code) => unexpected(code),
             }
         }
@@ -372,7 +371,7 @@ impl<T> Core<T> {
 
     /// Appends a queue without the groups that have lost their receivers, and gives what they haven't taken. If there is no memory,
     /// the next queue that is appended is without them.
-    pub fn go_on_without_lost(&self, row: &Row) -> Vec<ItemWords<T>> {
+    pub fn go_on_without_lost(&self, row: &Row) -> Vec<Item> {
         let mut seat = self.senders.seats.acquire();
         let mut locked = row.lock();
         let groups = self.groups_of_next(&locked.queues);
@@ -387,9 +386,8 @@ impl<T> Core<T> {
     }
 
     /// The items that are left by groups which have lost their receivers, and are in no queue from the last one on.
-    fn left_by_lost(&self, row: &Row) -> Vec<ItemWords<T>> {
+    fn left_by_lost(&self, row: &Row) -> Vec<Item> {
         let left = mem::take(&mut row.lock().queues.left);
-        let items = |group| iter::from_fn(move || self.try_recv(group).ok()?);
-        left.into_iter().flat_map(items).collect()
+        left.into_iter().flat_map(|it| self.drain(it)).collect()
     }
 }

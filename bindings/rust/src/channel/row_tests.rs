@@ -30,14 +30,15 @@ pub const SMALL: [([u32; 2], u64, u32); 6] = [
 /// A row of small queues, with this limit.
 pub fn small<T>(which: ([u32; 2], u64, u32), limit: Option<usize>) -> (Sender<T>, Receiver<T>) {
     let (places, life, per_sender) = which;
-    pair(Core::open_row(&small_shape(places, life, per_sender), limit, 1, None).unwrap())
+    let shape = small_shape(places, life, per_sender);
+    pair(Core::open_row(&shape, limit, 1, Kind::alone::<T>()).unwrap())
 }
 
 /// The same of two groups.
 fn small_groups(which: ([u32; 2], u64, u32)) -> (Sender<Arc<u64>>, Vec<Receiver<Arc<u64>>>) {
     let (places, life, per_sender) = which;
     let shape = small_shape(places, life, per_sender);
-    handles(Core::open_row(&shape, None, 2, Some(Arc::clone)).unwrap())
+    handles(Core::open_row(&shape, None, 2, Kind::of_groups::<Arc<u64>>()).unwrap())
 }
 
 #[test]
@@ -182,7 +183,8 @@ fn without_memory_sends_wait() {
     const SOON: Duration = Duration::from_millis(5);
     let shape = small_shape([2, 0], 1 << 48, u32::MAX);
     for limit in [None, Some(5)] {
-        let (sender, receiver) = pair(Core::open_row(&shape, limit, 1, None).unwrap());
+        let (sender, receiver) =
+            pair::<u64>(Core::open_row(&shape, limit, 1, Kind::alone::<u64>()).unwrap());
         sender.send(1).unwrap();
         sender.send(2).unwrap();
         assert_eq!(sender.try_send(3), Err(TrySendError::Full(3)));

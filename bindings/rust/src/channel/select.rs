@@ -9,8 +9,7 @@
 //! differ.
 //!
 //! **A selected take has its item.** The try is the take itself, so there is one, and no other receiver gets the item.
-//! The channel keeps it until [`SelectedOperation::recv`] hands it over; in a macro the arm does, since nobody can
-//! forget that.
+//! [`SelectedOperation`] keeps it until [`recv`](SelectedOperation::recv) hands it over.
 //!
 //! **A selected send has its room**, since its item may come after the selection. `Core::reserve` counts a place
 //! as reserved, and then waits until each of the senders' seats was free once: no send that hasn't seen it is on its way then. If
@@ -23,9 +22,10 @@
 //! give it back, and then look whether somebody waits. A look that finds nothing waits until each of those seats was free once, which
 //! is a load of each, and counts again. A holder before that has counted; a holder after that sees the waiter in line. So a look that finds nothing
 //! is the look of [`event`](crate::event)'s argument: at some moment of it there was nothing.
-use super::core::Core;
-use super::rendezvous::{Meets, Operation, Role, Waiter, meet_or_post, try_meet};
-use super::side::Source;
+use super::body::{Item, Unsent};
+use super::core::{Core, NoItem, Outcome};
+use super::rendezvous::{Operation, Rendezvous, Role, Waiter, meet_or_post};
+use super::side::{Shared, Source};
 use super::{
     ReadyTimeoutError, Receiver, RecvError, SelectTimeoutError, SendError, Sender, TryReadyError,
     TrySelectError,
@@ -34,19 +34,17 @@ use crate::backoff::FOR_OTHERS;
 use crate::event::{Again, Event, Panics, Parker, Ticket, Try, is_over};
 use std::cell::Cell;
 use std::hash::{BuildHasher, Hasher, RandomState};
+use std::marker::PhantomData;
 use std::ops::{Deref, DerefMut};
-use std::ptr::addr_eq;
+use std::ptr;
 use std::sync::Arc;
 use std::time::{Duration, Instant};
 
 /// The state of a selected operation, until it is completed.
+#[derive(Clone, Copy)]
 pub enum Begun {
-    /// The channel keeps the item under this number.
-    Kept(u64),
-    /// The arm of a macro has the item.
-    InArm,
-    /// The moment of a timer has come.
-    Due(Instant),
+    /// The operation has the item.
+    Taken,
     /// A place is reserved.
     Room,
     /// It has met another, in this pair.
@@ -57,140 +55,121 @@ pub enum Begun {
     Nothing,
 }
 
-/// An operation of a select.
-pub trait Case {
+/// An operation of a select or of a future.
+#[derive(Clone, Copy)]
+pub enum Case<'a> {
+    Take(&'a Source),
+    Send(&'a Core),
+}
+
+impl<'a> Case<'a> {
     /// The line in which one waits for it.
-    fn line(&self) -> &Event;
-    /// The channel where it is posted, and its role there, if the channel has capacity 0.
-    fn rendezvous(&self) -> Option<(&dyn Meets, Role)>;
-    /// It is posted: notifies those of the other role that aren't.
-    fn notify_posted(&self);
-    /// Begins it, if it is ready.
-    fn begin(&self) -> Try<Begun>;
-    /// Whether it is ready. It may say so though it isn't.
-    fn look(&self) -> Try<()>;
-    /// It isn't completed.
-    fn give_up(&self, begun: Begun);
-}
-
-impl<T> Case for Receiver<T> {
-    fn line(&self) -> &Event {
-        self.line()
-    }
-
-    fn rendezvous(&self) -> Option<(&dyn Meets, Role)> {
-        Some((self.rendezvous()?, Role::Take))
-    }
-
-    fn notify_posted(&self) {
-        if let Source::Channel(shared) = &*self.0 {
-            shared.core.senders.line.notify_one();
+    pub fn line(self) -> &'a Event {
+        match self {
+            Case::Take(source) => source.line(),
+            Case::Send(core) => &core.senders.line,
         }
     }
 
-    fn begin(&self) -> Try<Begun> {
-        self.begin_take(|core, item| Begun::Kept(core.keep(item)))
-    }
-
-    fn look(&self) -> Try<()> {
-        match &*self.0 {
-            Source::Channel(shared) => match &shared.core.rendezvous {
-                Some(rendezvous) => rendezvous.look(Role::Take),
-                None => shared.core.seems_to_have_item(shared.side),
-            },
-            Source::Timer(timer) => timer.look(),
+    /// Its channel, if that isn't a timer's.
+    fn core(self) -> Option<&'a Core> {
+        match self {
+            Case::Take(Source::Channel(Shared { core, .. })) => Some(core),
+            Case::Take(Source::Timer(_)) => None,
+            Case::Send(core) => Some(core),
         }
     }
 
-    fn give_up(&self, begun: Begun) {
-        drop(self.completed(begun));
-    }
-}
-
-impl<T> Receiver<T> {
-    /// Begins a take, whose item is kept by this function.
-    #[inline]
-    fn begin_take(&self, keep: impl FnOnce(&Core<T>, T) -> Begun) -> Try<Begun> {
-        match &*self.0 {
-            Source::Channel(shared) => match &shared.core.rendezvous {
-                Some(rendezvous) => try_meet(&**rendezvous, Role::Take),
-                None => Ok(match shared.try_take()? {
-                    Some(packed) => keep(&shared.core, packed.unpack()),
-                    None => Begun::Closed,
-                }),
-            },
-            Source::Timer(timer) => Ok(timer.try_take()?.map_or(Begun::Closed, Begun::Due)),
-        }
+    /// The same, if it has capacity 0.
+    pub fn meeting_place(self) -> Option<&'a Core> {
+        self.core().filter(|it| it.rendezvous.is_some())
     }
 
-    /// The item of a selected take.
-    pub(super) fn completed(&self, begun: Begun) -> Result<T, RecvError> {
-        let item = match (begun, &*self.0) {
-            (Begun::Kept(number), Source::Channel(shared)) => shared.core.take_kept(number),
-            (Begun::Met(pair), _) => self.rendezvous().and_then(|it| it.take(pair)),
-            (Begun::Due(moment), Source::Timer(timer)) => Some(timer.item_of(moment)),
-            _ => None,
+    /// The place where it is posted, and its role there, if the channel has capacity 0.
+    fn rendezvous(self) -> Option<(&'a Rendezvous, Role)> {
+        let role = match self {
+            Case::Take(_) => Role::Take,
+            Case::Send(_) => Role::Send,
         };
-        item.ok_or(RecvError)
-    }
-}
-
-impl<T> Case for Sender<T> {
-    fn line(&self) -> &Event {
-        self.0.line()
+        Some((self.core()?.rendezvous.as_deref()?, role))
     }
 
-    fn rendezvous(&self) -> Option<(&dyn Meets, Role)> {
-        Some((self.core().rendezvous.as_deref()?, Role::Send))
-    }
-
-    fn notify_posted(&self) {
-        self.core().notify_item();
-    }
-
-    fn begin(&self) -> Try<Begun> {
-        if let Some(rendezvous) = self.core().rendezvous.as_deref() {
-            return try_meet(rendezvous, Role::Send);
-        }
-        let has_room = self.core().reserve()?;
-        Ok(if has_room { Begun::Room } else { Begun::Closed })
-    }
-
-    fn look(&self) -> Try<()> {
-        match &self.core().rendezvous {
-            Some(rendezvous) => rendezvous.look(Role::Send),
-            None => self.core().seems_to_have_room(),
+    /// It is posted: notifies those of the other role that aren't.
+    fn notify_posted(self) {
+        match (self, self.core()) {
+            (Case::Take(_), Some(core)) => core.senders.line.notify_one(),
+            (_, core) => core.into_iter().for_each(Core::notify_item),
         }
     }
 
-    fn give_up(&self, begun: Begun) {
-        match (begun, &self.core().rendezvous) {
-            (Begun::Met(pair), Some(rendezvous)) => drop(rendezvous.give_up(pair)),
-            (Begun::Room, _) => self.core().give_back_room(),
+    /// Begins it, if it is ready. A take puts its item here.
+    #[inline]
+    fn begin(self, taken: &mut Option<Item>) -> Try<Begun> {
+        if let Some((rendezvous, role)) = self.rendezvous() {
+            return rendezvous.try_meet(role);
+        }
+        match self {
+            Case::Take(source) => match source.try_take() {
+                Ok(item) => {
+                    *taken = Some(item);
+                    Ok(Begun::Taken)
+                }
+                Err(NoItem::Ended) => Ok(Begun::Closed),
+                Err(NoItem::Yet(again)) => Err(again),
+            },
+            Case::Send(core) => Ok(match core.reserve()? {
+                Outcome::Done => Begun::Room,
+                Outcome::Closed => Begun::Closed,
+            }),
+        }
+    }
+
+    /// Whether it is ready. It may say so though it isn't.
+    pub fn look(self) -> Try<()> {
+        if let Some((rendezvous, role)) = self.rendezvous() {
+            return rendezvous.look(role);
+        }
+        match self {
+            Case::Take(Source::Channel(shared)) => shared.core.seems_to_have_item(shared.side),
+            Case::Take(Source::Timer(timer)) => timer.look(),
+            Case::Send(core) => core.seems_to_have_room(),
+        }
+    }
+
+    /// The item of the pair of a take that has met a send.
+    fn item_of(self, pair: u64) -> Option<Item> {
+        self.rendezvous()?.0.take(pair)
+    }
+
+    /// It isn't completed. This may drop an item.
+    fn give_up(self, begun: Begun) {
+        match (self, begun, self.rendezvous()) {
+            (Case::Send(core), Begun::Room, _) => core.give_back_room(),
+            (Case::Send(_), Begun::Met(pair), Some((rendezvous, _))) => {
+                drop(rendezvous.give_up(pair));
+            }
+            (Case::Take(_), Begun::Met(pair), _) => drop(self.item_of(pair)),
             _ => {}
         }
     }
 }
 
-impl<T> Sender<T> {
+impl Core {
     /// Sends by a selected send.
-    fn complete(&self, begun: Begun, item: T) -> Result<(), SendError<T>> {
-        match (begun, &self.core().rendezvous) {
+    fn complete(&self, begun: Begun, item: &mut Unsent) -> Outcome {
+        match (begun, &self.rendezvous) {
             (Begun::Met(pair), Some(rendezvous)) => {
-                let sent = rendezvous.send(pair, item);
+                let sent = rendezvous.send(pair, item.take());
                 // If its take was dropped, the item may be kept for another one.
-                self.core().notify_item();
-                sent.map_err(SendError)
+                self.notify_item();
+                let Err(left) = sent else {
+                    return Outcome::Done;
+                };
+                item.put_back(left);
+                Outcome::Closed
             }
-            (Begun::Room, _) => {
-                let mut item = self.pack(item);
-                if self.core().send_to_room(&mut item) {
-                    Ok(())
-                } else {
-                    Err(SendError(item.into_inner()))
-                }
-            }
-            _ => Err(SendError(item)),
+            (Begun::Room, _) => self.send_to_room(item),
+            _ => Outcome::Closed,
         }
     }
 }
@@ -232,65 +211,30 @@ impl Drop for Standing<'_> {
     }
 }
 
-/// A take of the macros, which no caller can forget: so it keeps its item itself.
+/// An arm of the macros, whose select stays on its thread: so its items are of any type.
 #[doc(hidden)]
-pub struct TakeArm<'a, T> {
-    receiver: &'a Receiver<T>,
-    item: Cell<Option<T>>,
-}
-
-impl<'a, T> TakeArm<'a, T> {
-    #[inline]
-    pub fn new(receiver: &'a Receiver<T>) -> TakeArm<'a, T> {
-        let item = Cell::new(None);
-        TakeArm { receiver, item }
-    }
-
-    /// Completes it.
-    #[inline]
-    pub fn complete(&self, mut operation: SelectedOperation) -> Result<T, RecvError> {
-        match operation.begun_of(self) {
-            Begun::InArm => self.item.take().ok_or(RecvError),
-            begun => self.receiver.completed(begun),
-        }
-    }
-}
-
-impl<T> Case for TakeArm<'_, T> {
-    fn line(&self) -> &Event {
-        self.receiver.line()
-    }
-
-    fn rendezvous(&self) -> Option<(&dyn Meets, Role)> {
-        Case::rendezvous(self.receiver)
-    }
-
-    fn notify_posted(&self) {
-        self.receiver.notify_posted();
-    }
-
-    #[inline(never)]
-    fn begin(&self) -> Try<Begun> {
-        self.receiver.begin_take(|_, item| {
-            self.item.set(Some(item));
-            Begun::InArm
-        })
-    }
-
-    fn look(&self) -> Try<()> {
-        self.receiver.look()
-    }
-
-    fn give_up(&self, begun: Begun) {
-        self.receiver.give_up(begun);
-    }
-}
-
-/// An operation by reference: `&dyn Case`, or one that goes to other threads.
 #[derive(Clone, Copy)]
-struct Entry<R> {
+pub struct Arm<'a>(Case<'a>, usize, PhantomData<*const ()>);
+
+impl<'a> Arm<'a> {
+    pub fn take<T>(receiver: &'a Receiver<T>) -> Arm<'a> {
+        let handle = ptr::from_ref(receiver).addr();
+        Arm(Case::Take(&receiver.0), handle, PhantomData)
+    }
+
+    pub fn send<T>(sender: &'a Sender<T>) -> Arm<'a> {
+        let handle = ptr::from_ref(sender).addr();
+        Arm(Case::Send(sender.core()), handle, PhantomData)
+    }
+}
+
+/// An operation, and its index.
+#[derive(Clone, Copy)]
+struct Entry<'a> {
     index: usize,
-    case: R,
+    case: Case<'a>,
+    /// The address of its handle.
+    handle: usize,
 }
 
 /// Whether a select begins the operation that is ready, or only looks.
@@ -300,11 +244,11 @@ enum Aim {
     Look,
 }
 
-impl<R: Deref<Target: Case>> Entry<R> {
+impl Entry<'_> {
     #[inline]
-    fn attempt(&self, aim: Aim) -> Try<Begun> {
+    fn attempt(&self, aim: Aim, taken: &mut Option<Item>) -> Try<Begun> {
         match aim {
-            Aim::Begin => self.case.begin(),
+            Aim::Begin => self.case.begin(taken),
             Aim::Look => self.case.look().map(|()| Begun::Nothing),
         }
     }
@@ -349,8 +293,7 @@ fn random_below(limit: usize) -> usize {
 /// If several are ready, one of them is made at random, unless the select [is biased](Select::new_biased). One with no
 /// operation waits until its time is over.
 ///
-/// A select may go to another thread, so the items are `Send`. The macros have a select of their own, which stays
-/// on its thread and takes items of any type.
+/// A select may go to another thread, so the items are `Send`. That of the macros stays on its thread, and takes items of any type.
 ///
 /// ```
 /// use vahepito::{Select, channel};
@@ -374,7 +317,7 @@ fn random_below(limit: usize) -> usize {
 /// ```
 #[derive(Clone)]
 pub struct Select<'a> {
-    entries: Entries<&'a (dyn Case + Sync)>,
+    entries: Entries<'a>,
     next: usize,
     is_biased: bool,
 }
@@ -388,10 +331,14 @@ impl<'a> Select<'a> {
         }
     }
 
-    fn add(&mut self, case: &'a (dyn Case + Sync)) -> usize {
+    fn add(&mut self, Arm(case, handle, _): Arm<'a>) -> usize {
         let index = self.next;
         self.next += 1;
-        self.entries.push(Entry { index, case });
+        self.entries.push(Entry {
+            index,
+            case,
+            handle,
+        });
         index
     }
 
@@ -438,7 +385,7 @@ impl<'a> Select<'a> {
     /// # Ok::<(), vahepito::OpenError>(())
     /// ```
     pub fn send<T: Send>(&mut self, sender: &'a Sender<T>) -> usize {
-        self.add(sender)
+        self.add(Arm::send(sender))
     }
 
     /// Adds a take, and returns its index.
@@ -454,7 +401,7 @@ impl<'a> Select<'a> {
     /// # Ok::<(), vahepito::OpenError>(())
     /// ```
     pub fn recv<T: Send>(&mut self, receiver: &'a Receiver<T>) -> usize {
-        self.add(receiver)
+        self.add(Arm::take(receiver))
     }
 
     /// Removes an operation. The others keep their indices.
@@ -483,15 +430,15 @@ impl<'a> Select<'a> {
 
 /// A list of operations: up to four of them need no memory.
 #[derive(Clone)]
-enum Entries<R> {
+enum Entries<'a> {
     None,
-    Few([Entry<R>; 4], usize),
-    Many(Vec<Entry<R>>),
+    Few([Entry<'a>; 4], usize),
+    Many(Vec<Entry<'a>>),
 }
 
-impl<R: Copy> Entries<R> {
+impl<'a> Entries<'a> {
     #[inline]
-    fn push(&mut self, entry: Entry<R>) {
+    fn push(&mut self, entry: Entry<'a>) {
         match self {
             Entries::None => *self = Entries::Few([entry; 4], 1),
             Entries::Few(few, count) if *count < few.len() => {
@@ -510,11 +457,11 @@ impl<R: Copy> Entries<R> {
     }
 }
 
-impl<R> Deref for Entries<R> {
-    type Target = [Entry<R>];
+impl<'a> Deref for Entries<'a> {
+    type Target = [Entry<'a>];
 
     #[inline]
-    fn deref(&self) -> &[Entry<R>] {
+    fn deref(&self) -> &[Entry<'a>] {
         match self {
             Entries::None => &[],
             Entries::Few(few, count) => &few[..*count],
@@ -523,9 +470,9 @@ impl<R> Deref for Entries<R> {
     }
 }
 
-impl<R> DerefMut for Entries<R> {
+impl<'a> DerefMut for Entries<'a> {
     #[inline]
-    fn deref_mut(&mut self) -> &mut [Entry<R>] {
+    fn deref_mut(&mut self) -> &mut [Entry<'a>] {
         match self {
             Entries::None => &mut [],
             Entries::Few(few, count) => &mut few[..*count],
@@ -535,21 +482,21 @@ impl<R> DerefMut for Entries<R> {
 }
 
 /// A select of these operations, in the order in which they are tried, until this moment.
-struct Turn<'s, R> {
-    entries: &'s [Entry<R>],
+struct Turn<'s, 'a> {
+    entries: &'s [Entry<'a>],
     aim: Aim,
     until: Option<Instant>,
 }
 
-impl<'s, R: Copy + Deref<Target: Case>> Turn<'s, R> {
+impl<'s, 'a> Turn<'s, 'a> {
     /// In the order of their indices if it is biased, and else in a random one.
     #[inline]
     fn new(
-        entries: &'s mut [Entry<R>],
+        entries: &'s mut [Entry<'a>],
         is_biased: bool,
         aim: Aim,
         until: Option<Instant>,
-    ) -> Turn<'s, R> {
+    ) -> Turn<'s, 'a> {
         if is_biased {
             entries.sort_by_key(|it| it.index);
         } else {
@@ -564,26 +511,39 @@ impl<'s, R: Copy + Deref<Target: Case>> Turn<'s, R> {
         }
     }
 
-    /// Tries each until one is done, or the time is over.
+    /// Begins an operation.
     #[inline]
-    fn wait(&self) -> Option<(Entry<R>, Begun)> {
-        self.try_once().or_else(|| self.park())
+    fn select(&self) -> Option<SelectedOperation<'a>> {
+        let mut taken = None;
+        let (entry, begun) = self.wait(&mut taken)?;
+        Some(SelectedOperation {
+            entry,
+            begun: Some(begun),
+            taken,
+            stays: PhantomData,
+        })
+    }
+
+    /// Tries each until one is done, or the time is over. A take puts its item here.
+    #[inline]
+    fn wait(&self, taken: &mut Option<Item>) -> Option<(Entry<'a>, Begun)> {
+        self.try_once(taken).or_else(|| self.park(taken))
     }
 
     /// Tries each once, until one is done. One that meets another which gives their pair up isn't.
     #[inline]
-    fn try_once(&self) -> Option<(Entry<R>, Begun)> {
+    fn try_once(&self, taken: &mut Option<Item>) -> Option<(Entry<'a>, Begun)> {
         self.entries.iter().find_map(|entry| {
-            let begun = entry.attempt(self.aim).ok()?;
+            let begun = entry.attempt(self.aim, taken).ok()?;
             entry.has_its_pair(&begun).then_some((*entry, begun))
         })
     }
 
     /// Tries each once. Gives the index of the first that is begun.
-    fn try_each(&self) -> Try<(usize, Begun)> {
+    fn try_each(&self, taken: &mut Option<Item>) -> Try<(usize, Begun)> {
         let mut earliest = Again::WhenNotified;
         for (at, entry) in self.entries.iter().enumerate() {
-            match entry.attempt(self.aim) {
+            match entry.attempt(self.aim, taken) {
                 Ok(begun) => return Ok((at, begun)),
                 Err(again) => earliest = again.min(earliest),
             }
@@ -592,33 +552,33 @@ impl<'s, R: Copy + Deref<Target: Case>> Turn<'s, R> {
     }
 
     /// Whether it is posted for others to meet: then it isn't in a line.
-    fn is_posted(&self, entry: &Entry<R>) -> bool {
+    fn is_posted(&self, entry: &Entry) -> bool {
         self.aim == Aim::Begin && entry.case.rendezvous().is_some()
     }
 
     /// Parks until one is done, or the time is over, after a few further tries.
     #[cold]
     #[inline(never)]
-    fn park(&self) -> Option<(Entry<R>, Begun)> {
+    fn park(&self, taken: &mut Option<Item>) -> Option<(Entry<'a>, Begun)> {
         if is_over(self.until) {
             return None;
         }
         let mut done = None;
         // Those that may meet another are posted at once.
         if !self.entries.iter().any(|it| self.is_posted(it)) {
-            done = FOR_OTHERS.try_until(self.until, || self.try_once());
+            done = FOR_OTHERS.try_until(self.until, || self.try_once(taken));
         }
         done.or_else(|| {
             Parker::with(|parker| {
                 loop {
-                    if let Some((at, begun)) = self.stand_and_park(parker) {
+                    if let Some((at, begun)) = self.stand_and_park(parker, taken) {
                         let entry = self.entries[at];
                         if entry.has_its_pair(&begun) {
                             return Some((entry, begun));
                         }
                     }
                     if is_over(self.until) {
-                        return self.try_once();
+                        return self.try_once(taken);
                     }
                 }
             })
@@ -627,13 +587,17 @@ impl<'s, R: Copy + Deref<Target: Case>> Turn<'s, R> {
 
     /// Stands in all lines, looks, and parks; leaves all, and tries again: the one that was notified comes first. The
     /// notification of a line is passed on if its operation wasn't tried after it, or was only looked at and is ready.
-    fn stand_and_park(&self, parker: &Arc<Parker>) -> Option<(usize, Begun)> {
-        let stand = |it: &'s Entry<R>| {
+    fn stand_and_park(
+        &self,
+        parker: &Arc<Parker>,
+        taken: &mut Option<Item>,
+    ) -> Option<(usize, Begun)> {
+        let stand = |it: &'s Entry<'a>| {
             let stands = !self.is_posted(it);
             stands.then(|| Standing::stand(it.case.line(), parker))
         };
         let mut lines: Vec<_> = self.entries.iter().map(stand).collect();
-        let until = match self.try_each() {
+        let until = match self.try_each(taken) {
             Ok(done) => return Some(done),
             Err(again) => again.before(self.until),
         };
@@ -648,7 +612,7 @@ impl<'s, R: Copy + Deref<Target: Case>> Turn<'s, R> {
         lines.iter_mut().flatten().for_each(Standing::leave);
         let is_notified = |it: &Option<Standing>| it.as_ref().is_some_and(|it| it.notified);
         let first = lines.iter().position(is_notified).into_iter();
-        let attempt = |at: usize| Some((at, self.entries[at].attempt(self.aim).ok()?));
+        let attempt = |at: usize| Some((at, self.entries[at].attempt(self.aim, taken).ok()?));
         let done = first.chain(0..lines.len()).find_map(attempt);
         for (at, line) in lines.iter_mut().enumerate() {
             let is_this = |&(made, _): &(usize, _)| self.aim == Aim::Begin && made == at;
@@ -682,17 +646,12 @@ impl<'s, R: Copy + Deref<Target: Case>> Turn<'s, R> {
 }
 
 impl<'a> Select<'a> {
-    fn wait(
-        &mut self,
-        aim: Aim,
-        until: Option<Instant>,
-    ) -> Option<(Entry<&'a (dyn Case + Sync)>, Begun)> {
-        Turn::new(&mut self.entries, self.is_biased, aim, until).wait()
+    fn turn(&mut self, aim: Aim, until: Option<Instant>) -> Turn<'_, 'a> {
+        Turn::new(&mut self.entries, self.is_biased, aim, until)
     }
 
     fn select_until(&mut self, until: Option<Instant>) -> Option<SelectedOperation<'a>> {
-        let (Entry { index, case }, begun) = self.wait(Aim::Begin, until)?;
-        Some(SelectedOperation::new(Entry { index, case }, begun))
+        self.turn(Aim::Begin, until).select()
     }
 
     /// Begins an operation, if one is ready.
@@ -790,7 +749,8 @@ impl<'a> Select<'a> {
     }
 
     fn ready_until(&mut self, until: Option<Instant>) -> Option<usize> {
-        Some(self.wait(Aim::Look, until)?.0.index)
+        let (entry, _) = self.turn(Aim::Look, until).wait(&mut None)?;
+        Some(entry.index)
     }
 
     /// Returns the index of an operation that is ready, if there is one. Another thread may make it
@@ -887,19 +847,19 @@ impl<'a> Select<'a> {
 #[doc(hidden)]
 #[inline]
 pub fn select_arms<'a, const N: usize>(
-    arms: [&'a dyn Case; N],
+    arms: [Arm<'a>; N],
     is_biased: bool,
     time: Option<Duration>,
 ) -> Option<SelectedOperation<'a>> {
     let mut index = 0..;
-    let mut entries = arms.map(|case| Entry {
+    let mut entries = arms.map(|Arm(case, handle, _)| Entry {
         index: index.next().unwrap_or_default(),
         case,
+        handle,
     });
     // A moment beyond the clock's range never comes.
     let until = time.and_then(|time| Instant::now().checked_add(time));
-    let (entry, begun) = Turn::new(&mut entries, is_biased, Aim::Begin, until).wait()?;
-    Some(SelectedOperation::new(entry, begun))
+    Turn::new(&mut entries, is_biased, Aim::Begin, until).select()
 }
 
 fmt_by_text! { impl Debug for Select<'_>: _ => "Select { .. }" }
@@ -913,23 +873,21 @@ impl Default for Select<'_> {
 /// An operation that a [`Select`] has begun: a take that has its item, or a send that has its room.
 ///
 /// Complete it by [`recv`](SelectedOperation::recv) or [`send`](SelectedOperation::send). If it is dropped instead, the
-/// item that was taken is dropped too, and the room is given back. If it is forgotten, both stay where they are as long
-/// as the channel is there. With capacity 0 a send has met a receiver, which waits until the send is completed, even if
+/// item that was taken is dropped too, and the room is given back. If it is forgotten, the item isn't dropped, and the room stays
+/// reserved. With capacity 0 a send has met a receiver, which waits until the send is completed, even if
 /// its timeout is over: so complete the send soon, and forget no operation. If the send is dropped, the receiver
 /// continues with its other operations.
 #[must_use = "complete it by `recv` or `send`"]
 pub struct SelectedOperation<'a> {
-    entry: Entry<&'a dyn Case>,
+    entry: Entry<'a>,
     /// Until it is completed.
     pub(super) begun: Option<Begun>,
+    taken: Option<Item>,
+    /// Its item may be one that stays on its thread.
+    stays: PhantomData<*const ()>,
 }
 
 impl<'a> SelectedOperation<'a> {
-    fn new(entry: Entry<&'a dyn Case>, begun: Begun) -> Self {
-        let begun = Some(begun);
-        SelectedOperation { entry, begun }
-    }
-
     /// The index of the operation, as it was given when the operation was added.
     ///
     /// ```
@@ -956,10 +914,8 @@ impl<'a> SelectedOperation<'a> {
 
     /// Its state, if it is the operation of this handle.
     fn begun_of<H>(&mut self, handle: &H) -> Begun {
-        assert!(
-            addr_eq(self.entry.case, handle),
-            "another handle was selected"
-        );
+        let is_this = ptr::from_ref(handle).addr() == self.entry.handle;
+        assert!(is_this, "another handle was selected");
         self.begun.take().unwrap_or(Begun::Closed)
     }
 
@@ -984,7 +940,11 @@ impl<'a> SelectedOperation<'a> {
     /// # Ok::<(), vahepito::OpenError>(())
     /// ```
     pub fn recv<T>(mut self, receiver: &Receiver<T>) -> Result<T, RecvError> {
-        receiver.completed(self.begun_of(receiver))
+        let item = match self.begun_of(receiver) {
+            Begun::Met(pair) => self.entry.case.item_of(pair),
+            _ => self.taken.take(),
+        };
+        Ok(receiver.unpack(item.ok_or(RecvError)?))
     }
 
     /// Completes a send. It doesn't wait, unless memory is wanting for a further queue. With capacity 0 its receiver
@@ -1011,7 +971,11 @@ impl<'a> SelectedOperation<'a> {
     /// # Ok::<(), vahepito::OpenError>(())
     /// ```
     pub fn send<T>(mut self, sender: &Sender<T>, item: T) -> Result<(), SendError<T>> {
-        sender.complete(self.begun_of(sender), item)
+        let (begun, mut item) = (self.begun_of(sender), sender.pack(item));
+        match sender.core().complete(begun, &mut item) {
+            Outcome::Done => Ok(()),
+            Outcome::Closed => Err(SendError(sender.unpack(item.take()))),
+        }
     }
 }
 

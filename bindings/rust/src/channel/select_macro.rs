@@ -121,9 +121,9 @@ macro_rules! __select {
         [recv ($of:expr) ($result:pat) $body:expr] $($arms:tt)*) => {
         match $of {
             ref receiver => {
-                let arm = $crate::TakeArm::new(receiver);
+                let arm: &$crate::Receiver<_> = receiver;
                 $crate::__select!(@name $biased ($index + 1)
-                    [$($named)* [($index) (&arm) ($result) (take arm) $body]] $default $($arms)*)
+                    [$($named)* [($index) (take arm) ($result) (recv arm) $body]] $default $($arms)*)
             }
         }
     };
@@ -133,7 +133,7 @@ macro_rules! __select {
             ref sender => {
                 let arm: &$crate::Sender<_> = sender;
                 $crate::__select!(@name $biased ($index + 1)
-                    [$($named)* [($index) (arm) ($result) (send arm $item) $body]] $default $($arms)*)
+                    [$($named)* [($index) (send arm) ($result) (send arm $item) $body]] $default $($arms)*)
             }
         }
     };
@@ -148,8 +148,8 @@ macro_rules! __select {
         $crate::__select!(@wait $biased (::core::option::Option::Some($time)) $named $body)
     };
     (@wait $biased:literal $time:tt
-        [$([$index:tt ($case:expr) $result:tt $call:tt $made:expr])*] $body:expr) => {
-        match $crate::select_arms([$($case),*], $biased, $time) {
+        [$([$index:tt ($kind:ident $arm:ident) $result:tt $call:tt $made:expr])*] $body:expr) => {
+        match $crate::select_arms([$($crate::Arm::$kind($arm)),*], $biased, $time) {
             selected => $crate::__select!(@make selected ($body) $([$index $result $call $made])*),
         }
     };
@@ -167,10 +167,7 @@ macro_rules! __select {
             $crate::__select!(@make $selected $none $($others)*)
         }
     };
-    (@complete $selected:ident (take $arm:ident)) => {
-        $arm.complete($selected.unwrap())
-    };
-    (@complete $selected:ident (send $arm:ident $item:expr)) => {
-        $selected.unwrap().send($arm, $item)
+    (@complete $selected:ident ($call:ident $arm:ident $($item:expr)?)) => {
+        $selected.unwrap().$call($arm $(, $item)?)
     };
 }

@@ -1,13 +1,12 @@
 //! The senders of a channel.
-use super::body::Unsent;
-use super::core::{Core, SENDERS};
+use super::body::{Item, Of, Unsent};
+use super::core::{Core, Outcome, SENDERS};
 use super::future::SendFuture;
 use super::side::Shared;
 use super::{SendError, SendTimeoutError, TrySendError};
-use crate::event::Try;
 use std::borrow::Cow;
+use std::marker::PhantomData;
 use std::sync::Arc;
-use std::sync::atomic::Ordering;
 use std::time::{Duration, Instant};
 
 /// A sender of a channel, which [`channel`](crate::channel()) or [`groups`](crate::groups()) opens.
@@ -29,17 +28,45 @@ use std::time::{Duration, Instant};
 /// assert!(receiver.into_iter().eq([1, 2]));
 /// # Ok::<(), vahepito::OpenError>(())
 /// ```
-pub struct Sender<T>(pub(super) Arc<Shared<T>>);
-
-type Sent<T> = Result<(), SendTimeoutError<T>>;
+pub struct Sender<T>(pub(super) Arc<Shared>, pub(super) Of<T>);
 
 impl<T> Sender<T> {
-    pub(super) fn core(&self) -> &Arc<Core<T>> {
+    pub(super) fn core(&self) -> &Arc<Core> {
         &self.0.core
     }
 
-    pub(super) fn pack(&self, item: T) -> Unsent<T> {
-        Unsent::pack(item, self.core().copies)
+    /// An item for the channel.
+    #[allow(unsafe_code)]
+    #[inline]
+    pub(super) fn pack(&self, item: T) -> Unsent {
+        // SAFETY: the channel was opened for items of `T`, with a kind of that type; its handles come from each other.
+        Unsent::new(unsafe { Item::pack(item, self.core().kind) })
+    }
+
+    /// An item that this channel didn't send.
+    #[allow(unsafe_code)]
+    #[inline]
+    pub(super) fn unpack(&self, item: Item) -> T {
+        // SAFETY: as of `pack`.
+        unsafe { item.unpack() }
+    }
+
+    /// Sends an item by this call. It gives None if there is no room.
+    #[inline(always)]
+    fn send_by(
+        &self,
+        item: T,
+        send: impl FnOnce(&Shared, &mut Unsent) -> Option<Outcome>,
+    ) -> Result<(), SendTimeoutError<T>> {
+        let mut item = self.pack(item);
+        match send(&self.0, &mut item) {
+            Some(Outcome::Done) => {
+                item.end();
+                Ok(())
+            }
+            Some(Outcome::Closed) => Err(SendTimeoutError::Disconnected(self.unpack(item.take()))),
+            None => Err(SendTimeoutError::Timeout(self.unpack(item.take()))),
+        }
     }
 
     /// Sends, if there is room. It doesn't wait for room; but if another thread serves the calls of
@@ -60,55 +87,17 @@ impl<T> Sender<T> {
     /// # Ok::<(), vahepito::OpenError>(())
     /// ```
     pub fn try_send(&self, item: T) -> Result<(), TrySendError<T>> {
-        if let Some(rendezvous) = &self.core().rendezvous {
-            return rendezvous.try_send(item);
-        }
-        let mut item = self.pack(item);
-        match self.core().try_send(&mut item) {
-            Ok(true) => {
-                item.end();
-                Ok(())
-            }
-            Ok(false) => Err(TrySendError::Disconnected(item.into_inner())),
-            Err(_) => Err(TrySendError::Full(item.into_inner())),
-        }
-    }
-
-    /// Tries to send the item that is here, where it stays if it is tried again.
-    pub(super) fn try_send_from(&self, here: &mut Option<T>) -> Try<Result<(), SendError<T>>> {
-        let core = self.core();
-        core.look_after_full(core.hints.load(Ordering::Relaxed))?;
-        let mut item = self.pack(here.take().expect("the item isn't sent yet"));
-        match core.try_send(&mut item) {
-            Ok(true) => Ok(Ok(())),
-            Ok(false) => Ok(Err(SendError(item.into_inner()))),
-            Err(again) => {
-                *here = Some(item.into_inner());
-                Err(again)
-            }
-        }
+        let sent = self.send_by(item, |shared, item| shared.core.try_send(item).ok());
+        sent.map_err(|error| match error {
+            SendTimeoutError::Timeout(item) => TrySendError::Full(item),
+            SendTimeoutError::Disconnected(item) => TrySendError::Disconnected(item),
+        })
     }
 
     /// Sends, and waits for room until this moment.
     #[inline]
-    fn send_until(&self, item: T, until: Option<Instant>) -> Sent<T> {
-        if self.core().rendezvous.is_some() {
-            return self.meet_until(item, until);
-        }
-        let mut item = self.pack(item);
-        match self.core().try_send(&mut item) {
-            Ok(true) => Ok(()),
-            _ => self.wait_for_room(item, until),
-        }
-    }
-
-    #[inline(never)]
-    fn wait_for_room(&self, mut item: Unsent<T>, until: Option<Instant>) -> Sent<T> {
-        match self.0.wait(until, || self.core().try_send(&mut item)) {
-            Some(true) => Ok(()),
-            Some(false) => Err(SendTimeoutError::Disconnected(item.into_inner())),
-            None => Err(SendTimeoutError::Timeout(item.into_inner())),
-        }
+    fn send_until(&self, item: T, until: Option<Instant>) -> Result<(), SendTimeoutError<T>> {
+        self.send_by(item, |shared, item| shared.send_until(item, until))
     }
 
     /// Sends, and waits while there is no room. It parks after a few tries.
@@ -353,21 +342,21 @@ impl<T> Sender<T> {
     /// ```
     #[must_use]
     pub fn downgrade(&self) -> WeakSender<T> {
-        WeakSender(self.core().clone())
+        WeakSender(self.core().clone(), PhantomData)
     }
 }
 
 /// A further sender of the channel.
 impl<T> Clone for Sender<T> {
     fn clone(&self) -> Sender<T> {
-        Sender(self.0.clone())
+        Sender(self.0.clone(), PhantomData)
     }
 }
 
 fmt_by_text! { impl<T> Debug for Sender<T>: _ => "Sender { .. }" }
 
 /// A sender that doesn't keep the channel open: see [`Sender::downgrade`].
-pub struct WeakSender<T>(Arc<Core<T>>);
+pub struct WeakSender<T>(Arc<Core>, Of<T>);
 
 impl<T> WeakSender<T> {
     /// A sender, if the channel has one still.
@@ -382,13 +371,14 @@ impl<T> WeakSender<T> {
     /// ```
     #[must_use]
     pub fn upgrade(&self) -> Option<Sender<T>> {
-        self.0.upgrade_sender().map(Sender)
+        let shared = self.0.upgrade_sender()?;
+        Some(Sender(shared, PhantomData))
     }
 }
 
 impl<T> Clone for WeakSender<T> {
     fn clone(&self) -> WeakSender<T> {
-        WeakSender(self.0.clone())
+        WeakSender(self.0.clone(), PhantomData)
     }
 }
 

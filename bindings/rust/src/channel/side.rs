@@ -1,6 +1,6 @@
 //! The parts that the handles of both sides have in common: their count, the end of a side, and the wait.
-use super::body::ItemWords;
-use super::core::{Core, SENDERS, Side};
+use super::body::Unsent;
+use super::core::{Core, Outcome, SENDERS, Side};
 use super::timer::Timer;
 use crate::backoff::{FOR_OTHERS, let_ahead};
 use crate::event::{Event, Try, is_over, lock, wait, wait_without_end};
@@ -13,26 +13,26 @@ use std::time::Instant;
 const ROOM_AHEAD: usize = 16;
 
 /// The part that all handles of a side share. Its drop is the end of the last of them.
-pub struct Shared<T> {
-    pub core: Arc<Core<T>>,
+pub struct Shared {
+    pub core: Arc<Core>,
     /// The number of its side.
     pub side: usize,
 }
 
-impl<T> Drop for Shared<T> {
+impl Drop for Shared {
     fn drop(&mut self) {
         self.core.last_handle_dropped(self.side);
     }
 }
 
 /// The part that the receivers of a group share, or those of a timer.
-pub enum Source<T> {
-    Channel(Shared<T>),
-    Timer(Timer<T>),
+pub enum Source {
+    Channel(Shared),
+    Timer(Timer),
 }
 
 // Each call leaves the channel as it is to be, also one that unwinds.
-impl<T> RefUnwindSafe for Core<T> {}
+impl RefUnwindSafe for Core {}
 
 /// Notes the part that the handles of a side share, for the first of them.
 fn note<S>(handles: &OnceLock<Weak<S>>, shared: &Arc<S>) {
@@ -40,9 +40,9 @@ fn note<S>(handles: &OnceLock<Weak<S>>, shared: &Arc<S>) {
     assert!(first.is_ok(), "the side has a first handle already");
 }
 
-impl<T> Shared<T> {
+impl Shared {
     /// For the first sender.
-    pub fn of_senders(core: Arc<Core<T>>) -> Arc<Shared<T>> {
+    pub fn of_senders(core: Arc<Core>) -> Arc<Shared> {
         let side = SENDERS;
         let shared = Arc::new(Shared { core, side });
         note(&shared.core.sender, &shared);
@@ -50,7 +50,7 @@ impl<T> Shared<T> {
     }
 
     /// For the first receiver of this group.
-    pub fn of_group(core: &Arc<Core<T>>, side: usize) -> Arc<Source<T>> {
+    pub fn of_group(core: &Arc<Core>, side: usize) -> Arc<Source> {
         let shared = Shared {
             core: core.clone(),
             side,
@@ -60,10 +60,22 @@ impl<T> Shared<T> {
         source
     }
 
-    /// Tries to take an item, if it is a group. Gives None at the end of the channel.
+    /// Tries to send until it is done, or until this moment: then None.
     #[inline]
-    pub fn try_take(&self) -> Try<Option<ItemWords<T>>> {
-        self.core.try_recv(self.side)
+    pub fn send_until(&self, item: &mut Unsent, until: Option<Instant>) -> Option<Outcome> {
+        match self.core.try_send(item) {
+            Ok(Outcome::Done) => Some(Outcome::Done),
+            _ => self.send_later(item, until),
+        }
+    }
+
+    #[cold]
+    #[inline(never)]
+    fn send_later(&self, item: &mut Unsent, until: Option<Instant>) -> Option<Outcome> {
+        if self.core.rendezvous.is_some() {
+            return self.core.meet_to_send(item, until);
+        }
+        self.wait(until, || self.core.try_send(item))
     }
 
     /// The line in which the side's calls wait.
@@ -104,7 +116,7 @@ impl<T> Shared<T> {
     }
 }
 
-impl<T> Core<T> {
+impl Core {
     /// The part that this side's handles share, if one is left.
     fn upgrade<S>(&self, handles: &OnceLock<Weak<S>>, side: usize) -> Option<Arc<S>> {
         let shared = handles.get().and_then(Weak::upgrade);
@@ -120,12 +132,12 @@ impl<T> Core<T> {
     }
 
     /// The part that the senders share, if one is left.
-    pub fn upgrade_sender(&self) -> Option<Arc<Shared<T>>> {
+    pub fn upgrade_sender(&self) -> Option<Arc<Shared>> {
         self.upgrade(&self.sender, SENDERS)
     }
 
     /// The part that the receivers of this group share, if one is left.
-    pub fn upgrade_receiver(&self, group: usize) -> Option<Arc<Source<T>>> {
+    pub fn upgrade_receiver(&self, group: usize) -> Option<Arc<Source>> {
         self.upgrade(self.receivers.of(group), group)
     }
 

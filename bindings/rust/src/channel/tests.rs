@@ -1,4 +1,5 @@
 //! A channel has no end: its queues accept a few items, and its senders begin a few sends.
+use super::core::Outcome;
 use super::rounds::rounds;
 use super::*;
 use std::collections::BTreeMap;
@@ -20,7 +21,7 @@ fn short_config(capacity: u32, life: u64, per_sender: u32) -> Config {
 /// sends.
 fn short<T: Send>(capacity: u32, life: u64, per_sender: u32) -> (Sender<T>, Receiver<T>) {
     let config = short_config(capacity, life, per_sender);
-    let (sender, mut receivers) = open(config, 1, None).unwrap();
+    let (sender, mut receivers) = open(config, 1, Kind::alone::<T>()).unwrap();
     (sender, receivers.remove(0))
 }
 
@@ -174,7 +175,7 @@ fn threads_meet_no_end() {
 #[test]
 fn groups_meet_no_end() {
     let config = short_config(2, 3, 2);
-    let (sender, receivers) = open::<String>(config, 2, Some(String::clone)).unwrap();
+    let (sender, receivers) = open::<String>(config, 2, Kind::of_groups::<String>()).unwrap();
     let taken: Vec<Vec<String>> = thread::scope(|scope| {
         let taking = receivers
             .into_iter()
@@ -242,13 +243,13 @@ fn a_reserved_place_counts_once() {
     thread::scope(|scope| {
         scope.spawn(|| {
             while !is_over.load(SeqCst) {
-                assert_eq!(core.reserve(), Ok(true));
+                assert_eq!(core.reserve(), Ok(Outcome::Done));
                 core.give_back_room();
             }
         });
         for number in 0..rounds(10_000) {
-            assert_eq!(core.reserve(), Ok(true));
-            assert!(core.send_to_room(&mut sender.pack(number)));
+            assert_eq!(core.reserve(), Ok(Outcome::Done));
+            assert_eq!(core.send_to_room(&mut sender.pack(number)), Outcome::Done);
             (0..200).for_each(|_| std::hint::spin_loop());
             assert_eq!(receiver.try_recv(), Ok(number));
         }

@@ -1,50 +1,45 @@
 //! Timers, and a receiver that has no item. None has a queue or a thread: a call that waits parks until the moment.
 use super::Receiver;
+use super::body::Item;
+use super::core::NoItem;
 use super::side::Source;
 use crate::event::{Again, Event, Panics, Try, lock};
+use std::marker::PhantomData;
 use std::sync::atomic::{AtomicBool, Ordering};
 use std::sync::{Arc, Mutex};
 use std::time::{Duration, Instant};
 
-/// When there is an item, and what it is.
-pub struct Timer<T> {
+/// When there is an item, which is the moment.
+pub struct Timer {
     /// None if there is none any more.
     due: Mutex<Option<Instant>>,
     every: Option<Duration>,
-    item: Option<fn(Instant) -> T>,
+    /// One of a channel of `Instant`s, or it has none at all.
+    has_items: bool,
     closed: AtomicBool,
     /// The line of those that wait for the moment, or for a close.
     pub line: Event,
 }
 
-impl<T> Timer<T> {
-    /// Takes the moment if it has come. The next one comes a period after it, or, if a whole period
-    /// has passed, after now. Gives None if the timer is closed, and no moment is left.
-    pub fn try_take(&self) -> Try<Option<Instant>> {
+impl Timer {
+    /// Takes the item of a moment that has come. The next one comes a period after it, or, if a whole period
+    /// has passed, after now.
+    pub fn try_take(&self) -> Result<Item, NoItem> {
         let mut due = lock(&self.due);
         let Some(at) = *due else {
-            return Again::unless(self.is_closed()).map(|()| None);
+            Again::unless(self.is_closed())?;
+            return Err(NoItem::Ended);
         };
         let now = Instant::now();
         if now < at {
-            return Err(Again::At(at));
+            return Err(Again::At(at).into());
         }
         let next = |every: Duration| {
             let from = if now - at < every { at } else { now };
             from.checked_add(every)
         };
         *due = self.every.filter(|_| !self.is_closed()).and_then(next);
-        Ok(Some(at))
-    }
-
-    /// Takes the item of the moment if that has come, as `try_take` does.
-    pub fn try_recv(&self) -> Try<Option<T>> {
-        Ok(self.try_take()?.map(|moment| self.item_of(moment)))
-    }
-
-    /// The item of a moment that was taken.
-    pub fn item_of(&self, moment: Instant) -> T {
-        self.item.expect("a timer without items has no moment")(moment)
+        Ok(Item::alone(at))
     }
 
     /// Whether there is an item, or none will come.
@@ -57,7 +52,7 @@ impl<T> Timer<T> {
     }
 
     pub fn capacity(&self) -> usize {
-        self.item.is_some().into()
+        self.has_items.into()
     }
 
     pub fn len(&self) -> usize {
@@ -82,18 +77,15 @@ impl<T> Timer<T> {
     }
 }
 
-fn timer<T>(
-    due: Option<Instant>,
-    every: Option<Duration>,
-    item: Option<fn(Instant) -> T>,
-) -> Receiver<T> {
-    Receiver(Arc::new(Source::Timer(Timer {
+fn timer<T>(due: Option<Instant>, every: Option<Duration>, has_items: bool) -> Receiver<T> {
+    let source = Source::Timer(Timer {
         due: Mutex::new(due),
         every,
-        item,
+        has_items,
         closed: AtomicBool::new(false),
         line: Event::default(),
-    })))
+    });
+    Receiver(Arc::new(source), PhantomData)
 }
 
 /// A receiver with one item, which is there at this moment, and is the moment. Then it is empty for ever.
@@ -111,7 +103,7 @@ fn timer<T>(
 /// ```
 #[must_use]
 pub fn at(moment: Instant) -> Receiver<Instant> {
-    timer(Some(moment), None, Some(|moment| moment))
+    timer(Some(moment), None, true)
 }
 
 /// As [`at`], with the moment that comes after this time.
@@ -133,7 +125,7 @@ pub fn at(moment: Instant) -> Receiver<Instant> {
 pub fn after(time: Duration) -> Receiver<Instant> {
     // A moment beyond the clock's range never comes.
     let moment = Instant::now().checked_add(time);
-    timer(moment, None, Some(|moment| moment))
+    timer(moment, None, true)
 }
 
 /// A receiver with an item, its moment, once in each such period, the first one a period from now. Those that
@@ -152,7 +144,7 @@ pub fn after(time: Duration) -> Receiver<Instant> {
 #[must_use]
 pub fn tick(period: Duration) -> Receiver<Instant> {
     let first = Instant::now().checked_add(period);
-    timer(first, Some(period), Some(|moment| moment))
+    timer(first, Some(period), true)
 }
 
 /// A receiver that has no item, ever, and doesn't end: for an arm of a select that isn't wanted this time.
@@ -174,5 +166,5 @@ pub fn tick(period: Duration) -> Receiver<Instant> {
 /// ```
 #[must_use]
 pub fn never<T>() -> Receiver<T> {
-    timer(None, None, None)
+    timer(None, None, false)
 }

@@ -78,9 +78,6 @@ unsafe extern "C" {
     ) -> u32;
 }
 
-/// A take that writes an item: one of the last four.
-type Take = extern "C" fn(&mut RawHandle, &mut Taken, &mut u64, &mut u32) -> u32;
-
 /// A take writes it, or nothing is read of it.
 const NO_ITEM: Taken = [Word::uninit(); 7];
 
@@ -89,10 +86,12 @@ const NO_ITEM: Taken = [Word::uninit(); 7];
 #[inline]
 fn words_of(item: &Taken, count: usize) -> Words {
     let mut words = [Word::uninit(); 4];
-    let first = if count == 1 { 2 } else { 3 };
-    for (word, field) in words.iter_mut().zip(&item[first..]).take(count) {
-        // SAFETY: it is read from a reference.
-        *word = unsafe { read_volatile(field) };
+    // SAFETY: it is read from a reference.
+    let read = |field| unsafe { read_volatile(field) };
+    if count == 1 {
+        words[0] = read(&item[2]);
+    } else {
+        words = [3, 4, 5, 6].map(|at| read(&item[at]));
     }
     words
 }
@@ -134,15 +133,16 @@ impl Handle {
     /// the code of the take.
     #[inline]
     pub fn take(&mut self, count: usize, line: Served) -> Result<Words, u32> {
-        let (take, turn): (Take, Take) = match count {
-            1 => (vahepito_try_take, vahepito_turn_take),
-            _ => (vahepito_try_take_words, vahepito_turn_take_words),
-        };
         let mut item = NO_ITEM;
-        let mut code = take(&mut self.0, &mut item, &mut 0, &mut 0);
+        let mut code = match count {
+            1 => vahepito_try_take(&mut self.0, &mut item, &mut 0, &mut 0),
+            _ => vahepito_try_take_words(&mut self.0, &mut item, &mut 0, &mut 0),
+        };
         if code == code::WAITING {
-            let turn = || turn(&mut self.0, &mut item, &mut 0, &mut 0);
-            code = wait_until_served(line, turn);
+            code = wait_until_served(line, || match count {
+                1 => vahepito_turn_take(&mut self.0, &mut item, &mut 0, &mut 0),
+                _ => vahepito_turn_take_words(&mut self.0, &mut item, &mut 0, &mut 0),
+            });
         }
         match code {
             code::GOT => Ok(words_of(&item, count)),

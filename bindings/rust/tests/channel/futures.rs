@@ -267,10 +267,10 @@ fn a_future_that_is_done_panics_if_it_is_polled() {
     }
 }
 
-/// A future of a take has the handle, or a reference, and its place in line; one of a send has the item, too.
+/// A future of a take has the handle, or a reference, and its place in line; one of a send has the item, or its box, too.
 #[test]
 fn futures_are_small() {
     assert!(size_of::<RecvFuture<'static, [u64; 9]>>() <= 32);
-    assert!(size_of::<SendFuture<'static, u64>>() <= 40);
-    assert!(size_of::<SendFuture<'static, [u64; 9]>>() <= 32 + 72);
+    assert!(size_of::<SendFuture<'static, u64>>() <= 72);
+    assert!(size_of::<SendFuture<'static, [u64; 9]>>() <= 72);
 }

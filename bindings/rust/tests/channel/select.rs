@@ -229,12 +229,12 @@ fn a_selected_take_has_its_item() {
     drop(operation);
     assert_eq!(Arc::strong_count(&counted), 1);
     sender.send(counted.clone()).unwrap();
-    std::mem::forget(select.select());
-    sender.send(counted.clone()).unwrap();
-    assert_eq!(Arc::strong_count(&counted), 3);
     select! { recv(receiver) -> _ => {} }
-    assert_eq!(Arc::strong_count(&counted), 2);
-    drop((sender, receiver));
+    assert_eq!(Arc::strong_count(&counted), 1);
+    sender.send(counted.clone()).unwrap();
+    let last = select.select();
+    drop(sender);
+    drop(last);
     assert_eq!(Arc::strong_count(&counted), 1);
 }
 

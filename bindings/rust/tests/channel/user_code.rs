@@ -273,7 +273,7 @@ fn selects<const N: usize>() {
     poll(&mut waits);
     run(|| take.try_select());
     run(|| take.try_select().map(|it| it.recv(&receiver)));
-    run(|| take.try_select().map(forget));
+    run(|| take.try_select());
     poll(&mut waits);
     let mut send = Select::new();
     send.send(&sender);
@@ -285,8 +285,8 @@ fn selects<const N: usize>() {
         run(|| sender.close());
         run(|| room.send(&sender, item()));
     }
-    run(|| take.try_select().map(forget));
-    run(|| take.try_select().map(forget));
+    run(|| take.try_select());
+    run(|| take.try_select());
     drop((send, take));
     drop_all([waits]);
     drop_all([waits_too]);
