@@ -41,10 +41,9 @@
 //! if one of them is left out; `tests/channel/looks.rs` does the same for a look at the counts of seats, and `tests/channel/served.rs` for calls that
 //! another one serves.
 use crate::backoff::{Contention, PACE, Wait, for_others};
+use crate::numbered::Numbered;
 use std::any::Any;
 use std::cell::RefCell;
-use std::collections::BTreeMap;
-use std::iter;
 use std::mem::{forget, replace, swap};
 use std::num::NonZeroU64;
 use std::ops::Deref;
@@ -107,35 +106,16 @@ pub fn drop_each<I>(all: impl IntoIterator<Item = I>) {
     panics.raise();
 }
 
-/// Those that stand in line.
+/// The wakers of those that stand in line, by the numbers of their tickets.
 #[derive(Default)]
-struct Line {
-    /// The wakers by the numbers of their tickets, in order. None until somebody stands in line.
-    wakers: Option<BTreeMap<Ticket, Waker>>,
-    /// The number of the last ticket: each has one of its own.
-    last: u64,
-}
-
-impl Line {
-    fn pop(&mut self) -> Option<Waker> {
-        Some(self.wakers.as_mut()?.pop_first()?.1)
-    }
-
-    fn len(&self) -> usize {
-        self.wakers.as_ref().map_or(0, BTreeMap::len)
-    }
-
-    fn get_mut(&mut self, ticket: Ticket) -> Option<&mut Waker> {
-        self.wakers.as_mut()?.get_mut(&ticket)
-    }
-}
+struct Line(Numbered<Waker>);
 
 /// There are some if futures were forgotten.
 impl Drop for Line {
     #[inline]
     fn drop(&mut self) {
-        if let Some(wakers) = self.wakers.take() {
-            drop_each(wakers.into_values());
+        if self.0.len() > 0 {
+            drop_each(self.0.take_all());
         }
     }
 }
@@ -155,7 +135,7 @@ impl<T> Deref for Apart<T> {
 }
 
 /// The number of a waiter in the line of an event, until a notification takes it out.
-#[derive(Clone, Copy, PartialEq, Eq, PartialOrd, Ord)]
+#[derive(Clone, Copy)]
 pub struct Ticket(NonZeroU64);
 
 /// The line in which a call waits until another one has served it, or handed over to it; and whether the calls of its
@@ -177,9 +157,9 @@ pub struct Event {
 impl Event {
     /// Changes the line, and then writes its length. A waker that it returns is used, or dropped, once the
     /// lock is released.
-    fn with_line<R>(&self, change: impl FnOnce(&mut Line) -> R) -> R {
-        let mut line = lock(&self.line);
-        let changed = change(&mut line);
+    fn with_line<R>(&self, change: impl FnOnce(&mut Numbered<Waker>) -> R) -> R {
+        let line = &mut lock(&self.line).0;
+        let changed = change(line);
         // It is written under the lock alone.
         let waiting = 2 * line.len() + 1;
         if self.waiting.load(Ordering::Relaxed) != waiting {
@@ -190,25 +170,22 @@ impl Event {
 
     /// Stands in line. The waiter has to try after this, before it waits.
     pub fn stand(&self, waker: Waker) -> Ticket {
-        self.with_line(|line| {
-            let ticket = Ticket(NonZeroU64::MIN.saturating_add(line.last));
-            line.last = ticket.0.get();
-            line.wakers.get_or_insert_default().insert(ticket, waker);
-            ticket
-        })
+        let number = self.with_line(|line| line.push(waker));
+        Ticket(NonZeroU64::new(number).expect("the first number is 1"))
     }
 
     /// Stays in line with this waker, after a try that found nothing. Returns whether it was still
     /// there.
     pub fn stay(&self, ticket: Ticket, waker: &Waker, panics: &mut Panics) -> bool {
-        let is_same = |line: &mut Line| Some(line.get_mut(ticket)?.will_wake(waker));
+        let number = ticket.0.get();
+        let is_same = |line: &mut Line| Some(line.0.get_mut(number)?.will_wake(waker));
         match is_same(&mut lock(&self.line)) {
             Some(false) => {}
             there => return there.is_some(),
         }
         let mut waker = waker.clone();
         let is_there = self.with_line(|line| {
-            let noted = line.get_mut(ticket);
+            let noted = line.get_mut(number);
             noted.map(|noted| swap(noted, &mut waker)).is_some()
         });
         // The one that isn't in line.
@@ -218,7 +195,7 @@ impl Event {
 
     /// Leaves the line. Returns whether a notification took this one out.
     pub fn leave(&self, ticket: Ticket, panics: &mut Panics) -> bool {
-        let waker = self.with_line(|line| line.wakers.as_mut()?.remove(&ticket));
+        let waker = self.with_line(|line| line.remove(ticket.0.get()));
         let notified = waker.is_none();
         panics.run_each(waker, drop);
         notified
@@ -235,7 +212,7 @@ impl Event {
     #[cold]
     pub fn forget_use(&self) {
         let line = lock(&self.line);
-        if line.len() == 0 {
+        if line.0.len() == 0 {
             self.waiting.store(0, Ordering::SeqCst);
         }
     }
@@ -261,7 +238,7 @@ impl Event {
 
     #[cold]
     fn wake_first(&self) {
-        while let Some(waker) = self.with_line(Line::pop) {
+        while let Some(waker) = self.with_line(Numbered::pop_first) {
             let mut panics = Panics::default();
             panics.run_each([waker], Waker::wake);
             if panics.0.is_none() {
@@ -280,7 +257,7 @@ impl Event {
 
     #[cold]
     fn wake_all(&self, panics: &mut Panics) {
-        let all: Vec<_> = self.with_line(|line| iter::from_fn(|| line.pop()).collect());
+        let all: Vec<_> = self.with_line(|line| line.take_all().collect());
         panics.run_each(all, Waker::wake);
     }
 }
@@ -430,6 +407,22 @@ pub fn wait<R>(
     until: Option<Instant>,
     mut attempt: impl FnMut() -> Try<R>,
 ) -> Option<R> {
+    let mut done = None;
+    wait_in_line(event, before, until, &mut || {
+        done = Some(attempt()?);
+        Ok(())
+    })?;
+    done
+}
+
+/// The same, compiled once for all attempts.
+#[inline(never)]
+fn wait_in_line(
+    event: &Event,
+    before: &Wait,
+    until: Option<Instant>,
+    attempt: &mut dyn FnMut() -> Try<()>,
+) -> Option<()> {
     if is_over(until) {
         return attempt().ok();
     }

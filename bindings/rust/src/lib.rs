@@ -4,6 +4,7 @@
 mod backoff;
 mod channel;
 mod event;
+mod numbered;
 mod queue;
 mod slice;
 

@@ -320,10 +320,11 @@ impl Core {
         if let Some(rendezvous) = &self.rendezvous {
             return rendezvous.try_send(item);
         }
+        self.look_after_full()?;
         let seat = self.acquire_seat(&self.senders);
-        match self.hints.load(Ordering::SeqCst) {
+        match self.hints.load(Ordering::SeqCst) / RESERVED {
             0 => self.send_at(item, seat),
-            hints => self.send_with_hints(item, seat, hints),
+            _ => self.send_beside_reserved(item, seat),
         }
     }
 

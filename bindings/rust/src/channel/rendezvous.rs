@@ -37,7 +37,8 @@ use super::body::{Item, Unsent};
 use super::core::{Core, NoItem, Outcome};
 use super::select::Begun;
 use crate::event::{Again, Panics, Try, ignore_panics, lock, poll_until};
-use std::collections::{BTreeMap, VecDeque};
+use crate::numbered::Numbered;
+use std::collections::VecDeque;
 use std::mem::{self, swap};
 use std::ptr;
 use std::sync::atomic::{AtomicBool, Ordering};
@@ -174,9 +175,14 @@ pub struct Operation<'a> {
 
 /// Meets one that is posted for one of these operations, or posts this waiter for all.
 pub fn meet_or_post(operations: &[Operation], waiter: &Arc<Waiter>) -> Option<(usize, Begun)> {
-    let mut all: Vec<_> = operations.iter().map(|it| &it.channel.lines).collect();
-    all.sort_by_key(|it| ptr::from_ref(*it));
-    all.dedup_by_key(|it| ptr::from_ref(*it));
+    let mut all: Vec<&Mutex<Lines>> = vec![];
+    for it in operations {
+        let lines = &it.channel.lines;
+        let at = all.partition_point(|it| ptr::from_ref(*it) < ptr::from_ref(lines));
+        if !all.get(at).is_some_and(|it| ptr::eq(*it, lines)) {
+            all.insert(at, lines);
+        }
+    }
     let mut locked: Vec<_> = all.iter().map(|it| lock(it)).collect();
     let index = |lines| all.partition_point(|it| ptr::from_ref(*it) < ptr::from_ref(lines));
     for &Operation { at, channel, role } in operations {
@@ -208,11 +214,10 @@ struct Offer {
     waker: Option<Waker>,
 }
 
+#[derive(Default)]
 struct Pairs {
-    /// The last number of a pair or an offer.
-    last: u64,
-    pairs: BTreeMap<u64, Pair>,
-    offers: BTreeMap<u64, Offer>,
+    pairs: Numbered<Pair>,
+    offers: Numbered<Offer>,
     /// Items of tasks that were dropped.
     returned: VecDeque<Item>,
     /// Takes meet offers and selected sends in turn.
@@ -220,21 +225,13 @@ struct Pairs {
 }
 
 impl Pairs {
-    fn next(&mut self) -> u64 {
-        self.last += 1;
-        self.last
-    }
-
     /// Makes a pair with this item and the waker of its take. The other waker is called.
     fn push(&mut self, taker: Option<Waker>, item: Option<Item>, woken: Option<Waker>) -> Met {
-        let number = self.next();
-        let pair = Pair {
+        let begun = Begun::Met(self.pairs.push(Pair {
             taker,
             item,
             is_left: false,
-        };
-        self.pairs.insert(number, pair);
-        let begun = Begun::Met(number);
+        }));
         Met { begun, woken }
     }
 
@@ -242,7 +239,7 @@ impl Pairs {
     fn meet(&mut self, lines: &mut Lines, role: Role, item: &mut Option<Item>) -> Option<Met> {
         let posted = &mut lines.posted[role.other() as usize];
         while let Some(Posted { waiter, at }) = posted.pop_front() {
-            let pair = self.last + 1;
+            let pair = self.pairs.next();
             if let Some(mut waits) = waiter.try_meet(Meeting { at, pair }) {
                 let (item, waker) = (item.take(), waits.waker.take());
                 // A take is woken once there is an item.
@@ -255,7 +252,7 @@ impl Pairs {
     }
 
     fn take_offer(&mut self) -> Option<Met> {
-        let (_, Offer { item, waker }) = self.offers.pop_first()?;
+        let Offer { item, waker } = self.offers.pop_first()?;
         Some(self.push(None, Some(item), waker))
     }
 }
@@ -263,9 +260,9 @@ impl Pairs {
 /// There are some if futures or selected operations were forgotten.
 impl Drop for Pairs {
     fn drop(&mut self) {
-        let (pairs, offers) = (mem::take(&mut self.pairs), mem::take(&mut self.offers));
-        let pairs = pairs.into_values().map(|it| (it.item, it.taker));
-        let offers = offers.into_values().map(|it| (Some(it.item), it.waker));
+        let pairs = self.pairs.take_all().map(|it| (it.item, it.taker));
+        let offers = self.offers.take_all();
+        let offers = offers.map(|it| (Some(it.item), it.waker));
         let (items, wakers): (Vec<_>, Vec<_>) = pairs.chain(offers).unzip();
         let mut panics = Panics::default();
         panics.run_each(items.into_iter().flatten(), drop);
@@ -284,13 +281,7 @@ impl Rendezvous {
     pub fn new() -> Rendezvous {
         Rendezvous {
             lines: Mutex::default(),
-            pairs: Mutex::new(Pairs {
-                last: 0,
-                pairs: BTreeMap::new(),
-                offers: BTreeMap::new(),
-                returned: VecDeque::new(),
-                is_turn_of_offers: false,
-            }),
+            pairs: Mutex::default(),
         }
     }
 
@@ -334,7 +325,7 @@ impl Rendezvous {
     /// is given up, wakes this waker.
     fn poll_pair(&self, number: u64, waker: &Waker, panics: &mut Panics) -> Poll<bool> {
         poll_under_lock(&self.pairs, waker, panics, |pairs| {
-            match pairs.pairs.get_mut(&number) {
+            match pairs.pairs.get_mut(number) {
                 None => Ok(false),
                 Some(Pair { item: Some(_), .. }) => Ok(true),
                 Some(pair) => Err(&mut pair.taker),
@@ -344,7 +335,7 @@ impl Rendezvous {
 
     /// The item of a pair that has it.
     pub fn take(&self, pair: u64) -> Option<Item> {
-        lock(&self.pairs).pairs.remove(&pair)?.item
+        lock(&self.pairs).pairs.remove(pair)?.item
     }
 
     /// Gives an item whose take was dropped to the next take, or keeps it for one. Hands it back if it isn't sent yet,
@@ -361,10 +352,10 @@ impl Rendezvous {
     /// Gives a pair its item. Hands it back if its take was dropped, and the channel is closed.
     pub fn send(&self, number: u64, item: Item) -> Result<(), Item> {
         let mut pairs = lock(&self.pairs);
-        let pair = pairs.pairs.get_mut(&number);
+        let pair = pairs.pairs.get_mut(number);
         let pair = pair.expect("a pair is there until its send is completed");
         if pair.is_left {
-            pairs.pairs.remove(&number);
+            pairs.pairs.remove(number);
             drop(pairs);
             return self.hand_on(item, false);
         }
@@ -377,7 +368,7 @@ impl Rendezvous {
 
     /// A selected operation gives its pair up. Gives the item that it has already.
     pub fn give_up(&self, pair: u64) -> Option<Item> {
-        let Pair { item, taker, .. } = lock(&self.pairs).pairs.remove(&pair)?;
+        let Pair { item, taker, .. } = lock(&self.pairs).pairs.remove(pair)?;
         ignore_panics(taker, Waker::wake);
         item
     }
@@ -390,8 +381,8 @@ impl Rendezvous {
             Err((item, lines)) if lines.is_closed => Err(item),
             Err((item, _lines)) => {
                 let mut pairs = lock(&self.pairs);
-                let (number, waker) = (pairs.next(), waker.take());
-                pairs.offers.insert(number, Offer { item, waker });
+                let waker = waker.take();
+                let number = pairs.offers.push(Offer { item, waker });
                 Ok(Some(number))
             }
         }
@@ -400,7 +391,7 @@ impl Rendezvous {
     /// Ready once this item isn't posted any more. If it is, it stays so for this waker.
     fn poll_offer(&self, number: u64, waker: &Waker, panics: &mut Panics) -> Poll<()> {
         poll_under_lock(&self.pairs, waker, panics, |pairs| {
-            let offer = pairs.offers.get_mut(&number);
+            let offer = pairs.offers.get_mut(number);
             offer.map_or(Ok(()), |it| Err(&mut it.waker))
         })
     }
@@ -417,7 +408,7 @@ impl Rendezvous {
         let (lines, mut pairs) = (lock(&self.lines), lock(&self.pairs));
         let posted = lines.posted.iter().flatten();
         let waiters = posted.filter_map(|it| it.waiter.take_waker());
-        let offers = pairs.offers.values_mut();
+        let offers = pairs.offers.iter_mut();
         let offers = offers.filter_map(|it| it.waker.take());
         let wakers: Vec<Waker> = waiters.chain(offers).collect();
         drop((pairs, lines));
@@ -451,11 +442,11 @@ impl Rendezvous {
     fn leave(&self, taker: TakerState, panics: &mut Panics) -> Option<Item> {
         let number = self.withdraw_taker(taker, panics)?;
         let mut pairs = lock(&self.pairs);
-        let pair = pairs.pairs.get_mut(&number)?;
+        let pair = pairs.pairs.get_mut(number)?;
         let (taker, item) = (pair.taker.take(), pair.item.take());
         pair.is_left = true;
         if item.is_some() {
-            pairs.pairs.remove(&number);
+            pairs.pairs.remove(number);
         }
         drop(pairs);
         panics.run_each(taker, drop);
@@ -476,7 +467,7 @@ impl Rendezvous {
             return Some(Met { begun, woken });
         }
         pairs.is_turn_of_offers ^= takes;
-        if takes && pairs.is_turn_of_offers && !pairs.offers.is_empty() {
+        if takes && pairs.is_turn_of_offers && pairs.offers.len() > 0 {
             return pairs.take_offer();
         }
         let met = pairs.meet(lines, role, &mut None);
@@ -635,7 +626,7 @@ impl Core {
             OfferState::Here(item) => item,
             OfferState::Posted(number) => {
                 let Offer { item, waker } =
-                    lock(&self.meeting_place().pairs).offers.remove(&number)?;
+                    lock(&self.meeting_place().pairs).offers.remove(number)?;
                 panics.run_each(waker, drop);
                 Some(item)
             }

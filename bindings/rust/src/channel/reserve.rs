@@ -88,6 +88,7 @@ impl Core {
 
     /// Whether there is room beside these reserved places, or none will come. If it says no, there was none at
     /// some moment of this call, if they were reserved all the time. It says yes if it doesn't see each seat of a group free.
+    #[inline(always)]
     fn has_room_beside(&self, reserved: usize, sees_each_free: impl Fn(&Pool) -> bool) -> Try<()> {
         // In this order, so that the number of items is never too large.
         let sent = self.senders.seats.count();
@@ -113,14 +114,21 @@ impl Core {
         !side.is_lost() && is_full() && sees_each_free(&side.seats) && is_full()
     }
 
-    /// Looks whether there is room, if these hints say that the last send found none. Beside a take under way whose thread doesn't run the
-    /// queue is asked.
+    /// Looks whether there is room, if the last send found none.
     #[inline]
-    pub fn look_after_full(&self, hints: usize) -> Try<()> {
-        if hints & WAS_FULL != 0 {
-            self.has_room_beside(0, Pool::pause_for_holders)?;
-            self.hints.fetch_and(!WAS_FULL, Ordering::Relaxed);
+    pub fn look_after_full(&self) -> Try<()> {
+        match self.hints.load(Ordering::Relaxed) & WAS_FULL {
+            0 => Ok(()),
+            _ => self.look_again(),
         }
+    }
+
+    /// Beside a take under way whose thread doesn't run the queue is asked.
+    #[cold]
+    #[inline(never)]
+    fn look_again(&self) -> Try<()> {
+        self.has_room_beside(0, Pool::pause_for_holders)?;
+        self.hints.fetch_and(!WAS_FULL, Ordering::Relaxed);
         Ok(())
     }
 
@@ -132,7 +140,7 @@ impl Core {
         if let Some(row) = &self.row {
             return self.reserve_in_row(row);
         }
-        self.look_after_full(self.hints.load(Ordering::Relaxed))?;
+        self.look_after_full()?;
         let _in_queue = lock(&self.in_queue);
         self.hints.fetch_add(RESERVED, Ordering::SeqCst);
         self.senders.seats.wait_for_holders();
@@ -184,29 +192,19 @@ impl Core {
         self.end_send(item, code, seat, Core::try_send_to_room)
     }
 
-    /// Tries to send by this seat, with these hints: looks first whether there is room.
+    /// Tries to send while room is reserved for others. It does so under the lock of the groups: so nobody else sends, and no more
+    /// room is reserved meanwhile. In a row it does so at this seat.
     #[cold]
     #[inline(never)]
-    pub fn send_with_hints<'a>(
+    pub fn send_beside_reserved<'a>(
         &'a self,
         item: &mut Unsent,
         seat: SeatGuard<'a>,
-        hints: usize,
     ) -> Try<Outcome> {
         if let Some(row) = &self.row {
             return self.send_within_limit(row, item, seat);
         }
-        self.look_after_full(hints)?;
-        if hints < RESERVED {
-            return self.send_at(item, seat);
-        }
         drop(seat);
-        self.send_beside_reserved(item)
-    }
-
-    /// Tries to send while room is reserved for others, under the lock of the groups: so nobody else does, and no more room is
-    /// reserved meanwhile.
-    fn send_beside_reserved(&self, item: &mut Unsent) -> Try<Outcome> {
         let in_queue = lock(&self.in_queue);
         if self.reserved() == 0 {
             // By now sends don't wait for the lock.
