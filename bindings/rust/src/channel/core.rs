@@ -120,12 +120,32 @@ impl<V> PerGroup<V> {
     }
 }
 
-/// What became of a call that was tried.
+/// Why a send, or a reservation of room for one, isn't made.
 #[derive(Clone, Copy, Debug, PartialEq)]
-pub enum Outcome {
-    Done,
-    /// Not done: the channel is closed.
+pub enum NotSent {
     Closed,
+    /// There is no room: a take or a loss of receivers notifies.
+    Full,
+    /// There is no memory for a further queue: nobody notifies when there is.
+    NoMemory,
+}
+
+pub type Sent = Result<(), NotSent>;
+
+/// Of looks for room.
+impl From<Again> for NotSent {
+    fn from(_: Again) -> NotSent {
+        NotSent::Full
+    }
+}
+
+/// A send that is tried until it is made, or the channel is closed.
+pub fn or_closed(sent: Sent) -> Try<Sent> {
+    match sent {
+        Err(NotSent::Full) => Err(Again::WhenNotified),
+        Err(NotSent::NoMemory) => Err(Again::soon()),
+        sent => Ok(sent),
+    }
 }
 
 /// Why a take found no item.
@@ -313,10 +333,9 @@ impl Core {
         side.seats.acquire_another()
     }
 
-    /// Tries to send this item. If there is no room, a take or a loss of receivers notifies; if there is no memory
-    /// for a further queue, nobody notifies when there is.
+    /// Tries to send this item.
     #[inline]
-    pub fn try_send(&self, item: &mut Unsent) -> Try<Outcome> {
+    pub fn try_send(&self, item: &mut Unsent) -> Sent {
         if let Some(rendezvous) = &self.rendezvous {
             return rendezvous.try_send(item);
         }
@@ -330,7 +349,7 @@ impl Core {
 
     /// Tries to send at this seat.
     #[inline]
-    pub fn send_at(&self, item: &mut Unsent, mut seat: SeatGuard) -> Try<Outcome> {
+    pub fn send_at(&self, item: &mut Unsent, mut seat: SeatGuard) -> Sent {
         let code = self.send_by(&mut seat, item);
         self.end_send(item, code, seat, Core::try_send)
     }
@@ -342,14 +361,14 @@ impl Core {
         item: &mut Unsent,
         code: u32,
         seat: SeatGuard,
-        again: fn(&Core, &mut Unsent) -> Try<Outcome>,
-    ) -> Try<Outcome> {
+        again: fn(&Core, &mut Unsent) -> Sent,
+    ) -> Sent {
         match code {
             code::ACCEPTED => drop(seat),
             code => return self.send_refused(item, code, seat, again),
         }
         self.notify_item();
-        Ok(Outcome::Done)
+        Ok(())
     }
 
     #[cold]
@@ -359,14 +378,14 @@ impl Core {
         item: &mut Unsent,
         code: u32,
         seat: SeatGuard,
-        again: fn(&Core, &mut Unsent) -> Try<Outcome>,
-    ) -> Try<Outcome> {
+        again: fn(&Core, &mut Unsent) -> Sent,
+    ) -> Sent {
         match &self.row {
             Some(row) => self.send_further(row, item, code, seat),
-            None => match self.replace_refusing(code, seat)? {
-                Outcome::Done => again(self, item),
-                Outcome::Closed => Ok(Outcome::Closed),
-            },
+            None => {
+                self.replace_refusing(code, seat)?;
+                again(self, item)
+            }
         }
     }
 
@@ -390,7 +409,7 @@ impl Core {
     }
 
     /// After the queue of this seat refused an item with this code: there is another queue now, if the channel isn't closed.
-    pub fn replace_refusing(&self, code: u32, mut seat: SeatGuard) -> Try<Outcome> {
+    pub fn replace_refusing(&self, code: u32, mut seat: SeatGuard) -> Sent {
         let &mut QueueHandle { queue, shares, .. } = seat.pass().0;
         drop(seat);
         // Whether a lost group is in the queue, and holds up the others.
@@ -399,25 +418,25 @@ impl Core {
             code::CLOSED => self.set_closed(),
             code::FULL if !is_stale => {
                 self.hints.fetch_or(WAS_FULL, Ordering::Relaxed);
-                return Err(Again::WhenNotified);
+                return Err(NotSent::Full);
             }
             code::FULL | code::SPENT | code::WORN => {}
             code => unexpected(code),
         }
         let mut in_queue = lock(&self.in_queue);
         if self.is_closed() {
-            return Ok(Outcome::Closed);
+            return Err(NotSent::Closed);
         }
         let mut left_by_lost = vec![];
         if self.senders.seats.acquire().pass().0.queue == queue {
             let left = self.replace_queue(&mut in_queue, None);
-            left_by_lost = left.ok_or_else(Again::soon)?;
+            left_by_lost = left.ok_or(NotSent::NoMemory)?;
         }
         drop(in_queue);
         // The item isn't sent yet, but this call may go on for others: it doesn't panic.
         ignore_panics(left_by_lost, drop);
         self.senders.line.notify_all(&mut Panics::default());
-        Ok(Outcome::Done)
+        Ok(())
     }
 
     /// Takes an item of the queue for a group; of a row, of the seat's queue. Gives the code if there is none, or no queue.

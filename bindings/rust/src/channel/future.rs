@@ -7,7 +7,7 @@
 //! **Panics of wakers** that are dropped end in the poll that is done, whose result would be lost; another poll
 //! raises the first of them again at its end, and so does the drop of a future.
 use super::body::{Item, Unsent};
-use super::core::{Core, Outcome, or_end};
+use super::core::{Core, or_closed, or_end};
 use super::rendezvous::{OfferState, TakerState};
 use super::select::Case;
 use super::side::Source;
@@ -117,9 +117,9 @@ impl Sends {
         match self {
             Sends::Meets(offer) => core.poll_posted(offer, waker, panics),
             Sends::InLine(item, ticket) => {
-                let attempt = || core.try_send(item);
+                let attempt = || or_closed(core.try_send(item));
                 let sent = poll_in_line(ticket, Case::Send(core), waker, panics, attempt);
-                sent.map(|sent| (sent == Outcome::Closed).then(|| item.take()))
+                sent.map(|sent| sent.is_err().then(|| item.take()))
             }
         }
     }

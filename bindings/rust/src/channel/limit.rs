@@ -11,7 +11,7 @@
 //!
 //! The counts of given room alone don't say so: of two takes the later one may have counted its item, and the earlier one not yet.
 use super::body::Unsent;
-use super::core::{Core, Outcome, Side};
+use super::core::{Core, NotSent, Sent, Side};
 use super::pool::SeatGuard;
 use super::row::Row;
 use crate::event::{Again, Try, lock};
@@ -110,35 +110,35 @@ impl Core {
         row: &Row,
         item: &mut Unsent,
         mut seat: SeatGuard<'a>,
-    ) -> Try<Outcome> {
+    ) -> Sent {
         while !self.get_room(row) {
             drop(seat);
             self.row_seems_to_have_room(row)?;
             if self.is_closed() {
-                return Ok(Outcome::Closed);
+                return Err(NotSent::Closed);
             }
             seat = self.senders.seats.acquire();
         }
         let code = self.send_by(&mut seat, item);
         let sent = self.end_send(item, code, seat, Core::try_send);
-        if sent != Ok(Outcome::Done) {
+        if sent.is_err() {
             self.give_back_room();
         }
         sent
     }
 
     /// Reserves room for one send.
-    pub fn reserve_in_row(&self, row: &Row) -> Try<Outcome> {
+    pub fn reserve_in_row(&self, row: &Row) -> Sent {
         while !self.get_room(row) {
             self.row_seems_to_have_room(row)?;
             if self.is_closed() {
-                return Ok(Outcome::Closed);
+                return Err(NotSent::Closed);
             }
         }
         if self.is_closed() {
             self.give_back_room();
-            return Ok(Outcome::Closed);
+            return Err(NotSent::Closed);
         }
-        Ok(Outcome::Done)
+        Ok(())
     }
 }

@@ -34,7 +34,7 @@
 //!
 //! **Order of locks**: the lines, by their address; the pairs; a waiter. User code runs while none is held.
 use super::body::{Item, Unsent};
-use super::core::{Core, NoItem, Outcome};
+use super::core::{Core, NoItem, NotSent, Sent};
 use super::select::Begun;
 use crate::event::{Again, Panics, Try, ignore_panics, lock, poll_until};
 use crate::numbered::Numbered;
@@ -312,13 +312,15 @@ impl Rendezvous {
     }
 
     /// Gives the item to one that is posted.
-    pub fn try_send(&self, unsent: &mut Unsent) -> Try<Outcome> {
+    pub fn try_send(&self, unsent: &mut Unsent) -> Sent {
         let Err((item, lines)) = self.give(unsent.take()) else {
-            return Ok(Outcome::Done);
+            return Ok(());
         };
         unsent.put_back(item);
-        let closed = lines.is_closed.then_some(Outcome::Closed);
-        closed.ok_or(Again::WhenNotified)
+        Err(match lines.is_closed {
+            true => NotSent::Closed,
+            false => NotSent::Full,
+        })
     }
 
     /// Whether this pair has its item; or whether it is given up, if it isn't there. Otherwise its item, or that it
@@ -633,21 +635,21 @@ impl Core {
         }
     }
 
-    /// Sends to one that takes, and waits for one until this moment: then None.
+    /// Sends to one that takes, and waits for one until this moment.
     #[cold]
-    pub fn meet_to_send(&self, unsent: &mut Unsent, until: Option<Instant>) -> Option<Outcome> {
+    pub fn meet_to_send(&self, unsent: &mut Unsent, until: Option<Instant>) -> Sent {
         let (mut offer, mut panics) = (OfferState::Here(Some(unsent.take())), Panics::default());
         let polled = poll_until(until, |waker| {
             self.poll_posted(&mut offer, waker, &mut panics)
         });
-        let (left, outcome) = match polled {
-            Some(left) => (left, Some(Outcome::Closed)),
-            None => (self.withdraw(offer, &mut panics), None),
+        let (left, why) = match polled {
+            Some(left) => (left, NotSent::Closed),
+            None => (self.withdraw(offer, &mut panics), NotSent::Full),
         };
         let Some(item) = left else {
-            return Some(Outcome::Done);
+            return Ok(());
         };
         unsent.put_back(item);
-        outcome
+        Err(why)
     }
 }

@@ -8,7 +8,7 @@
 //! A look before a take, or before a send after a Full, saves the price of a call in vain. It pauses for holders that run, and
 //! then leaves the answer to the queue, which waits for no thread of the other side.
 use super::body::Unsent;
-use super::core::{Core, Outcome, RESERVED, Side, WAS_FULL};
+use super::core::{Core, NotSent, RESERVED, Sent, Side, WAS_FULL};
 use super::pool::{Pool, SeatGuard};
 use crate::event::{Again, Try, lock};
 use crate::queue::handle::code;
@@ -136,7 +136,7 @@ impl Core {
     ///
     /// It counts the place first, and then waits until each of the senders' seats was free once. A send that had a seat before
     /// has counted its item then. One that acquires a seat later sees that a place is reserved, and waits for the lock.
-    pub fn reserve(&self) -> Try<Outcome> {
+    pub fn reserve(&self) -> Sent {
         if let Some(row) = &self.row {
             return self.reserve_in_row(row);
         }
@@ -144,19 +144,16 @@ impl Core {
         let _in_queue = lock(&self.in_queue);
         self.hints.fetch_add(RESERVED, Ordering::SeqCst);
         self.senders.seats.wait_for_holders();
-        let has_room = self
-            .has_room_beside_reserved(1)
-            .map(|()| match self.is_closed() {
-                true => Outcome::Closed,
-                false => Outcome::Done,
-            });
-        if has_room != Ok(Outcome::Done) {
-            self.hints.fetch_sub(RESERVED, Ordering::SeqCst);
+        let has_room = self.has_room_beside_reserved(1);
+        if has_room.is_ok() && !self.is_closed() {
+            return Ok(());
         }
+        self.hints.fetch_sub(RESERVED, Ordering::SeqCst);
         if has_room.is_err() {
             self.hints.fetch_or(WAS_FULL, Ordering::Relaxed);
         }
-        has_room
+        has_room?;
+        Err(NotSent::Closed)
     }
 
     /// Gives back room that was reserved.
@@ -169,21 +166,21 @@ impl Core {
     }
 
     /// Sends to room that was reserved.
-    pub fn send_to_room(&self, item: &mut Unsent) -> Outcome {
+    pub fn send_to_room(&self, item: &mut Unsent) -> Sent {
         loop {
             match self.try_send_to_room(item) {
-                Ok(Outcome::Done) => return Outcome::Done,
-                Ok(Outcome::Closed) => {
+                Err(NotSent::Closed) => {
                     self.give_back_room();
-                    return Outcome::Closed;
+                    return Err(NotSent::Closed);
                 }
                 // Memory is wanting for a further queue.
                 Err(_) => thread::sleep(Duration::from_millis(1)),
+                sent => return sent,
             }
         }
     }
 
-    fn try_send_to_room(&self, item: &mut Unsent) -> Try<Outcome> {
+    fn try_send_to_room(&self, item: &mut Unsent) -> Sent {
         let mut seat = self.senders.seats.acquire();
         let code = self.send_by(&mut seat, item);
         if code == code::ACCEPTED && self.row.is_none() {
@@ -196,11 +193,7 @@ impl Core {
     /// room is reserved meanwhile. In a row it does so at this seat.
     #[cold]
     #[inline(never)]
-    pub fn send_beside_reserved<'a>(
-        &'a self,
-        item: &mut Unsent,
-        seat: SeatGuard<'a>,
-    ) -> Try<Outcome> {
+    pub fn send_beside_reserved<'a>(&'a self, item: &mut Unsent, seat: SeatGuard<'a>) -> Sent {
         if let Some(row) = &self.row {
             return self.send_within_limit(row, item, seat);
         }

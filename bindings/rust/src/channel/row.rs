@@ -26,10 +26,10 @@
 //!
 //! **Without memory** for a further queue nothing changes, and the send is tried again later.
 use super::body::{Item, Unsent};
-use super::core::{Core, NoItem, Outcome, SENDERS};
+use super::core::{Core, NoItem, NotSent, SENDERS, Sent};
 use super::limit::Limit;
 use super::pool::{QueueHandle, SeatGuard};
-use crate::event::{Again, Try, ignore_panics, lock};
+use crate::event::{Again, ignore_panics, lock};
 use crate::queue::handle::{Handle, code, unexpected};
 use crate::queue::{self, Config, OpenError};
 use std::collections::VecDeque;
@@ -286,21 +286,21 @@ impl Core {
 
     /// After the queue of this seat refused an item: the seat goes on to the last queue, behind which it appends one if it
     /// was there already.
-    fn next_for_senders(&self, row: &Row, seat: &mut SeatGuard) -> Try<Outcome> {
+    fn next_for_senders(&self, row: &Row, seat: &mut SeatGuard) -> Sent {
         // The refused call may have served a close whose caller has the lock.
         seat.wake_served();
         let mut locked = row.lock();
         if seat.pass().0.queue == locked.queues.last_number() {
             if locked.queues.is_closed {
-                return Ok(Outcome::Closed);
+                return Err(NotSent::Closed);
             }
             let groups = self.groups_of_next(&locked.queues);
             let appended = locked.append(row, groups, seat);
-            appended.ok_or_else(Again::soon)?;
+            appended.ok_or(NotSent::NoMemory)?;
         }
         let last = locked.queues.last_number();
         locked.fetch(SENDERS, last, seat);
-        Ok(Outcome::Done)
+        Ok(())
     }
 
     /// After the queue of this seat has ended: the seat goes on to the queue that its group is at. Returns whether there is one.
@@ -320,15 +320,13 @@ impl Core {
         item: &mut Unsent,
         mut code: u32,
         mut seat: SeatGuard,
-    ) -> Try<Outcome> {
+    ) -> Sent {
         while code != code::ACCEPTED {
             match code {
                 code::FULL | code::SPENT | code::WORN | code::CLOSED => {}
                 code => unexpected(code),
             }
-            if self.next_for_senders(row, &mut seat)? == Outcome::Closed {
-                return Ok(Outcome::Closed);
-            }
+            self.next_for_senders(row, &mut seat)?;
             code = self.send_by(&mut seat, item);
         }
         drop(seat);
@@ -336,7 +334,7 @@ impl Core {
         row.open_spare();
         // The item is sent: a panic of others' drops ends here.
         ignore_panics(self.left_by_lost(row), drop);
-        Ok(Outcome::Done)
+        Ok(())
     }
 
     /// Tries to take an item for a group, of the queue that it is at or of those behind it.

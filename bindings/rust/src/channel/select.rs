@@ -23,7 +23,7 @@
 //! is a load of each, and counts again. A holder before that has counted; a holder after that sees the waiter in line. So a look that finds nothing
 //! is the look of [`event`](crate::event)'s argument: at some moment of it there was nothing.
 use super::body::{Item, Unsent};
-use super::core::{Core, NoItem, Outcome};
+use super::core::{Core, NoItem, NotSent, Sent, or_closed};
 use super::rendezvous::{Operation, Rendezvous, Role, Waiter, meet_or_post};
 use super::side::{Shared, Source};
 use super::{
@@ -117,10 +117,10 @@ impl<'a> Case<'a> {
                 Err(NoItem::Ended) => Ok(Begun::Closed),
                 Err(NoItem::Yet(again)) => Err(again),
             },
-            Case::Send(core) => Ok(match core.reserve()? {
-                Outcome::Done => Begun::Room,
-                Outcome::Closed => Begun::Closed,
-            }),
+            Case::Send(core) => {
+                let reserved = or_closed(core.reserve())?;
+                Ok(reserved.map_or(Begun::Closed, |()| Begun::Room))
+            }
         }
     }
 
@@ -156,20 +156,20 @@ impl<'a> Case<'a> {
 
 impl Core {
     /// Sends by a selected send.
-    fn complete(&self, begun: Begun, item: &mut Unsent) -> Outcome {
+    fn complete(&self, begun: Begun, item: &mut Unsent) -> Sent {
         match (begun, &self.rendezvous) {
             (Begun::Met(pair), Some(rendezvous)) => {
                 let sent = rendezvous.send(pair, item.take());
                 // If its take was dropped, the item may be kept for another one.
                 self.notify_item();
                 let Err(left) = sent else {
-                    return Outcome::Done;
+                    return Ok(());
                 };
                 item.put_back(left);
-                Outcome::Closed
+                Err(NotSent::Closed)
             }
             (Begun::Room, _) => self.send_to_room(item),
-            _ => Outcome::Closed,
+            _ => Err(NotSent::Closed),
         }
     }
 }
@@ -972,10 +972,8 @@ impl<'a> SelectedOperation<'a> {
     /// ```
     pub fn send<T>(mut self, sender: &Sender<T>, item: T) -> Result<(), SendError<T>> {
         let (begun, mut item) = (self.begun_of(sender), sender.pack(item));
-        match sender.core().complete(begun, &mut item) {
-            Outcome::Done => Ok(()),
-            Outcome::Closed => Err(SendError(sender.unpack(item.take()))),
-        }
+        let sent = sender.core().complete(begun, &mut item);
+        sent.map_err(|_| SendError(sender.unpack(item.take())))
     }
 }
 

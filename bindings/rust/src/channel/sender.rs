@@ -1,6 +1,6 @@
 //! The senders of a channel.
 use super::body::{Item, Of, Unsent};
-use super::core::{Core, Outcome, SENDERS};
+use super::core::{Core, NotSent, SENDERS, Sent};
 use super::future::SendFuture;
 use super::side::Shared;
 use super::{SendError, SendTimeoutError, TrySendError};
@@ -51,21 +51,21 @@ impl<T> Sender<T> {
         unsafe { item.unpack() }
     }
 
-    /// Sends an item by this call. It gives None if there is no room.
+    /// Sends an item by this call.
     #[inline(always)]
     fn send_by(
         &self,
         item: T,
-        send: impl FnOnce(&Shared, &mut Unsent) -> Option<Outcome>,
+        send: impl FnOnce(&Shared, &mut Unsent) -> Sent,
     ) -> Result<(), SendTimeoutError<T>> {
         let mut item = self.pack(item);
         match send(&self.0, &mut item) {
-            Some(Outcome::Done) => {
+            Ok(()) => {
                 item.end();
                 Ok(())
             }
-            Some(Outcome::Closed) => Err(SendTimeoutError::Disconnected(self.unpack(item.take()))),
-            None => Err(SendTimeoutError::Timeout(self.unpack(item.take()))),
+            Err(NotSent::Closed) => Err(SendTimeoutError::Disconnected(self.unpack(item.take()))),
+            Err(_) => Err(SendTimeoutError::Timeout(self.unpack(item.take()))),
         }
     }
 
@@ -87,7 +87,7 @@ impl<T> Sender<T> {
     /// # Ok::<(), vahepito::OpenError>(())
     /// ```
     pub fn try_send(&self, item: T) -> Result<(), TrySendError<T>> {
-        let sent = self.send_by(item, |shared, item| shared.core.try_send(item).ok());
+        let sent = self.send_by(item, |shared, item| shared.core.try_send(item));
         sent.map_err(|error| match error {
             SendTimeoutError::Timeout(item) => TrySendError::Full(item),
             SendTimeoutError::Disconnected(item) => TrySendError::Disconnected(item),

@@ -1,6 +1,6 @@
 //! The parts that the handles of both sides have in common: their count, the end of a side, and the wait.
 use super::body::Unsent;
-use super::core::{Core, Outcome, SENDERS, Side};
+use super::core::{Core, NotSent, SENDERS, Sent, Side, or_closed};
 use super::timer::Timer;
 use crate::backoff::{FOR_OTHERS, let_ahead};
 use crate::event::{Event, Try, is_over, lock, wait, wait_without_end};
@@ -60,22 +60,21 @@ impl Shared {
         source
     }
 
-    /// Tries to send until it is done, or until this moment: then None.
+    /// Tries to send until it is done, or until this moment.
     #[inline]
-    pub fn send_until(&self, item: &mut Unsent, until: Option<Instant>) -> Option<Outcome> {
-        match self.core.try_send(item) {
-            Ok(Outcome::Done) => Some(Outcome::Done),
-            _ => self.send_later(item, until),
-        }
+    pub fn send_until(&self, item: &mut Unsent, until: Option<Instant>) -> Sent {
+        let sent = self.core.try_send(item);
+        sent.or_else(|_| self.send_later(item, until))
     }
 
     #[cold]
     #[inline(never)]
-    fn send_later(&self, item: &mut Unsent, until: Option<Instant>) -> Option<Outcome> {
+    fn send_later(&self, item: &mut Unsent, until: Option<Instant>) -> Sent {
         if self.core.rendezvous.is_some() {
             return self.core.meet_to_send(item, until);
         }
-        self.wait(until, || self.core.try_send(item))
+        let sent = self.wait(until, || or_closed(self.core.try_send(item)));
+        sent.unwrap_or(Err(NotSent::Full))
     }
 
     /// The line in which the side's calls wait.

@@ -1,5 +1,4 @@
 //! A channel has no end: its queues accept a few items, and its senders begin a few sends.
-use super::core::Outcome;
 use super::rounds::rounds;
 use super::*;
 use std::collections::BTreeMap;
@@ -243,13 +242,13 @@ fn a_reserved_place_counts_once() {
     thread::scope(|scope| {
         scope.spawn(|| {
             while !is_over.load(SeqCst) {
-                assert_eq!(core.reserve(), Ok(Outcome::Done));
+                assert_eq!(core.reserve(), Ok(()));
                 core.give_back_room();
             }
         });
         for number in 0..rounds(10_000) {
-            assert_eq!(core.reserve(), Ok(Outcome::Done));
-            assert_eq!(core.send_to_room(&mut sender.pack(number)), Outcome::Done);
+            assert_eq!(core.reserve(), Ok(()));
+            assert_eq!(core.send_to_room(&mut sender.pack(number)), Ok(()));
             (0..200).for_each(|_| std::hint::spin_loop());
             assert_eq!(receiver.try_recv(), Ok(number));
         }
