@@ -35,7 +35,6 @@ use crate::event::{Again, Event, Panics, Parker, Ticket, Try, is_over};
 use std::cell::Cell;
 use std::hash::{BuildHasher, Hasher, RandomState};
 use std::marker::PhantomData;
-use std::ops::{Deref, DerefMut};
 use std::ptr;
 use std::sync::Arc;
 use std::time::{Duration, Instant};
@@ -211,6 +210,15 @@ impl Drop for Standing<'_> {
     }
 }
 
+/// An operation, and its index.
+#[derive(Clone, Copy)]
+struct Entry<'a> {
+    index: usize,
+    case: Case<'a>,
+    /// The address of its handle.
+    handle: usize,
+}
+
 /// An arm of the macros, whose select stays on its thread: so its items are of any type.
 #[doc(hidden)]
 #[derive(Clone, Copy)]
@@ -226,15 +234,15 @@ impl<'a> Arm<'a> {
         let handle = ptr::from_ref(sender).addr();
         Arm(Case::Send(sender.core()), handle, PhantomData)
     }
-}
 
-/// An operation, and its index.
-#[derive(Clone, Copy)]
-struct Entry<'a> {
-    index: usize,
-    case: Case<'a>,
-    /// The address of its handle.
-    handle: usize,
+    fn entry(self, index: usize) -> Entry<'a> {
+        let Arm(case, handle, _) = self;
+        Entry {
+            index,
+            case,
+            handle,
+        }
+    }
 }
 
 /// Whether a select begins the operation that is ready, or only looks.
@@ -317,7 +325,7 @@ fn random_below(limit: usize) -> usize {
 /// ```
 #[derive(Clone)]
 pub struct Select<'a> {
-    entries: Entries<'a>,
+    entries: Vec<Entry<'a>>,
     next: usize,
     is_biased: bool,
 }
@@ -325,20 +333,16 @@ pub struct Select<'a> {
 impl<'a> Select<'a> {
     fn of(is_biased: bool) -> Select<'a> {
         Select {
-            entries: Entries::None,
+            entries: vec![],
             next: 0,
             is_biased,
         }
     }
 
-    fn add(&mut self, Arm(case, handle, _): Arm<'a>) -> usize {
+    fn add(&mut self, arm: Arm<'a>) -> usize {
         let index = self.next;
         self.next += 1;
-        self.entries.push(Entry {
-            index,
-            case,
-            handle,
-        });
+        self.entries.push(arm.entry(index));
         index
     }
 
@@ -425,59 +429,6 @@ impl<'a> Select<'a> {
         let at = self.entries.iter().position(|it| it.index == index);
         let at = at.expect("the select has an operation with this index");
         self.entries.remove(at);
-    }
-}
-
-/// A list of operations: up to four of them need no memory.
-#[derive(Clone)]
-enum Entries<'a> {
-    None,
-    Few([Entry<'a>; 4], usize),
-    Many(Vec<Entry<'a>>),
-}
-
-impl<'a> Entries<'a> {
-    #[inline]
-    fn push(&mut self, entry: Entry<'a>) {
-        match self {
-            Entries::None => *self = Entries::Few([entry; 4], 1),
-            Entries::Few(few, count) if *count < few.len() => {
-                few[*count] = entry;
-                *count += 1;
-            }
-            Entries::Few(few, _) => *self = Entries::Many([&few[..], &[entry]].concat()),
-            Entries::Many(many) => many.push(entry),
-        }
-    }
-
-    fn remove(&mut self, at: usize) {
-        let mut all = self.to_vec();
-        all.remove(at);
-        *self = Entries::Many(all);
-    }
-}
-
-impl<'a> Deref for Entries<'a> {
-    type Target = [Entry<'a>];
-
-    #[inline]
-    fn deref(&self) -> &[Entry<'a>] {
-        match self {
-            Entries::None => &[],
-            Entries::Few(few, count) => &few[..*count],
-            Entries::Many(many) => many,
-        }
-    }
-}
-
-impl<'a> DerefMut for Entries<'a> {
-    #[inline]
-    fn deref_mut(&mut self) -> &mut [Entry<'a>] {
-        match self {
-            Entries::None => &mut [],
-            Entries::Few(few, count) => &mut few[..*count],
-            Entries::Many(many) => many,
-        }
     }
 }
 
@@ -852,11 +803,7 @@ pub fn select_arms<'a, const N: usize>(
     time: Option<Duration>,
 ) -> Option<SelectedOperation<'a>> {
     let mut index = 0..;
-    let mut entries = arms.map(|Arm(case, handle, _)| Entry {
-        index: index.next().unwrap_or_default(),
-        case,
-        handle,
-    });
+    let mut entries = arms.map(|arm| arm.entry(index.next().unwrap_or_default()));
     // A moment beyond the clock's range never comes.
     let until = time.and_then(|time| Instant::now().checked_add(time));
     Turn::new(&mut entries, is_biased, Aim::Begin, until).select()
