@@ -9,27 +9,35 @@
 #![allow(unsafe_code)]
 
 use crate::backoff::{Contention, FOR_A_LOOK, FOR_OWN_SIDE};
-use crate::event::{Apart, Event, Panics, Served, wait_without_end};
+use crate::event::{Apart, Event, Panics, Served, lock, wait_without_end};
 use crate::queue::handle::Handle;
 use std::cell::{Cell, UnsafeCell};
 use std::iter;
 use std::ptr::null_mut;
-use std::sync::OnceLock;
+use std::sync::Mutex;
 use std::sync::atomic::{AtomicBool, AtomicPtr, AtomicU16, AtomicU64, AtomicUsize, Ordering};
 use std::thread::available_parallelism;
+use std::time::{Duration, Instant};
 
 /// The passes of a side are no more than these.
 const MOST: usize = 64;
 /// A thread is ahead of the other side once it passed this many items since it was asked.
 const AHEAD_AFTER: u64 = 5;
 
-/// How many seats a side has: twice as many as processors, as a power of two.
+/// After this time the processors are asked for again.
+const ASKED_AGAIN: Duration = Duration::from_secs(1);
+
+/// How many seats a side of a channel has that is opened now: twice as many as processors, as a power of two. A process may be
+/// bound to a few processors for a while.
 pub fn seats() -> usize {
-    static SEATS: OnceLock<usize> = OnceLock::new();
-    *SEATS.get_or_init(|| {
+    static ASKED: Mutex<Option<(Instant, usize)>> = Mutex::new(None);
+    let mut asked = lock(&ASKED);
+    let known = asked.filter(|it| it.0.elapsed() < ASKED_AGAIN);
+    let (_, processors) = asked.insert(known.unwrap_or_else(|| {
         let processors = available_parallelism().map_or(1, usize::from);
-        (2 * processors).next_power_of_two().min(MOST)
-    })
+        (Instant::now(), processors)
+    }));
+    (2 * *processors).next_power_of_two().min(MOST)
 }
 
 /// A pass, and which of the channel's queues it is of.

@@ -119,8 +119,17 @@ impl Row {
             is_closed: false,
             left: vec![],
         };
+        // Each seat needs a pass of each queue.
+        let Config {
+            senders, receivers, ..
+        } = shape.first;
+        let further = Config {
+            senders,
+            receivers,
+            ..shape.further
+        };
         let row = Row {
-            further: shape.further,
+            further,
             words,
             limit: limit.map(Limit::new),
             queues: Mutex::new(queues),
