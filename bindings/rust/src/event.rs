@@ -106,16 +106,16 @@ pub fn drop_each<I>(all: impl IntoIterator<Item = I>) {
     panics.raise();
 }
 
-/// The wakers of those that stand in line, by the numbers of their tickets.
+/// The wakers of those that stand in line, by the numbers of their tickets. None until somebody stands in line.
 #[derive(Default)]
-struct Line(Numbered<Waker>);
+struct Line(Option<Numbered<Waker>>);
 
 /// There are some if futures were forgotten.
 impl Drop for Line {
     #[inline]
     fn drop(&mut self) {
-        if self.0.len() > 0 {
-            drop_each(self.0.take_all());
+        if let Some(mut wakers) = self.0.take() {
+            drop_each(wakers.take_all());
         }
     }
 }
@@ -158,7 +158,8 @@ impl Event {
     /// Changes the line, and then writes its length. A waker that it returns is used, or dropped, once the
     /// lock is released.
     fn with_line<R>(&self, change: impl FnOnce(&mut Numbered<Waker>) -> R) -> R {
-        let line = &mut lock(&self.line).0;
+        let mut line = lock(&self.line);
+        let line = line.0.get_or_insert_default();
         let changed = change(line);
         // It is written under the lock alone.
         let waiting = 2 * line.len() + 1;
@@ -178,7 +179,7 @@ impl Event {
     /// there.
     pub fn stay(&self, ticket: Ticket, waker: &Waker, panics: &mut Panics) -> bool {
         let number = ticket.0.get();
-        let is_same = |line: &mut Line| Some(line.0.get_mut(number)?.will_wake(waker));
+        let is_same = |line: &mut Line| Some(line.0.as_mut()?.get_mut(number)?.will_wake(waker));
         match is_same(&mut lock(&self.line)) {
             Some(false) => {}
             there => return there.is_some(),
@@ -212,7 +213,7 @@ impl Event {
     #[cold]
     pub fn forget_use(&self) {
         let line = lock(&self.line);
-        if line.0.len() == 0 {
+        if line.0.as_ref().is_none_or(|it| it.len() == 0) {
             self.waiting.store(0, Ordering::SeqCst);
         }
     }

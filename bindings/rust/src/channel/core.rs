@@ -340,16 +340,10 @@ impl Core {
             return rendezvous.try_send(item);
         }
         self.look_after_full()?;
-        let seat = self.acquire_seat(&self.senders);
-        match self.hints.load(Ordering::SeqCst) / RESERVED {
-            0 => self.send_at(item, seat),
-            _ => self.send_beside_reserved(item, seat),
+        let mut seat = self.acquire_seat(&self.senders);
+        if self.hints.load(Ordering::SeqCst) >= RESERVED {
+            return self.send_beside_reserved(item, seat);
         }
-    }
-
-    /// Tries to send at this seat.
-    #[inline]
-    pub fn send_at(&self, item: &mut Unsent, mut seat: SeatGuard) -> Sent {
         let code = self.send_by(&mut seat, item);
         self.end_send(item, code, seat, Core::try_send)
     }
