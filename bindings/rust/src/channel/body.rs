@@ -24,7 +24,7 @@ const INLINE: usize = size_of::<Words>();
 /// In a handle: all items of its channel are of this type. So a handle is `Send` and `Sync` if the items are `Send`.
 pub type Of<T> = PhantomData<Arc<Mutex<T>>>;
 
-/// What the channel has to know of the type of its items.
+/// The type of a channel's items, as the code below the handles knows it.
 pub struct Kind {
     /// How many words a body has.
     pub words: usize,
