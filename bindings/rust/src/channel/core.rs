@@ -75,7 +75,7 @@ impl Side {
 pub const SENDERS: usize = 0;
 
 /// A side of a channel of more items has all its seats from the opening on, so that no call has to move them over.
-const MOST_MOVED: u32 = 64;
+pub const MOST_MOVED: usize = 64;
 
 /// That the last send found no room: then the next one looks first, since a look costs less than a send in vain.
 pub const WAS_FULL: usize = 1;
@@ -172,7 +172,7 @@ pub fn or_end(taken: Result<Item, NoItem>) -> Try<Option<Item>> {
 }
 
 pub struct Core {
-    /// The configuration of its queue, once each side has all its seats; of a row, that of the first one.
+    /// The configuration of its queue, whose sides may have more seats by now; of a row, that of the first one.
     pub config: Config,
     /// That of its items.
     pub kind: &'static Kind,
@@ -198,7 +198,7 @@ pub struct Core {
 impl Core {
     /// Opens a channel. Each side has one seat at first, if there are few items to be moved over once a side gets its others.
     pub fn open(config: Config, groups: u32, kind: &'static Kind) -> Result<Arc<Self>, OpenError> {
-        if config.capacity > MOST_MOVED {
+        if config.capacity as usize > MOST_MOVED {
             let sides = queue::open(&config, groups, kind.words)?;
             return Ok(Core::with_sides(config, kind, None, sides));
         }

@@ -42,7 +42,7 @@ pub use sender::{Sender, WeakSender};
 pub use timer::{after, at, never, tick};
 
 use self::body::Kind;
-use self::core::Core;
+use self::core::{Core, MOST_MOVED};
 use self::row::Shape;
 use self::side::Shared;
 use crate::queue::{Config, OpenError};
@@ -68,11 +68,16 @@ fn shape() -> Shape {
 
 /// A channel with a queue of this capacity; or with a row of them, if one isn't enough.
 fn of_capacity(capacity: usize, groups: u32, kind: &'static Kind) -> Result<Arc<Core>, OpenError> {
-    if capacity <= MOST_PLACES {
-        Core::open(config(capacity), groups, kind)
-    } else {
-        Core::open_row(&shape(), Some(capacity), groups, kind)
+    if capacity > MOST_PLACES {
+        return Core::open_row(&shape(), Some(capacity), groups, kind);
     }
+    // Once a side needs more than one seat, it asks how many.
+    let config = if capacity > MOST_MOVED {
+        config(capacity)
+    } else {
+        Config::new(1, 1, capacity as u32)
+    };
+    Core::open(config, groups, kind)
 }
 
 /// The first handles of a channel, which was opened with a kind of this type.
@@ -126,7 +131,7 @@ fn handles<T>(core: Arc<Core>) -> (Sender<T>, Vec<Receiver<T>>) {
 pub fn channel<T>(capacity: usize) -> Result<(Sender<T>, Receiver<T>), OpenError> {
     let kind = Kind::alone::<T>();
     Ok(pair(match capacity {
-        0 => Core::of_rendezvous(config(0), kind),
+        0 => Core::of_rendezvous(Config::new(1, 1, 0), kind),
         _ => of_capacity(capacity, 1, kind)?,
     }))
 }

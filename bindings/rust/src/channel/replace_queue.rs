@@ -1,7 +1,7 @@
 //! A further queue in the place of a channel's present one.
 use super::body::Item;
 use super::core::{Core, SENDERS, Side};
-use super::pool::QueueHandle;
+use super::pool::{self, QueueHandle};
 use crate::backoff::Contention;
 use crate::event::{Event, Panics, Served, ignore_panics};
 use crate::queue::handle::{Handle, code, unexpected};
@@ -33,15 +33,14 @@ impl Core {
 
     /// The configuration of a further queue: with as many passes for each side as it has seats, and all for the side that grows.
     fn next_config(&self, alive: &[usize], grows: Option<&Side>) -> Config {
-        let count = |side: &Side, all| match grows {
-            Some(grown) if ptr::eq(grown, side) => all,
+        let count = |side: &Side| match grows {
+            Some(grown) if ptr::eq(grown, side) => pool::seats() as u32,
             _ => side.seats.len() as u32,
         };
-        let (senders, receivers) = (self.config.senders, self.config.receivers);
-        let groups = alive.iter().map(|&it| count(self.side(it), receivers));
+        let groups = alive.iter().map(|&it| count(self.side(it)));
         Config {
-            senders: count(&self.senders, senders),
-            receivers: groups.max().unwrap_or(receivers),
+            senders: count(&self.senders),
+            receivers: groups.max().unwrap_or(1),
             ..self.config
         }
     }
