@@ -1,12 +1,12 @@
 //! One of several operations, over channels of any types: [`Select`] and [`select!`](crate::select!).
 //!
-//! A select tries each operation, in a random order. If none is ready and its time is over, it returns. Else its thread
-//! stands in the line of each, and goes on as [`event`](crate::event) says of a waiter in several lines: it looks,
-//! parks until one of the lines is notified, leaves all, and tries again. It passes on the notification of each line
-//! from which it takes nothing. So no wake-up is lost, and while it is blocked it costs nothing.
+//! A select tries each operation, in a random order. If none is ready, its thread stands in the line of each, and goes on as
+//! [`event`](crate::event) says of a waiter in several lines: it looks, parks until one of the lines is notified, leaves all, and
+//! tries again. It passes on the notification of each line from which it takes nothing. So no wake-up is lost, and while it is
+//! blocked it costs nothing.
 //!
-//! **None is ready**, it says after its time if each operation wasn't ready at a moment of this call. These moments may
-//! differ.
+//! **None is ready**, it says after its time if each operation wasn't ready when it was looked at, and no line was notified from
+//! then until all were left: so none was ready at one moment, unless others waited in line and were notified.
 //!
 //! **A selected take has its item.** The try is the take itself, so there is one, and no other receiver gets the item.
 //! [`SelectedOperation`] keeps it until [`recv`](SelectedOperation::recv) hands it over.
@@ -511,7 +511,8 @@ impl<'s, 'a> Turn<'s, 'a> {
     #[cold]
     #[inline(never)]
     fn park(&self, taken: &mut Option<Item>) -> Option<(Entry<'a>, Begun)> {
-        if is_over(self.until) {
+        // A try of one operation says itself that it wasn't ready.
+        if self.entries.len() == 1 && is_over(self.until) {
             return None;
         }
         let mut done = None;
@@ -522,14 +523,15 @@ impl<'s, 'a> Turn<'s, 'a> {
         done.or_else(|| {
             Parker::with(|parker| {
                 loop {
-                    if let Some((at, begun)) = self.stand_and_park(parker, taken) {
-                        let entry = self.entries[at];
-                        if entry.has_its_pair(&begun) {
-                            return Some((entry, begun));
+                    match self.stand_and_park(parker, taken) {
+                        Ok((at, begun)) => {
+                            let entry = self.entries[at];
+                            if entry.has_its_pair(&begun) {
+                                return Some((entry, begun));
+                            }
                         }
-                    }
-                    if is_over(self.until) {
-                        return self.try_once(taken);
+                        Err(quiet) if quiet && is_over(self.until) => return None,
+                        Err(_) => {}
                     }
                 }
             })
@@ -537,32 +539,35 @@ impl<'s, 'a> Turn<'s, 'a> {
     }
 
     /// Stands in all lines, looks, and parks; leaves all, and tries again: the one that was notified comes first. The
-    /// notification of a line is passed on if its operation wasn't tried after it, or was only looked at and is ready.
+    /// notification of a line is passed on if its operation wasn't tried after it, or was only looked at and is ready. If none is
+    /// ready, it returns whether no line was notified: at the end none was ready then.
     fn stand_and_park(
         &self,
         parker: &Arc<Parker>,
         taken: &mut Option<Item>,
-    ) -> Option<(usize, Begun)> {
+    ) -> Result<(usize, Begun), bool> {
         let stand = |it: &'s Entry<'a>| {
             let stands = !self.is_posted(it);
             stands.then(|| Standing::stand(it.case.line(), parker))
         };
         let mut lines: Vec<_> = self.entries.iter().map(stand).collect();
         let until = match self.try_each(taken) {
-            Ok(done) => return Some(done),
+            Ok(done) => return Ok(done),
             Err(again) => again.before(self.until),
         };
         if lines.iter().any(Option::is_none) {
             let met = self.meet(until, parker);
-            if met.is_some() {
-                return met;
+            if let Some(met) = met {
+                return Ok(met);
             }
         } else {
             parker.park(until);
         }
         lines.iter_mut().flatten().for_each(Standing::leave);
         let is_notified = |it: &Option<Standing>| it.as_ref().is_some_and(|it| it.notified);
-        let first = lines.iter().position(is_notified).into_iter();
+        let first = lines.iter().position(is_notified);
+        let quiet = first.is_none();
+        let first = first.into_iter();
         let attempt = |at: usize| Some((at, self.entries[at].attempt(self.aim, taken).ok()?));
         let done = first.chain(0..lines.len()).find_map(attempt);
         for (at, line) in lines.iter_mut().enumerate() {
@@ -570,7 +575,7 @@ impl<'s, 'a> Turn<'s, 'a> {
             let used = done.as_ref().is_none_or(is_this);
             line.iter_mut().for_each(|it| it.notified &= !used);
         }
-        done
+        done.ok_or(quiet)
     }
 
     /// Posts the operations of channels of capacity 0, parks, and takes them off. Gives the one that has met
