@@ -4,6 +4,7 @@
 //! Each wait is a time by the clock, since a pause takes 4 ns on one processor and 60 on another. `bindings/WAITS.md` has
 //! the reasons.
 use std::hint::spin_loop;
+use std::ops::RangeInclusive;
 use std::sync::OnceLock;
 use std::sync::atomic::{AtomicU64, Ordering};
 use std::thread;
@@ -91,20 +92,36 @@ pub fn let_ahead() {
     spin_until(Instant::now(), AHEAD);
 }
 
-/// How long the other threads of a side go ahead: some of their calls.
-const OWN_AHEAD: Duration = Duration::from_micros(2);
+/// How long others go ahead of a call: some of their calls.
+const OTHERS_AHEAD: Duration = Duration::from_micros(2);
 /// A thread that does other work for longer than this between two calls doesn't contend for its side.
-const AT_ONCE: Duration = Duration::from_nanos(500);
+const AT_ONCE: u64 = 500;
+/// After this time without a call that another one served, a seat's thread is taken to be alone on its side.
+const ALONE_AFTER: u64 = 20_000;
+/// A side is close behind the other one if there are so few items, or places, between both. With one or none its next
+/// call waits, or one thread makes the calls of both sides.
+const CLOSE: RangeInclusive<u64> = 2..=8;
+/// In this time the other side passes an item, if it runs.
+const OF_AN_ITEM: Duration = Duration::from_nanos(250);
 
-/// Whether the calls of a seat contend for their side. Two threads of a side that call again and again meet at each
-/// call: each waits until the other has served it, and for the other's cache lines. So if two calls in a row of a seat
-/// waited, and the next one comes at once, that one lets the others make some calls alone. The call before has ended by
-/// then: its seat is free, and whoever waits for its item is notified.
+/// Whether the calls of a seat contend for cache lines. Then the next one first lets others go ahead. The call before has
+/// ended by then: its seat is free, and whoever waits for its item is notified.
 ///
-/// It is twice the moment at which the last call ended that another one served, or at which a call had let others go
-/// ahead; and 1 more if that call too came at once after another one that was served.
+/// - **With its own side.** Two threads of a side that call again and again meet at each call: each waits until the other
+///   has served it, and for the other's cache lines. So if two calls in a row of a seat waited, and the next one comes at
+///   once, the others make some calls alone.
+/// - **With the other side.** A thread that is close behind the other side waits for a cache line at each item, and so
+///   does the other side. Both are as slow then, and stay so, though neither finds the queue empty or full.
+///
+/// It is four times the moment at which the last call ended that another one served, or at which a call had let its own
+/// side go ahead; and what the next call asks.
 #[derive(Default)]
 pub struct Contention(AtomicU64);
+
+/// Whether it comes at once: the last call came at once after another one that was served, and was served too.
+const OWN_SIDE: u64 = 1;
+/// Whether the other side is close.
+const OTHER_SIDE: u64 = 2;
 
 /// The nanoseconds since the first question.
 fn now() -> u64 {
@@ -113,36 +130,53 @@ fn now() -> u64 {
 }
 
 impl Contention {
-    fn comes_at_once(&self, moment: u64) -> bool {
-        let before = self.0.load(Ordering::Relaxed) / 2;
-        before != 0 && moment.saturating_sub(before) < AT_ONCE.as_nanos() as u64
+    /// Whether a call was served within this time.
+    fn was_served_within(&self, time: u64) -> bool {
+        let moment = self.0.load(Ordering::Relaxed) / 4;
+        moment != 0 && now().saturating_sub(moment) < time
     }
 
     /// Makes a call of the seat that another one serves, and notes its end.
     pub fn note_served<R>(&self, call: impl FnOnce() -> R) -> R {
-        let comes_at_once = self.comes_at_once(now());
+        let comes_at_once = self.was_served_within(AT_ONCE);
         let done = call();
         self.0
-            .store(2 * now() + u64::from(comes_at_once), Ordering::Relaxed);
+            .store(4 * now() + u64::from(comes_at_once), Ordering::Relaxed);
         done
     }
 
-    /// Before a call of the seat, by a thread that holds no lock.
+    /// The next call looks at the other side.
     #[inline]
-    pub fn let_ahead(&self) {
-        if self.0.load(Ordering::Relaxed) % 2 != 0 {
-            self.go_behind();
-        }
+    pub fn look_next(&self) {
+        let now = self.0.load(Ordering::Relaxed);
+        self.0.store(now | OTHER_SIDE, Ordering::Relaxed);
     }
 
-    #[cold]
-    #[inline(never)]
-    fn go_behind(&self) {
-        let mut last = self.0.load(Ordering::Relaxed) / 2;
-        if self.comes_at_once(now()) {
-            spin_until(Instant::now(), OWN_AHEAD);
-            last = now();
+    /// Whether the next call may let others go ahead.
+    #[inline]
+    pub fn asks(&self) -> bool {
+        self.0.load(Ordering::Relaxed) % 4 != 0
+    }
+
+    /// Before such a call, by a thread that holds no lock. The distance is the number of items, or places, between both
+    /// sides.
+    pub fn let_ahead(&self, distance: impl Fn() -> u64) {
+        let before = self.0.load(Ordering::Relaxed);
+        self.0.store(before - before % 4, Ordering::Relaxed);
+        if before & OWN_SIDE != 0 && self.was_served_within(AT_ONCE) {
+            spin_until(Instant::now(), OTHERS_AHEAD);
+            self.0.store(4 * now(), Ordering::Relaxed);
+        } else if !self.was_served_within(ALONE_AFTER) && comes_closer(distance) {
+            spin_until(Instant::now(), OTHERS_AHEAD);
         }
-        self.0.store(2 * last, Ordering::Relaxed);
+    }
+}
+
+/// Whether the other side is close, and runs.
+fn comes_closer(distance: impl Fn() -> u64) -> bool {
+    let first = distance();
+    CLOSE.contains(&first) && {
+        spin_until(Instant::now(), OF_AN_ITEM);
+        distance() != first
     }
 }

@@ -19,6 +19,7 @@ use crate::event::{Again, Apart, Event, Panics, Try, ignore_panics, lock};
 use crate::queue::handle::{self, Handle, code, hands_over, has_taken, unexpected};
 use crate::queue::{self, Config, MOST_GROUPS, OpenError};
 use std::iter;
+use std::ptr;
 use std::sync::atomic::{AtomicBool, AtomicUsize, Ordering};
 use std::sync::{Arc, Mutex, OnceLock, Weak};
 use std::time::Duration;
@@ -73,6 +74,9 @@ impl Side {
 
 /// The number of the senders' side. Those of the groups follow, from 1.
 pub const SENDERS: usize = 0;
+
+/// The least capacity with which a thread lets the other side go ahead that is close.
+const ROOM_APART: usize = 64;
 
 /// A side of a channel of more items has all its seats from the opening on, so that no call has to move them over.
 pub const MOST_MOVED: usize = 64;
@@ -317,16 +321,34 @@ impl Core {
         self.capacity().map_or(len, |it| len.min(it))
     }
 
-    /// Acquires a free seat of this side, and waits for one. If the side has one seat alone and that is held, it gets its others.
+    /// How many items are between the sides for this one: if it is the senders', how many places for items. It is 0 if the
+    /// channel is small, since its sides are close at any time.
+    pub fn distance(&self, side: &Side) -> u64 {
+        let (sent, capacity) = (self.senders.seats.count(), self.capacity());
+        if capacity.is_some_and(|it| it < ROOM_APART) {
+            return 0;
+        }
+        if !ptr::eq(side, &self.senders) {
+            return sent.saturating_sub(side.seats.count());
+        }
+        let items = sent.saturating_sub(self.groups.of(1).seats.count());
+        capacity.map_or(0, |it| (it as u64).saturating_sub(items))
+    }
+
+    /// Acquires a free seat of this side, by a thread that holds no lock, and waits for one. If the side has one seat alone and that is
+    /// held, it gets its others.
     #[inline]
     fn acquire_seat<'a>(&'a self, side: &'a Side) -> SeatGuard<'a> {
-        let seat = side.seats.try_acquire_behind();
+        let seat = side.seats.try_acquire_at_once();
         seat.unwrap_or_else(|| self.acquire_another_seat(side))
     }
 
     #[cold]
     #[inline(never)]
     fn acquire_another_seat<'a>(&'a self, side: &'a Side) -> SeatGuard<'a> {
+        if let Some(seat) = side.seats.try_acquire_behind(|| self.distance(side)) {
+            return seat;
+        }
         if side.seats.len() == 1 && self.row.is_none() {
             self.add_seats(side);
         }

@@ -23,6 +23,8 @@ use std::time::{Duration, Instant};
 const MOST: usize = 64;
 /// A thread is ahead of the other side once it passed this many items since it was asked.
 const AHEAD_AFTER: u64 = 5;
+/// After this number of items the next call of a seat looks at the other side.
+const ROUND: u64 = 64;
 
 /// After this time the processors are asked for again.
 const ASKED_AGAIN: Duration = Duration::from_secs(1);
@@ -197,13 +199,22 @@ impl<'a> SeatGuard<'a> {
         self.seat.number as usize - 1
     }
 
+    #[cold]
+    #[inline(never)]
+    fn end_round(&self, count: u64) {
+        if count == 0 {
+            let number = self.index() + 1;
+            self.pool.used.fetch_max(number, Ordering::AcqRel);
+        }
+        self.seat.contention.look_next();
+    }
+
     /// Counts an item that went through the seat.
     #[inline]
     pub fn count_one(&mut self) {
         let count = self.seat.count.load(Ordering::Relaxed);
-        if count == 0 {
-            let number = self.index() + 1;
-            self.pool.used.fetch_max(number, Ordering::AcqRel);
+        if count % ROUND == 0 {
+            self.end_round(count);
         }
         self.seat.count.store(count + 1, Ordering::Release);
     }
@@ -343,12 +354,23 @@ impl Pool {
         self.try_seat(self.seat())
     }
 
-    /// The same of a thread that holds no lock, once others of the side have gone ahead, if the seat's calls contend
-    /// with theirs.
+    /// The same of a call that goes at once: of a seat whose calls may contend, none does.
     #[inline]
-    pub fn try_acquire_behind(&self) -> Option<SeatGuard<'_>> {
+    pub fn try_acquire_at_once(&self) -> Option<SeatGuard<'_>> {
         let seat = self.seat();
-        seat.contention.let_ahead();
+        if seat.contention.asks() {
+            return None;
+        }
+        self.try_seat(seat)
+    }
+
+    /// The same of another call, by a thread that holds no lock, once others have gone ahead.
+    pub fn try_acquire_behind(&self, distance: impl Fn() -> u64) -> Option<SeatGuard<'_>> {
+        let seat = self.seat();
+        if !seat.contention.asks() {
+            return None;
+        }
+        seat.contention.let_ahead(distance);
         self.try_seat(seat)
     }
 

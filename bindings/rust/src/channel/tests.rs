@@ -73,6 +73,22 @@ fn several_items_are_five() {
     }
 }
 
+/// Between the sides there are the places of the senders, and the items of the receivers. A small channel has no distance.
+#[test]
+fn a_distance_is_of_places_or_items() {
+    let channels = [
+        (crate::channel(63), [0, 0]),
+        (crate::channel(64), [61, 3]),
+        (crate::unbounded(), [0, 3]),
+    ];
+    for (channel, distances) in channels {
+        let (sender, _receiver) = channel.unwrap();
+        (0..3).for_each(|item| sender.send(item).unwrap());
+        let core = sender.core();
+        assert_eq!([0, 1].map(|it| core.distance(core.side(it))), distances);
+    }
+}
+
 /// A call that finds the one seat of its side taken lets the side have the others. The items stay in order, and the other side keeps
 /// its one seat.
 #[test]
