@@ -49,8 +49,8 @@ PICTURES = os.path.join(TOP, "docs", "pictures")
 BEGIN, END = "<!-- bench/peers/run.py writes from here -->\n", "<!-- to here -->\n"
 REGISTRY = "/usr/share/cargo/registry"
 LIBRARIES = ["crossbeam-channel", "crossbeam-queue", "flume", "async-channel", "concurrent-queue"]
-OURS, POLLED, OF_STD = ["words", "typed"], ["crossbeam-queue", "concurrent-queue"], ["sync_channel", "Mutex+Condvar"]
-SHOWN = {"words": "**words**", "typed": "**typed**", "strict": "typed, strict", "crossbeam-queue": "crossbeam's ArrayQueue"}
+OURS, POLLED, OF_STD = ["words", "C", "typed"], ["crossbeam-queue", "concurrent-queue"], ["sync_channel", "Mutex+Condvar"]
+SHOWN = {"words": "**words**", "C": "**C**", "typed": "**typed**", "strict": "typed, strict", "crossbeam-queue": "crossbeam's ArrayQueue"}
 BOUND = 64
 
 
@@ -95,9 +95,13 @@ def build(there):
     lock = os.path.join(OUT, "Cargo.lock")
     if os.path.exists(lock):
         os.remove(lock)
+    c, archive = os.path.join(TOP, "bindings", "c"), os.path.join(OUT, "libvahepito_queue.a")
+    subprocess.run(["cc", "-O2", "-I", c, "-c", f"{c}/vahepito_queue.c", "-o", f"{OUT}/vahepito_queue.o"], check=True)
+    subprocess.run(["ar", "rcs", archive, f"{OUT}/vahepito_queue.o"], check=True)
+    with_c = {**os.environ, "RUSTFLAGS": f"-L native={OUT}"}
     for target, features in (("target", there), ("strict", [*there, "vahepito/strict"])):
         command = ["cargo", "build", "-q", "--release", "--offline", "--target-dir", target, "--features", ",".join(features)]
-        subprocess.run(command, cwd=OUT, check=True)
+        subprocess.run(command, cwd=OUT, check=True, env=with_c)
     return [os.path.join(OUT, target, "release", "peers") for target in ("target", "strict")]
 
 
@@ -279,7 +283,7 @@ def text_of(machine, length, versions, all_tables, numbers):
         + ("the machine was idle otherwise: " if idle else "**others ran meanwhile, so compare within a column alone**: ")
         + f"other processes had {machine['others']:.2f} processors in the mean and {machine['worst']:.2f} in the worst round "
         f"({busiest}), and the host took {machine['stolen']:.2f}."), "", wrapped(
-        f"*words* are the exports of the library, with bodies of one word, and *typed* the channel of any type of `bindings/rust`, with a bound of {BOUND}. "
+        f"*words* are the exports of the library, with bodies of one word and a caller of the bench's own, whose waits are counts; *C* is the queue of `bindings/c`, and *typed* the channel of any type of `bindings/rust`, with a bound of {BOUND}. "
         "Both are over the default archive, and *typed, strict* is the channel over the strict one. "
         f"The peers are {queues}std's `sync_channel`, whose one receiver is shared under a lock, and std's `Mutex` with two "
         "`Condvar`s round a `VecDeque`, which notifies only if a thread waits. ArrayQueue and concurrent-queue have no calls that wait: they are tried again, first with "

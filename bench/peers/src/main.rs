@@ -1,5 +1,6 @@
 //! One burst of one queue: `peers MODE QUEUE SENDERS RECEIVERS CAPACITY BOUND MILLISECONDS`; `run.py` calls it, and
 //! has the words for what the numbers are that each mode prints.
+mod c_queue;
 #[path = "../../clock.rs"]
 mod clock;
 mod exports;
@@ -303,6 +304,7 @@ fn main() {
     };
     let told = match queue.as_str() {
         "words" => burst::<Words>(mode, it),
+        "C" => burst::<c_queue::C>(mode, it),
         "typed" => burst::<Typed>(mode, it),
         "steps" => burst::<steps::ByHand>(mode, it),
         #[cfg(feature = "crossbeam-channel")]
