@@ -38,6 +38,10 @@ IN_RUST = {
     "a select that sends, and recv": (
         "let (s, r) = channel::<u64>(64)?;", "select! { send(s, i) -> it => it.unwrap() } assert_eq!(r.recv(), Ok(i));", 1105,
     ),
+    "a select of two takes in vain": (
+        "let ((_s, r), (_t, q)) = (channel::<u64>(64)?, channel::<u64>(64)?);",
+        "select! { recv(r) -> _ => panic!(), recv(q) -> _ => panic!(), default => assert!(i < calls) }", 561,
+    ),
     "after and its drop": ("", "let r = after(std::time::Duration::from_secs(100)); assert!(r.len() as u64 <= i);", 380),
     "never and its drop": ("", "let r = never::<u64>(); assert!(r.len() as u64 <= i);", 290),
 }

@@ -61,6 +61,35 @@ impl Core {
         self.has_room_beside_reserved(0)
     }
 
+    /// How many items were sent, each of which a group may take: all that were accepted before this call, and maybe more. None if
+    /// a send is under way, or the channel is closed.
+    pub fn possible_takes(&self) -> Option<u64> {
+        if self.rendezvous.is_some() || !self.senders.seats.pause_for_holders() {
+            return None;
+        }
+        let sent = self.senders.seats.count();
+        (!self.is_closed()).then_some(sent)
+    }
+
+    /// How many items may be sent, if no place is reserved: the capacity, and what the slowest group had taken before this call, and
+    /// maybe more. None if a take is under way, if any number may be sent, or the channel is closed.
+    pub fn possible_sends(&self) -> Option<u64> {
+        if self.rendezvous.is_some() {
+            return None;
+        }
+        let capacity = self.capacity()? as u64;
+        let mut slowest = None;
+        for group in self.alive() {
+            if !group.seats.pause_for_holders() {
+                return None;
+            }
+            let taken = group.seats.count();
+            slowest = Some(slowest.map_or(taken, |it: u64| it.min(taken)));
+        }
+        let slowest = slowest.filter(|_| !self.is_closed());
+        slowest.map(|taken| capacity + taken)
+    }
+
     /// How many places are reserved.
     fn reserved(&self) -> usize {
         self.hints.load(Ordering::SeqCst) / RESERVED

@@ -5,8 +5,13 @@
 //! tries again. It passes on the notification of each line from which it takes nothing. So no wake-up is lost, and while it is
 //! blocked it costs nothing.
 //!
-//! **None is ready**, it says after its time if each operation wasn't ready when it was looked at, and no line was notified from
-//! then until all were left: so none was ready at one moment, unless others waited in line and were notified.
+//! **None is ready**, it says after its time only if none was ready at one moment. Each operation has a number of calls that
+//! were made, and a number of calls that are possible: of a take the items that its group has taken, and those that were
+//! sent; of a send the items that were sent, and those that the slowest group has taken, and the capacity. Both only grow, and the
+//! operation isn't ready if they are equal. The select reads the first number of each operation, and then the second number of
+//! each; see `Turn::is_none_ready`. Where these numbers say nothing it stands in all lines, tries, and leaves: if no line
+//! was notified until then, none was ready. That is so for capacity 0, beside reserved places, and beside a call whose thread doesn't run;
+//! then others that wait in the same line may be notified in its place, and the moments may differ.
 //!
 //! **A selected take has its item.** The try is the take itself, so there is one, and no other receiver gets the item.
 //! [`SelectedOperation`] keeps it until [`recv`](SelectedOperation::recv) hands it over.
@@ -135,6 +140,25 @@ impl<'a> Case<'a> {
         }
     }
 
+    /// How many calls of this operation were made: no more than at any later moment.
+    fn made(self) -> u64 {
+        match self {
+            Case::Take(Source::Channel(shared)) => shared.core.side(shared.side).seats.count(),
+            Case::Take(Source::Timer(timer)) => timer.taken(),
+            Case::Send(core) => core.senders.seats.count(),
+        }
+    }
+
+    /// How many calls of this operation are possible, with those that were made: no fewer than at any earlier moment. None if
+    /// that isn't known, or the channel is closed.
+    fn possible(self) -> Option<u64> {
+        match self {
+            Case::Take(Source::Channel(shared)) => shared.core.possible_takes(),
+            Case::Take(Source::Timer(timer)) => timer.possible(),
+            Case::Send(core) => core.possible_sends(),
+        }
+    }
+
     /// The item of the pair of a take that has met a send.
     fn item_of(self, pair: u64) -> Option<Item> {
         self.rendezvous()?.0.take(pair)
@@ -244,6 +268,9 @@ impl<'a> Arm<'a> {
         }
     }
 }
+
+/// How often a select tries after its time, before it stands in all lines.
+const LAST_TRIES: usize = 4;
 
 /// Whether a select begins the operation that is ready, or only looks.
 #[derive(Clone, Copy, PartialEq)]
@@ -511,9 +538,14 @@ impl<'s, 'a> Turn<'s, 'a> {
     #[cold]
     #[inline(never)]
     fn park(&self, taken: &mut Option<Item>) -> Option<(Entry<'a>, Begun)> {
-        // A try of one operation says itself that it wasn't ready.
-        if self.entries.len() == 1 && is_over(self.until) {
-            return None;
+        if is_over(self.until) {
+            // A try of one operation says itself that it wasn't ready.
+            if self.entries.len() == 1 {
+                return None;
+            }
+            if let Some(end) = self.end(taken) {
+                return end;
+            }
         }
         let mut done = None;
         // Those that may meet another are posted at once.
@@ -530,12 +562,43 @@ impl<'s, 'a> Turn<'s, 'a> {
                                 return Some((entry, begun));
                             }
                         }
-                        Err(quiet) if quiet && is_over(self.until) => return None,
+                        Err(quiet) if is_over(self.until) => {
+                            let end = self.end(taken);
+                            if let Some(end) = end.or(quiet.then_some(None)) {
+                                return end;
+                            }
+                        }
                         Err(_) => {}
                     }
                 }
             })
         })
+    }
+
+    /// After the time: begins one that is ready, or finds that none was ready at one moment. None if it finds neither.
+    fn end(&self, taken: &mut Option<Item>) -> Option<Option<(Entry<'a>, Begun)>> {
+        for _ in 0..LAST_TRIES {
+            if self.is_none_ready()? {
+                return Some(None);
+            }
+            let done = self.try_once(taken);
+            if done.is_some() {
+                return Some(done);
+            }
+        }
+        None
+    }
+
+    /// Whether no operation was ready at one moment `m` of this call: that between the two sums. None if that isn't known.
+    ///
+    /// `made` of each operation is read before `m`, and so is no more than at `m`. `possible` is read after `m`, and so is
+    /// no less than at `m`: a call that made an item or a place before `m` had a seat, which is seen free after `m`, and so has counted.
+    /// No more calls are made than are possible, so of each operation `made` is `possible` at most. So if the sums are equal, then both
+    /// numbers are equal for each operation, and were equal at `m`: no call of it was possible.
+    fn is_none_ready(&self) -> Option<bool> {
+        let made: u64 = self.entries.iter().map(|it| it.case.made()).sum();
+        let possible: Option<u64> = self.entries.iter().map(|it| it.case.possible()).sum();
+        Some(possible? == made)
     }
 
     /// Stands in all lines, looks, and parks; leaves all, and tries again: the one that was notified comes first. The

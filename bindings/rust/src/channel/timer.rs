@@ -5,7 +5,7 @@ use super::core::NoItem;
 use super::side::Source;
 use crate::event::{Again, Event, Panics, Try, lock};
 use std::marker::PhantomData;
-use std::sync::atomic::{AtomicBool, Ordering};
+use std::sync::atomic::{AtomicBool, AtomicU64, Ordering};
 use std::sync::{Arc, Mutex};
 use std::time::{Duration, Instant};
 
@@ -17,6 +17,8 @@ pub struct Timer {
     /// One of a channel of `Instant`s, or it has none at all.
     has_items: bool,
     closed: AtomicBool,
+    /// How many items were taken. It grows under the lock of `due`.
+    taken: AtomicU64,
     /// The line of those that wait for the moment, or for a close.
     pub line: Event,
 }
@@ -39,6 +41,7 @@ impl Timer {
             from.checked_add(every)
         };
         *due = self.every.filter(|_| !self.is_closed()).and_then(next);
+        self.taken.fetch_add(1, Ordering::SeqCst);
         Ok(Item::alone(at))
     }
 
@@ -49,6 +52,18 @@ impl Timer {
             Some(at) if Instant::now() < at => Err(Again::At(at)),
             Some(_) => Ok(()),
         }
+    }
+
+    /// How many items were taken.
+    pub fn taken(&self) -> u64 {
+        self.taken.load(Ordering::SeqCst)
+    }
+
+    /// How many items there have been. None if it is closed.
+    pub fn possible(&self) -> Option<u64> {
+        let due = lock(&self.due);
+        let is_due = due.is_some_and(|at| at <= Instant::now());
+        (!self.is_closed()).then(|| self.taken() + u64::from(is_due))
     }
 
     pub fn capacity(&self) -> usize {
@@ -83,6 +98,7 @@ fn timer<T>(due: Option<Instant>, every: Option<Duration>, has_items: bool) -> R
         every,
         has_items,
         closed: AtomicBool::new(false),
+        taken: AtomicU64::new(0),
         line: Event::default(),
     });
     Receiver(Arc::new(source), PhantomData)
