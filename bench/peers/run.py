@@ -322,6 +322,9 @@ def beside_busy(programs, seconds):
 
 # The slowest calls.
 
+# The column of the typed channel by threads that have the longer slice.
+SLICED = "typed, slice of 12 ms"
+
 # What docs/BENCH.md gets once the slowest calls were measured beside busy processes.
 BUSY_TAIL = """
 `bench/peers/run.py --busy-tail`: the same with a busy process on each processor, ns. ArrayQueue's receivers don't block: they try, spin and
@@ -338,7 +341,8 @@ def slowest_calls(programs, queues, seconds, counts):
     cells, start, rounds = {(count, queue): [] for count in counts for queue in queues}, time.time(), 0
     while time.time() - start < seconds:
         for count, queue in random.sample(list(cells), len(cells)):
-            command = command_of(programs, "tail", queue, shape(count, 4, 1024), 1000)
+            mode, name = ("sliced", "typed") if queue == SLICED else ("tail", queue)
+            command = command_of(programs, mode, name, shape(count, 4, 1024), 1000)
             done = subprocess.run(command, capture_output=True, text=True, check=True, timeout=120)
             cells[count, queue].append([float(word) for word in done.stdout.split()])
         rounds += 1
@@ -351,7 +355,7 @@ def slowest_calls(programs, queues, seconds, counts):
 
 
 def write_tail(programs, there, seconds):
-    queues = ["typed", *(queue for queue in there if queue not in POLLED), "Mutex+Condvar"]
+    queues = ["typed", SLICED, *(queue for queue in there if queue not in POLLED), "Mutex+Condvar"]
     write("tail", slowest_calls(programs, queues, seconds, (4, 16, 64)))
 
 
@@ -359,7 +363,7 @@ def write_busy_tail(programs, there, seconds):
     """Writes the table, after that of the idle machine if docs/BENCH.md has none yet."""
     wanted = ["crossbeam-channel", "crossbeam-queue", "async-channel"]
     with busy_processors():
-        rows = slowest_calls(programs, ["typed", *(queue for queue in wanted if queue in there), "Mutex+Condvar"], seconds, (4, 16))
+        rows = slowest_calls(programs, ["typed", SLICED, *(queue for queue in wanted if queue in there), "Mutex+Condvar"], seconds, (4, 16, 64))
     with open(BENCH) as file:
         text = file.read()
     if "<!-- busy_tail -->" not in text:

@@ -208,6 +208,12 @@ fn tail<Q: Queue>(it: &Burst) -> Vec<f64> {
     parts.into_iter().chain([long]).collect()
 }
 
+/// The same with the longer slice, which the threads inherit.
+fn sliced<Q: Queue>(it: &Burst) -> Vec<f64> {
+    vahepito::lengthen_slice().expect("the system has slices");
+    tail::<Q>(it)
+}
+
 /// A receiver that waits, and an item each millisecond: the median and the 99th percentile of the microseconds from
 /// before its send to after its take, and those that the processors gave the receiver for an item, and the sender.
 fn paced<Q: Queue>(it: &Burst) -> Vec<f64> {
@@ -276,6 +282,7 @@ fn burst<Q: Queue>(mode: &str, it: &Burst) -> Vec<f64> {
         "swell" => swell::<Q>(it),
         "calls" => calls::<Q>(it),
         "tail" => tail::<Q>(it),
+        "sliced" => sliced::<Q>(it),
         "paced" => paced::<Q>(it),
         "idle" => idle::<Q>(it),
         "pinned" => pinned::<Q>(it),
