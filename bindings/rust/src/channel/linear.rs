@@ -36,6 +36,13 @@ enum Outcome {
     SentToRoom(u32),
     RoomClosed,
     GaveBack,
+    /// None of these operations of a select is ready, at one moment. The takes of the first channel are of this group.
+    NoneReady(u64, usize),
+}
+
+/// The bit of an operation of a select: of the take, or the send, of this channel.
+fn bit(channel: usize, sends: bool) -> u64 {
+    1 << (channel + if sends { 2 } else { 0 })
 }
 
 #[derive(Clone, Copy, Debug)]
@@ -130,6 +137,7 @@ impl Model {
             Outcome::Got(group, item) => self.group(group).items.pop_front() == Some(item),
             Outcome::Empty(group) => !self.closed && self.group(group).items.is_empty(),
             Outcome::Ended(group) => self.closed && self.group(group).items.is_empty(),
+            Outcome::NoneReady(..) => unreachable!("it is of both channels"),
             Outcome::Closed(first) => first != std::mem::replace(&mut self.closed, true),
             Outcome::IsClosed(closed) => closed == self.closed,
             Outcome::Len(len) => self.len() == len,
@@ -198,6 +206,13 @@ fn make(calls: &[Call], all: &[usize], models: &mut [Model; 2]) -> bool {
     } = calls[*first];
     match outcome {
         _ if all.len() == 2 => !models[channel].closed,
+        Outcome::NoneReady(bits, group) => {
+            let has = |channel, sends| bits & bit(channel, sends) != 0;
+            (0..).zip(models).all(|(channel, it)| {
+                (!has(channel, false) || it.makes(Outcome::Empty([group, 0][channel])))
+                    && (!has(channel, true) || it.makes(Outcome::Full))
+            })
+        }
         outcome => models[channel].makes(outcome),
     }
 }
@@ -325,11 +340,11 @@ impl Own {
         let mut select = Select::new();
         let mut operations = vec![];
         for channel in 0..2 {
-            if let Some(receiver) = receivers[channel].filter(|_| bits >> channel & 1 == 1) {
+            if let Some(receiver) = receivers[channel].filter(|_| bits & bit(channel, false) != 0) {
                 select.recv(receiver);
                 operations.push((channel, false));
             }
-            if let Some(sender) = senders[channel].filter(|_| bits >> (2 + channel) & 1 == 1) {
+            if let Some(sender) = senders[channel].filter(|_| bits & bit(channel, true) != 0) {
                 select.send(sender);
                 operations.push((channel, true));
             }
@@ -341,7 +356,17 @@ impl Own {
         };
         let end = clock.now();
         let Some(operation) = operation else {
-            // Each wasn't ready at a moment of its own.
+            let meets = |&(channel, _): &(usize, bool)| {
+                let capacity = receivers[channel].map(Receiver::capacity);
+                capacity.or_else(|| senders[channel].map(Sender::capacity)) == Some(Some(0))
+            };
+            if !operations.iter().any(meets) {
+                let bits = operations
+                    .iter()
+                    .map(|&(channel, sends)| bit(channel, sends));
+                return vec![(begin, end, 0, Outcome::NoneReady(bits.sum(), self.group))];
+            }
+            // With capacity 0 each wasn't ready at a moment of its own.
             let not_ready = |&(channel, sends): &(usize, bool)| {
                 let take = Outcome::Empty([self.group, 0][channel]);
                 let outcome = if sends { Outcome::Full } else { take };
@@ -774,15 +799,20 @@ fn what_has_no_order_is_refused() {
     for calls in refused {
         assert!(!is_linear(&calls), "{calls:?}");
     }
-    // The operations of a select, each of which isn't ready at a moment of its own.
-    assert!(is_linear(&[
-        sent,
-        call(2, 9, Outcome::Empty(0)),
-        of_other(call(2, 9, Outcome::Empty(0))),
-        of_other(call(3, 4, Outcome::Sent(8))),
-        call(5, 6, Outcome::Got(0, 7)),
-        of_other(call(10, 11, Outcome::Got(0, 8))),
-    ]));
+    // Two takes, each of which isn't ready at a moment of its own: then there is an order, and none if that is one moment.
+    let beside = |select: &[Call]| {
+        let calls = [
+            sent,
+            of_other(call(3, 4, Outcome::Sent(8))),
+            call(5, 6, Outcome::Got(0, 7)),
+            of_other(call(10, 11, Outcome::Got(0, 8))),
+        ];
+        is_linear(&[&calls, select].concat())
+    };
+    let empty = call(2, 9, Outcome::Empty(0));
+    assert!(beside(&[empty, of_other(empty)]));
+    let takes = bit(0, false) | bit(1, false);
+    assert!(!beside(&[call(2, 9, Outcome::NoneReady(takes, 0))]));
     let meets = |calls: &[Call]| super::linear::is_linear(calls, start(0));
     let rendezvous = |begin| call(begin, begin + 2, Outcome::Sent(7));
     assert!(meets(&[rendezvous(0), call(1, 3, Outcome::Got(0, 7))]));
