@@ -455,14 +455,15 @@ impl Core {
         Ok(())
     }
 
-    /// Takes an item of the queue for a group; of a row, of the seat's queue. Gives the code if there is none, or no queue.
+    /// Takes an item of this number of words of the queue for a group; of a row, of the seat's queue. Gives the code if there is none,
+    /// or no queue.
     #[inline]
-    pub fn take(&self, group: usize) -> Result<Item, u32> {
+    pub fn take(&self, group: usize, words: usize) -> Result<Item, u32> {
         if self.rendezvous.is_some() {
             return Err(code::EMPTY);
         }
         let mut seat = self.acquire_seat(self.groups.of(group));
-        let item = self.take_by(&mut seat)?;
+        let item = self.take_by(&mut seat, words)?;
         self.count_taken(seat);
         Ok(item)
     }
@@ -476,9 +477,9 @@ impl Core {
         self.senders.line.notify_one();
     }
 
-    /// Tries to take an item for a group.
+    /// Tries to take an item of this number of words for a group.
     #[inline]
-    pub fn try_recv(&self, group: usize) -> Result<Item, NoItem> {
+    pub fn try_recv(&self, group: usize, words: usize) -> Result<Item, NoItem> {
         if let Some(rendezvous) = &self.rendezvous {
             return rendezvous.try_take();
         }
@@ -487,7 +488,7 @@ impl Core {
             self.look_before_take(group)?;
             found_none.store(false, Ordering::Relaxed);
         }
-        self.take(group)
+        self.take(group, words)
             .or_else(|code| self.recv_after(group, code))
     }
 
@@ -509,15 +510,17 @@ impl Core {
 
     /// Takes what is left for this group, one item after another.
     pub fn drain(&self, group: usize) -> impl Iterator<Item = Item> {
-        iter::from_fn(move || self.try_recv(group).ok())
+        iter::from_fn(move || self.try_recv(group, self.kind.words).ok())
     }
 
-    /// Takes an item by this seat. Gives the queue's code if there is none.
+    /// Takes an item by this seat, of as many words as the kind has: a caller that knows the number gets no others. Gives the queue's
+    /// code if there is none.
     #[allow(unsafe_code)]
     #[inline]
-    pub fn take_by(&self, seat: &mut SeatGuard) -> Result<Item, u32> {
+    pub fn take_by(&self, seat: &mut SeatGuard, words: usize) -> Result<Item, u32> {
+        assert!(words == self.kind.words, "the kind says how many words");
         let (pass, line) = seat.pass();
-        let words = pass.handle.take(self.kind.words, line)?;
+        let words = pass.handle.take(words, line)?;
         // SAFETY: what is in the queue was sent as the words of items of this kind; each was
         // for as many groups as the queue has; and a group takes each item of the queue once.
         Ok(unsafe { Item::taken(words, self.kind) })

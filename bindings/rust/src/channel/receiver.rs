@@ -1,5 +1,5 @@
 //! The receivers of a channel.
-use super::body::{Item, Of};
+use super::body::{Item, Kind, Of};
 use super::core::{Core, NoItem, or_end};
 use super::future::RecvFuture;
 use super::side::{Shared, Source};
@@ -45,8 +45,14 @@ impl Source {
     /// Tries to take an item.
     #[inline]
     pub fn try_take(&self) -> Result<Item, NoItem> {
+        self.try_take_words(|kind| kind.words)
+    }
+
+    /// The same of items of this number of words.
+    #[inline]
+    fn try_take_words(&self, words: fn(&Kind) -> usize) -> Result<Item, NoItem> {
         match self {
-            Source::Channel(Shared { core, side }) => core.try_recv(*side),
+            Source::Channel(Shared { core, side }) => core.try_recv(*side, words(core.kind)),
             Source::Timer(timer) => timer.try_take(),
         }
     }
@@ -97,7 +103,7 @@ impl<T> Receiver<T> {
     /// # Ok::<(), vahepito::OpenError>(())
     /// ```
     pub fn try_recv(&self) -> Result<T, TryRecvError> {
-        match self.0.try_take() {
+        match self.0.try_take_words(Kind::words_of::<T>) {
             Ok(item) => Ok(self.unpack(item)),
             Err(NoItem::Yet(_)) => Err(TryRecvError::Empty),
             Err(NoItem::Ended) => Err(TryRecvError::Disconnected),
@@ -108,7 +114,7 @@ impl<T> Receiver<T> {
     #[inline]
     fn recv_until(&self, until: Option<Instant>) -> Result<T, RecvTimeoutError> {
         if let Source::Channel(Shared { core, side }) = &*self.0 {
-            if let Ok(item) = core.take(*side) {
+            if let Ok(item) = core.take(*side, core.kind.words_of::<T>()) {
                 return Ok(self.unpack(item));
             }
         }

@@ -81,7 +81,7 @@ impl Core {
             return Some(left_by_lost);
         }
         for seats in &mut others {
-            left_by_lost.extend(iter::from_fn(|| self.take_by(&mut seats[0]).ok()));
+            left_by_lost.extend(iter::from_fn(|| self.take_by(&mut seats[0], words).ok()));
             let empty = |pass: &mut QueueHandle| pass.handle = Handle::empty();
             seats.iter_mut().for_each(|seat| empty(seat.pass().0));
         }

@@ -350,7 +350,7 @@ impl Core {
     pub fn take_in_row(&self, row: &Row, group: usize) -> Result<Item, NoItem> {
         let mut seat = self.side(group).seats.acquire();
         loop {
-            match self.take_by(&mut seat) {
+            match self.take_by(&mut seat, self.kind.words) {
                 Ok(item) => {
                     self.count_taken(seat);
                     return Ok(item);

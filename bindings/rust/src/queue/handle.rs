@@ -139,7 +139,9 @@ impl Handle {
             _ => vahepito_try_take_words(&mut self.0, &mut item, &mut 0, &mut 0),
         };
         if code == code::WAITING {
-            code = wait_until_served(line, || match count {
+            // The closure has a number of its own, so that the compiler knows this one.
+            let words = count;
+            code = wait_until_served(line, || match words {
                 1 => vahepito_turn_take(&mut self.0, &mut item, &mut 0, &mut 0),
                 _ => vahepito_turn_take_words(&mut self.0, &mut item, &mut 0, &mut 0),
             });
