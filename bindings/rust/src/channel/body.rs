@@ -68,13 +68,9 @@ impl Kind {
 }
 
 impl Kind {
-    /// How many words a body of this kind has, which is one of `T`. If each kind of `T` has one, the compiler knows it.
-    #[inline]
-    pub fn words_of<T>(&self) -> usize {
-        match size_of::<T>() {
-            9..=INLINE => self.words,
-            _ => 1,
-        }
+    /// Whether a body of each kind of `T` has one word.
+    pub const fn is_one_word<T>() -> bool {
+        !matches!(size_of::<T>(), 9..=INLINE)
     }
 }
 

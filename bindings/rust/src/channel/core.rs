@@ -19,6 +19,7 @@ use crate::event::{Again, Apart, Event, Panics, Try, ignore_panics, lock};
 use crate::queue::handle::{self, Handle, code, hands_over, has_taken, unexpected};
 use crate::queue::{self, Config, MOST_GROUPS, OpenError};
 use std::iter;
+use std::mem::ManuallyDrop;
 use std::ptr;
 use std::sync::atomic::{AtomicBool, AtomicUsize, Ordering};
 use std::sync::{Arc, Mutex, OnceLock, Weak};
@@ -165,6 +166,9 @@ impl From<Again> for NoItem {
         NoItem::Yet(again)
     }
 }
+
+/// A take for a group: [`Core::take`], or that of items of one word.
+pub type Take = fn(&Core, usize) -> Result<Item, u32>;
 
 /// A take that is tried until it is done. It gives None at the end of the channel.
 pub fn or_end(taken: Result<Item, NoItem>) -> Try<Option<Item>> {
@@ -455,17 +459,28 @@ impl Core {
         Ok(())
     }
 
-    /// Takes an item of this number of words of the queue for a group; of a row, of the seat's queue. Gives the code if there is none,
-    /// or no queue.
+    /// Takes an item of the queue for a group; of a row, of the seat's queue. Gives the code if there is none, or no queue.
     #[inline]
-    pub fn take(&self, group: usize, words: usize) -> Result<Item, u32> {
+    pub fn take(&self, group: usize) -> Result<Item, u32> {
+        self.take_words(group, self.kind.words)
+    }
+
+    /// The same of items of one word: the other words aren't copied.
+    #[inline]
+    pub fn take_word(&self, group: usize) -> Result<Item, u32> {
+        self.take_words(group, 1)
+    }
+
+    #[inline(always)]
+    fn take_words(&self, group: usize, words: usize) -> Result<Item, u32> {
         if self.rendezvous.is_some() {
             return Err(code::EMPTY);
         }
         let mut seat = self.acquire_seat(self.groups.of(group));
-        let item = self.take_by(&mut seat, words)?;
+        // The count doesn't panic, so nothing has to drop the item: the compiler leaves it in registers.
+        let item = ManuallyDrop::new(self.take_by(&mut seat, words)?);
         self.count_taken(seat);
-        Ok(item)
+        Ok(ManuallyDrop::into_inner(item))
     }
 
     /// Counts an item that was taken by this seat, and notifies.
@@ -477,19 +492,33 @@ impl Core {
         self.senders.line.notify_one();
     }
 
-    /// Tries to take an item of this number of words for a group.
+    /// Whether the last try of this group found no item, and a look finds none now.
     #[inline]
-    pub fn try_recv(&self, group: usize, words: usize) -> Result<Item, NoItem> {
+    pub fn finds_none_again(&self, group: usize) -> bool {
+        let found_none = &self.groups.of(group).found_none;
+        found_none.load(Ordering::Relaxed) && {
+            let finds_none = self.look_before_take(group).is_err();
+            found_none.store(finds_none, Ordering::Relaxed);
+            finds_none
+        }
+    }
+
+    /// Tries to take an item for a group.
+    #[inline]
+    pub fn try_recv(&self, group: usize) -> Result<Item, NoItem> {
+        if self.finds_none_again(group) {
+            return Err(NoItem::Yet(Again::WhenNotified));
+        }
+        self.try_recv_by(group, Core::take)
+    }
+
+    /// The same by this call, without a look that comes first.
+    #[inline]
+    pub fn try_recv_by(&self, group: usize, take: Take) -> Result<Item, NoItem> {
         if let Some(rendezvous) = &self.rendezvous {
             return rendezvous.try_take();
         }
-        let found_none = &self.groups.of(group).found_none;
-        if found_none.load(Ordering::Relaxed) {
-            self.look_before_take(group)?;
-            found_none.store(false, Ordering::Relaxed);
-        }
-        self.take(group, words)
-            .or_else(|code| self.recv_after(group, code))
+        take(self, group).or_else(|code| self.recv_after(group, code))
     }
 
     /// After a queue returned this code in place of an item: at its end tries the next queue, if they are a row.
@@ -510,7 +539,7 @@ impl Core {
 
     /// Takes what is left for this group, one item after another.
     pub fn drain(&self, group: usize) -> impl Iterator<Item = Item> {
-        iter::from_fn(move || self.try_recv(group, self.kind.words).ok())
+        iter::from_fn(move || self.try_recv(group).ok())
     }
 
     /// Takes an item by this seat, of as many words as the kind has: a caller that knows the number gets no others. Gives the queue's

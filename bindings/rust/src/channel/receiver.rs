@@ -1,6 +1,6 @@
 //! The receivers of a channel.
 use super::body::{Item, Kind, Of};
-use super::core::{Core, NoItem, or_end};
+use super::core::{Core, NoItem, Take, or_end};
 use super::future::RecvFuture;
 use super::side::{Shared, Source};
 use super::{RecvError, RecvTimeoutError, TryRecvError};
@@ -45,14 +45,8 @@ impl Source {
     /// Tries to take an item.
     #[inline]
     pub fn try_take(&self) -> Result<Item, NoItem> {
-        self.try_take_words(|kind| kind.words)
-    }
-
-    /// The same of items of this number of words.
-    #[inline]
-    fn try_take_words(&self, words: fn(&Kind) -> usize) -> Result<Item, NoItem> {
         match self {
-            Source::Channel(Shared { core, side }) => core.try_recv(*side, words(core.kind)),
+            Source::Channel(Shared { core, side }) => core.try_recv(*side),
             Source::Timer(timer) => timer.try_take(),
         }
     }
@@ -75,6 +69,12 @@ impl Source {
 }
 
 impl<T> Receiver<T> {
+    const TAKE: Take = if Kind::is_one_word::<T>() {
+        Core::take_word
+    } else {
+        Core::take
+    };
+
     /// An item of the channel.
     #[allow(unsafe_code)]
     #[inline]
@@ -102,8 +102,24 @@ impl<T> Receiver<T> {
     /// assert_eq!(receiver.try_recv(), Err(TryRecvError::Disconnected));
     /// # Ok::<(), vahepito::OpenError>(())
     /// ```
+    #[inline]
     pub fn try_recv(&self) -> Result<T, TryRecvError> {
-        match self.0.try_take_words(Kind::words_of::<T>) {
+        if let Source::Channel(Shared { core, side }) = &*self.0 {
+            if core.finds_none_again(*side) {
+                return Err(TryRecvError::Empty);
+            }
+        }
+        self.take_if_there()
+    }
+
+    /// Without the look that comes first.
+    #[inline(never)]
+    fn take_if_there(&self) -> Result<T, TryRecvError> {
+        let taken = match &*self.0 {
+            Source::Channel(Shared { core, side }) => core.try_recv_by(*side, Self::TAKE),
+            Source::Timer(timer) => timer.try_take(),
+        };
+        match taken {
             Ok(item) => Ok(self.unpack(item)),
             Err(NoItem::Yet(_)) => Err(TryRecvError::Empty),
             Err(NoItem::Ended) => Err(TryRecvError::Disconnected),
@@ -114,7 +130,7 @@ impl<T> Receiver<T> {
     #[inline]
     fn recv_until(&self, until: Option<Instant>) -> Result<T, RecvTimeoutError> {
         if let Source::Channel(Shared { core, side }) = &*self.0 {
-            if let Ok(item) = core.take(*side, core.kind.words_of::<T>()) {
+            if let Ok(item) = Self::TAKE(core, *side) {
                 return Ok(self.unpack(item));
             }
         }
