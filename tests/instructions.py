@@ -3,10 +3,11 @@
 
     tests/instructions.py [--print]
 
-Time differs from machine to machine, and the number of instructions doesn't. A program makes the same calls some hundred
-times under valgrind's callgrind, and then twice as often; the difference of both counts, divided by the calls, is what one
-costs. So opening, closing and the start of the program don't count, but in the rows of openings. The limits are the counts of docs/BENCH.md, plus a
-hundredth, since another compiler writes other code of the crate. --print prints the counts alone.
+Time differs from machine to machine, and the number of instructions doesn't. A program makes the same calls some
+hundred times under valgrind's callgrind, and then twice as often; the difference of both counts, divided by the calls,
+is what one costs. So opening, closing and the start of the program don't count, but in the rows of openings. The limits
+are the counts of docs/BENCH.md, plus a hundredth, since another compiler writes other code of the crate. --print prints
+the counts alone.
 
 One thread makes all calls. The C program is linked with the archives that bindings/c links. The exit status
 is 0 if no count is above its limit, and 77 without valgrind, cargo or cc, where nothing is counted.
@@ -23,53 +24,69 @@ CALLS = 300
 
 # What the crate's user writes, and the most instructions that it may cost.
 IN_RUST = {
-    "send and recv of a word": ("let (s, r) = channel::<u64>(64)?;", "s.send(i).unwrap(); assert_eq!(r.recv(), Ok(i));", 744),
-    "try_send and try_recv of a word": ("let (s, r) = channel::<u64>(64)?;", "s.try_send(i).unwrap(); assert_eq!(r.try_recv(), Ok(i));", 795),
-    "four words": ("let (s, r) = channel::<[u64; 4]>(64)?;", "s.send([i; 4]).unwrap(); assert_eq!(r.recv(), Ok([i; 4]));", 1121),
-    "two groups": ("let (s, r) = groups::<u64>(64, 2)?;", "s.send(i).unwrap(); for r in &r { assert_eq!(r.recv(), Ok(i)); }", 1355),
-    "a refused try_send": ("let (s, _r) = channel::<u64>(1)?; s.send(0).unwrap();", "assert!(s.try_send(i).is_err());", 187),
+    "send and recv of a word": ("let (s, r) = channel::<u64>(64)?;", "s.send(i).unwrap(); assert_eq!(r.recv(), Ok(i));",
+                                744),
+    "try_send and try_recv of a word": ("let (s, r) = channel::<u64>(64)?;",
+                                        "s.try_send(i).unwrap(); assert_eq!(r.try_recv(), Ok(i));", 795),
+    "four words": ("let (s, r) = channel::<[u64; 4]>(64)?;",
+                   "s.send([i; 4]).unwrap(); assert_eq!(r.recv(), Ok([i; 4]));", 1121),
+    "two groups": ("let (s, r) = groups::<u64>(64, 2)?;",
+                   "s.send(i).unwrap(); for r in &r { assert_eq!(r.recv(), Ok(i)); }", 1355),
+    "a refused try_send": ("let (s, _r) = channel::<u64>(1)?; s.send(0).unwrap();", "assert!(s.try_send(i).is_err());",
+                           187),
     "the same with 4,096 places": (
-        "let (s, _r) = channel::<u64>(4096)?; (0..4096).for_each(|i| s.send(i).unwrap());", "assert!(s.try_send(i).is_err());", 236,
+        "let (s, _r) = channel::<u64>(4096)?; (0..4096).for_each(|i| s.send(i).unwrap());",
+        "assert!(s.try_send(i).is_err());", 236,
     ),
     "an empty try_recv": ("let (_s, r) = channel::<u64>(64)?;", "assert!(r.try_recv().is_err() && i < calls);", 69),
     "send, and a select that takes": (
-        "let (s, r) = channel::<u64>(64)?;", "s.send(i).unwrap(); select! { recv(r) -> it => assert_eq!(it, Ok(i)) }", 970,
+        "let (s, r) = channel::<u64>(64)?;", "s.send(i).unwrap(); select! { recv(r) -> it => assert_eq!(it, Ok(i)) }",
+        970,
     ),
     "a select that sends, and recv": (
-        "let (s, r) = channel::<u64>(64)?;", "select! { send(s, i) -> it => it.unwrap() } assert_eq!(r.recv(), Ok(i));", 1112,
+        "let (s, r) = channel::<u64>(64)?;", "select! { send(s, i) -> it => it.unwrap() } assert_eq!(r.recv(), Ok(i));",
+        1112,
     ),
     "a select of two takes in vain": (
         "let ((_s, r), (_t, q)) = (channel::<u64>(64)?, channel::<u64>(64)?);",
         "select! { recv(r) -> _ => panic!(), recv(q) -> _ => panic!(), default => assert!(i < calls) }", 601,
     ),
-    "after and its drop": ("", "let r = after(std::time::Duration::from_secs(100)); assert!(r.len() as u64 <= i);", 366),
+    "after and its drop": ("", "let r = after(std::time::Duration::from_secs(100)); assert!(r.len() as u64 <= i);",
+                           366),
     "never and its drop": ("", "let r = never::<u64>(); assert!(r.len() as u64 <= i);", 269),
 }
-# Openings with a pair and the drop, in a program of their own: what the compiler inlines into `main` changes with its rows.
+# Openings with a pair and the drop, in a program of their own: what the compiler inlines into `main` changes with its
+# rows.
 OPENINGS = {
-    f"an opening for {name}, a pair and the drop": ("", f"let (s, r) = channel::<u64>({places})?; s.send(i).unwrap(); assert_eq!(r.recv(), Ok(i));", limit)
+    f"an opening for {name}, a pair and the drop": ("",
+                                                    f"let (s, r) = channel::<u64>({places})?; s.send(i).unwrap(); "
+                                                    f"assert_eq!(r.recv(), Ok(i));", limit)
     for name, places, limit in (("one item", 1, 10893), ("64 items", 64, 19667))
 }
-# The same pair with a bound and without one, in a program of their own too. By the limits the second one costs at most a twentieth more.
+# The same pair with a bound and without one, in a program of their own too. By the limits the second one costs at most
+# a twentieth more.
 BOUNDS = {
-    f"send and recv of a word, {name}": (f"let (s, r) = {opening}?;", "s.send(i).unwrap(); assert_eq!(r.recv(), Ok(i));", limit)
-    for name, opening, limit in (("capacity 64", "channel::<u64>(64)", 744), ("without a bound", "unbounded::<u64>()", 763))
+    f"send and recv of a word, {name}": (f"let (s, r) = {opening}?;",
+                                         "s.send(i).unwrap(); assert_eq!(r.recv(), Ok(i));", limit)
+    for name, opening, limit in (("capacity 64", "channel::<u64>(64)", 744),
+                                 ("without a bound", "unbounded::<u64>()", 763))
 }
 # Futures that are ready at their first poll, in a program of their own too.
 CONTEXT = "let context = &mut std::task::Context::from_waker(std::task::Waker::noop());"
 FUTURES = {
     "a try_send, and a ready recv_async": (
         f"let (s, r) = channel::<u64>(64)?; {CONTEXT}",
-        "s.try_send(i).unwrap(); assert_eq!(std::pin::pin!(r.recv_async()).poll(context), std::task::Poll::Ready(Ok(i)));", 950,
+        "s.try_send(i).unwrap(); assert_eq!(std::pin::pin!(r.recv_async()).poll(context), "
+        "std::task::Poll::Ready(Ok(i)));", 950,
     ),
     "a ready send_async, and a try_recv": (
         f"let (s, r) = channel::<u64>(64)?; {CONTEXT}",
         "assert!(std::pin::pin!(s.send_async(i)).poll(context).is_ready()); assert_eq!(r.try_recv(), Ok(i));", 937,
     ),
 }
-# The pairs of the program in C: by handles, as the Rust crate makes them, and the calls that wait, which take a seat and make a call by its handle.
-# The last number is how many of these may be locked: two exchanges of a tail, a mark, and an addition; and for each call that waits one, by
-# which it takes a seat.
+# The pairs of the program in C: by handles, as the Rust crate makes them, and the calls that wait, which take a seat
+# and make a call by its handle. The last number is how many of these may be locked: two exchanges of a tail, a mark,
+# and an addition; and for each call that waits one, by which it takes a seat.
 IN_C = {
     "vahepito_try_send and vahepito_try_take": ("handles", 555, 4),
     "vahepito_send and vahepito_take": ("waits", 695, 6),
@@ -131,7 +148,8 @@ static int by_few(uint64_t calls) {
     if (vahepito_create_as(&attributes, &queue) != VAHEPITO_DONE) return 1;
     for (int number = 1; number <= 20; number++) {
         pthread_t thread;
-        if (pthread_create(&thread, NULL, in_thread, number == 20 ? &calls : &one) || pthread_join(thread, NULL)) return 2;
+        if (pthread_create(&thread, NULL, in_thread, number == 20 ? &calls : &one)) return 2;
+        if (pthread_join(thread, NULL)) return 2;
     }
     return 0;
 }
@@ -152,7 +170,8 @@ def archives():
 
 def build_rust(room, rows):
     """The program with a mode for each of these rows, in this folder."""
-    arms = "\n        ".join(f'"{name}" => {{ {opening} for i in 0..calls {{ {calls} }} }}' for name, (opening, calls, _) in rows.items())
+    arms = "\n        ".join(f'"{name}" => {{ {opening} for i in 0..calls {{ {calls} }} }}'
+                             for name, (opening, calls, _) in rows.items())
     os.makedirs(os.path.join(room, "src"))
     with open(os.path.join(room, "src", "main.rs"), "w") as file:
         file.write(RUST % arms)
@@ -160,7 +179,8 @@ def build_rust(room, rows):
         file.write('[package]\nname = "counted"\nversion = "0.1.0"\nedition = "2024"\n\n[workspace]\n\n[dependencies]\n'
                    f'vahepito = {{ path = "{TOP}/bindings/rust" }}\n')
     target = os.path.join(room, "target")
-    subprocess.run(["cargo", "build", "--quiet", "--release", "--offline", "--target-dir", target], cwd=room, check=True)
+    subprocess.run(["cargo", "build", "--quiet", "--release", "--offline", "--target-dir", target], cwd=room,
+                   check=True)
     return os.path.join(target, "release", "counted")
 
 
@@ -169,25 +189,30 @@ def build_c(room):
     source, program = os.path.join(room, "pair.c"), os.path.join(room, "pair")
     with open(source, "w") as file:
         file.write(C)
-    subprocess.run(["cc", "-O2", "-no-pie", "-I", f"{TOP}/bindings/c", source, f"{TOP}/bindings/c/vahepito_queue.c", *archives(), "-pthread", "-o", program], check=True)
+    subprocess.run(["cc", "-O2", "-no-pie", "-I", f"{TOP}/bindings/c", source, f"{TOP}/bindings/c/vahepito_queue.c",
+                    *archives(), "-pthread", "-o", program], check=True)
     return program
 
 
 def locked_in(program):
     """The addresses of its locked instructions."""
-    told = subprocess.run(["objdump", "-d", "-M", "intel", "--no-show-raw-insn", program], capture_output=True, text=True, check=True).stdout
+    told = subprocess.run(["objdump", "-d", "-M", "intel", "--no-show-raw-insn", program], capture_output=True,
+                          text=True, check=True).stdout
     return {int(at, 16) for at, _ in re.findall(r"^ *([0-9a-f]+):\t(lock |mfence|xchg [^\n]*\[)", told, re.M)}
 
 
 def instructions(command, room):
-    """How many instructions a run of this program executes, and how many locked ones of its own, if it has fixed addresses."""
+    """How many instructions a run of this program executes, and how many locked ones of its own, if it has fixed
+    addresses."""
     out, addresses = os.path.join(room, "counts"), locked_in(command[0])
-    counted = ["valgrind", "--tool=callgrind", "--dump-instr=yes", "--compress-pos=no", f"--callgrind-out-file={out}", *command]
+    counted = ["valgrind", "--tool=callgrind", "--dump-instr=yes", "--compress-pos=no", f"--callgrind-out-file={out}",
+               *command]
     done = subprocess.run(counted, capture_output=True, text=True, check=True)
     with open(out) as file:
         # A line behind `calls=` has what was called, and no cost of its own.
         costs = re.findall(r"^0x([0-9a-f]+) \d+ (\d+)$", re.sub(r"^calls=.*\n.*\n", "", file.read(), flags=re.M), re.M)
-    return int(re.search(r"Collected : (\d+)", done.stderr)[1]), sum(int(cost) for at, cost in costs if int(at, 16) in addresses)
+    return int(re.search(r"Collected : (\d+)", done.stderr)[1]), sum(int(cost)
+        for at, cost in costs if int(at, 16) in addresses)
 
 
 def main():
