@@ -34,7 +34,7 @@ from http.server import BaseHTTPRequestHandler, ThreadingHTTPServer
 sys.dont_write_bytecode = True
 HERE = pathlib.Path(__file__).resolve().parent
 sys.path.insert(0, str(HERE.parent))
-from programs import PROGRAM, TOP, by_hand, derived
+from programs import PROGRAM, TOP, by_hand as rows_of, derived
 
 INDEX = TOP / "docs/pages/index.html"
 PLANS = sorted(path for path in (TOP / "examples").glob("*.json") if not path.name.startswith("receipts"))
@@ -224,7 +224,7 @@ def lessons():
 
 def plans():
     """The plans of tests/rows.py."""
-    plays = [(name, row) for name, row in [*by_hand("worked_rows"), *derived()] if row.words == ["play"]]
+    plays = [(name, row) for name, row in [*rows_of("worked_rows"), *derived()] if row.words == ["play"]]
     with tempfile.TemporaryDirectory() as room:
         for name, row in plays:
             pathlib.Path(room, name).write_bytes(row.input)
