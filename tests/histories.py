@@ -202,7 +202,10 @@ LANES = """{"thread":"a","begin":1,"end":2,"send":11}
 # What is replaced in it, and what the lanes say.
 LANE_ROWS = [
     (("", ""), "lanes: 2 of 2 lanes are clean\n"),
-    (('"take":11}', '"take":13}'), "lanes: thread a: judge fault: taken twice: lines 6 and 9 took one item\nlanes: 1 of 2 lanes are clean\n"),
+    # 13 is taken while 11 and 12 are in the queue, and one take is pending: that shows before 13 is taken again.
+    (('"take":11}', '"take":13}'),
+     "lanes: thread a: judge fault: overtaken: line 3 had ended before line 4 began; the item of line 3 is not taken "
+     "before line 8 began, after line 6 took the other\nlanes: 1 of 2 lanes are clean\n"),
     (('"take":13}', '"take":99}'), "lanes: thread no line: judge fault: never sent: line 9 took an item that no accepted send sent\nlanes: 2 of 3 lanes are clean\n"),
     (('"thread":"d","begin":13,"take":null', '"thread":"d","begin":13,"end":14,"take":null'),
      "lanes: thread a: judge fault: overtaken: line 3 had ended before line 4 began; the item of line 3 is never taken, after line 9 took the other\nlanes: 1 of 2 lanes are clean\n"),

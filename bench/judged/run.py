@@ -86,7 +86,7 @@ class Program:
 BOUNDED = 16
 C = Program("C and C++", tools=["cc", "c++"], stops=True, queues=[
     Queue("locked", "std::deque under a lock, 16", capacity=BOUNDED, control=True),
-    Queue("planted_lost", "the same, each thousandth item lost", capacity=BOUNDED, planted="overtaken|not empty"),
+    Queue("planted_lost", "the same, each thousandth item lost", capacity=BOUNDED, planted="overtaken|not empty|too many"),
     Queue("planted_twice", "the same, each thousandth item given twice", capacity=BOUNDED, planted="taken twice"),
     Queue("planted_overtaken", "the same, each thousandth item overtaken", capacity=BOUNDED, planted="overtaken"),
     Queue("planted_full", "the same, full if it is empty", capacity=BOUNDED, planted="not full"),
