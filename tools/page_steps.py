@@ -11,15 +11,16 @@ A number is a BigInt, a list an array, a record an object, and a value of an enu
 `is` and what the variant holds by the names of its fields, or by 0, 1 and so on. A statement is whether it holds.
 """
 import copy
+import dataclasses
 import difflib
+import functools
 import json
 import re
 import sys
 
 sys.dont_write_bytecode = True
 import written
-from sources import Unreadable, read_files
-from statements import Reach
+from sources import TOP, Unreadable, brought, read_items, read_text
 
 MARKS = "// <steps>\n", "// </steps>\n"
 HEAD = """\
@@ -92,59 +93,104 @@ OPERATORS = [
 STOPS = {sign for level in OPERATORS for sign in level} | {"∷", ")", "}", ";", "=", "then", "else", None}
 
 
-class Names:
+@dataclasses.dataclass
+class Definition:
+    """A definition of specs/: its lines, each whole, and the names of the parameters of the section that it is in."""
+
+    lines: list
+    given: list
+
+
+class Module:
+    """A file of specs/: its definitions by their names, and pairs of the imported names and their paths."""
+
+    def __init__(self, text):
+        self.definitions, self.imports = {}, {}
+        lines = [re.sub(r" *--.*", "", line) for line in text.splitlines()]
+        given, indent = [], 0
+        for line in filter(str.strip, lines):
+            column = len(line) - len(line.lstrip())
+            if column == 0:
+                given, indent = [], 0
+            if line.startswith("module _ "):
+                indent = None
+                given = [name for names in re.findall(r"\(([^:()]+) :", line) for name in names.split()]
+                continue
+            indent = column if indent is None else indent
+            self.add(line.strip(), column > indent, given)
+
+    def add(self, line, is_inside, given):
+        use = re.match(r"(?:pub )?use (.*)", line)
+        begins = re.match(r"(?:abbrev |pub |unfoldable )*(?:record |data )?(\S+) .*:", line)
+        if use and not is_inside:
+            self.imports.update(brought(use[1]))
+        elif is_inside and not self.last.lines[0].endswith(" where"):
+            self.last.lines[-1] += " " + line
+        elif begins and not is_inside and (line.split()[0] in ("abbrev", "pub", "record", "data")
+                                           or not self.definitions):
+            self.last = self.definitions[begins[1]] = Definition([line], given)
+        else:
+            self.last.lines.append(line)
+
+
+@functools.cache
+def read_module(crate, path):
+    """The file of specs/ of a crate that has this path, if it is there."""
+    file = TOP / "crates" / crate / "specs" / (path.replace(".", "/") + ".antt")
+    return Module(read_text(file)) if file.is_file() else None
+
+
+def definition_at(place):
+    return read_module(*place[:2]).definitions[place[2]]
+
+
+def meaning(crate, module, words):
     """What a name means in a file of specs/: a definition, or a constructor with the names of what it holds."""
+    first, last = words[0], words[-1]
+    if last in FURTHER_PLACES:
+        return "constructor", last, FURTHER_PLACES[last]
+    if first in LIBRARY:
+        return "library", first
+    file = read_module(crate, module)
+    if first in file.definitions:
+        return "definition", crate, module, first
+    for definition in file.definitions.values():
+        shape = next((line for line in definition.lines[1:] if line.split()[0] == first and ":" in line), None)
+        if shape and definition.lines[0].endswith(" where"):
+            return "constructor", first, tuple(str(at) for at in range(shape.count("→")))
+    if first not in file.imports:
+        return None, first
+    crate, specs, *path = file.imports[first].split(".")
+    if crate == "std":
+        return ("constructor", first,
+                {"Some": ("0",), "None": ()}[first]) if first in ("Some", "None") else (None, first)
+    if path[0] == "declared":
+        module, enum = path[1:-1], path[-1]
+        while module[-1][0].isupper():
+            enum = module.pop()
+        return "constructor", last, fields(crate, module, enum, last)
+    if read_module(crate, ".".join(path)):
+        return meaning(crate, ".".join(path), words[1:])
+    return meaning(crate, ".".join(path[:-1]), [path[-1], *words[1:]])
 
-    def __init__(self):
-        self.reach = Reach(read_files())
 
-    def meaning(self, crate, module, words):
-        if words[-1] in FURTHER_PLACES:
-            return "constructor", words[-1], FURTHER_PLACES[words[-1]]
-        if words[0] in LIBRARY:
-            return "library", words[0]
-        file = self.reach.crates[crate].specs[module]
-        mine = file.known.get(words[0])
-        if mine:
-            return self.defined(crate, module, mine[0], words[0])
-        brought = next((one for one in file.imports if one.name == words[0]), None)
-        if not brought:
-            return None, words[0]
-        target = self.reach.target((crate, "specs", module), brought)
-        if target[0] == "module":
-            return self.meaning(target[1].name, target[2], words[1:])
-        if target[0] == "definition":
-            return self.defined(target[1].name, target[2], target[3][0], words[0])
-        if target[0] == "type":
-            return "constructor", words[-1], self.fields(target[1], target[2], words[-1])
-        option = {"Some": ("0",), "None": ()}.get(words[0])
-        if option is None:
-            return "library" if words[0] in LIBRARY else None, words[0]
-        return "constructor", words[0], option
-
-    def defined(self, crate, module, name, alias):
-        if name == alias:
-            return "definition", crate, module, name
-        lines = self.reach.crates[crate].specs[module].definitions[name].lines
-        shape = next(line for line in lines if line.split()[0] == alias)
-        return "constructor", alias, tuple(str(at) for at in range(shape.count("→")))
-
-    def fields(self, crate, enum, variant):
-        _, item = crate.types[enum][0]
-        for part in item.parts:
-            found = re.fullmatch(r"(\w+)(?: {(.*)}|\((.*)\))?", part)
-            if found and found[1] == variant:
-                named = tuple(field.split(":")[0].strip() for field in (found[2] or "").split(",") if field.strip())
-                return named or tuple(str(at) for at in range(len(found[3].split(",")) if found[3] else 0))
-        raise Unreadable(f"{enum} has no variant {variant}")
+def fields(crate, module, enum, variant):
+    """The names of what a variant of an enum of the code holds."""
+    items = read_items(read_text(TOP / "crates" / crate / "src" / ("/".join(module) + ".rt")))
+    for part in next(item.parts for item in items if (item.kind, item.name) == ("enum", enum)):
+        found = re.fullmatch(r"(\w+)(?: {(.*)}|\((.*)\))?", part)
+        if found and found[1] == variant:
+            named = tuple(field.split(":")[0].strip() for field in (found[2] or "").split(",") if field.strip())
+            return named or tuple(str(at) for at in range(len(found[3].split(",")) if found[3] else 0))
+    raise Unreadable(f"{enum} has no variant {variant}")
 
 
 class Text:
     """The reader of one line of a definition, which gives the JavaScript of its expressions."""
 
-    def __init__(self, line, names, place, known):
+    def __init__(self, line, place, known):
         self.tokens = re.findall(r"[(){};,]|[^\s(){};,]+", line)
-        self.names, self.place, self.known = names, place, known
+        self.place, self.known = place, known
         self.named = []
 
     def peek(self):
@@ -207,7 +253,7 @@ class Text:
         if first in self.known:
             value = ".".join([self.known[first]] + rest)
             return f"{value}({', '.join(arguments)})" if arguments else value
-        kind, *what = self.names.meaning(*self.place[:2], [first] + rest)
+        kind, *what = meaning(*self.place[:2], [first] + rest)
         if kind == "library":
             return LIBRARY[first].format(*arguments)
         if kind == "constructor":
@@ -216,10 +262,10 @@ class Text:
         if kind != "definition":
             raise Unreadable(f"{'/'.join(self.place)}: {head} is no name that can be written in JavaScript")
         self.named.append(tuple(what))
-        definition = self.names.reach.crates[what[0]].specs[what[1]].definitions[what[2]]
-        given = given_by(definition) if tuple(what[:2]) == self.place[:2] else []
+        definition = definition_at(what)
+        given = definition.given if tuple(what[:2]) == self.place[:2] else []
         name = f"{what[1]}_{what[2]}"
-        return name if not arguments and arity(definition) else f"{name}({', '.join(given + arguments)})"
+        return name if not arguments and arity(what[2], definition) else f"{name}({', '.join(given + arguments)})"
 
     def atom(self):
         token = self.take()
@@ -274,7 +320,7 @@ class Text:
                 return [f"{path}.length === 0"]
             parts = self.match(inside[0], f"{path}[0]") + self.match(inside[1], f"{path}.slice(1)")
             return [f"{path}.length > 0"] + parts
-        kind, *what = self.names.meaning(*self.place[:2], name.split("."))
+        kind, *what = meaning(*self.place[:2], name.split("."))
         if kind == "constructor":
             tests = [f"{path}.is === '{what[0]}'"]
             for field, part in zip(what[1], inside):
@@ -294,17 +340,12 @@ def applied(patterns):
     return patterns[0] if len(patterns) == 1 else (patterns[0][0], patterns[1:])
 
 
-def given_by(definition):
-    """The names of the parameters of the module that a definition stands in."""
-    return [name for group in re.findall(r"\(([^:()]+) :", definition.given) for name in group.split()]
+def equations(name, definition):
+    return [line for line in definition.lines if line.split()[0] == name and " = " in line]
 
 
-def equations(definition):
-    return [line for line in definition.lines if line.split()[0] == definition.name and " = " in line]
-
-
-def arity(definition):
-    head = Text(equations(definition)[0], None, (), {})
+def arity(name, definition):
+    head = Text(equations(name, definition)[0], (), {})
     head.take()
     return len(head.patterns())
 
@@ -313,7 +354,7 @@ def parameters(lines):
     """Names for the parameters: that which all lines give one that name it, or a number."""
     columns = []
     for line in lines:
-        head = Text(line, None, (), {})
+        head = Text(line, (), {})
         head.take()
         columns.append(head.patterns())
     names = []
@@ -324,17 +365,17 @@ def parameters(lines):
     return names
 
 
-def function(names, place, definition=None):
+def function(place, definition=None):
     """A definition, or one that is changed: its parameters, its cases, each with the tests that lead to its value, and
     the definitions that it names."""
-    definition = definition or names.reach.crates[place[0]].specs[place[1]].definitions[place[2]]
-    given, lines = given_by(definition), equations(definition)
+    definition = definition or definition_at(place)
+    given, lines = definition.given, equations(place[2], definition)
     if not lines:
         raise Unreadable(f"{'/'.join(place)} has no equations")
     own = parameters(lines)
     cases, named = [], []
     for line in lines:
-        text = Text(line, names, place, {name: name for name in given})
+        text = Text(line, place, {name: name for name in given})
         text.take()
         tests = [test for pattern, path in zip(text.patterns(), own) for test in text.match(pattern, path)]
         text.take("=")
@@ -380,7 +421,7 @@ def merged(place, cases, broken):
     return all_cases
 
 
-def changed(names):
+def changed():
     """The changed definitions, by the place of each and the name of its broken table; and of each table its lines
     before and after."""
     found, shows = {}, {}
@@ -388,7 +429,7 @@ def changed(names):
         for module, name, old, new in edits:
             place = ("cc_runs", module, name)
             if (place, variant) not in found:
-                found[place, variant] = copy.copy(names.reach.crates[place[0]].specs[module].definitions[name])
+                found[place, variant] = copy.copy(definition_at(place))
             definition = found[place, variant]
             at = [k for k, line in enumerate(definition.lines) if old in line]
             if len(at) != 1:
@@ -428,16 +469,16 @@ def wrapped(line):
 
 
 def machine():
-    names, found, left = Names(), {}, list(WANTED)
+    found, left = {}, list(WANTED)
     while left:
         place = left.pop()
         if place not in found:
-            found[place] = function(names, place)
+            found[place] = function(place)
             left += found[place][2]
-    changes, shows = changed(names)
+    changes, shows = changed()
     broken = {}
     for (place, variant), definition in changes.items():
-        given, cases, named = function(names, place, definition)
+        given, cases, named = function(place, definition)
         if given != found[place][0] or any(other not in found for other in named):
             raise Unreadable(f"{variant} has other parameters, or names a definition that the table doesn't")
         broken.setdefault(place, []).append((variant, cases))

@@ -1,6 +1,6 @@
 #!/usr/bin/env python3
-"""The table of steps of docs/ARCHITECTURE.md, written from the definitions in crates/cc_runs/specs: a row for each line of
-Lines, SendLines, TakeLines and CountLines that makes a step, and behind the rows of a file the functions that they
+"""The table of steps of docs/ARCHITECTURE.md, written from the definitions in crates/cc_runs/specs: a row for each line
+of Lines, SendLines, TakeLines and CountLines that makes a step, and behind the rows of a file the functions that they
 name.
 
     tools/steps_table.py            compares the document with the definitions; exit status 0 if it has their table

@@ -7,8 +7,8 @@ from sources import TOP, Unreadable
 
 
 def main(doc, made):
-    """Does what the words of the command line ask for, and returns the exit status. `made` gives the text that each path
-    of the tree has to have, or None for a file that has to go; `doc` is the script's documentation."""
+    """Does what the words of the command line ask for, and returns the exit status. `made` gives the text that each
+    path of the tree has to have, or None for a file that has to go; `doc` is the script's documentation."""
     script = f"tools/{pathlib.Path(sys.argv[0]).name}"
     if sys.argv[1:] not in ([], ["--write"]):
         is_help = sys.argv[1:] in (["-h"], ["--help"])
