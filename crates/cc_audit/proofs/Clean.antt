@@ -1,5 +1,5 @@
 -- Receipts that come from items in their places have no fault.
-use Rattle.std.proofs.Common.{◌≡◌, ℕ, ◌<◌, ◌≤◌, ◌==◌, ◌⊎◌, inl, inr, List, [], length, map, Option, Some, None, get_or, Any, IsSomeAnd, refl, sym, ap, ◌∙◌, subst, arith, length-append}
+use Rattle.std.proofs.Common.{◌≡◌, ℕ, ◌<◌, ◌≤◌, ◌==◌, ◌⊎◌, inl, inr, List, [], length, map, Option, Some, get_or, Any, IsSomeAnd, refl, sym, ap, ◌∙◌, subst, arith, length-append}
 use Rattle.std.specs.List.{slice_get}
 use Rattle.std.proofs.lemmas.Bool.{eqb-true}
 use Rattle.std.proofs.lemmas.List.{get_or-map, get_or_default, length-map}
@@ -119,8 +119,7 @@ module _ (sent : List Item) (takes : List TakeReceipt) (total : Option ℕ) (fai
       omega (arith, fair.numbers lower.0 h.0 x.0 y.0 (omega (arith, a, b, lower.4.1)) x.1 y.1 same, ap (λ (r : SendReceipt). r.number) is_x, ap (λ (r : SendReceipt). r.number) is_y, lower.4.2)
 
   below_total : (p : ℕ) → p < length sent → (r : Option ℕ) → ((n : ℕ) → r ≡ Some n → n ≡ length sent) → IsSomeAnd r (λ n. n ≤ p) → ⊥
-  below_total p l None all h = h
-  below_total p l (Some n) all h = absurd (omega (arith, all n refl, h))
+  below_total p l r all h = grind arith
 
   no_overrun : (p : ℕ) → Overrun sends takes total p → ⊥
   no_overrun p h = below_total p (within h.1) total fair.all h.0

@@ -7,8 +7,7 @@ use Rattle.std.proofs.lemmas.List.Sorted.{IsPermutation-sym, Contains-permutatio
 
 pub any_permuted : {X : Type 0} (P : X → Type 0) (xs ys : List X) → IsPermutation xs ys → Any P xs → Any P ys
 any_permuted P xs ys same h =
-    let there : Contains ys h.1 = Contains-permutation xs ys h.1 same (h.0, h.2, h.3) in
-    (there.0, h.1, there.1, there.2, h.4)
+    let there = Contains-permutation xs ys h.1 same (h.0, h.2, h.3) in (there.0, h.1, there.1, there.2, h.4)
 
 pub any_back : {X : Type 0} (P : X → Type 0) (xs ys : List X) → IsPermutation xs ys → Any P ys → Any P xs
 any_back P xs ys same = any_permuted P ys xs (IsPermutation-sym xs ys same)
@@ -52,9 +51,7 @@ module _ {X : Type 0} (f : X → ℕ) (xs : List X) (ys : List ℕ) (same : IsPe
   unlisted p h = any_unlisted (λ q. q ≡ p) p h refl
 
   pub any_listed : (P : ℕ → Type 0) → Any (λ x. P (f x)) xs → Any P ys
-  any_listed P h =
-      let there : Contains ys (f h.1) = listed (f h.1) (h.0, h.1, h.2, h.3, refl) in
-      (there.0, f h.1, there.1, there.2, h.4)
+  any_listed P h = let there = listed (f h.1) (h.0, h.1, h.2, h.3, refl) in (there.0, f h.1, there.1, there.2, h.4)
 
   pub count_listed : (p : ℕ) → count_by (λ y. y == p) ys ≡ count_by (λ x. f x == p) xs
   count_listed p = count_permuted (λ y. y == p) (map f xs) ys same ∙ sum_by-map f (λ y. cond (y == p) 1 0) xs

@@ -1,9 +1,9 @@
 -- The verdict, kind by kind.
 use Rattle.std.proofs.Common.{◌≡◌, ℕ, zero, suc, ◌+◌, ◌<◌, ◌≤◌, inl, inr, List, Bool, true, false, cond, Option, Some, None, nat_lt, refl, sym, subst, arith}
 use Rattle.cc_audit.specs.Names.{SendReceipt, TakeReceipt, Verdict}
-use Rattle.std.proofs.lemmas.Bool.{cases_lt, ltb-true, ltb-false}
+use Rattle.std.proofs.lemmas.Bool.{ltb-true, ltb-false, cases_lt}
 use Rattle.cc_audit.specs.Least.{IsLeastUnless, or_fault_of}
-use Rattle.cc_audit.specs.Verdict.{Holds, double_accept, double_take, stranger, altered, gap, disorder, overrun, DoubleAccept, DoubleTake, Stranger, Altered, Gap, Disorder, Overrun, IsVerdict}
+use Rattle.cc_audit.specs.Verdict.{Holds, DoubleAccept, DoubleTake, Stranger, Altered, Gap, Disorder, Overrun, IsVerdict}
 
 -- what it is that a kind holds
 abbrev pub Meaning : List SendReceipt → List TakeReceipt → Option ℕ → (p kind : ℕ) → Type 0
@@ -17,23 +17,11 @@ Meaning sends takes total p (suc (suc (suc (suc (suc (suc (suc zero))))))) = Ove
 Meaning sends takes total p _ = ⊥
 
 pub meaning_of : {sends : List SendReceipt} {takes : List TakeReceipt} {total : Option ℕ} {kind p : ℕ} → Holds sends takes total kind p → Meaning sends takes total p kind
-meaning_of {sends} {takes} {total} {kind} {p} (double_accept is h) = subst (Meaning sends takes total p) (sym is) h
-meaning_of {sends} {takes} {total} {kind} {p} (double_take is h) = subst (Meaning sends takes total p) (sym is) h
-meaning_of {sends} {takes} {total} {kind} {p} (stranger is h) = subst (Meaning sends takes total p) (sym is) h
-meaning_of {sends} {takes} {total} {kind} {p} (altered is h) = subst (Meaning sends takes total p) (sym is) h
-meaning_of {sends} {takes} {total} {kind} {p} (gap is h) = subst (Meaning sends takes total p) (sym is) h
-meaning_of {sends} {takes} {total} {kind} {p} (disorder is h) = subst (Meaning sends takes total p) (sym is) h
-meaning_of {sends} {takes} {total} {kind} {p} (overrun is h) = subst (Meaning sends takes total p) (sym is) h
+meaning_of {sends} {takes} {total} {kind} {p} h = grind arith
 
 -- the kinds are numbered 1 to 7
 pub kind_bounds : {sends : List SendReceipt} {takes : List TakeReceipt} {total : Option ℕ} {kind p : ℕ} → Holds sends takes total kind p → (1 ≤ kind) × (kind ≤ 7)
-kind_bounds (double_accept is h) = (omega arith, omega arith)
-kind_bounds (double_take is h) = (omega arith, omega arith)
-kind_bounds (stranger is h) = (omega arith, omega arith)
-kind_bounds (altered is h) = (omega arith, omega arith)
-kind_bounds (gap is h) = (omega arith, omega arith)
-kind_bounds (disorder is h) = (omega arith, omega arith)
-kind_bounds (overrun is h) = (omega arith, omega arith)
+kind_bounds h = grind arith
 
 -- ---- the verdict on the first kinds alone
 

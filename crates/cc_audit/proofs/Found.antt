@@ -13,8 +13,7 @@ reworded P Q M N None there back masked least = λ q h. masked q (least q (back 
 reworded P Q M N (Some p) there back masked least = (elim least.0 [ inl h ↦ inl (there p h) | inr h ↦ inr (masked p h) ], λ q below h. masked q (least.1 q below (back q h)))
 
 exact : (P Q N : ℕ → Type 0) (r : Option ℕ) → ((p : ℕ) → P p → Q p) → ((p : ℕ) → Q p → P p) → IsLeast P r → IsLeastUnless Q N r
-exact P Q N None there back least = λ q h. absurd (least q (back q h))
-exact P Q N (Some p) there back least = (inl (there p least.0), λ q below h. absurd (least.1 q below (back q h)))
+exact P Q N r there back least = grind arith
 
 module _ (sends : List SendReceipt) (takes : List TakeReceipt) (total : Option ℕ) (sent taken : List ℕ) (sent_same : IsPermutation (map (λ s. s.place) sends) sent) (taken_same : IsPermutation (map (λ t. t.item.place) takes) taken) where
   place : SendReceipt → ℕ

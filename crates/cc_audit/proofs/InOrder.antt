@@ -5,7 +5,7 @@ use Rattle.std.specs.List.Sorted.{IsNonDecreasing, IsBinarySearchResult}
 use Rattle.std.proofs.lemmas.List.{get_or_default}
 use Rattle.std.proofs.lemmas.List.Sorted.{searched}
 use Rattle.std.proofs.lemmas.List.Elements.{Contains-get_or}
-use Rattle.std.proofs.lemmas.Bool.{cases_lt, eqb-true}
+use Rattle.std.proofs.lemmas.Bool.{eqb-true, cases_lt}
 use Rattle.cc_audit.specs.Least.{IsLeast, sooner_of}
 use Rattle.cc_audit.proofs.Soonest.{least_either, least_same}
 use Rattle.cc_audit.proofs.Counts.{Two, count_of_two, two_of_count}
@@ -28,10 +28,7 @@ twice_at xs p n rises h =
     let two : Two (λ x. x == p) xs = two_of_count (λ x. x == p) xs h in
     let at_first : get_or xs two.first 0 ≡ p = eqb-true _ p (two.first_passes 0) in
     let at_second : get_or xs two.second 0 ≡ p = eqb-true _ p (two.second_passes 0) in
-    elim (cases_lt two.second n) [
-      | inl below ↦ absurd (omega (arith, rises two.first two.second two.order below))
-      | inr past ↦ (two.second, past, two.below, at_second)
-    ]
+    grind (arith, rises two.first two.second two.order, two.second, two.below)
 
 pub none_twice : (xs : List ℕ) (n : ℕ) → length xs ≤ n → Rises xs n → IsLeast (TwiceIn xs) None
 none_twice xs n all rises = λ q h. let second = twice_at xs q n rises h in absurd (omega (arith, second.1, second.2))
@@ -43,14 +40,7 @@ first_twice xs i p up pos l is before rises = (
 )
 
 pub rises_more : (xs : List ℕ) (i p : ℕ) → IsNonDecreasing xs → 0 < i → i < length xs → p ≡ get_or xs i 0 → (p ≡ get_or xs (i - 1) 0 → ⊥) → Rises xs i → Rises xs (i + 1)
-rises_more xs i p up pos l is differ rises = λ a b lt below. elim (cases_lt b i) [
-  | inl under ↦ rises a b lt under
-  | inr over ↦ (
-      let same : i ≡ b = omega arith in
-      let step : get_or xs a 0 ≤ get_or xs (i - 1) 0 = up a (i - 1) 0 (omega arith) (omega arith) in
-      let last : get_or xs (i - 1) 0 ≤ get_or xs i 0 = up (i - 1) i 0 (omega arith) l in
-      subst (λ (k : ℕ). get_or xs a 0 < get_or xs k 0) same (omega arith))
-]
+rises_more xs i p up pos l is differ rises = λ a b lt below. grind (arith, rises a b lt, up a (i - 1) 0, up (i - 1) i 0)
 
 -- ---- a number that another list lacks
 
@@ -59,10 +49,7 @@ lacks xs x (Ok i) found up missing h = cc
 lacks xs x (Err i) found up missing h =
     let here = at xs x h in
     let round = searched xs x (Err i) found (λ a b. up a b 0) in
-    elim (cases_lt here.0 i) [
-      | inl below ↦ absurd (omega (arith, round.1 here.0 below, here.2))
-      | inr past ↦ absurd (omega (arith, round.2 here.0 past here.1, here.2))
-    ]
+    grind (arith, round.1 here.0, here.2, round.2 here.0, here.1)
 
 pub has : (xs : List ℕ) (x : ℕ) (r : Result ℕ ℕ) → IsBinarySearchResult (λ y. nat_cmp y x) xs r → IsNonDecreasing xs → is_err r ≡ false → Contains xs x
 has xs x (Ok i) found up hit =
@@ -84,10 +71,7 @@ first_unsent sent taken i p up l is missing each = (
   (subst (Contains taken) (sym is) (Contains-get_or taken i 0 l), missing),
   λ q below h.
       let here = at taken q h.0 in
-      elim (cases_lt here.0 i) [
-        | inl under ↦ h.1 (subst (Contains sent) here.2 (each here.0 under))
-        | inr past ↦ absurd (omega (arith, up i here.0 0 past here.1, here.2, is))
-      ],
+      grind (arith, h.1, here.2, each here.0, up i here.0 0, here.1),
 )
 
 -- ---- a number that is left out

@@ -6,7 +6,7 @@ use Rattle.cc_model.specs.Record.{Record, of_group}
 use Rattle.cc_model.specs.Items.{IsPrefix, accepted, accepted_by, accepted_item, handed_by, handed_item, of_sender}
 use Rattle.cc_model.specs.Legal.{Legal, LegalTakes, SendSideAnswer, SendSideAnswers, TakeSideAnswer, TakeSideAnswers, IsReceivers}
 use Rattle.cc_model.specs.Fifo.{RisesFrom}
-use Rattle.cc_audit.specs.Names.{Config, Pass, Call, Item, Entry, Answer, SendAnswer, CloseAnswer, TakeAnswer, TakeReceipt}
+use Rattle.cc_audit.specs.Names.{Config, Pass, Call, Item, Entry, Answer, SendAnswer, CloseAnswer, TakeReceipt}
 use Rattle.cc_model.proofs.Prefixes.{map-append}
 use Rattle.cc_model.proofs.Grows.{accepted_places}
 use Rattle.cc_model.proofs.InOrder.{handed_front, accepted_rise}
@@ -16,11 +16,7 @@ use Rattle.cc_audit.proofs.Clean.{Fair}
 -- ---- the items on the take receipts are those handed out
 
 item_taken : (cfg : Config) (g : ℕ) (items : List Item) (shut : Bool) (n known : ℕ) (p : Pass) (k : Call) (a : Answer) → IsReceivers cfg g p k → TakeSideAnswer items shut n known a → map (λ (t : TakeReceipt). t.item) (take_receipt p a) ≡ handed_item a
-item_taken cfg g items shut n known (Pass.Sender s) k a is h = absurd is
-item_taken cfg g items shut n known (Pass.Receiver r) k (Answer.Take (TakeAnswer.Got item)) is h = refl
-item_taken cfg g items shut n known (Pass.Receiver r) k (Answer.Take TakeAnswer.Empty) is h = refl
-item_taken cfg g items shut n known (Pass.Receiver r) k (Answer.Take (TakeAnswer.Ended total)) is h = refl
-item_taken cfg g items shut n known (Pass.Receiver r) k _ is h = absurd h
+item_taken cfg g items shut n known p k a is h = grind arith
 
 items_taken : (cfg : Config) (g : ℕ) (items : List Item) (shut : Bool) (n : ℕ) (calls : List Entry) (answers : List Answer) → TakeSideAnswers items shut n calls answers → AllByRecursion (λ c. IsReceivers cfg g c.pass c.call) calls
     → map (λ (t : TakeReceipt). t.item) (takes_by calls answers) ≡ handed_by answers
@@ -57,12 +53,10 @@ low_enough s low (y ∷ items) i x up is own = low_head s low y items i x (λ m 
 
 apart_head : (s low : ℕ) (z : Item) (items : List Item) (i j : ℕ) (x y : Item) → ((m k l : ℕ) → Rises m (of_sender s items) → k < l → slice_get items k ≡ Some x → slice_get items l ≡ Some y → x.number < y.number)
     → (b : Bool) → z.sender == s ≡ b → Rises low (cond b (z ∷ of_sender s items) (of_sender s items)) → i < j → slice_get (z ∷ items) i ≡ Some x → slice_get (z ∷ items) j ≡ Some y → x.sender ≡ s → y.sender ≡ s → x.number < y.number
-apart_head s low z items zero zero x y later b own_z up lt is_x is_y own_x own_y = absurd (omega (arith, lt))
-apart_head s low z items (suc i) zero x y later b own_z up lt is_x is_y own_x own_y = absurd (omega (arith, lt))
 apart_head s low z items zero (suc j) x y later true own_z up lt is_x is_y own_x own_y = omega (arith, low_enough s (z.number + 1) items j y up.1 is_y own_y, ap (λ (r : Item). r.number) (same_item z x is_x))
 apart_head s low z items (suc i) (suc j) x y later true own_z up lt is_x is_y own_x own_y = later (z.number + 1) i j up.1 (omega (arith, lt)) is_x is_y
 apart_head s low z items zero (suc j) x y later false other up lt is_x is_y own_x own_y = absurd (not_own s x z other is_x own_x)
-apart_head s low z items (suc i) (suc j) x y later false other up lt is_x is_y own_x own_y = later low i j up (omega (arith, lt)) is_x is_y
+apart_head s low z items i j x y later b l up lt is_x is_y own_x own_y = grind arith
 
 apart : (s low : ℕ) (items : List Item) (i j : ℕ) (x y : Item) → Rises low (of_sender s items) → i < j → slice_get items i ≡ Some x → slice_get items j ≡ Some y → x.sender ≡ s → y.sender ≡ s → x.number < y.number
 apart s low [] i j x y up lt is_x is_y own_x own_y = cc
@@ -72,9 +66,7 @@ apart s low (z ∷ items) i j x y up lt is_x is_y own_x own_y =
 -- ---- the total is all that was accepted
 
 no_accept : (cfg : Config) (n known place : ℕ) (k : Call) → SendSideAnswer cfg n true known k (Answer.Send (SendAnswer.Accepted place)) → ⊥
-no_accept cfg n known place (Call.Send body) h = h
-no_accept cfg n known place Call.Close h = h
-no_accept cfg n known place Call.Take h = h
+no_accept cfg n known place k h = grind arith
 
 none_accepted : (cfg : Config) (n known : ℕ) (c : Entry) (a : Answer) → SendSideAnswer cfg n true known c.call a → accepted_item c a ≡ []
 none_accepted cfg n known c (Answer.Send (SendAnswer.Accepted place)) h = absurd (no_accept cfg n known place c.call h)
@@ -82,15 +74,11 @@ none_accepted cfg n known c _ h = refl
 
 -- nothing is accepted after a close
 closed : (cfg : Config) (n : ℕ) (calls : List Entry) (answers : List Answer) → SendSideAnswers cfg n true calls answers → accepted_by calls answers ≡ []
-closed cfg n [] [] h = refl
-closed cfg n (c ∷ calls) [] h = refl
-closed cfg n [] (a ∷ answers) h = absurd h
 closed cfg n (c ∷ calls) (a ∷ answers) h = ap (λ (l : List Item). l ++ accepted_by calls answers) (none_accepted cfg n c.known c a h.0) ∙ closed cfg (n + length (accepted_item c a)) calls answers h.1
+closed cfg n calls answers h = grind arith
 
 total_told : (cfg : Config) (n known total : ℕ) (k : Call) → SendSideAnswer cfg n false known k (Answer.Close (CloseAnswer.Shut total)) → total ≡ n
-total_told cfg n known total (Call.Send body) h = absurd h
-total_told cfg n known total Call.Close h = h
-total_told cfg n known total Call.Take h = absurd h
+total_told cfg n known total k h = grind arith
 
 total_is : (cfg : Config) (n : ℕ) (calls : List Entry) (answers : List Answer) (t : ℕ) → SendSideAnswers cfg n false calls answers → total_by answers ≡ Some t → t ≡ n + length (accepted_by calls answers)
 total_is cfg n calls [] t h is = cc
@@ -98,10 +86,9 @@ total_is cfg n [] (a ∷ answers) t h is = absurd h
 total_is cfg n (c ∷ calls) (Answer.Close (CloseAnswer.Shut total) ∷ answers) t h is =
     let same : total ≡ t = cc in
     omega (arith, total_told cfg n c.known total c.call h.0, ap length (closed cfg (n + 0) calls answers h.1))
-total_is cfg n (c ∷ calls) (Answer.Close (CloseAnswer.Already total) ∷ answers) t h is = omega (arith, total_is cfg (n + 0) calls answers t h.1 is)
 total_is cfg n (c ∷ calls) (Answer.Send x ∷ answers) t h is =
     omega (arith, total_is cfg (n + length (accepted_item c (Answer.Send x))) calls answers t h.1 is, length-append (accepted_item c (Answer.Send x)) (accepted_by calls answers))
-total_is cfg n (c ∷ calls) (Answer.Take x ∷ answers) t h is = omega (arith, total_is cfg (n + 0) calls answers t h.1 is)
+total_is cfg n (c ∷ calls) (_ ∷ answers) t h is = omega (arith, total_is cfg (n + 0) calls answers t h.1 is)
 
 pub fair_of : (cfg : Config) (h : Record) (g : ℕ) → g < cfg.groups → Legal cfg h → Fair (accepted h) (takes_of h g) (total_of h)
 fair_of cfg h g inside legal =

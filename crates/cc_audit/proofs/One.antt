@@ -1,5 +1,5 @@
 -- The same receipts have one verdict.
-use Rattle.std.proofs.Common.{◌≡◌, ℕ, inl, inr, List, Option, refl, sym, ap, ◌∙◌}
+use Rattle.std.proofs.Common.{◌≡◌, ℕ, inl, inr, List, Option, sym, refl, ap, ◌∙◌}
 use Rattle.std.proofs.lemmas.Bool.{cases_order}
 use Rattle.cc_audit.specs.Names.{SendReceipt, TakeReceipt, Verdict}
 use Rattle.cc_audit.specs.Verdict.{IsVerdict, IsFirstFault}

@@ -1,8 +1,8 @@
 -- The verdict on the same receipts in another order.
-use Rattle.std.proofs.Common.{◌≡◌, ℕ, ◌<◌, ◌≤◌, ◌==◌, inl, inr, List, Option, IsPermutation, sym, subst}
+use Rattle.std.proofs.Common.{ℕ, List, Option, IsPermutation, ◌≡◌, ◌<◌, ◌≤◌, ◌==◌, inl, inr, sym, subst}
 use Rattle.std.proofs.lemmas.List.Sorted.{IsPermutation-sym}
 use Rattle.cc_audit.specs.Names.{SendReceipt, TakeReceipt, Verdict}
-use Rattle.cc_audit.specs.Verdict.{Holds, double_accept, double_take, stranger, altered, gap, disorder, overrun, SendNames, TakeNames, Differs, IsVerdict}
+use Rattle.cc_audit.specs.Verdict.{Holds, IsVerdict, double_accept, double_take, stranger, altered, gap, disorder, overrun, SendNames, TakeNames, Differs}
 use Rattle.cc_audit.proofs.Copies.{any_permuted, any_back, any_weaker, count_permuted}
 
 holds_again : {sends sends' : List SendReceipt} {takes takes' : List TakeReceipt} {total : Option ℕ} {kind p : ℕ} → IsPermutation sends sends' → IsPermutation takes takes' → Holds sends takes total kind p → Holds sends' takes' total kind p

@@ -1,10 +1,8 @@
 -- Send receipts by reference: what the lists of the receipts themselves show.
-use Rattle.std.proofs.Common.{◌≡◌, ℕ, ◌+◌, ◌-◌, ◌<◌, ◌≤◌, inl, inr, List, [], ◌∷◌, length, Option, Some, Ok, Err, get_or, sym, ap, ◌∙◌, subst, arith}
+use Rattle.std.proofs.Common.{◌≡◌, ℕ, ◌+◌, ◌-◌, ◌<◌, ◌≤◌, List, [], ◌∷◌, length, Option, Some, Ok, Err, get_or, sym, ap, ◌∙◌, subst, arith}
 use Rattle.std.specs.Borrow.{Bor}
 use Rattle.std.specs.Ordering.{nat_cmp}
-use Rattle.std.specs.declared.cmp.Ordering.{Ordering}
 use Rattle.std.specs.List.Sorted.{IsBinarySearchResult, IsNonDecreasingBy, IsSortedByKey}
-use Rattle.std.proofs.lemmas.Bool.{cases_lt}
 use Rattle.std.proofs.lemmas.Cmp.{ranked, nat_cmp_total}
 use Rattle.std.proofs.lemmas.List.{length-map, get_or-map}
 use Rattle.std.proofs.lemmas.List.Sorted.{searchable_from_sorted}
@@ -41,10 +39,7 @@ referred_miss (r ∷ rs) x i up found other =
     let l : other.0 < length all = omega (arith, other.2, as_many all) in
     let round = found (searchable_from_sorted nat_cmp_total (λ (r : Bor SendReceipt). r.now.place) all x.place up) in
     let names : (get_or all other.0 r).now.place ≡ x.place = ap (λ (s : SendReceipt). s.place) (sym (read all other.0 r other.1 l) ∙ other.3) ∙ other.4.0 in
-    elim (cases_lt other.0 i) [
-      | inl below ↦ (let less : (get_or all other.0 r).now.place < x.place = ranked _ x.place Ordering.Less (sym (round.0 other.0 r (omega arith) below)) in absurd (omega arith))
-      | inr past ↦ (let more : x.place < (get_or all other.0 r).now.place = ranked _ x.place Ordering.Greater (sym (round.1 other.0 r past l)) in absurd (omega arith))
-    ]
+    grind (arith, ranked, x.place, round.0 other.0 r, round.1 other.0 r)
 
 -- ---- the receipts of each sender together
 

@@ -1,5 +1,5 @@
 -- The clauses refuse these claims.
-use Rattle.std.proofs.Common.{◌≡◌, [], ◌∷◌, Some, None, refl, arith}
+use Rattle.std.proofs.Common.{[], ◌∷◌, Some, None, refl, arith}
 use Rattle.cc_audit.specs.Names.{Verdict}
 use Rattle.cc_audit.specs.Receipts.{send_receipt}
 use Rattle.cc_audit.specs.Verdict.{Holds, IsVerdict}

@@ -1,5 +1,5 @@
 -- The least of places that come one after another.
-use Rattle.std.proofs.Common.{◌≡◌, ℕ, ◌<◌, ◌≤◌, ◌⊎◌, inl, inr, Bool, true, false, cond, Option, Some, None, IfSome, IsSomeAnd, nat_lt, refl, sym, subst, arith}
+use Rattle.std.proofs.Common.{◌≡◌, ℕ, ◌<◌, ◌≤◌, ◌⊎◌, inl, inr, Bool, true, false, cond, Option, Some, None, IfSome, IsSomeAnd, nat_lt, sym, subst, arith}
 use Rattle.std.proofs.lemmas.Bool.{cases_lt, ltb-true, ltb-false}
 use Rattle.cc_audit.specs.Least.{IsLeast, IsLeastUnless, sooner_of}
 
@@ -13,8 +13,7 @@ lesser : (x y : ℕ) → (cond (nat_lt y x) y x ≤ x) × (cond (nat_lt y x) y x
 lesser x y = by_test (nat_lt y x) (λ t. ltb-true y x t) (λ t. ltb-false y x t)
   where
     by_test : (b : Bool) → (b ≡ true → y < x) → (b ≡ false → x ≤ y) → (cond b y x ≤ x) × (cond b y x ≤ y) × ((cond b y x ≡ x) ⊎ (cond b y x ≡ y))
-    by_test true under over = (omega (arith, under refl), omega arith, inr refl)
-    by_test false under over = (omega arith, omega (arith, over refl), inl refl)
+    by_test b under over = grind arith
 
 pub at_most_left : (a b : Option ℕ) (q : ℕ) → AtMost a q → AtMost (sooner_of a b) q
 at_most_left None b q h = absurd h
@@ -34,16 +33,14 @@ found_sooner P (Some x) (Some y) h k = elim ((lesser x y).2) [ inl is ↦ subst 
 -- ---- what was found is the least
 
 pub least_of : (P : ℕ → Type 0) (r : Option ℕ) → IfSome r P → ((q : ℕ) → P q → AtMost r q) → IsLeast P r
-least_of P None found each = each
-least_of P (Some p) found each = (found, λ q below h. absurd (omega (arith, each q h)))
+least_of P r found each = grind arith
 
 pub unless_of : (P M : ℕ → Type 0) (r : Option ℕ) → IfSome r (λ p. P p ⊎ M p) → ((q : ℕ) → P q → M q ⊎ AtMost r q) → IsLeastUnless P M r
 unless_of P M None found each = λ q h. elim (each q h) [ inl masked ↦ masked | inr no_place ↦ absurd no_place ]
 unless_of P M (Some p) found each = (found, λ q below h. elim (each q h) [ inl masked ↦ masked | inr past ↦ absurd (omega (arith, past)) ])
 
 pub found_of : (P : ℕ → Type 0) (r : Option ℕ) → IsLeast P r → IfSome r P
-found_of P None least = tt
-found_of P (Some p) least = least.0
+found_of P r least = grind arith
 
 pub each_of : (P : ℕ → Type 0) (r : Option ℕ) → IsLeast P r → (q : ℕ) → P q → AtMost r q
 each_of P None least q h = least q h
@@ -56,14 +53,11 @@ least_either P Q a b left right = least_of (λ p. P p ⊎ Q p) (sooner_of a b)
     (λ q h. elim h [ inl here ↦ at_most_left a b q (each_of P a left q here) | inr here ↦ at_most_right a b q (each_of Q b right q here) ])
   where
     widen_left : (r : Option ℕ) → IfSome r P → IfSome r (λ p. P p ⊎ Q p)
-    widen_left None h = tt
-    widen_left (Some p) h = inl h
+    widen_left r h = grind arith
 
     widen_right : (r : Option ℕ) → IfSome r Q → IfSome r (λ p. P p ⊎ Q p)
-    widen_right None h = tt
-    widen_right (Some p) h = inr h
+    widen_right r h = grind arith
 
 -- two facts that hold at the same places
 pub least_same : (P Q : ℕ → Type 0) (r : Option ℕ) → ((p : ℕ) → P p → Q p) → ((p : ℕ) → Q p → P p) → IsLeast P r → IsLeast Q r
-least_same P Q None there back least = λ q h. least q (back q h)
-least_same P Q (Some p) there back least = (there p least.0, λ q below h. least.1 q below (back q h))
+least_same P Q r there back least = grind arith

@@ -3,7 +3,7 @@ use Rattle.std.proofs.Common.{◌≡◌, ℕ, ◌+◌, ◌<◌, ◌≤◌, ◌==
 use Rattle.std.specs.Ordering.{nat_cmp}
 use Rattle.std.specs.declared.cmp.Ordering.{Ordering}
 use Rattle.std.specs.List.Sorted.{IsBinarySearchResult}
-use Rattle.std.proofs.lemmas.Bool.{cases_lt, cases_order}
+use Rattle.std.proofs.lemmas.Bool.{cases_order, cases_lt}
 use Rattle.std.proofs.lemmas.Cmp.{ranked}
 use Rattle.std.proofs.lemmas.List.{get_or_default}
 use Rattle.cc_audit.specs.Names.{Item, SendReceipt, TakeReceipt}
@@ -52,16 +52,7 @@ seen_more sends takes n first d l seen altered =
     let t = get_or takes n d in
     record {
       found = found_sooner (λ p. Altered sends takes p ⊎ DoubleAccept sends p) first (Some t.item.place) seen.found (inl (n, t, l, get_or_default takes n t d l, (refl, altered)));
-      each = λ k e lt other. elim (cases_lt k n) [
-        | inl below ↦ elim (seen.each k e below other) [
-          | inl double ↦ inl double
-          | inr found ↦ inr (at_most_left first (Some t.item.place) _ found)
-        ]
-        | inr past ↦ (
-            let same : n ≡ k = omega arith in
-            let here : t ≡ get_or takes k e = get_or_default takes n d e l ∙ ap (λ (j : ℕ). get_or takes j e) same in
-            inr (at_most_right first (Some t.item.place) _ (omega (arith, ap (λ (r : TakeReceipt). r.item.place) here))))
-      ];
+      each = λ k e lt other. grind (arith, seen.each k e, at_most_left, get_or_default, at_most_right);
     }
 
 pub seen_same : (sends : List SendReceipt) (takes : List TakeReceipt) (n : ℕ) (first : Option ℕ) (d : TakeReceipt) → n < length takes → Seen sends takes n first → (AlteredBy sends (get_or takes n d).item → DoubleAccept sends (get_or takes n d).item.place) → Seen sends takes (n + 1) first

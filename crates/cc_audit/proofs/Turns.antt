@@ -1,7 +1,7 @@
 -- A sender's receipts out of turn, found at neighbours.
-use Rattle.std.proofs.Common.{◌≡◌, ℕ, zero, suc, ◌+◌, ◌-◌, ◌<◌, ◌≤◌, ◌==◌, ◌⊎◌, inl, inr, List, length, Option, Some, None, get_or, IfSome, refl, sym, ap, ◌∙◌, subst, arith, eq-eqb}
-use Rattle.std.specs.List.Sorted.{IsNonDecreasingBy}
 use Rattle.std.proofs.lemmas.Bool.{cases_lt}
+use Rattle.std.proofs.Common.{◌≡◌, ℕ, zero, suc, ◌+◌, ◌-◌, ◌<◌, ◌≤◌, ◌⊎◌, inr, List, length, Option, Some, get_or, IfSome, refl, sym, ap, ◌∙◌, subst, arith, eq-eqb, ◌==◌, inl}
+use Rattle.std.specs.List.Sorted.{IsNonDecreasingBy}
 use Rattle.std.proofs.lemmas.List.{get_or_default}
 use Rattle.cc_audit.specs.Names.{SendReceipt}
 use Rattle.cc_audit.specs.Least.{IsLeastUnless, RisesInSenders, sooner_of}
@@ -30,16 +30,15 @@ descent {n} {sender} {place} number first g low (suc k) a b is l same falls =
     let c = b - 1 in
     let left : sender a ≡ sender c = omega (arith, g.senders a c (omega arith) (omega arith), g.senders c b (omega arith) l) in
     let right : sender c ≡ sender b = omega arith in
-    elim (cases_lt (number c) (number b)) [
-      | inl rises ↦ (
-          let early : AtMost first (place c) = descent number first g low k a c (omega arith) (omega arith) left (omega arith) in
-          at_most_up first (place c) (place b) (g.places c b (omega arith) l right) early)
-      | inr here ↦ low c b (omega arith) l right here
-    ]
+    grind (
+      arith,
+      descent number first g low k a c,
+      at_most_up first (place c) (place b) (g.places c b (omega arith) l right),
+      low c b,
+    )
   where
     at_most_up : (r : Option ℕ) (p q : ℕ) → p ≤ q → AtMost r p → AtMost r q
-    at_most_up None p q le h = h
-    at_most_up (Some x) p q le h = omega (arith, h)
+    at_most_up r p q le h = grind arith
 
 -- what the neighbours below n show
 pub record Walked (sends : List SendReceipt) (n : ℕ) (first : Option ℕ) : Type 0 where
@@ -57,11 +56,7 @@ same_read sends i j d e l same = get_or_default sends i d e l ∙ ap (λ (k : �
 pub walked_on : (sends : List SendReceipt) (i : ℕ) (first : Option ℕ) (d e : SendReceipt) → 0 < i → i < length sends → Walked sends i first → (OutOfTurn (get_or sends (i - 1) d) (get_or sends i e) → ⊥) → Walked sends (i + 1) first
 walked_on sends i first d e pos l walked fine = record {
   found = walked.found;
-  each = λ a b f next lt same falls. elim (cases_lt b i) [
-    | inl below ↦ walked.each a b f next below same falls
-    | inr past ↦ absurd (fine (subst (λ (r : SendReceipt). OutOfTurn r (get_or sends i e)) (same_read sends a (i - 1) f d (omega arith) (omega arith))
-        (subst (OutOfTurn (get_or sends a f)) (same_read sends b i f e (omega arith) (omega arith)) (same, falls))))
-  ];
+  each = λ a b f next lt same falls. grind (arith, walked.each a b f next, same_read);
 }
 
 neighbours_rise : (sends : List SendReceipt) → RisesInSenders sends → (i j : ℕ) (d : SendReceipt) → j ≡ i + 1 → j < length sends → (get_or sends i d).sender ≡ (get_or sends j d).sender → (get_or sends i d).place ≤ (get_or sends j d).place
@@ -86,10 +81,7 @@ walked_into sends i first d e g pos l up walked out =
     let out_here : OutOfTurn (get_or sends (i - 1) g) here = subst (λ (r : SendReceipt). OutOfTurn r here) (same_read sends (i - 1) (i - 1) d g (omega arith) refl) (subst (OutOfTurn (get_or sends (i - 1) d)) (same_read sends i i e g l refl) out) in
     record {
       found = found_sooner (λ p. Disorder sends p ⊎ DoubleAccept sends p) first (Some here.place) walked.found (shown sends i g pos l up out_here);
-      each = λ a b f next lt same falls. elim (cases_lt b i) [
-        | inl below ↦ at_most_left first (Some here.place) _ (walked.each a b f next below same falls)
-        | inr past ↦ at_most_right first (Some here.place) _ (omega (arith, ap (λ (r : SendReceipt). r.place) (same_read sends i b g f l (omega arith))))
-      ];
+      each = λ a b f next lt same falls. grind (arith, at_most_left, walked.each a b f next, at_most_right, same_read);
     }
 
 -- a place out of turn: one of its sender's lower places has a number that isn't less

@@ -1,5 +1,5 @@
 -- The clauses refuse these claims.
-use Rattle.std.proofs.Common.{◌≡◌, ◌≢◌, ℕ, ◌+◌, [], ◌∷◌, ◌++◌, length, take, refl, sym, ap, ◌∙◌, arith, length-append}
+use Rattle.std.proofs.Common.{◌≡◌, ◌≢◌, ℕ, ◌+◌, [], ◌∷◌, ◌++◌, length, take, sym, ap, ◌∙◌, arith, length-append}
 use Rattle.cc_model.specs.Items.{handed_to_all}
 use Rattle.cc_model.specs.Record.{Record}
 use Rattle.cc_runs.specs.State.{State, chain_of}
@@ -29,8 +29,7 @@ exchanged : (c : Setting) (s : State) (p : ℕ) (call : Entry) (at : Stand) → 
 exchanged c s p call at is same =
     let entered : length (stepped_from c s Chain.Send p at).history.sends.calls ≡ length (s.history.sends.calls ++ call ∷ []) = entered_by c s p call at is in
     let kept : length (stepped_from c s Chain.Send p at).history.sends.calls ≡ length s.history.sends.calls = ap (λ (h : Record). length h.sends.calls) same in
-    let more : length (s.history.sends.calls ++ call ∷ []) ≡ length s.history.sends.calls + 1 = length-append s.history.sends.calls (call ∷ []) in
-    absurd (omega (arith, entered, kept, more))
+    let more = length-append s.history.sends.calls (call ∷ []) in absurd (omega (arith, entered, kept, more))
 
 no_call_placed : (c : Setting) (s : State) (p : ℕ) (call : Entry) → chain_of c.config p ≡ Chain.Send → (s.stand p).phase ≡ Phase.Exchange call → (stepped c s p).history ≡ s.history → ⊥
 no_call_placed c s p call sends is same = exchanged c s p call (s.stand p) is (ap (λ (x : Chain). (stepped_from c s x p (s.stand p)).history) (sym sends) ∙ same)

@@ -1,7 +1,7 @@
--- A row of the table is the step of its phase, once what it found is known.
-use Rattle.std.proofs.Common.{◌≡◌, ℕ, Option, None, ap, sym, ◌∙◌}
-use Rattle.cc_machine.specs.Names.{Kind, Event, Stand, Phase, Answer, Entry, Word, Board, Stepper}
-use Rattle.cc_runs.specs.State.{hold, noted, stored, word_of}
+-- A row of a table is the step of its phase, once what it found is known.
+use Rattle.std.proofs.Common.{◌≡◌, ℕ, None, ap, sym, subst, ◌∙◌, arith}
+use Rattle.cc_machine.specs.Names.{Kind, Event, Phase, Word, Board, Stepper}
+use Rattle.cc_runs.specs.State.{hold, stored, word_of}
 use Rattle.cc_runs.specs.Lines.{event_at, operation, enters, decides}
 use Rattle.cc_runs.specs.Step.{advanced}
 use Rattle.cc_runs.proofs.Chains.Facts.{noted_none}
@@ -11,27 +11,15 @@ use Rattle.cc_machine.specs.BoardSteps.{state_of, stand_of, Keeps, Stepped}
 abbrev pub found_at : Board → Stepper → Phase → ℕ
 found_at b who at = (state_of b).mem (word_of (operation b.setting who.chain who.node at))
 
--- a step that leads here, and puts this into the history
-pub noting : (old new : Board) (who after : Stepper) (at to : Phase) (kind k : Kind) (mem : Word → ℕ) (call : Option Entry) (answer : Option Answer) → kind ≡ k
-    → state_of new ≡ record { mem = mem; stand = hold (state_of old).stand who.pass (stand_of after to); history = noted who.chain (state_of old).history call answer } → Keeps old new
-    → event_at at ≡ Event.Did k → mem ≡ stored (state_of old).mem (operation old.setting who.chain who.node at)
-    → stand_of after to ≡ advanced old.setting who.chain (stand_of who at) (found_at old who at) → call ≡ enters at → answer ≡ decides old.setting at (found_at old who at) → Stepped old who at kind new
-noting old new who after at to kind k mem call answer did is keeps event does leads enter decide = record {
-  kind_is = event ∙ ap Event.Did (sym did);
-  state = is
-      ∙ ap (λ m. record { mem = m; stand = hold (state_of old).stand who.pass (stand_of after to); history = noted who.chain (state_of old).history call answer }) does
-      ∙ ap (λ (s : Stand). record { mem = stored (state_of old).mem (operation old.setting who.chain who.node at); stand = hold (state_of old).stand who.pass s; history = noted who.chain (state_of old).history call answer }) leads
-      ∙ ap (λ e. record { mem = stored (state_of old).mem (operation old.setting who.chain who.node at); stand = hold (state_of old).stand who.pass (advanced old.setting who.chain (stand_of who at) (found_at old who at)); history = noted who.chain (state_of old).history e answer }) enter
-      ∙ ap (λ d. record { mem = stored (state_of old).mem (operation old.setting who.chain who.node at); stand = hold (state_of old).stand who.pass (advanced old.setting who.chain (stand_of who at) (found_at old who at)); history = noted who.chain (state_of old).history (enters at) d }) decide;
-  keeps = keeps;
-}
-
--- one that puts nothing into it
-pub moving : (old new : Board) (who : Stepper) (at to : Phase) (kind k : Kind) (mem : Word → ℕ) → kind ≡ k
+-- the step of a service, at its phase of the table, that leads here and puts nothing into the history
+pub row : {A : Type 0} (at : A → Phase) {old new : Board} {who : Stepper} {service s : A} {to : Phase} {kind k : Kind} {mem : Word → ℕ} → service ≡ s → kind ≡ k
     → state_of new ≡ record (state_of old) { mem = mem; stand = hold (state_of old).stand who.pass (stand_of who to) } → Keeps old new
-    → event_at at ≡ Event.Did k → mem ≡ stored (state_of old).mem (operation old.setting who.chain who.node at)
-    → stand_of who to ≡ advanced old.setting who.chain (stand_of who at) (found_at old who at) → None ≡ enters at → None ≡ decides old.setting at (found_at old who at) → Stepped old who at kind new
-moving old new who at to kind k mem did is keeps event does leads enter decide =
-    noting old new who who at to kind k mem None None did
-    (is ∙ ap (λ h. record { mem = mem; stand = hold (state_of old).stand who.pass (stand_of who to); history = h }) (sym (noted_none who.chain (state_of old).history)))
-    keeps event does leads enter decide
+    → event_at (at s) ≡ Event.Did k → mem ≡ stored (state_of old).mem (operation old.setting who.chain who.node (at s))
+    → stand_of who to ≡ advanced old.setting who.chain (stand_of who (at s)) (found_at old who (at s)) → None ≡ enters (at s) → None ≡ decides old.setting (at s) (found_at old who (at s))
+    → Stepped old who (at service) kind new
+row at {old} {new} {who} {service} {s} {to} {kind} {k} {mem} same did is keeps event does leads enter decide =
+    subst (λ z. Stepped old who (at z) kind new) (sym same) (record {
+      kind_is = event ∙ ap Event.Did (sym did);
+      state = grind (arith, is, does, leads, enter, decide, noted_none who.chain (state_of old).history);
+      keeps = keeps;
+    })

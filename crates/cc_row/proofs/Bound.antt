@@ -1,117 +1,49 @@
 -- A row with a bound is one queue with this capacity.
 use Rattle.std.proofs.Common.{◌≡◌, ◌≢◌, ◌⊎◌, ◌==◌, ℕ, zero, suc, ◌+◌, ◌<◌, ◌≤◌, Bool, true, false, List, [], ◌∷◌, length, Option, Some, None, inl, inr, refl, sym, ap, subst, ◌∙◌, arith, length-append}
-use Rattle.std.proofs.lemmas.Bool.{cases_eq, cases_lt}
-use Rattle.cc_row.specs.Names.{Config, Call, Item, Answer, SendAnswer, CloseAnswer, TakeAnswer}
+use Rattle.std.proofs.lemmas.Option.{slice_get_within}
+use Rattle.cc_row.specs.Names.{Config, Call, Item, Answer, SendAnswer}
 use Rattle.cc_model.specs.Sequential.{Exactly}
 use Rattle.cc_row.specs.Row.{At, new_item, new_of, items_at, shut_at, taken_at, ended_at, IsRow, before, reported_by, reported, add, outside}
 use Rattle.cc_row.specs.Bound.{RowCall, at_queues, IsSlowest, taken_before, AreTogether, HasRoom, IsLetIn, IsBoundedRow, told_by, told, IsQueue, IsWithin, BoundedRowsAreQueues}
-use Rattle.cc_row.proofs.States.{items_here, items_else, items_none, shut_none, taken_here, taken_else, taken_other, taken_none}
-use Rattle.cc_row.proofs.Order.{Did, adds, closes, takes, finds_end, leaves, did, untouched, finished}
-use Rattle.cc_row.proofs.Sums.{row_taken, length_row, rest_row, rest_taken, all_taken}
+use Rattle.cc_row.proofs.States.{items_here, items_none, shut_none, taken_none}
+use Rattle.cc_row.proofs.Order.{untouched, finished}
+use Rattle.cc_row.proofs.Sums.{length_row, rest_row, rest_taken, all_taken}
 use Rattle.cc_row.proofs.Law.{Agrees, agrees, agrees_more, new_few, items_few, outside_few, rows_are_queues}
+use Rattle.cc_runs.proofs.LinkedList.Sides.{smallest, smallest_least, smallest_is}
 
 abbrev pub full : Answer
 full = Answer.Send SendAnswer.Full
 
 is_full : (a : Answer) → (a ≡ full) ⊎ (a ≡ full → ⊥)
-is_full (Answer.Send SendAnswer.Full) = inl refl
-is_full (Answer.Send (SendAnswer.Accepted place)) = inr (λ e. cc)
-is_full (Answer.Send SendAnswer.Closed) = inr (λ e. cc)
-is_full (Answer.Send SendAnswer.Spent) = inr (λ e. cc)
-is_full (Answer.Close a) = inr (λ e. cc)
-is_full (Answer.Take a) = inr (λ e. cc)
+is_full a = grind arith
 
 -- ---- counts only grow
 
-items_grow : (e : At) (o : List At) (q : ℕ) → length (items_at q o) ≤ length (items_at q (e ∷ o))
-items_grow e o q = elim (cases_eq e.queue q) [
-  | inl at ↦ omega (arith, ap length (items_here e o q at), length-append (items_at q o) (new_of e))
-  | inr other ↦ omega (arith, ap length (items_else e o q other))
-]
-
 taken_grow : (e : At) (o : List At) (q g : ℕ) → taken_at q g o ≤ taken_at q g (e ∷ o)
-taken_grow e o q g = elim (cases_eq e.queue q) [
-  | inl at ↦ elim (cases_eq e.group g) [
-    | inl mine ↦ omega (arith, taken_here e o q g at mine)
-    | inr apart ↦ omega (arith, taken_other e o q g apart)
-  ]
-  | inr other ↦ omega (arith, taken_else e o q g other)
-]
+taken_grow e o q g = grind arith
+
+few_more : (cfg : ℕ → Config) (last : ℕ) (e : At) (o : List At) → IsRow cfg last (e ∷ o) → (q g : ℕ) → taken_at q g o ≤ length (items_at q o) → taken_at q g (e ∷ o) ≤ length (items_at q (e ∷ o))
+few_more cfg last e o row q g before = grind (arith, length-append, row, slice_get_within)
 
 -- a group takes no more than there is
 few_taken : (cfg : ℕ → Config) (last : ℕ) (o : List At) → IsRow cfg last o → (q g : ℕ) → taken_at q g o ≤ length (items_at q o)
 few_taken cfg last [] row q g = omega arith
-few_taken cfg last (e ∷ o) row q g = by (few_taken cfg last o row.0 q g) (did cfg last e o row)
-  where
-    by : taken_at q g o ≤ length (items_at q o) → Did e o → taken_at q g (e ∷ o) ≤ length (items_at q (e ∷ o))
-    by before (adds is_open late no_take no_shut no_end) = omega (arith, taken_none e o q g no_take, before, items_grow e o q)
-    by before (closes is_open late no_item no_take no_end) = omega (arith, taken_none e o q g no_take, before, items_grow e o q)
-    by before (takes some one late no_item no_shut no_end) = elim (cases_eq e.queue q) [
-      | inl at ↦ elim (cases_eq e.group g) [
-        | inl mine ↦ omega (
-          arith,
-          taken_here e o q g at mine,
-          one,
-          some,
-          ap (λ (z : ℕ). taken_at z e.group o) at,
-          ap (λ (z : ℕ). taken_at q z o) mine,
-          ap (λ (z : ℕ). length (items_at z o)) at,
-          items_grow e o q,
-        )
-        | inr apart ↦ omega (arith, taken_other e o q g apart, before, items_grow e o q)
-      ]
-      | inr other ↦ omega (arith, taken_else e o q g other, before, items_grow e o q)
-    ]
-    by before (finds_end shut all late no_item no_shut no_take) = omega (arith, taken_none e o q g no_take, before, items_grow e o q)
-    by before (leaves no_item no_shut no_take no_end) = omega (arith, taken_none e o q g no_take, before, items_grow e o q)
+few_taken cfg last (e ∷ o) row q g = few_more cfg last e o row q g (few_taken cfg last o row.0 q g)
 
-taken_row : (n g : ℕ) (o : List At) → taken_before n g o ≡ row_taken n g o
-taken_row zero g o = refl
-taken_row (suc q) g o = omega (arith, taken_row q g o)
-
-few_before : (cfg : ℕ → Config) (last : ℕ) (o : List At) → IsRow cfg last o → (q g : ℕ) → row_taken q g o ≤ before q o
+few_before : (cfg : ℕ → Config) (last : ℕ) (o : List At) → IsRow cfg last o → (q g : ℕ) → taken_before q g o ≤ before q o
 few_before cfg last o row zero g = omega arith
 few_before cfg last o row (suc q) g = omega (arith, few_before cfg last o row q g, few_taken cfg last o row q g)
 
 pub slowest : (groups : ℕ) (f : ℕ → ℕ) → 0 < groups → (all : ℕ) × IsSlowest groups f all
 slowest zero f some = absurd (omega (arith, some))
-slowest (suc zero) f some = (f 0, record { least = λ g inside. let z : g ≡ 0 = omega (arith, inside) in omega (arith, ap f z); group = 0; inside = omega arith; is = refl })
-slowest (suc (suc n)) f some =
-    let r : (all : ℕ) × IsSlowest (suc n) f all = slowest (suc n) f (omega arith) in
-    elim (cases_lt (f (suc n)) r.0) [
-      | inl less ↦ (
-        f (suc n),
-        record {
-          least = λ g inside. elim (cases_eq g (suc n)) [
-            | inl is ↦ omega (arith, ap f is)
-            | inr other ↦ omega (arith, less, r.1.least g (omega (arith, inside, other)))
-          ];
-          group = suc n;
-          inside = omega arith;
-          is = refl;
-        },
-      )
-      | inr more ↦ (
-        r.0,
-        record {
-          least = λ g inside. elim (cases_eq g (suc n)) [
-            | inl is ↦ omega (arith, more, ap f is)
-            | inr other ↦ r.1.least g (omega (arith, inside, other))
-          ];
-          group = r.1.group;
-          inside = omega (arith, r.1.inside);
-          is = r.1.is;
-        },
-      )
-    ]
+slowest (suc m) f some =
+    let r : (g : ℕ) × (g ≤ m) × (f g ≡ smallest m f) = smallest_is m f in
+    (smallest m f, record { least = λ g inside. smallest_least m f g (omega (arith, inside)); group = r.0; inside = omega (arith, r.1); is = r.2 })
 
 -- ---- one queue has no more items than its capacity
 
 added : (cfg : Config) (items : List Item) (shut : Bool) (taken all s n : ℕ) (call : Call) (a : Answer) → Exactly cfg items shut taken all call a → (new_item s n call a ≡ []) ⊎ (length items < all + cfg.capacity)
-added cfg items shut taken all s n (Call.Send body) (Answer.Send (SendAnswer.Accepted place)) h = inr h.2
-added cfg items shut taken all s n (Call.Send body) _ h = inl refl
-added cfg items shut taken all s n Call.Close _ h = inl refl
-added cfg items shut taken all s n Call.Take _ h = inl refl
+added cfg items shut taken all s n call a h = grind arith
 
 pub queue_bound : (one : Config) (groups : ℕ) (o : List At) → IsQueue one groups o → (g : ℕ) → g < groups → length (items_at 0 o) ≤ taken_at 0 g o + one.capacity
 queue_bound one groups [] row g inside = omega arith
@@ -123,9 +55,7 @@ queue_bound one groups (e ∷ o) row g inside = elim (added one (items_at 0 o) (
 -- ---- what a row with a bound is without it
 
 no_new : (s n : ℕ) (call : Call) → new_item s n call full ≡ []
-no_new s n (Call.Send body) = refl
-no_new s n Call.Close = refl
-no_new s n Call.Take = refl
+no_new s n call = grind arith
 
 with_full : (last : ℕ) (o outer : List At) (g s n : ℕ) (call : Call) → Agrees last o outer → Agrees last o (record { queue = 0; group = g; sender = s; number = n; call = call; answer = full } ∷ outer)
 with_full last o outer g s n call same =
@@ -137,44 +67,20 @@ with_full last o outer g s n call same =
     }
 
 told_else : (base : ℕ) (is_last : Bool) (a : Answer) → (a ≡ full → ⊥) → told_by base is_last a ≡ reported_by base is_last a
-told_else base is_last (Answer.Send SendAnswer.Full) other = absurd (other refl)
-told_else base is_last (Answer.Send (SendAnswer.Accepted place)) other = refl
-told_else base is_last (Answer.Send SendAnswer.Closed) other = refl
-told_else base is_last (Answer.Send SendAnswer.Spent) other = refl
-told_else base is_last (Answer.Close a) other = refl
-told_else base is_last (Answer.Take a) other = refl
+told_else base is_last a other = grind arith
 
 -- an accepted send of the row is one of its queue
 came : (base : ℕ) (is_last : Bool) (a : Answer) (p : ℕ) → reported_by base is_last a ≡ Some (Answer.Send (SendAnswer.Accepted p)) → (place : ℕ) × (a ≡ Answer.Send (SendAnswer.Accepted place))
-came base is_last (Answer.Send (SendAnswer.Accepted place)) p is = (place, refl)
-came base is_last (Answer.Take (TakeAnswer.Got item)) p is = absurd (cc)
-came base is_last (Answer.Take TakeAnswer.Empty) p is = absurd (cc)
-came base true (Answer.Send SendAnswer.Closed) p is = absurd (cc)
-came base true (Answer.Close (CloseAnswer.Shut total)) p is = absurd (cc)
-came base true (Answer.Close (CloseAnswer.Already total)) p is = absurd (cc)
-came base true (Answer.Take (TakeAnswer.Ended total)) p is = absurd (cc)
-came base true (Answer.Send SendAnswer.Full) p is = absurd (cc)
-came base true (Answer.Send SendAnswer.Spent) p is = absurd (cc)
-came base false (Answer.Send SendAnswer.Closed) p is = absurd (cc)
-came base false (Answer.Send SendAnswer.Full) p is = absurd (cc)
-came base false (Answer.Send SendAnswer.Spent) p is = absurd (cc)
-came base false (Answer.Close a) p is = absurd (cc)
-came base false (Answer.Take (TakeAnswer.Ended total)) p is = absurd (cc)
+came base is_last a p is = grind arith
 
 accepts_less : (c : Config) (items : List Item) (shut : Bool) (taken all place : ℕ) (call : Call) → Exactly c items shut taken all call (Answer.Send (SendAnswer.Accepted place)) → (shut ≡ false) × (length items < all + c.capacity)
-accepts_less c items shut taken all place (Call.Send body) h = (h.0, h.2)
-accepts_less c items shut taken all place Call.Close h = absurd h
-accepts_less c items shut taken all place Call.Take h = absurd h
+accepts_less c items shut taken all place call h = grind arith
 
 refuses_full : (c : Config) (items : List Item) (shut : Bool) (taken all : ℕ) (call : Call) → Exactly c items shut taken all call full → (shut ≡ false) × (length items ≡ all + c.capacity)
-refuses_full c items shut taken all (Call.Send body) h = (h.0, h.2)
-refuses_full c items shut taken all Call.Close h = absurd h
-refuses_full c items shut taken all Call.Take h = absurd h
+refuses_full c items shut taken all call h = grind arith
 
 also_full : (c one : Config) (items more : List Item) (shut b : Bool) (taken all t any : ℕ) (call : Call) → Exactly c items shut taken all call full → b ≡ false → length more ≢ one.life → length more ≡ any + one.capacity → Exactly one more b t any call full
-also_full c one items more shut b taken all t any (Call.Send body) h open_now life room = (open_now, life, room)
-also_full c one items more shut b taken all t any Call.Close h open_now life room = absurd h
-also_full c one items more shut b taken all t any Call.Take h open_now life room = absurd h
+also_full c one items more shut b taken all t any call h open_now life room = grind arith
 
 -- with room for all calls
 abbrev wide : Config → ℕ → Config
@@ -182,16 +88,7 @@ wide one capacity = record { senders = one.senders; receivers = one.receivers; c
 
 fits : (one : Config) (capacity : ℕ) (items : List Item) (shut : Bool) (taken any all : ℕ) (call : Call) (b : Answer) → length items < capacity → Exactly (wide one capacity) items shut taken any call b
     → ((place : ℕ) → b ≡ Answer.Send (SendAnswer.Accepted place) → length items < all + one.capacity) → Exactly one items shut taken all call b
-fits one capacity items shut taken any all (Call.Send body) (Answer.Send SendAnswer.Closed) few h room = h
-fits one capacity items shut taken any all (Call.Send body) (Answer.Send SendAnswer.Spent) few h room = h
-fits one capacity items shut taken any all (Call.Send body) (Answer.Send SendAnswer.Full) few h room = absurd (omega (arith, few, h.2))
-fits one capacity items shut taken any all (Call.Send body) (Answer.Send (SendAnswer.Accepted place)) few h room = (h.0, h.1, room place refl, h.3)
-fits one capacity items shut taken any all Call.Close (Answer.Close (CloseAnswer.Shut total)) few h room = h
-fits one capacity items shut taken any all Call.Close (Answer.Close (CloseAnswer.Already total)) few h room = h
-fits one capacity items shut taken any all Call.Take (Answer.Take (TakeAnswer.Got item)) few h room = h
-fits one capacity items shut taken any all Call.Take (Answer.Take TakeAnswer.Empty) few h room = h
-fits one capacity items shut taken any all Call.Take (Answer.Take (TakeAnswer.Ended total)) few h room = h
-fits one capacity items shut taken any all _ _ few h room = absurd h
+fits one capacity items shut taken any all call b few h room = grind arith
 
 pub moved_to : (one : Config) (items more : List Item) (shut b : Bool) (taken t all : ℕ) (call : Call) (a : Answer) → items ≡ more → shut ≡ b → taken ≡ t → Exactly one items shut taken all call a → Exactly one more b t all call a
 moved_to one items more shut b taken t all call a p r s e = subst (λ (z : Type 0). z) (λ i. Exactly one (p i) (r i) (s i) all call a) e
@@ -211,8 +108,7 @@ module _ (cfg : ℕ → Config) (one : Config) (groups last : ℕ) where
   at_few (RowCall.Refused s n body ∷ earlier) = omega (arith, at_few earlier)
 
   add_few : (e : At) (t : Option Answer) (rest : List At) → length (add e t rest) ≤ suc (length rest)
-  add_few e None rest = omega arith
-  add_few e (Some a) rest = omega arith
+  add_few e t rest = grind arith
 
   pub told_few : (order : List RowCall) → length (told last order) ≤ length order
   told_few [] = omega arith
@@ -241,7 +137,7 @@ module _ (cfg : ℕ → Config) (one : Config) (groups last : ℕ) where
     accepted_is = omega (arith, ap length same.items, length_row (suc last) o)
 
     pub taken_is : (g : ℕ) → taken_at 0 g outer ≡ taken_before (suc last) g o
-    taken_is g = omega (arith, same.taken g, taken_row (suc last) g o)
+    taken_is g = omega (arith, same.taken g)
 
     module _ (q : ℕ) (within : q ≤ last) (is_open : shut_at q o ≡ false) where
       beyond : (k : ℕ) → q < k → items_at k o ≡ []
@@ -250,7 +146,7 @@ module _ (cfg : ℕ → Config) (one : Config) (groups last : ℕ) where
       items_until : length (items_at 0 outer) ≡ before q o + length (items_at q o)
       items_until = omega (arith, ap length same.items, ap length (rest_row (suc last) q o (omega (arith, within)) beyond), length_row (suc q) o)
 
-      taken_until : (g : ℕ) → taken_at 0 g outer ≡ row_taken q g o + taken_at q g o
+      taken_until : (g : ℕ) → taken_at 0 g outer ≡ taken_before q g o + taken_at q g o
       taken_until g = omega (arith, same.taken g, rest_taken (suc last) q g o (omega (arith, within)) (λ k more. omega (arith, few_taken cfg last o row k g, ap length (beyond k more))))
 
       taken_together : (g : ℕ) → ((k : ℕ) → k < q → ended_at k g o ≡ true) → taken_at 0 g outer ≡ before q o + taken_at q g o
@@ -267,10 +163,7 @@ module _ (cfg : ℕ → Config) (one : Config) (groups last : ℕ) where
       full_too all any here there waits most = omega (arith, items_until, taken_until here.group, here.is, there.least here.group here.inside, few_before cfg last o row q here.group, waits, most)
 
       open_last : shut_at 0 outer ≡ false
-      open_last = same.shut ∙ elim (cases_eq q last) [
-        | inl at ↦ ap (λ (z : ℕ). shut_at z o) (sym at) ∙ is_open
-        | inr other ↦ (untouched cfg last o row q last (omega (arith, within, other)) is_open).1
-      ]
+      open_last = grind (arith, same.shut, untouched cfg last o row q last)
 
   -- ---- one call more
 

@@ -4,7 +4,7 @@ use Rattle.std.proofs.lemmas.Bool.{cases_eq, cases_lt}
 use Rattle.std.specs.List.{list_any}
 use Rattle.cc_model.specs.Config.{config_fault}
 use Rattle.cc_model.specs.Record.{Record, of_group}
-use Rattle.cc_model.specs.Items.{Begins, accepted, accepted_by, accepted_item, is_shut, handed, handed_by}
+use Rattle.cc_model.specs.Items.{Begins, accepted, accepted_by, is_shut, handed, handed_by}
 use Rattle.cc_model.specs.Legal.{Legal, TakeSideAnswers}
 use Rattle.cc_model.proofs.Grows.{handed_by-append}
 use Rattle.cc_runs.specs.State.{State}
@@ -15,6 +15,7 @@ use Rattle.cc_runs.proofs.RunPrefixes.{prefixes_begin}
 use Rattle.cc_runs.proofs.ChainLaws.{chain_laws}
 use Rattle.cc_runs.proofs.ListRuns.Laws.{history_is_legal}
 use Rattle.cc_runs.proofs.Counts.Laws.{counts_are_near, counts_grow}
+use Rattle.cc_runs.proofs.KnownPrefixes.{accepted_grow}
 use Rattle.cc_row.specs.Names.{Item, Entry, Answer, TakeAnswer, Chain, Served, Move}
 use Rattle.cc_row.specs.Row.{ends}
 use Rattle.cc_row.specs.Runs.{FoundEnded}
@@ -22,13 +23,7 @@ use Rattle.cc_row.specs.Threads.{RowEvent, RowSetting, IsKept, KeepRules, moves_
 use Rattle.cc_row.specs.BoundThreads.{queue_at, accepted_below, handed_below, HasBound, FindsFull, IsFullAt, LooksFindFullRows}
 use Rattle.cc_row.proofs.Merge.{moves_here, moves_else}
 use Rattle.cc_row.proofs.Threads.{Quiet, Kept, good, runs_before}
-
-pub accepted_grow : (calls more : List Entry) (answers later : List Answer) → length answers ≤ length calls → length (accepted_by calls answers) ≤ length (accepted_by (calls ++ more) (answers ++ later))
-accepted_grow [] more [] later order = omega arith
-accepted_grow [] more (a ∷ answers) later order = absurd (omega (arith, order))
-accepted_grow (d ∷ calls) more [] later order = omega arith
-accepted_grow (d ∷ calls) more (a ∷ answers) later order =
-    omega (arith, accepted_grow calls more answers later (omega (arith, order)), length-append (accepted_item d a) (accepted_by calls answers), length-append (accepted_item d a) (accepted_by (calls ++ more) (answers ++ later)))
+use Rattle.cc_row.proofs.Sums.{grows}
 
 -- a group that has found the end has all items
 ended_all : (items : List Item) (shut : Bool) (count : ℕ) (calls : List Entry) (answers : List Answer) → TakeSideAnswers items shut count calls answers → list_any ends answers ≡ true → length items ≤ count + length (handed_by answers)
@@ -51,11 +46,7 @@ module _ (r : RowSetting) where
 
   pub sound_before : (e : RowEvent) (events : List RowEvent) → Sound (e ∷ events) → Sound events
   sound_before (RowEvent.Moves m) events s = record { serves = s.serves; checked = s.checked; runs = runs_before r m (moves_of events) s.runs; rules = s.rules.0 }
-  sound_before (RowEvent.Looks seat role) events s = record { serves = s.serves; checked = s.checked; runs = s.runs; rules = s.rules.0 }
-  sound_before (RowEvent.Leaves seat) events s = record { serves = s.serves; checked = s.checked; runs = s.runs; rules = s.rules.0 }
-  sound_before RowEvent.Appends events s = record { serves = s.serves; checked = s.checked; runs = s.runs; rules = s.rules.0 }
-  sound_before (RowEvent.GoesOn name) events s = record { serves = s.serves; checked = s.checked; runs = s.runs; rules = s.rules.0 }
-  sound_before RowEvent.Closes events s = record { serves = s.serves; checked = s.checked; runs = s.runs; rules = s.rules.0 }
+  sound_before _ events s = record { serves = s.serves; checked = s.checked; runs = s.runs; rules = s.rules.0 }
 
   pub sound_then : (later events : List RowEvent) → Sound (later ++ events) → Sound events
   sound_then [] events s = s
@@ -72,11 +63,7 @@ module _ (r : RowSetting) where
         | inl is ↦ (m.move ∷ before.0, moves_here m (moves_of (later ++ events)) q is ∙ ap (λ (l : List Move). m.move ∷ l) before.1)
         | inr differ ↦ (before.0, moves_else m (moves_of (later ++ events)) q differ ∙ before.1)
       ]
-  more_moves q (RowEvent.Looks seat role ∷ later) events = more_moves q later events
-  more_moves q (RowEvent.Leaves seat ∷ later) events = more_moves q later events
-  more_moves q (RowEvent.Appends ∷ later) events = more_moves q later events
-  more_moves q (RowEvent.GoesOn name ∷ later) events = more_moves q later events
-  more_moves q (RowEvent.Closes ∷ later) events = more_moves q later events
+  more_moves q (_ ∷ later) events = more_moves q later events
 
   -- ---- one queue
 
@@ -153,21 +140,12 @@ module _ (r : RowSetting) where
       handed_few (suc n) = omega (arith, handed_few n, within events s n g (there n))
 
       pub accepted_up : (n m : ℕ) → n ≤ m → accepted_below r n events ≤ accepted_below r m events
-      accepted_up n zero less = let z : n ≡ 0 = omega (arith, less) in omega (arith, ap (λ (k : ℕ). accepted_below r k events) z)
-      accepted_up n (suc m) less = elim (cases_eq n (suc m)) [
-        | inl is ↦ omega (arith, ap (λ (k : ℕ). accepted_below r k events) is)
-        | inr other ↦ omega (arith, accepted_up n m (omega (arith, less, other)))
-      ]
+      accepted_up = grows (λ k. accepted_below r k events) (λ k. omega arith)
 
       pub handed_until : (n from : ℕ) → ((q : ℕ) → from < q → length (handed (queue_at r q events).history g) ≡ 0) → handed_below r n g events ≤ accepted_below r from events + length (handed (queue_at r from events).history g)
       handed_until zero from none = omega arith
-      handed_until (suc n) from none = elim (cases_lt n from) [
-        | inl less ↦ omega (arith, handed_few (suc n), accepted_up (suc n) from (omega (arith, less)))
-        | inr more ↦ elim (cases_eq n from) [
-          | inl is ↦ omega (arith, handed_few n, ap (λ (k : ℕ). accepted_below r k events) is, ap (λ (k : ℕ). length (handed (queue_at r k events).history g)) is)
-          | inr other ↦ omega (arith, handed_until n from none, none n (omega (arith, more, other)))
-        ]
-      ]
+      handed_until (suc n) from none =
+          grind (arith, handed_few n, handed_few (suc n), accepted_up (suc n) from, handed_until n from none, none n)
 
     module _ (later events : List RowEvent) (s : Sound (later ++ events)) where
       pub accepted_stays : (n : ℕ) → accepted_below r n events ≤ accepted_below r n (later ++ events)

@@ -1,15 +1,15 @@
 -- One queue of a row with a bound: what its senders' calls may still add to it.
-use Rattle.std.proofs.Common.{◌≡◌, ◌≢◌, ℕ, suc, ◌+◌, ◌-◌, ◌/◌, ◌<◌, ◌≤◌, Bool, true, false, ◌||◌, cond, lt-ltb, List, [], ◌∷◌, ◌++◌, length, Option, Some, None, Ok, inl, inr, refl, sym, ap, subst, ◌∙◌, arith, length-append}
-use Rattle.std.proofs.lemmas.Bool.{cases_eq, cases_lt}
+use Rattle.std.proofs.Common.{◌≡◌, ◌≢◌, ℕ, suc, ◌+◌, ◌-◌, ◌/◌, ◌<◌, ◌≤◌, Bool, true, ◌||◌, cond, lt-ltb, List, [], ◌∷◌, ◌++◌, length, Option, Some, None, Ok, inl, inr, refl, sym, ap, subst, ◌∙◌, arith, length-append, false}
+use Rattle.std.proofs.lemmas.Bool.{cases_lt, cases_eq}
 use Rattle.std.specs.List.{list_any, filter}
 use Rattle.cc_model.specs.Config.{config_fault}
 use Rattle.cc_model.specs.Record.{Side}
 use Rattle.cc_model.specs.Items.{accepted, accepted_by, accepted_item, sent_item, shuts}
 use Rattle.cc_model.specs.Legal.{SendSideAnswer, SendSideAnswers}
 use Rattle.cc_runs.specs.State.{State, chain_of, appended, word_of}
-use Rattle.cc_runs.specs.Step.{stepped, stepped_from, advanced}
+use Rattle.cc_runs.specs.Step.{stepped, advanced, stepped_from}
 use Rattle.cc_runs.specs.Lines.{enters, decides, goes, operation}
-use Rattle.cc_runs.specs.Run.{IsRun, IsIdle, IsOn, passes, reached, begins, rests}
+use Rattle.cc_runs.specs.Run.{IsRun, IsIdle, IsOn, reached, begins, rests}
 use Rattle.cc_runs.specs.ChainLaws.{IsOut}
 use Rattle.cc_runs.specs.CallsMade.{to_exchange}
 use Rattle.cc_runs.specs.Counts.{counted}
@@ -29,7 +29,7 @@ use Rattle.cc_runs.proofs.ListRuns.Facts.{lists}
 use Rattle.cc_runs.proofs.ListRuns.Runs.{Whole}
 use Rattle.cc_runs.proofs.ListRuns.FromChains.{after_runs, of_setting}
 use Rattle.cc_runs.proofs.Counts.State.{Late, late_at, either_count, count_now}
-use Rattle.cc_row.specs.Names.{Config, Pass, Call, Entry, Answer, SendAnswer, Chain, Setting, Served, Move}
+use Rattle.cc_row.specs.Names.{Config, Call, Entry, Answer, SendAnswer, Chain, Setting, Served, Move}
 use Rattle.cc_row.specs.BoundThreads.{IsBeginOn}
 use Rattle.cc_row.specs.BoundRuns.{sends_of, waiting}
 use Rattle.cc_row.proofs.Threads.{idle_event, chains}
@@ -52,18 +52,15 @@ enter_waits (d ∷ calls) [] e order = omega (arith, enter_waits calls [] e (ome
 enter_waits (d ∷ calls) (a ∷ answers) e order = enter_waits calls answers e (omega (arith, order))
 
 enter_items : (calls : List Entry) (answers : List Answer) (e : Entry) → length answers ≤ length calls → length (accepted_by (calls ++ e ∷ []) answers) ≤ length (accepted_by calls answers)
-enter_items [] [] e order = omega arith
-enter_items [] (a ∷ answers) e order = absurd (omega (arith, order))
-enter_items (d ∷ calls) [] e order = omega arith
 enter_items (d ∷ calls) (a ∷ answers) e order =
     omega (arith, enter_items calls answers e (omega (arith, order)), length-append (accepted_item d a) (accepted_by calls answers), length-append (accepted_item d a) (accepted_by (calls ++ e ∷ []) answers))
+enter_items calls answers e order = grind arith
 
 pub item_few : (e : Entry) (a : Answer) → length (accepted_item e a) ≤ sends_of e.call
 item_few e (Answer.Send (SendAnswer.Accepted place)) = by e.pass e.call
   where
     by : (pass : _) (call : Call) → length (sent_item pass call e.number place) ≤ sends_of call
-    by (Pass.Sender s) (Call.Send body) = omega arith
-    by _ _ = omega arith
+    by pass call = grind arith
 item_few e _ = omega arith
 
 decide_items : (calls : List Entry) (answers : List Answer) (a : Answer) → length (accepted_by calls (answers ++ a ∷ [])) + waiting calls (answers ++ a ∷ []) ≤ length (accepted_by calls answers) + waiting calls answers
@@ -79,10 +76,8 @@ entered (Some e) = sends_of e.call
 
 side_more : (calls : List Entry) (answers : List Answer) (e : Option Entry) (a : Option Answer) → length answers ≤ length calls
     → length (accepted_by (appended calls e) (appended answers a)) + waiting (appended calls e) (appended answers a) ≤ length (accepted_by calls answers) + waiting calls answers + entered e
-side_more calls answers None None order = omega arith
-side_more calls answers None (Some a) order = omega (arith, decide_items calls answers a)
-side_more calls answers (Some e) None order = omega (arith, enter_items calls answers e order, enter_waits calls answers e order)
-side_more calls answers (Some e) (Some a) order = omega (arith, decide_items (calls ++ e ∷ []) answers a, enter_items calls answers e order, enter_waits calls answers e order)
+side_more calls answers e a order =
+    grind (arith, decide_items calls answers, enter_items calls answers, enter_waits calls answers, decide_items)
 
 -- ---- what a queue has accepted, and what this pass and those that wait may add
 
@@ -103,13 +98,10 @@ split_exchange : (c : Setting) (x : Chain) (own found : ℕ) (at : Phase) → to
 split_exchange c x own found at = ap sends_in (own_step c x own found (λ (z : Entry). true) [] (to_exchange at) at refl (λ e same. refl)) ∙ by (enters at)
   where
     by : (o : Option Entry) → sends_in (filter (λ (z : Entry). true) (appended [] o) ++ to_exchange (goes c x own at found)) ≡ entered o + to_come (goes c x own at found)
-    by None = omega arith
-    by (Some e) = omega arith
+    by o = grind arith
 
 takes_none : (what : Served) (x : Chain) (call : Call) → x ≢ Chain.Send → IsOn what x call → sends_of call ≡ 0
-takes_none what Chain.Send call off is = absurd (off refl)
-takes_none Served.List (Chain.Take g) Call.Take off is = refl
-takes_none _ (Chain.Take g) _ off is = absurd is
+takes_none what x call off is = grind arith
 
 module _ (c : Setting) (checked : config_fault c.config ≡ Ok tt) (moves : List Move) where
   abbrev s : State
@@ -184,8 +176,6 @@ module _ (c : Setting) (checked : config_fault c.config ≡ Ok tt) (moves : List
 
   -- nobody sends, and no sender begins
   pub still_nobody : (m : Move) → IsRun c (m ∷ moves) → (IsBeginOn c m → ⊥) → Nobody c s → Nobody c (reached c (m ∷ moves)) × ((reached c (m ∷ moves)).history.sends ≡ s.history.sends)
-  still_nobody (Move.Begin p call known) run off idle = ((λ q on. (goes_on (Move.Begin p call known) (suc q) run off (λ z ne. idle z)).0 q (λ is. absurd (omega (arith, is))) on), refl)
-  still_nobody (Move.Take p) run off idle = ((λ q on. (goes_on (Move.Take p) (suc q) run off (λ z ne. idle z)).0 q (λ is. absurd (omega (arith, is))) on), refl)
   still_nobody (Move.Step p) run off idle = (
     (λ q on. (goes_on (Move.Step p) (suc q) run off (λ z ne. idle z)).0 q (λ is. absurd (omega (arith, is))) on),
     elim (chains Chain.Send (chain_of c.config p)) [
@@ -193,6 +183,8 @@ module _ (c : Setting) (checked : config_fault c.config ≡ Ok tt) (moves : List
       | inr other ↦ side_other Chain.Send (chain_of c.config p) s.history _ other
     ],
   )
+  still_nobody e run off idle =
+      ((λ q on. (goes_on e (suc q) run off (λ z ne. idle z)).0 q (λ is. absurd (omega (arith, is))) on), refl)
 
   -- a pass begins, and nobody else has a call
   pub begins_alone : (p : ℕ) (call : Call) (known : ℕ) → Nobody c s → Others c (reached c (Move.Begin p call known ∷ moves)) p × (may_have (reached c (Move.Begin p call known ∷ moves)) p ≡ length (accepted s.history) + waiting s.history.sends.calls s.history.sends.answers + sends_of call)
@@ -217,10 +209,13 @@ module _ (c : Config) (checked : config_fault c ≡ Ok tt) (moves : List Move) (
   whole = (after_runs c (in_range c checked) moves run).whole
 
   never : (p : ℕ) (job : Job) (service : Sending) → (t.stand p).phase ≡ Phase.Sending job service → ⊥
-  never p job service stands = elim (cases_lt p (passes (lists c))) [
-    | inl less ↦ subst (λ (z : Phase). IsIdle z) stands (idle p (sending_where (lists c) (reached (lists c) moves) ch p job service less stands).1)
-    | inr past ↦ subst (λ (z : Phase). IsIdle z) stands (whole.posts.outside p past)
-  ]
+  never p job service stands = grind (
+    arith,
+    stands,
+    idle p,
+    sending_where (lists c) (reached (lists c) moves) ch p job service,
+    whole.posts.outside p,
+  )
 
   -- each item is counted
   all_counted : length (accepted t.history) ≤ counted t
@@ -253,8 +248,7 @@ idle_answered c checked moves run idle =
     ]
   where
     is_out : (at : Phase) → IsIdle at → IsOut at
-    is_out Phase.Idle is = tt
-    is_out _ is = absurd is
+    is_out at is = grind arith
 
     on_send : (c : Setting) (n : ℕ) → n < c.config.senders → chain_of c.config n ≡ Chain.Send
     on_send c n less = ap (λ (b : Bool). cond b Chain.Send (Chain.Take ((n - c.config.senders) / c.config.receivers))) (lt-ltb n c.config.senders less)
@@ -265,16 +259,13 @@ dead_item : (cfg : Config) (count n : ℕ) (e : Entry) (a : Answer) → SendSide
 dead_item cfg count n e (Answer.Send (SendAnswer.Accepted place)) legal = absurd (closed e.call legal)
   where
     closed : (call : Call) → SendSideAnswer cfg count true n call (Answer.Send (SendAnswer.Accepted place)) → ⊥
-    closed (Call.Send body) h = h
-    closed Call.Close h = h
-    closed Call.Take h = h
+    closed call h = grind arith
 dead_item cfg count n e _ legal = refl
 
 dead : (cfg : Config) (count : ℕ) (calls : List Entry) (answers : List Answer) → SendSideAnswers cfg count true calls answers → length (accepted_by calls answers) ≡ 0
-dead cfg count [] answers legal = refl
-dead cfg count (e ∷ calls) [] legal = refl
 dead cfg count (e ∷ calls) (a ∷ answers) legal =
     omega (arith, length-append (accepted_item e a) (accepted_by calls answers), dead_item cfg count e.known e a legal.0, dead cfg (count + length (accepted_item e a)) calls answers legal.1)
+dead cfg count _ _ legal = refl
 
 pub frozen : (cfg : Config) (count : ℕ) (shut : Bool) (calls more : List Entry) (answers later : List Answer) → SendSideAnswers cfg count shut (calls ++ more) (answers ++ later) → (shut || list_any shuts answers) ≡ true → length answers ≤ length calls
     → length (accepted_by (calls ++ more) (answers ++ later)) ≤ length (accepted_by calls answers)

@@ -1,6 +1,6 @@
 -- Threads that keep the rules of the bound: at each moment no more items are in the row than the bound.
 use Rattle.std.proofs.Common.{◌≡◌, ◌≢◌, ◌⊎◌, ℕ, zero, suc, ◌+◌, ◌-◌, ◌/◌, ◌<◌, ◌≤◌, Bool, true, false, cond, lt-ltb, List, [], ◌∷◌, ◌++◌, append_assoc, length, inl, inr, refl, sym, ap, subst, ◌∙◌, arith}
-use Rattle.std.proofs.lemmas.Bool.{cases_eq, cases_lt}
+use Rattle.std.proofs.lemmas.Bool.{cases_eq}
 use Rattle.std.specs.List.{list_any}
 use Rattle.cc_model.specs.Record.{Side, Record}
 use Rattle.cc_model.specs.Items.{Begins, accepted, accepted_by, handed, shuts}
@@ -23,14 +23,13 @@ use Rattle.cc_row.proofs.Merge.{moves_here, moves_else}
 use Rattle.cc_row.proofs.Threads.{Quiet, run_here, queue_grows, last_grows}
 use Rattle.cc_row.proofs.BoundLooks.{Sound, sound_before, sound_then, sound_of, More, more_moves, near, legal, kept, grown, behind, there}
 use Rattle.cc_row.proofs.BoundQueue.{none_waits, to_come, may_have, Others, Nobody, goes_on, still_nobody, begins_alone, idle_counted, idle_answered, frozen}
+use Rattle.cc_row.proofs.Sums.{grows}
 
 idle_nothing : (at : Phase) → IsIdle at → to_come at ≡ 0
-idle_nothing Phase.Idle is = refl
-idle_nothing _ is = absurd is
+idle_nothing at is = grind arith
 
 no_take : (what : Served) → IsOn what Chain.Send Call.Take → ⊥
-no_take Served.List is = is
-no_take Served.Counter is = is
+no_take what is = grind arith
 
 apart : {x : Chain} → IsOther Chain.Send x → x ≡ Chain.Send → ⊥
 apart {x} o is = subst (λ (z : Chain). IsOther Chain.Send z) is o
@@ -66,13 +65,9 @@ module _ (r : RowSetting) where
   same_counted (suc n) g a b is = omega (arith, same_counted n g a b is, ap (λ (l : List RowMove). counted_for (reached (r.of n) (moves_at n l)) g) is)
 
   counted_up : (events : List RowEvent) (g n m : ℕ) → n ≤ m → counted_below r n g events ≤ counted_below r m g events
-  counted_up events g n zero less = let z : n ≡ 0 = omega (arith, less) in omega (arith, ap (λ (k : ℕ). counted_below r k g events) z)
-  counted_up events g n (suc m) less = elim (cases_eq n (suc m)) [
-    | inl is ↦ omega (arith, ap (λ (k : ℕ). counted_below r k g events) is)
-    | inr other ↦ omega (arith, counted_up events g n m (omega (arith, less, other)))
-  ]
+  counted_up events g = grows (λ k. counted_below r k g events) (λ k. omega arith)
 
-  last_up : (later events : List RowEvent) → last_of events ≤ last_of (later ++ events)
+  pub last_up : (later events : List RowEvent) → last_of events ≤ last_of (later ++ events)
   last_up [] events = omega arith
   last_up (e ∷ later) events = omega (arith, last_up later events, last_grows r e (later ++ events))
 
@@ -91,11 +86,7 @@ module _ (r : RowSetting) where
             subst (λ (l : List Move). Still q seen (reached (r.of q) l)) (sym (moves_here m (moves_of (since ++ seen)) q at)) (now.0, now.1 ∙ before.1)
         | inr differ ↦ subst (λ (l : List Move). Still q seen (reached (r.of q) l)) (sym (moves_else m (moves_of (since ++ seen)) q differ)) before
       ]
-  still (RowEvent.Looks seat role ∷ since) seen s q none idle = still since seen (sound_before r (RowEvent.Looks seat role) (since ++ seen) s) q none.0 idle
-  still (RowEvent.Leaves seat ∷ since) seen s q none idle = still since seen (sound_before r (RowEvent.Leaves seat) (since ++ seen) s) q none.0 idle
-  still (RowEvent.Appends ∷ since) seen s q none idle = still since seen (sound_before r RowEvent.Appends (since ++ seen) s) q none.0 idle
-  still (RowEvent.GoesOn name ∷ since) seen s q none idle = still since seen (sound_before r (RowEvent.GoesOn name) (since ++ seen) s) q none.0 idle
-  still (RowEvent.Closes ∷ since) seen s q none idle = still since seen (sound_before r RowEvent.Closes (since ++ seen) s) q none.0 idle
+  still (e ∷ since) seen s q none idle = still since seen (sound_before r e (since ++ seen) s) q none.0 idle
 
   module _ (count bound : ℕ) (has : HasBound r count bound) where
     inside_of : (g q : ℕ) → g < count → g < (r.of q).config.groups
@@ -270,8 +261,6 @@ module _ (r : RowSetting) where
               (λ g inside. omega (arith, room g inside, b.1, ap (λ (z : Move). may_have (reached (r.of (last_of events)) (z ∷ moves_there (last_of events) events)) p) is)))
 
           by : (move : Move) → m.move ≡ move → IsRun (r.of (last_of events)) (m.move ∷ moves_there (last_of events) events) → BeginsLetIn r count bound (last_of events) move events → Bounded (RowEvent.Moves m ∷ events)
-          by (Move.Step p) is run rule = plainly (λ on. subst (λ (z : Move). IsBeginOn (r.of (last_of events)) z) is on) run
-          by (Move.Take p) is run rule = plainly (λ on. subst (λ (z : Move). IsBeginOn (r.of (last_of events)) z) is on) run
           by (Move.Begin p (Call.Send body) known) is run (inl have) = come have
           by (Move.Begin p (Call.Send body) known) is run (inr look) =
               let f : Found (last_of events) events = found (last_of events) events before refl look in
@@ -282,22 +271,17 @@ module _ (r : RowSetting) where
               let chain : chain_of (r.of (last_of events)).config p ≡ Chain.Send = subst (λ (z : Move). IsBeginOn (r.of (last_of events)) z) is on in
               let may : IsRun (r.of (last_of events)) (Move.Begin p Call.Take known ∷ moves_there (last_of events) events) = subst (λ (z : Move). IsRun (r.of (last_of events)) (z ∷ moves_there (last_of events) events)) is run in
               no_take (r.of (last_of events)).served (subst (λ (x : Chain). IsOn (r.of (last_of events)).served x Call.Take) chain may.1.1)) run
+          by _ is run rule = plainly (λ on. subst (λ (z : Move). IsBeginOn (r.of (last_of events)) z) is on) run
 
       move_more : BeginsLetIn r count bound m.at m.move events → Bounded events → Bounded (RowEvent.Moves m ∷ events)
       move_more rule (inl come) = inl (come_more (RowEvent.Moves m) events refl come)
-      move_more rule (inr lone) = elim (cases_eq m.at (last_of events)) [
-        | inl at ↦ move_here at (subst (λ (z : ℕ). BeginsLetIn r count bound z m.move events) at rule) lone
-        | inr differ ↦ inr (lone_elsewhere differ lone)
-      ]
+      move_more rule (inr lone) = grind (arith, move_here, lone_elsewhere)
 
     bounded : (events : List RowEvent) → Sound r events → KeepBound r count bound events → Bounded events
     bounded [] s keep = inl (λ g inside. omega arith)
     bounded (RowEvent.Moves m ∷ events) s keep = move_more m events s keep.1 (bounded events (sound_before r (RowEvent.Moves m) events s) keep.0)
-    bounded (RowEvent.Looks seat role ∷ events) s keep = same (RowEvent.Looks seat role) events refl refl (bounded events (sound_before r (RowEvent.Looks seat role) events s) keep)
-    bounded (RowEvent.Leaves seat ∷ events) s keep = same (RowEvent.Leaves seat) events refl refl (bounded events (sound_before r (RowEvent.Leaves seat) events s) keep)
-    bounded (RowEvent.GoesOn name ∷ events) s keep = same (RowEvent.GoesOn name) events refl refl (bounded events (sound_before r (RowEvent.GoesOn name) events s) keep)
-    bounded (RowEvent.Closes ∷ events) s keep = same RowEvent.Closes events refl refl (bounded events (sound_before r RowEvent.Closes events s) keep)
     bounded (RowEvent.Appends ∷ events) s keep = inr (lone_append events (sound_before r RowEvent.Appends events s) (bounded events (sound_before r RowEvent.Appends events s) keep))
+    bounded (e ∷ events) s keep = same e events refl refl (bounded events (sound_before r e events s) keep)
 
 -- ---- takes that are counted
 
@@ -307,21 +291,15 @@ module _ (r : RowSetting) (count bound : ℕ) (has : HasBound r count bound) (ev
 
   -- of a queue that the group isn't at
   pub elsewhere : (q : ℕ) → q ≢ queue_of g events → counted_for (queue_at r q events) g ≡ taken q
-  elsewhere q apart = elim (cases_lt q (queue_of g events)) [
-    | inl less ↦ omega (
-      arith,
-      behind r count bound has events s g inside q less,
-      (near r events s q).taken_most g (there r count bound has events s g inside q),
-      (near r events s q).taken_least g (there r count bound has events s g inside q),
-    )
-    | inr more ↦ elim (cases_lt (taken q) (counted_for (queue_at r q events) g)) [
-      | inl ahead ↦
-          let quiet : Quiet (r.of q) (Chain.Take g) (moves_there q events) =
-          (kept r events s).no_take q g (omega (arith, more, apart, ap (λ (z : ℕ). queue_of z events) (has.names_are q g))) in
-          absurd (omega (arith, (near r events s q).taken_pending g (there r count bound has events s g inside q) ahead, ap length quiet.none))
-      | inr same ↦ omega (arith, same, (near r events s q).taken_least g (there r count bound has events s g inside q))
-    ]
-  ]
+  elsewhere q apart = grind (
+    arith,
+    behind r count bound has events s g inside q,
+    (near r events s q).taken_most g (there r count bound has events s g inside q),
+    (near r events s q).taken_least g (there r count bound has events s g inside q),
+    (near r events s q).taken_pending g (there r count bound has events s g inside q),
+    has.names_are q g,
+    λ (more : queue_of (r.names q g) events < q). ap length ((kept r events s).no_take q g more).none,
+  )
 
   until : (n : ℕ) → n ≤ queue_of g events → counted_below r n g events ≡ handed_below r n g events
   until zero less = refl
@@ -330,15 +308,7 @@ module _ (r : RowSetting) (count bound : ℕ) (has : HasBound r count bound) (ev
   beyond_it : (n : ℕ) → queue_of g events < n
       → counted_below r n g events + taken (queue_of g events) ≡ handed_below r n g events + counted_for (queue_at r (queue_of g events) events) g
   beyond_it zero less = absurd (omega (arith, less))
-  beyond_it (suc n) less = elim (cases_eq n (queue_of g events)) [
-    | inl is ↦ omega (
-      arith,
-      until n (omega (arith, is)),
-      ap (λ (k : ℕ). counted_for (queue_at r k events) g) is,
-      ap taken is,
-    )
-    | inr apart ↦ omega (arith, beyond_it n (omega (arith, less, apart)), elsewhere n apart)
-  ]
+  beyond_it (suc n) less = grind (arith, until n, beyond_it n, elsewhere n)
 
 pub counted_takes_are_open : CountedTakesAreOpen
 counted_takes_are_open r count bound events has is_kept g inside =
@@ -348,14 +318,7 @@ counted_takes_are_open r count bound events has is_kept g inside =
     ≡ handed_below r (suc (last_of events)) g events + counted_for (queue_at r (queue_of g events) events) g =
     beyond_it r count bound has events s g inside (suc (last_of events)) (omega (arith, (kept r events s).behind g)) in
     let inner : g < (r.of (queue_of g events)).config.groups = there r count bound has events s g inside (queue_of g events) in
-    elim (cases_lt (length (handed (queue_at r (queue_of g events) events).history g)) (counted_for (queue_at r (queue_of g events) events) g)) [
-      | inl ahead ↦ inr (
-        omega (arith, all, ahead, (near r events s (queue_of g events)).taken_near g inner),
-        omega (arith, ahead, (near r events s (queue_of g events)).taken_near g inner),
-        (near r events s (queue_of g events)).taken_pending g inner ahead,
-      )
-      | inr same ↦ inl (omega (arith, all, same, (near r events s (queue_of g events)).taken_least g inner))
-    ]
+    grind (arith, (near r events s (queue_of g events)).taken_near g inner, (near r events s (queue_of g events)).taken_pending, (near r events s (queue_of g events)).taken_least g inner)
 
 pub waiting_sends_have_room : WaitingSendsHaveRoom
 waiting_sends_have_room r count bound events has is_kept keep =
@@ -367,5 +330,4 @@ waiting_sends_have_room r count bound events has is_kept keep =
 
 pub threads_keep_bounds : ThreadsKeepBounds
 threads_keep_bounds r count bound events has is_kept keep =
-    let s : Sound r events = sound_of r events is_kept in
-    most r count bound has events s (bounded r count bound has events s keep)
+    let s = sound_of r events is_kept in most r count bound has events s (bounded r count bound has events s keep)

@@ -1,25 +1,29 @@
 -- Runs of threads that keep the rules of a row and of its bound: their orders let items in by the rules.
-use Rattle.std.proofs.Common.{◌≡◌, ◌⊎◌, ℕ, zero, suc, ◌+◌, ◌<◌, ◌≤◌, Bool, true, false, ◌||◌, List, [], ◌∷◌, ◌++◌, map, length, Some, inl, inr, refl, sym, ap, subst, ◌∙◌, arith, append-nil, append_assoc, length-append}
 use Rattle.std.proofs.lemmas.Bool.{cases_eq, cases_lt}
+use Rattle.std.proofs.Common.{◌≡◌, ◌⊎◌, ℕ, zero, suc, ◌+◌, ◌<◌, ◌≤◌, Bool, true, false, ◌||◌, List, [], ◌∷◌, ◌++◌, map, length, Some, inl, inr, refl, sym, ap, subst, ◌∙◌, arith, append-nil, append_assoc, length-append}
 use Rattle.std.specs.List.{AllByRecursion, list_any}
 use Rattle.cc_model.specs.Record.{Record}
 use Rattle.cc_model.specs.Items.{IsPrefix, accepted, accepted_by, accepted_item, is_shut, shuts, handed}
+use Rattle.std.proofs.lemmas.List.{map-append}
 use Rattle.cc_runs.specs.State.{noted}
 use Rattle.cc_runs.specs.Run.{history_of, reached}
 use Rattle.cc_runs.specs.Counts.{counted_for}
 use Rattle.cc_runs.specs.Linearizable.{Effect, replay, AnswersAfter, IsExact, IsOfChain, in_order, IsOnTime}
 use Rattle.cc_runs.proofs.Linear.Replay.{prefix_length, replay_even}
+use Rattle.cc_runs.proofs.KnownPrefixes.{accepted_grow}
+use Rattle.cc_runs.proofs.Linear.Insert.{exact_before}
+use Rattle.cc_runs.proofs.Linear.Orders.{timely_now}
 use Rattle.cc_row.specs.Names.{Config, Pass, Call, Entry, Answer, SendAnswer, Chain, Setting, Move}
 use Rattle.cc_row.specs.BoundRuns.{waiting, waiting_at}
 use Rattle.cc_row.specs.CountedOrders.{FollowsCounts, HasCountedOrder}
 use Rattle.cc_row.proofs.Exact as exact
 use Rattle.cc_row.proofs.Exact.{send_accepted}
-use Rattle.cc_row.proofs.Use.{any_prefix, exact_tail, found, ended_same, exacts_cut, merged_exact, merged_in_order}
-use Rattle.cc_row.proofs.BoundLooks.{Sound, sound_before, sound_then, sound_of, near, kept, beyond, there, accepted_grow}
+use Rattle.cc_row.proofs.Use.{any_prefix, found, ended_same, exacts_cut, merged_exact, merged_in_order}
+use Rattle.cc_row.proofs.BoundLooks.{Sound, sound_before, sound_then, sound_of, near, kept, beyond, there}
 use Rattle.cc_row.proofs.BoundQueue.{item_few}
-use Rattle.cc_row.proofs.BoundThreads.{all_come, elsewhere, waiting_sends_have_room}
-use Rattle.cc_row.proofs.CountedOrders.{true_false, orders_follow_counts}
-use Rattle.cc_row.proofs.Merge.{moves_here, moves_else, row_timely, head, tail, head_tail, put, cut, merge, Each, cut_here, cut_else, each_before, timely_now, only_merged, only_put, only_mine}
+use Rattle.cc_row.proofs.BoundThreads.{all_come, elsewhere, waiting_sends_have_room, last_up}
+use Rattle.cc_row.proofs.CountedOrders.{orders_follow_counts}
+use Rattle.cc_row.proofs.Merge.{moves_here, moves_else, row_timely, head, tail, head_tail, put, cut, merge, Each, cut_here, cut_else, each_before, only_merged, only_put, only_mine}
 use Rattle.cc_row.specs.Row.{At, ends, items_at, taken_at, ended_at, before}
 use Rattle.cc_row.specs.OneQueue.{own_name}
 use Rattle.cc_row.specs.Queues.{AtQueue, AreApart, InOrder, only, seen}
@@ -27,23 +31,23 @@ use Rattle.cc_row.specs.Runs.{RowMove, FoundEnded, moves_at, flat}
 use Rattle.cc_row.specs.Threads.{RowEvent, RowSetting, IsKept, moves_of, moves_there, last_of, queue_of, final_of}
 use Rattle.cc_row.specs.Bound.{AreTogether, HasRoom, IsCrowded, IsFullRow, IsLetIn, taken_before}
 use Rattle.cc_row.specs.BoundThreads.{queue_at, accepted_below, counted_below, HasBound, HaveCome, FindsFull, KeepBound}
-use Rattle.cc_row.proofs.Threads.{within, good, last_grows, final_last}
+use Rattle.cc_row.proofs.Threads.{within, good, final_last}
 use Rattle.cc_row.proofs.BoundQueues.{bounded, bounded_queues}
 use Rattle.cc_row.specs.BoundQueues.{RowEffect, effects_in, AreLetIn}
 use Rattle.cc_row.specs.BoundedRuns.{Sent, GetsFull, GetFull, refused, with_looks, IsOneQueue, effects_before, LooksFindCrowds, ClosesLate, IsBoundedLinearization, BoundedThreadsAreOne}
 use Rattle.cc_row.proofs.FullLooks.{is_crowded, is_full}
 use Rattle.cc_row.proofs.ShutCalls.{accepts_none}
 use Rattle.cc_row.proofs.LateTimes.{head_same, tail_same, none_in, calls_in_time, late_in_time}
-use Rattle.cc_row.proofs.CloseRuns.{at_append, effects_at, effects_front, effects_refused, looks_none, closes_late}
+use Rattle.cc_row.proofs.CloseRuns.{effects_at, effects_front, effects_refused, looks_none, closes_late}
 use Rattle.cc_model.proofs.Grows.{any-append}
+use Rattle.cc_row.proofs.Sums.{grows}
 
 -- ---- one queue: what an order has accepted
 
 -- answers that were given before their sends' decisions accept no more than those sends
 to_wait : (calls rest : List Entry) (answers : List Answer) → length (accepted_by calls answers) ≤ waiting (calls ++ rest) []
-to_wait [] rest answers = omega arith
-to_wait (d ∷ calls) rest [] = omega arith
 to_wait (d ∷ calls) rest (a ∷ answers) = omega (arith, to_wait calls rest answers, item_few d a, length-append (accepted_item d a) (accepted_by calls answers))
+to_wait _ rest _ = omega arith
 
 ahead_few : (calls rest : List Entry) (answers later : List Answer) → length (accepted_by calls (answers ++ later)) ≤ length (accepted_by (calls ++ rest) answers) + waiting (calls ++ rest) answers
 ahead_few [] rest answers later = omega arith
@@ -69,7 +73,8 @@ split_last {X} (y ∷ front) rest (z ∷ xs) x is = elim (split_last front rest 
 
 frozen_order : (cfg : Config) (l : List Effect) → IsExact cfg l → (answers : List Answer) → IsPrefix answers (replay cfg.groups l).sends.answers → list_any shuts answers ≡ true
     → length (accepted (replay cfg.groups l)) ≤ length (accepted_by (replay cfg.groups l).sends.calls answers)
-frozen_order cfg [] exact answers p shut = absurd (true_false (sym shut ∙ ap (list_any shuts) (empty_front answers p.0 (sym p.1))))
+frozen_order cfg [] exact answers p shut =
+    absurd (cc (sym shut ∙ ap (list_any shuts) (empty_front answers p.0 (sym p.1))))
 frozen_order cfg (x ∷ l) exact answers p shut = by (λ z. frozen_order cfg l exact.0 answers z shut) x.chain x.entry x.answer exact.3 p
   where
     by : (IsPrefix answers (replay cfg.groups l).sends.answers → length (accepted (replay cfg.groups l)) ≤ length (accepted_by (replay cfg.groups l).sends.calls answers))
@@ -102,13 +107,7 @@ module _ (cfg : Config) (h : Record) (l : List Effect) (t : IsOnTime h (replay c
   accepted_least =
       let p = t.calls Chain.Send in
       let q = t.answers Chain.Send in
-      omega (
-        arith,
-        ahead_few (replay cfg.groups l).sends.calls p.0 h.sends.answers q.0,
-        ap (λ (z : List Answer). length (accepted_by (replay cfg.groups l).sends.calls z)) q.1,
-        ap (λ (z : List Entry). length (accepted_by z h.sends.answers)) p.1,
-        ap (λ (z : List Entry). waiting z h.sends.answers) p.1,
-      )
+      grind (arith, ahead_few (replay cfg.groups l).sends.calls p.0 h.sends.answers q.0, p.1, q.1)
 
   accepted_shut : IsExact cfg l → list_any shuts h.sends.answers ≡ true → length (accepted (replay cfg.groups l)) ≤ length (accepted h)
   accepted_shut exact shut =
@@ -140,15 +139,12 @@ adds_one cfg Chain.Send (Pass.Sender s) (Call.Send body) number known place r mi
   ap length (send_accepted r (record { pass = Pass.Sender s; call = Call.Send body; number = number; known = known }) (Answer.Send (SendAnswer.Accepted place)) even)
       ∙ length-append (accepted r) _,
 )
-adds_one cfg Chain.Send (Pass.Sender s) Call.Close number known place r mine fits even = absurd fits
-adds_one cfg Chain.Send _ _ number known place r mine fits even = absurd mine
-adds_one cfg (Chain.Take g) (Pass.Receiver p) Call.Take number known place r mine fits even = absurd fits
-adds_one cfg (Chain.Take g) _ _ number known place r mine fits even = absurd mine
+adds_one cfg c pass call number known place r mine fits even = grind arith
 
 -- counts that the order of a shut queue follows
 follows_now : (c : Setting) (moves : List Move) (l : List (List Effect)) → FollowsCounts c moves l → is_shut (history_of c moves) ≡ true → (g : ℕ) → g < c.config.groups
     → counted_for (reached c moves) g ≤ length (handed (replay c.config.groups (in_order l)) g)
-follows_now c [] l f shut g inside = absurd (true_false (sym shut))
+follows_now c [] l f shut g inside = absurd (cc (sym shut))
 follows_now c (m ∷ moves) [] f shut g inside = absurd f
 follows_now c (m ∷ moves) (now ∷ before) f shut g inside = f.2 shut g inside
 
@@ -163,12 +159,8 @@ stays_shut n (x ∷ front) l is = by x.chain x.entry x.answer (stays_shut n fron
 without_looks : (events : List RowEvent) (f : ℕ → List (List Effect)) → with_looks (λ (s : List RowEvent). []) events (merge (moves_of events) f) ≡ map RowEffect.At (flat (merge (moves_of events) f))
 without_looks [] f = refl
 without_looks (RowEvent.Moves m ∷ earlier) f =
-    ap (λ (z : List RowEffect). map RowEffect.At (put m.at (head (f m.at))) ++ z) (without_looks earlier (cut m.at f)) ∙ sym (at_append (put m.at (head (f m.at))) (flat (merge (moves_of earlier) (cut m.at f))))
-without_looks (RowEvent.Looks seat role ∷ earlier) f = without_looks earlier f
-without_looks (RowEvent.Leaves seat ∷ earlier) f = without_looks earlier f
-without_looks (RowEvent.Appends ∷ earlier) f = without_looks earlier f
-without_looks (RowEvent.GoesOn name ∷ earlier) f = without_looks earlier f
-without_looks (RowEvent.Closes ∷ earlier) f = without_looks earlier f
+    ap (λ (z : List RowEffect). map RowEffect.At (put m.at (head (f m.at))) ++ z) (without_looks earlier (cut m.at f)) ∙ sym (map-append RowEffect.At (put m.at (head (f m.at))) (flat (merge (moves_of earlier) (cut m.at f))))
+without_looks (_ ∷ earlier) f = without_looks earlier f
 
 -- ---- the row at one move
 
@@ -216,13 +208,10 @@ module _ (r : RowSetting) (count bound : ℕ) (has : HasBound r count bound) (m 
     whole = sym (head_tail (f m.at)) ∙ ap (λ (z : List Effect). z ++ in_order (tail (f m.at))) (sym is) ∙ append_assoc front l (in_order (tail (f m.at)))
 
     ok_it : IsExact (cfg m.at) (l ++ in_order (tail (f m.at)))
-    ok_it = exact_tail (cfg m.at) front (l ++ in_order (tail (f m.at))) (subst (λ (z : List Effect). IsExact (cfg m.at) z) whole (ok m.at))
+    ok_it = exact_before (cfg m.at) front (l ++ in_order (tail (f m.at))) (subst (λ (z : List Effect). IsExact (cfg m.at) z) whole (ok m.at))
 
     exacts : exact.Exact cfg order
-    exacts q = elim (cases_eq m.at q) [
-      | inl at ↦ subst (λ (z : ℕ). IsExact (cfg z) (only z order)) at (subst (λ (z : List Effect). IsExact (cfg m.at) z) (sym at_it) ok_it)
-      | inr differ ↦ subst (λ (z : List Effect). IsExact (cfg q) z) (sym (else_at q differ)) (ok q)
-    ]
+    exacts q = grind (arith, at_it, ok_it, else_at q, ok q)
 
     state : (q : ℕ) → exact.Same own_name q (cfg q).groups (exact.after cfg q order) (map (seen own_name) order)
     state q = exact.same cfg own_name apart order exacts q
@@ -274,11 +263,7 @@ module _ (r : RowSetting) (count bound : ℕ) (has : HasBound r count bound) (m 
       taken_sum (suc n) g less inside = omega (arith, taken_sum n g (omega (arith, less)) inside, taken_below n g less inside)
 
       taken_up : (n k g : ℕ) → n ≤ k → taken_before n g (map (seen own_name) order) ≤ taken_before k g (map (seen own_name) order)
-      taken_up n zero g less = let z : n ≡ 0 = omega (arith, less) in omega (arith, ap (λ (k : ℕ). taken_before k g (map (seen own_name) order)) z)
-      taken_up n (suc k) g less = elim (cases_eq n (suc k)) [
-        | inl same ↦ omega (arith, ap (λ (z : ℕ). taken_before z g (map (seen own_name) order)) same)
-        | inr other ↦ omega (arith, taken_up n k g (omega (arith, less, other)))
-      ]
+      taken_up n k g = grows (λ z. taken_before z g (map (seen own_name) order)) (λ z. omega arith) n k
 
       counted_few : (n g : ℕ) → g < count → counted_below r n g now ≤ accepted_below r n now
       counted_few zero g inside = omega arith
@@ -312,11 +297,7 @@ module _ (r : RowSetting) (count bound : ℕ) (has : HasBound r count bound) (m 
 
         items_all : (n : ℕ) → last_of events < n → before n (map (seen own_name) order) + 1 ≤ accepted_below r (suc (last_of events)) now + waiting_at r (last_of events) now
         items_all zero less = absurd (omega (arith, less))
-        items_all (suc n) less = elim (cases_eq n (last_of events)) [
-          | inl same ↦ subst (λ (z : ℕ). before (suc z) (map (seen own_name) order) + 1 ≤ accepted_below r (suc (last_of events)) now + waiting_at r (last_of events) now) (sym same)
-              (omega (arith, items_sum (last_of events) (omega arith), one_last))
-          | inr other ↦ omega (arith, items_all n (omega (arith, less, other)), items_beyond n (omega (arith, less, other)))
-        ]
+        items_all (suc n) less = grind (arith, items_all n, items_beyond n, items_sum (last_of events), one_last)
 
         abbrev Room : ℕ → Type 0
         Room g = accepted_below r (suc (last_of events)) now + waiting_at r (last_of events) now ≤ counted_below r (suc (last_of events)) g now + bound
@@ -326,26 +307,18 @@ module _ (r : RowSetting) (count bound : ℕ) (has : HasBound r count bound) (m 
         none_counted g inside less = elsewhere r count bound has now s g inside (last_of events) (λ z. omega (arith, z, less)) ∙ beyond r count bound has now s g inside (last_of events) less
 
         has_room : (to : ℕ) → last_of events ≤ to → (h : ℕ) → h < count → queue_of h now < last_of events → ((g : ℕ) → g < count → Room g) → HasRoom count bound to (map (seen own_name) order)
-        has_room to up h in_h behind room g inside = elim (cases_lt (queue_of g now) (last_of events)) [
-          | inl less ↦ omega (
-            arith,
-            room g inside,
-            none_counted g inside less,
-            items_all (suc to) (omega (arith, up)),
-            taken_sum (last_of events) g (omega arith) inside,
-            taken_up (last_of events) (suc to) g (omega (arith, up)),
-          )
-          | inr more ↦ omega (
-            arith,
-            room h in_h,
-            none_counted h in_h behind,
-            items_all (suc to) (omega (arith, up)),
-            counted_few (last_of events) h in_h,
-            all_come r count bound has now s g inside (last_of events) (omega (arith, more)),
-            taken_sum (last_of events) g (omega arith) inside,
-            taken_up (last_of events) (suc to) g (omega (arith, up)),
-          )
-        ]
+        has_room to up h in_h behind room g inside = grind (
+          arith,
+          room g inside,
+          room h in_h,
+          none_counted g inside,
+          none_counted h in_h behind,
+          items_all (suc to),
+          counted_few (last_of events) h in_h,
+          all_come r count bound has now s g inside (last_of events),
+          taken_sum (last_of events) g (omega arith) inside,
+          taken_up (last_of events) (suc to) g,
+        )
 
   is_kept : IsKept r now
   is_kept = record {
@@ -385,10 +358,7 @@ module _ (r : RowSetting) (count bound : ℕ) (has : HasBound r count bound) (m 
           ap (λ (z : List Effect). length (accepted (replay (cfg m.at).groups z))) (whole front (e ∷ l) is),
           accepted_least (cfg m.at) (history_of (r.of m.at) (moves_at m.at (m ∷ moves_of events))) (in_order (f m.at)) (on m.at),
         ) in
-        elim (cases_lt m.at (last_of events)) [
-          | inl less ↦ absurd (true_false (sym (was_shut less l) ∙ added.0))
-          | inr more ↦ by_search then (omega (arith, more, below)) one
-        ]
+        grind (arith, was_shut, added.0, by_search then, below)
       where
         by_search : (front ++ e ∷ []) ++ l ≡ head (f m.at) → m.at ≡ last_of events → length (items_at m.at (map (seen own_name) (put m.at l ++ rest))) + 1 ≤ length (accepted (queue_at r m.at now).history) + waiting_at r m.at now
             → AreTogether count m.at (map (seen own_name) (put m.at l ++ rest)) ⊎ HasRoom count bound to (map (seen own_name) (put m.at l ++ rest))
@@ -414,35 +384,23 @@ module _ (r : RowSetting) (count bound : ℕ) (has : HasBound r count bound) (m 
 
 -- ---- the run
 
-last_stays : (r : RowSetting) (later events : List RowEvent) → last_of events ≤ last_of (later ++ events)
-last_stays r [] events = omega arith
-last_stays r (e ∷ later) events = omega (arith, last_stays r later events, last_grows r e (later ++ events))
-
 follows_tail : (c : Setting) (m : Move) (moves : List Move) (l : List (List Effect)) → FollowsCounts c (m ∷ moves) l → FollowsCounts c moves (tail l)
-follows_tail c m moves [] t = absurd t
-follows_tail c m moves (new ∷ old) t = t.0
+follows_tail c m moves l t = grind arith
 
 module _ (r : RowSetting) (count bound : ℕ) (has : HasBound r count bound) (to : ℕ) where
   abbrev Follows : List RowMove → (ℕ → List (List Effect)) → Type 0
   Follows moves f = (q : ℕ) → FollowsCounts (r.of q) (moves_at q moves) (f q)
 
   follows_before : (m : RowMove) (earlier : List RowMove) (f : ℕ → List (List Effect)) → Follows (m ∷ earlier) f → Follows earlier (cut m.at f)
-  follows_before m earlier f each q = elim (cases_eq m.at q) [
-    | inl is ↦ subst (λ (l : List (List Effect)). FollowsCounts (r.of q) (moves_at q earlier) l) (sym (cut_here f m.at q is))
-        (follows_tail (r.of q) m.move (moves_at q earlier) (f q) (subst (λ (l : List Move). FollowsCounts (r.of q) l (f q)) (moves_here m earlier q is) (each q)))
-    | inr differ ↦ subst (λ (l : List (List Effect)). FollowsCounts (r.of q) (moves_at q earlier) l) (sym (cut_else f m.at q differ)) (subst (λ (l : List Move). FollowsCounts (r.of q) l (f q)) (moves_else m earlier q differ) (each q))
-  ]
+  follows_before m earlier f each q = grind (arith, cut_here, follows_tail, moves_here, cut_else, moves_else)
 
   crowd_at : (later start : List RowEvent) → Sound r start → (f : ℕ → List (List Effect)) → Each r.of (moves_of (later ++ start)) f → ((q : ℕ) → IsExact (r.of q).config (in_order (f q))) → Follows (moves_of (later ++ start)) f
       → (between : List RowEvent) → Sound r (between ++ start) → FindsFull r count bound between start → last_of start ≤ to → IsCrowded count bound to (map (seen own_name) (flat (effects_before later (merge (moves_of (later ++ start)) f))))
   crowd_at [] start s f each ok follows between then finds up = is_crowded r count bound has start s f each ok follows between then finds to up
   crowd_at (RowEvent.Moves m ∷ later) start s f each ok follows between then finds up =
       crowd_at later start s (cut m.at f) (each_before r.of m (moves_of (later ++ start)) f each) (exacts_cut r.of m.at f ok) (follows_before m (moves_of (later ++ start)) f follows) between then finds up
-  crowd_at (RowEvent.Looks seat role ∷ later) start s f each ok follows between then finds up = crowd_at later start s f each ok follows between then finds up
-  crowd_at (RowEvent.Leaves seat ∷ later) start s f each ok follows between then finds up = crowd_at later start s f each ok follows between then finds up
-  crowd_at (RowEvent.Appends ∷ later) start s f each ok follows between then finds up = crowd_at later start s f each ok follows between then finds up
-  crowd_at (RowEvent.GoesOn name ∷ later) start s f each ok follows between then finds up = crowd_at later start s f each ok follows between then finds up
-  crowd_at (RowEvent.Closes ∷ later) start s f each ok follows between then finds up = crowd_at later start s f each ok follows between then finds up
+  crowd_at (_ ∷ later) start s f each ok follows between then finds up =
+      crowd_at later start s f each ok follows between then finds up
 
   module _ (whole : List RowEvent) (all_sound : Sound r whole) (up : last_of whole ≤ to) (looks : List RowEvent → List Sent)
       (full : (later seen : List RowEvent) → later ++ seen ≡ whole → AllByRecursion (λ (s : Sent). GetsFull r count bound to later seen) (looks seen)) where
@@ -463,7 +421,7 @@ module _ (r : RowSetting) (count bound : ℕ) (has : HasBound r count bound) (to
             now g = sound_then r g.after (g.between ++ events) (subst (λ (z : List RowEvent). Sound r z) (sym is ∙ ap (λ (z : List RowEvent). z ++ events) g.split ∙ append_assoc g.after g.between events) all_sound)
 
             last_less : (later : List RowEvent) → later ++ events ≡ whole → last_of events ≤ to
-            last_less later is = omega (arith, up, last_stays r later events, ap last_of is)
+            last_less later is = omega (arith, up, last_up r later events, ap last_of is)
 
     all_let : (later events : List RowEvent) → later ++ events ≡ whole → Sound r events → KeepBound r count bound events → last_of events ≤ to → (f : ℕ → List (List Effect)) → Each r.of (moves_of events) f → ((q : ℕ) → IsExact (r.of q).config (in_order (f q)))
         → Follows (moves_of events) f → AreLetIn count bound to (with_looks looks events (merge (moves_of events) f))
@@ -475,21 +433,9 @@ module _ (r : RowSetting) (count bound : ℕ) (has : HasBound r count bound) (to
         (all_let (later ++ RowEvent.Moves m ∷ []) events (append_assoc later (RowEvent.Moves m ∷ []) events ∙ is) (sound_before r (RowEvent.Moves m) events s) keep.0 up (cut m.at f) (each_before r.of m (moves_of events) f each) (exacts_cut r.of m.at f ok)
         (follows_before m (moves_of events) f follows))
         (head (f m.at)) [] refl)
-    all_let later (RowEvent.Looks seat role ∷ events) is s keep up f each ok follows =
-        let_looks later (RowEvent.Looks seat role ∷ events) is s f each ok follows (with_looks looks events (merge (moves_of events) f)) (looks_none looks events f)
-        (all_let (later ++ RowEvent.Looks seat role ∷ []) events (append_assoc later (RowEvent.Looks seat role ∷ []) events ∙ is) (sound_before r (RowEvent.Looks seat role) events s) keep up f each ok follows)
-    all_let later (RowEvent.Leaves seat ∷ events) is s keep up f each ok follows =
-        let_looks later (RowEvent.Leaves seat ∷ events) is s f each ok follows (with_looks looks events (merge (moves_of events) f)) (looks_none looks events f)
-        (all_let (later ++ RowEvent.Leaves seat ∷ []) events (append_assoc later (RowEvent.Leaves seat ∷ []) events ∙ is) (sound_before r (RowEvent.Leaves seat) events s) keep up f each ok follows)
-    all_let later (RowEvent.Appends ∷ events) is s keep up f each ok follows =
-        let_looks later (RowEvent.Appends ∷ events) is s f each ok follows (with_looks looks events (merge (moves_of events) f)) (looks_none looks events f)
-        (all_let (later ++ RowEvent.Appends ∷ []) events (append_assoc later (RowEvent.Appends ∷ []) events ∙ is) (sound_before r RowEvent.Appends events s) keep (omega (arith, up)) f each ok follows)
-    all_let later (RowEvent.GoesOn name ∷ events) is s keep up f each ok follows =
-        let_looks later (RowEvent.GoesOn name ∷ events) is s f each ok follows (with_looks looks events (merge (moves_of events) f)) (looks_none looks events f)
-        (all_let (later ++ RowEvent.GoesOn name ∷ []) events (append_assoc later (RowEvent.GoesOn name ∷ []) events ∙ is) (sound_before r (RowEvent.GoesOn name) events s) keep up f each ok follows)
-    all_let later (RowEvent.Closes ∷ events) is s keep up f each ok follows =
-        let_looks later (RowEvent.Closes ∷ events) is s f each ok follows (with_looks looks events (merge (moves_of events) f)) (looks_none looks events f)
-        (all_let (later ++ RowEvent.Closes ∷ []) events (append_assoc later (RowEvent.Closes ∷ []) events ∙ is) (sound_before r RowEvent.Closes events s) keep up f each ok follows)
+    all_let later (e ∷ events) is s keep up f each ok follows =
+        let_looks later (e ∷ events) is s f each ok follows (with_looks looks events (merge (moves_of events) f)) (looks_none looks events f)
+        (all_let (later ++ e ∷ []) events (append_assoc later (e ∷ []) events ∙ is) (sound_before r e events s) keep (omega (arith, up)) f each ok follows)
 
 pub bounded_threads : BoundedThreadsAreOne
 bounded_threads r one events has is_kept keep =
@@ -533,7 +479,7 @@ bounded_threads r one events has is_kept keep =
             subst (λ (z : List RowEvent). IsCrowded one.groups one.capacity (final_of events) (map (seen own_name) (flat (effects_before (after ++ between) (merge (moves_of z) f))))) is
             (crowd_at r one.groups one.capacity has (final_of events) (after ++ between) start (sound_then r between start now) f (subst (λ (z : List RowEvent). Each r.of (moves_of z) f) (sym is) each) ok
             (subst (λ (z : List RowEvent). (q : ℕ) → FollowsCounts (r.of q) (moves_there q z) (f q)) (sym is) follows) between now finds
-            (omega (arith, final_last events, last_stays r (after ++ between) start, ap last_of is)))
+            (omega (arith, final_last events, last_up r (after ++ between) start, ap last_of is)))
 
         late : ClosesLate r one (final_of events) events (merge (moves_of events) f)
         late = closes_late r one (final_of events) events (λ q. has.capacity_is q) has.some f refl crowds

@@ -1,5 +1,7 @@
 -- A run in which a close of the row takes effect later: the looks that load before get Full.
-use Rattle.std.proofs.Common.{◌≡◌, ◌==◌, ℕ, ◌<◌, ◌≤◌, Bool, true, false, ◌||◌, List, [], ◌∷◌, ◌++◌, map, length, Option, Some, None, inl, inr, refl, sym, ap, subst, ◌∙◌, arith, append-nil, append_assoc}
+use Rattle.std.proofs.Common.{◌≡◌, ◌==◌, ℕ, ◌<◌, ◌≤◌, List, [], ◌∷◌, ◌++◌, map, length, Option, Some, None, inl, inr, refl, sym, ap, subst, ◌∙◌, arith, append-nil, append_assoc}
+use Rattle.std.proofs.Math.Bool.{or-false}
+use Rattle.std.proofs.lemmas.List.{map-append}
 use Rattle.std.specs.List.{AllByRecursion}
 use Rattle.cc_runs.specs.Linearizable.{Effect}
 use Rattle.cc_row.specs.Names.{Config, Call, Answer}
@@ -40,16 +42,8 @@ looks_none looks (RowEvent.Moves m ∷ earlier) f =
     effects_refused (looks (RowEvent.Moves m ∷ earlier)) _
     ∙ effects_front (put m.at (head (f m.at))) (with_looks looks earlier (merge (moves_of earlier) (cut m.at f)))
     ∙ ap (λ (z : List AtQueue). put m.at (head (f m.at)) ++ z) (looks_none looks earlier (cut m.at f))
-looks_none looks (RowEvent.Looks seat role ∷ earlier) f =
-    effects_refused (looks (RowEvent.Looks seat role ∷ earlier)) _ ∙ looks_none looks earlier f
-looks_none looks (RowEvent.Leaves seat ∷ earlier) f =
-    effects_refused (looks (RowEvent.Leaves seat ∷ earlier)) _ ∙ looks_none looks earlier f
-looks_none looks (RowEvent.Appends ∷ earlier) f =
-    effects_refused (looks (RowEvent.Appends ∷ earlier)) _ ∙ looks_none looks earlier f
-looks_none looks (RowEvent.GoesOn name ∷ earlier) f =
-    effects_refused (looks (RowEvent.GoesOn name ∷ earlier)) _ ∙ looks_none looks earlier f
-looks_none looks (RowEvent.Closes ∷ earlier) f =
-    effects_refused (looks (RowEvent.Closes ∷ earlier)) _ ∙ looks_none looks earlier f
+looks_none looks (e ∷ earlier) f =
+    effects_refused (looks (e ∷ earlier)) _ ∙ looks_none looks earlier f
 
 -- the calls of an order without looks
 abbrev calls_of : List AtQueue → List RowCall
@@ -77,10 +71,6 @@ pub more_later : (e : At) (t : Option Answer) (calls base later : List At) → c
 more_later e None calls base later is = (later, is)
 more_later e (Some a) calls base later is = (add e (Some a) later, ap (λ (z : List At). add e (Some a) z) is)
 
-pub at_append : (a b : List AtQueue) → map RowEffect.At (a ++ b) ≡ map RowEffect.At a ++ map RowEffect.At b
-at_append [] b = refl
-at_append (e ∷ a) b = ap (λ (z : List RowEffect). RowEffect.At e ∷ z) (at_append a b)
-
 pub told_front : (last : ℕ) (front base : List RowEffect)
     → (since : List At) × (told last (calls_in (front ++ base)) ≡ since ++ told last (calls_in base))
 told_front last [] base = ([], refl)
@@ -100,7 +90,7 @@ pub told_later : (last : ℕ) (since o : List AtQueue)
 told_later last since o =
     let p : (later : List At) × (told last (calls_in (map RowEffect.At since ++ map RowEffect.At o))
     ≡ later ++ told last (calls_of o)) = told_front last (map RowEffect.At since) (map RowEffect.At o) in
-    (p.0, ap (λ (z : List RowEffect). told last (calls_in z)) (at_append since o) ∙ p.1)
+    (p.0, ap (λ (z : List RowEffect). told last (calls_in z)) (map-append RowEffect.At since o) ∙ p.1)
 
 module _ (cfg : ℕ → Config) (one : Config) (groups last : ℕ) (even : (q : ℕ) → (cfg q).capacity ≡ one.capacity) where
   -- calls a as calls b, but for those that get Full
@@ -111,15 +101,7 @@ module _ (cfg : ℕ → Config) (one : Config) (groups last : ℕ) (even : (q : 
       → Follows (add e t a) (add e t b)
   add_follows e None a b f queue = f
   add_follows e (Some x) a b f queue =
-      let new : At = record {
-        queue = 0;
-        group = e.group;
-        sender = e.sender;
-        number = e.number;
-        call = e.call;
-        answer =
-            x;
-      } in (
+      let new : At = record { queue = 0; group = e.group; sender = e.sender; number = e.number; call = e.call; answer = x } in (
         (
           f.0,
           (
@@ -197,12 +179,8 @@ module _ (cfg : ℕ → Config) (one : Config) (groups last : ℕ) (even : (q : 
           ),
         ),
         alike_none new b a refl refl f.1,
-        f.2 ∙ sym (or_off (shut_at 0 a)),
+        f.2 ∙ sym (or-false (shut_at 0 a)),
       )
-    where
-      or_off : (b : Bool) → (b || false) ≡ b
-      or_off true = refl
-      or_off false = refl
 
   -- ---- later calls
 
@@ -245,22 +223,14 @@ module _ (cfg : ℕ → Config) (one : Config) (groups last : ℕ) (even : (q : 
 pub none_before : (l : List RowEvent) → effects_before l [] ≡ []
 none_before [] = refl
 none_before (RowEvent.Moves m ∷ l) = refl
-none_before (RowEvent.Looks seat role ∷ l) = none_before l
-none_before (RowEvent.Leaves seat ∷ l) = none_before l
-none_before (RowEvent.Appends ∷ l) = none_before l
-none_before (RowEvent.GoesOn name ∷ l) = none_before l
-none_before (RowEvent.Closes ∷ l) = none_before l
+none_before (_ ∷ l) = none_before l
 
 pub before_both : (later more : List RowEvent) (effects : List (List AtQueue))
     → effects_before (later ++ more) effects ≡ effects_before more (effects_before later effects)
 before_both [] more effects = refl
 before_both (RowEvent.Moves m ∷ later) more [] = sym (none_before more)
 before_both (RowEvent.Moves m ∷ later) more (now ∷ before) = before_both later more before
-before_both (RowEvent.Looks seat role ∷ later) more effects = before_both later more effects
-before_both (RowEvent.Leaves seat ∷ later) more effects = before_both later more effects
-before_both (RowEvent.Appends ∷ later) more effects = before_both later more effects
-before_both (RowEvent.GoesOn name ∷ later) more effects = before_both later more effects
-before_both (RowEvent.Closes ∷ later) more effects = before_both later more effects
+before_both (_ ∷ later) more effects = before_both later more effects
 
 pub flat_later : (later : List RowEvent) (effects : List (List AtQueue))
     → (since : List AtQueue) × (flat effects ≡ since ++ flat (effects_before later effects))
@@ -273,22 +243,14 @@ flat_later (RowEvent.Moves m ∷ later) (now ∷ before) =
       ap (λ (z : List AtQueue). now ++ z) r.1 ∙ sym
           (append_assoc now r.0 (flat (effects_before later before))),
     )
-flat_later (RowEvent.Looks seat role ∷ later) effects = flat_later later effects
-flat_later (RowEvent.Leaves seat ∷ later) effects = flat_later later effects
-flat_later (RowEvent.Appends ∷ later) effects = flat_later later effects
-flat_later (RowEvent.GoesOn name ∷ later) effects = flat_later later effects
-flat_later (RowEvent.Closes ∷ later) effects = flat_later later effects
+flat_later (_ ∷ later) effects = flat_later later effects
 
 merge_before : (later events : List RowEvent) (f : ℕ → List (List Effect))
     → (g : ℕ → List (List Effect)) × (effects_before later (merge (moves_of (later ++ events)) f) ≡ merge
     (moves_of events) g)
 merge_before [] events f = (f, refl)
 merge_before (RowEvent.Moves m ∷ later) events f = merge_before later events (cut m.at f)
-merge_before (RowEvent.Looks seat role ∷ later) events f = merge_before later events f
-merge_before (RowEvent.Leaves seat ∷ later) events f = merge_before later events f
-merge_before (RowEvent.Appends ∷ later) events f = merge_before later events f
-merge_before (RowEvent.GoesOn name ∷ later) events f = merge_before later events f
-merge_before (RowEvent.Closes ∷ later) events f = merge_before later events f
+merge_before (_ ∷ later) events f = merge_before later events f
 
 crowded_front : (groups bound last : ℕ) (l : List AtQueue) (base : List RowEffect) → AreCrowded groups bound last base
     → AreCrowded groups bound last (map RowEffect.At l ++ base)
@@ -348,32 +310,11 @@ module _ (r : RowSetting) (one : Config) (last : ℕ) (events after marked : Lis
       (with_looks looks events (merge (moves_of events) (cut m.at f)))
       (crowded (later ++ RowEvent.Moves m ∷ []) events (append_assoc later (RowEvent.Moves m ∷ []) events ∙ at)
       (cut m.at f) (step later (RowEvent.Moves m) ∙ ap (effects_before (RowEvent.Moves m ∷ [])) same)))
-  crowded later (RowEvent.Looks seat role ∷ events) at f same =
-      looks_crowded later (RowEvent.Looks seat role ∷ events) at (with_looks looks events (merge (moves_of events) f))
+  crowded later (e ∷ events) at f same =
+      looks_crowded later (e ∷ events) at (with_looks looks events (merge (moves_of events) f))
       (looks_none looks events f ∙ ap flat (sym same))
-      (crowded (later ++ RowEvent.Looks seat role ∷ []) events
-      (append_assoc later (RowEvent.Looks seat role ∷ []) events ∙ at) f
-      (step later (RowEvent.Looks seat role) ∙ ap (effects_before (RowEvent.Looks seat role ∷ [])) same))
-  crowded later (RowEvent.Leaves seat ∷ events) at f same =
-      looks_crowded later (RowEvent.Leaves seat ∷ events) at (with_looks looks events (merge (moves_of events) f))
-      (looks_none looks events f ∙ ap flat (sym same))
-      (crowded (later ++ RowEvent.Leaves seat ∷ []) events (append_assoc later (RowEvent.Leaves seat ∷ []) events
-      ∙ at) f (step later (RowEvent.Leaves seat) ∙ ap (effects_before (RowEvent.Leaves seat ∷ [])) same))
-  crowded later (RowEvent.Appends ∷ events) at f same =
-      looks_crowded later (RowEvent.Appends ∷ events) at (with_looks looks events (merge (moves_of events) f))
-      (looks_none looks events f ∙ ap flat (sym same))
-      (crowded (later ++ RowEvent.Appends ∷ []) events (append_assoc later (RowEvent.Appends ∷ []) events ∙ at) f
-      (step later (RowEvent.Appends) ∙ ap (effects_before (RowEvent.Appends ∷ [])) same))
-  crowded later (RowEvent.GoesOn name ∷ events) at f same =
-      looks_crowded later (RowEvent.GoesOn name ∷ events) at (with_looks looks events (merge (moves_of events) f))
-      (looks_none looks events f ∙ ap flat (sym same))
-      (crowded (later ++ RowEvent.GoesOn name ∷ []) events (append_assoc later (RowEvent.GoesOn name ∷ []) events
-      ∙ at) f (step later (RowEvent.GoesOn name) ∙ ap (effects_before (RowEvent.GoesOn name ∷ [])) same))
-  crowded later (RowEvent.Closes ∷ events) at f same =
-      looks_crowded later (RowEvent.Closes ∷ events) at (with_looks looks events (merge (moves_of events) f))
-      (looks_none looks events f ∙ ap flat (sym same))
-      (crowded (later ++ RowEvent.Closes ∷ []) events (append_assoc later (RowEvent.Closes ∷ []) events ∙ at) f
-      (step later (RowEvent.Closes) ∙ ap (effects_before (RowEvent.Closes ∷ [])) same))
+      (crowded (later ++ e ∷ []) events (append_assoc later (e ∷ []) events ∙ at) f
+      (step later e ∙ ap (effects_before (e ∷ [])) same))
 
 pub closes_late : (r : RowSetting) (one : Config) (last : ℕ) (events : List RowEvent)
     → ((q : ℕ) → (r.of q).config.capacity ≡ one.capacity) → 0 < one.groups → (f : ℕ → List (List Effect))

@@ -1,5 +1,6 @@
 -- A take of a queue that is shut takes effect when it is counted.
-use Rattle.std.proofs.Common.{◌≡◌, ◌⊎◌, ℕ, zero, suc, ◌+◌, ◌-◌, ◌<◌, ◌≤◌, Bool, true, false, ◌||◌, List, [], ◌∷◌, ◌++◌, length, Some, Ok, inl, inr, refl, sym, ap, subst, ◌∙◌, arith, length-append}
+use Rattle.std.proofs.Common.{◌≡◌, ◌≢◌, ◌⊎◌, ℕ, zero, suc, ◌+◌, ◌-◌, ◌<◌, ◌≤◌, Bool, true, false, ◌||◌, List, [], ◌∷◌, ◌++◌, length, Some, Ok, inl, inr, refl, sym, ap, subst, ◌∙◌, arith, length-append}
+use Rattle.std.proofs.lemmas.Option.{slice_get_within}
 use Rattle.std.proofs.lemmas.Bool.{cases_eq, cases_lt}
 use Rattle.std.specs.List.{AllByRecursion, slice_get, list_any}
 use Rattle.cc_model.specs.Config.{config_fault}
@@ -8,6 +9,7 @@ use Rattle.cc_model.specs.Items.{IsPrefix, accepted, accepted_by, accepted_item,
 use Rattle.cc_model.specs.Legal.{Legal, IsReceivers}
 use Rattle.cc_model.specs.Sequential.{Exactly}
 use Rattle.cc_model.proofs.Grows.{get_front, get_last, any-append, handed_by-append}
+use Rattle.cc_model.proofs.Fresh.{all_at}
 use Rattle.cc_runs.specs.State.{noted}
 use Rattle.cc_runs.specs.Run.{IsRun, reached, history_of}
 use Rattle.cc_runs.specs.Counts.{counted_for, CountsOf, CountsNoLess}
@@ -19,27 +21,17 @@ use Rattle.cc_runs.proofs.Ranges.{in_range}
 use Rattle.cc_runs.proofs.ListRuns.Facts.{lists}
 use Rattle.cc_runs.proofs.ListRuns.FromChains.{of_setting}
 use Rattle.cc_runs.proofs.ListRuns.Laws.{history_is_legal}
-use Rattle.cc_runs.proofs.ListRuns.Posts.{all_get}
 use Rattle.cc_runs.proofs.Counts.Laws.{counts_are_near, counts_grow}
-use Rattle.cc_runs.proofs.Linear.Insert.{AreTimed}
+use Rattle.cc_runs.proofs.Linear.Insert.{AreTimed, exact_before}
 use Rattle.cc_runs.proofs.Linear.Orders.{Lin, lin}
 use Rattle.cc_runs.proofs.Linear.Replay.{front_next, prefix_length, replay_groups, replay_even, same_least, Timed}
-use Rattle.cc_row.specs.Names.{Config, Pass, Call, Item, Entry, Answer, SendAnswer, CloseAnswer, TakeAnswer, Chain, Setting, Served, Move}
+use Rattle.cc_row.specs.Names.{Config, Pass, Call, Item, Entry, Answer, TakeAnswer, Chain, Setting, Served, Move}
 use Rattle.cc_row.specs.CountedOrders.{FollowsCounts, HasCountedOrder, OrdersFollowCounts}
 use Rattle.cc_row.proofs.Exact.{send_accepted, take_mine, take_other}
-use Rattle.cc_row.proofs.Use.{any_prefix, exact_tail}
-use Rattle.cc_row.proofs.Sums.{get_left}
+use Rattle.cc_row.proofs.Use.{any_prefix}
 
-pub true_false : true ≡ false → ⊥
-true_false e = cc
-
-some_same : {X : Type 0} {a b : X} → Some a ≡ Some b → a ≡ b
-some_same is = cc
-
-past : {X : Type 0} (items : List X) (k : ℕ) (x : X) → k ≡ length items → slice_get items k ≡ Some x → ⊥
-past {X} [] k x at is = cc
-past {X} (y ∷ items) zero x at is = omega (arith, at)
-past {X} (y ∷ items) (suc k) x at is = past items k x (omega (arith, at)) is
+at_or_other : (P : ℕ → Type 0) (y : ℕ) → P y → ((g : ℕ) → g ≢ y → P g) → (g : ℕ) → P g
+at_or_other P y here there g = elim (cases_eq g y) [ inl is ↦ subst P (sym is) here | inr ne ↦ there g ne ]
 
 get_in : {X : Type 0} (xs : List X) (k : ℕ) → k < length xs → (x : X) × (slice_get xs k ≡ Some x)
 get_in {X} [] k less = absurd (omega (arith, less))
@@ -63,40 +55,20 @@ few (d ∷ calls) rest (a ∷ answers) later less = omega (
 
 -- what all groups were handed doesn't matter
 any_all : (cfg : Config) (items : List Item) (shut : Bool) (t a b : ℕ) (call : Call) (x : Answer) → shut ≡ true → Exactly cfg items shut t a call x → Exactly cfg items shut t b call x
-any_all cfg items shut t a b (Call.Send body) (Answer.Send SendAnswer.Closed) is h = h
-any_all cfg items shut t a b (Call.Send body) (Answer.Send SendAnswer.Spent) is h = h
-any_all cfg items shut t a b (Call.Send body) (Answer.Send SendAnswer.Full) is h = absurd (true_false (sym is ∙ h.0))
-any_all cfg items shut t a b (Call.Send body) (Answer.Send (SendAnswer.Accepted place)) is h = absurd (true_false (sym is ∙ h.0))
-any_all cfg items shut t a b Call.Close (Answer.Close (CloseAnswer.Shut total)) is h = h
-any_all cfg items shut t a b Call.Close (Answer.Close (CloseAnswer.Already total)) is h = h
-any_all cfg items shut t a b Call.Take (Answer.Take (TakeAnswer.Got item)) is h = h
-any_all cfg items shut t a b Call.Take (Answer.Take TakeAnswer.Empty) is h = h
-any_all cfg items shut t a b Call.Take (Answer.Take (TakeAnswer.Ended total)) is h = h
-any_all cfg items shut t a b (Call.Send body) _ is h = absurd h
-any_all cfg items shut t a b Call.Close _ is h = absurd h
-any_all cfg items shut t a b Call.Take _ is h = absurd h
+any_all cfg items shut t a b call x is h = grind arith
 
 -- nor does it to a take
 of_take : (cfg : Config) (g : ℕ) (pass : Pass) (call : Call) (items : List Item) (shut : Bool) (t a b : ℕ) (x : Answer) → IsReceivers cfg g pass call → Exactly cfg items shut t a call x → Exactly cfg items shut t b call x
-of_take cfg g (Pass.Receiver p) Call.Take items shut t a b (Answer.Take (TakeAnswer.Got item)) is h = h
-of_take cfg g (Pass.Receiver p) Call.Take items shut t a b (Answer.Take TakeAnswer.Empty) is h = h
-of_take cfg g (Pass.Receiver p) Call.Take items shut t a b (Answer.Take (TakeAnswer.Ended total)) is h = h
-of_take cfg g (Pass.Receiver p) Call.Take items shut t a b _ is h = absurd h
-of_take cfg g _ _ items shut t a b x is h = absurd is
+of_take cfg g pass call items shut t a b x is h = grind arith
 
 -- a take of a queue that is shut gets the next item, if there is one
 gets_next : (cfg : Config) (g : ℕ) (pass : Pass) (call : Call) (items : List Item) (shut : Bool) (t all : ℕ) (x : Answer) (item : Item) → IsReceivers cfg g pass call → Exactly cfg items shut t all call x → shut ≡ true
     → slice_get items t ≡ Some item → Answer.Take (TakeAnswer.Got item) ≡ x
-gets_next cfg g (Pass.Receiver p) Call.Take items shut t all (Answer.Take (TakeAnswer.Got other)) item mine h is got = ap (λ (z : Item). Answer.Take (TakeAnswer.Got z)) (some_same (sym got ∙ h))
-gets_next cfg g (Pass.Receiver p) Call.Take items shut t all (Answer.Take TakeAnswer.Empty) item mine h is got = absurd (true_false (sym is ∙ h.0))
-gets_next cfg g (Pass.Receiver p) Call.Take items shut t all (Answer.Take (TakeAnswer.Ended total)) item mine h is got = absurd (past items t item h.1 got)
-gets_next cfg g (Pass.Receiver p) Call.Take items shut t all _ item mine h is got = absurd h
-gets_next cfg g _ _ items shut t all x item mine h is got = absurd mine
+gets_next cfg g pass call items shut t all x item mine h is got = grind (arith, slice_get_within)
 
 it_gets : (cfg : Config) (g : ℕ) (pass : Pass) (call : Call) (items : List Item) (shut : Bool) (t all : ℕ) (item : Item) → IsReceivers cfg g pass call → slice_get items t ≡ Some item
     → Exactly cfg items shut t all call (Answer.Take (TakeAnswer.Got item))
-it_gets cfg g (Pass.Receiver p) Call.Take items shut t all item mine got = got
-it_gets cfg g _ _ items shut t all item mine got = absurd mine
+it_gets cfg g pass call items shut t all item mine got = grind arith
 
 -- ---- one order is ahead of another
 
@@ -183,10 +155,7 @@ module _ (cfg : Config) (m : ℕ) (some : cfg.groups ≡ m + 1) (h : Record) (co
     same_all is_open = sym (same_least r later m (replay_groups n l ∙ some) (replay_groups n (k.effects ++ old) ∙ some) by_group)
       where
         by_group : (g : ℕ) → handed later g ≡ handed r g
-        by_group g = elim (k.ahead.each g) [
-          | inl is ↦ ap (λ (z : Side). handed_by z.answers) is
-          | inr one ↦ absurd (true_false (sym one.shut ∙ is_open))
-        ]
+        by_group g = grind (arith, k.ahead.each g)
 
     step_send : (e : Entry) (a : Answer) → IsOfChain cfg Chain.Send e → AnswersAfter cfg r Chain.Send e.call a → Next (record { chain = Chain.Send; entry = e; answer = a } ∷ l)
     step_send e a mine fits = record {
@@ -207,7 +176,7 @@ module _ (cfg : Config) (m : ℕ) (some : cfg.groups ≡ m + 1) (h : Record) (co
           item = one.item;
           inside = one.inside;
           shut = any-append shuts r.sends.answers (a ∷ []) ∙ ap (λ (b : Bool). b || (shuts a || false)) one.shut;
-          got = ap (λ (z : List Item). slice_get z (length (handed r g))) (send_accepted r e a (replay_even n l).0) ∙ get_left (accepted r) (accepted_item e a) (length (handed r g)) one.item one.got;
+          got = ap (λ (z : List Item). slice_get z (length (handed r g))) (send_accepted r e a (replay_even n l).0) ∙ get_front (accepted r) (accepted_item e a) (length (handed r g)) one.item one.got;
           call = one.call;
           is = one.is;
           counted = one.counted;
@@ -234,11 +203,9 @@ module _ (cfg : Config) (m : ℕ) (some : cfg.groups ≡ m + 1) (h : Record) (co
         mine_is = group_mine r y (with_take (of_group r y) e a) (r_in y inside)
 
         by_same : of_group later y ≡ of_group r y → (g : ℕ) → Each n h count (noted (Chain.Take y) r (Some e) (Some a)) (noted (Chain.Take y) later (Some e) (Some a)) g
-        by_same same g = elim (cases_eq g y) [
-          | inl is ↦ subst (λ (z : ℕ). Each n h count (noted (Chain.Take y) r (Some e) (Some a)) (noted (Chain.Take y) later (Some e) (Some a)) z) (sym is)
-              (inl (group_mine later y (with_take (of_group later y) e a) (later_in y inside) ∙ ap (λ (z : Side). with_take z e a) same ∙ sym mine_is))
-          | inr ne ↦ each_other n h count r later (noted (Chain.Take y) r (Some e) (Some a)) (noted (Chain.Take y) later (Some e) (Some a)) g (group_other r y g (with_take (of_group r y) e a) ne) (group_other later y g (with_take (of_group later y) e a) ne) refl (k.ahead.each g)
-        ]
+        by_same same = at_or_other (Each n h count (noted (Chain.Take y) r (Some e) (Some a)) (noted (Chain.Take y) later (Some e) (Some a))) y
+            (inl (group_mine later y (with_take (of_group later y) e a) (later_in y inside) ∙ ap (λ (z : Side). with_take z e a) same ∙ sym mine_is))
+            (λ g ne. each_other n h count r later _ _ g (group_other r y g (with_take (of_group r y) e a) ne) (group_other later y g (with_take (of_group later y) e a) ne) refl (k.ahead.each g))
 
         entry_is : OneMore n h count r later y → slice_get (of_group h y).calls (length (of_group r y).calls) ≡ Some e
         entry_is one =
@@ -246,13 +213,11 @@ module _ (cfg : Config) (m : ℕ) (some : cfg.groups ≡ m + 1) (h : Record) (co
             ap (λ (z : List Entry). slice_get z (length (of_group r y).calls)) p.1 ∙ get_front ((of_group r y).calls ++ e ∷ []) p.0 (length (of_group r y).calls) e (get_last (of_group r y).calls e)
 
         by_one : OneMore n h count r later y → (g : ℕ) → Each n h count (noted (Chain.Take y) r (Some e) (Some a)) later g
-        by_one one g = elim (cases_eq g y) [
-          | inl is ↦
-              let same_entry : one.entry ≡ e = some_same (sym one.call ∙ entry_is one) in
-              let same_answer : Answer.Take (TakeAnswer.Got one.item) ≡ a = gets_next cfg y e.pass e.call (accepted r) (is_shut r) (length (handed r y)) (handed_to_all r) a one.item mine fits one.shut one.got in
-              subst (λ (z : ℕ). Each n h count (noted (Chain.Take y) r (Some e) (Some a)) later z) (sym is) (inl (one.is ∙ (λ i. with_take (of_group r y) (same_entry i) (same_answer i)) ∙ sym mine_is))
-          | inr ne ↦ each_other n h count r later (noted (Chain.Take y) r (Some e) (Some a)) later g (group_other r y g (with_take (of_group r y) e a) ne) refl refl (k.ahead.each g)
-        ]
+        by_one one =
+            let same_entry : one.entry ≡ e = cc (one.call, entry_is one) in
+            let same_answer : Answer.Take (TakeAnswer.Got one.item) ≡ a = gets_next cfg y e.pass e.call (accepted r) (is_shut r) (length (handed r y)) (handed_to_all r) a one.item mine fits one.shut one.got in
+            at_or_other (Each n h count (noted (Chain.Take y) r (Some e) (Some a)) later) y (inl (one.is ∙ (λ i. with_take (of_group r y) (same_entry i) (same_answer i)) ∙ sym mine_is))
+            (λ g ne. each_other n h count r later _ later g (group_other r y g (with_take (of_group r y) e a) ne) refl refl (k.ahead.each g))
 
     step : (x : Chain) (e : Entry) (a : Answer) → IsThere cfg x → IsOfChain cfg x e → AnswersAfter cfg r x e.call a → Fits (record { chain = x; entry = e; answer = a } ∷ l) → Next (record { chain = x; entry = e; answer = a } ∷ l)
     step Chain.Send e a there mine fits calls = step_send e a mine fits
@@ -304,7 +269,7 @@ module _ (cfg : Config) (m : ℕ) (some : cfg.groups ≡ m + 1) (h : Record) (co
         let item : (x : Item) × (slice_get (accepted (replay n l)) (length (handed (replay n l) j)) ≡ Some x) =
         get_in (accepted (replay n l)) (length (handed (replay n l) j)) (omega (arith, behind, hands, most j inside, more_items)) in
         let mine : IsReceivers cfg j call.0.pass call.0.call =
-        all_get (λ (e : Entry). IsReceivers cfg j e.pass e.call) (of_group h j).calls (length (of_group (replay n l) j).calls) call.0 (receivers j inside) call.1 in
+        all_at (λ (e : Entry). IsReceivers cfg j e.pass e.call) (of_group h j).calls (length (of_group (replay n l) j).calls) call.0 (receivers j inside) call.1 in
         by_take call.0 item.0 call.1 item.1 mine hands so_far
       where
         by_take : (e : Entry) (x : Item) → slice_get (of_group h j).calls (length (of_group (replay n l) j).calls) ≡ Some e → slice_get (accepted (replay n l)) (length (handed (replay n l) j)) ≡ Some x → IsReceivers cfg j e.pass e.call
@@ -333,20 +298,18 @@ module _ (cfg : Config) (m : ℕ) (some : cfg.groups ≡ m + 1) (h : Record) (co
             most_now = omega (arith, behind, take_mine (replay n (k.effects ++ old)) e (Answer.Take (TakeAnswer.Got x)) j (omega (arith, inside, replay_groups n (k.effects ++ old))))
 
             by_each : j < length (replay n (k.effects ++ old)).takes → (g : ℕ) → Each n h count (replay n l) (noted (Chain.Take j) (replay n (k.effects ++ old)) (Some e) (Some (Answer.Take (TakeAnswer.Got x)))) g
-            by_each there g = elim (cases_eq g j) [
-              | inl is ↦ subst (λ (z : ℕ). Each n h count (replay n l) (noted (Chain.Take j) (replay n (k.effects ++ old)) (Some e) (Some (Answer.Take (TakeAnswer.Got x)))) z) (sym is) (inr (record {
-                entry = e;
-                item = x;
-                inside = inside;
-                shut = shut;
-                got = got;
-                call = call;
-                counted = most_now;
-                is = group_mine (replay n (k.effects ++ old)) j (with_take (of_group (replay n (k.effects ++ old)) j) e (Answer.Take (TakeAnswer.Got x))) there ∙ ap (λ (z : Side). with_take z e (Answer.Take (TakeAnswer.Got x))) same;
-              }))
-              | inr ne ↦ each_other n h count (replay n l) (replay n (k.effects ++ old)) (replay n l) (noted (Chain.Take j) (replay n (k.effects ++ old)) (Some e) (Some (Answer.Take (TakeAnswer.Got x)))) g refl
-                  (group_other (replay n (k.effects ++ old)) j g (with_take (of_group (replay n (k.effects ++ old)) j) e (Answer.Take (TakeAnswer.Got x))) ne) refl (k.ahead.each g)
-            ]
+            by_each there =
+                at_or_other (Each n h count (replay n l) (noted (Chain.Take j) (replay n (k.effects ++ old)) (Some e) (Some (Answer.Take (TakeAnswer.Got x))))) j (inr (record {
+                  entry = e;
+                  item = x;
+                  inside = inside;
+                  shut = shut;
+                  got = got;
+                  call = call;
+                  counted = most_now;
+                  is = group_mine (replay n (k.effects ++ old)) j (with_take (of_group (replay n (k.effects ++ old)) j) e (Answer.Take (TakeAnswer.Got x))) there ∙ ap (λ (z : Side). with_take z e (Answer.Take (TakeAnswer.Got x))) same;
+                }))
+                (λ g ne. each_other n h count (replay n l) (replay n (k.effects ++ old)) (replay n l) _ g refl (group_other (replay n (k.effects ++ old)) j g (with_take (of_group (replay n (k.effects ++ old)) j) e (Answer.Take (TakeAnswer.Got x))) ne) refl (k.ahead.each g))
 
     one_more : (k : Next l) (j : ℕ) → j < n → OneMore n h count (replay n l) (replay n (k.effects ++ old)) j → count j ≤ got_by k j
     one_more k j inside one = omega (
@@ -373,18 +336,12 @@ module _ (cfg : Config) (m : ℕ) (some : cfg.groups ≡ m + 1) (h : Record) (co
                 let now : Pulls p.next j = pulls p.next j (omega (arith, less)) shut behind same in
                 record {
                   next = now.next;
-                  counted = λ g below. elim (cases_eq g j) [
-                    | inl is ↦ subst (λ (z : ℕ). count z ≤ got_by now.next z) (sym is) now.counted
-                    | inr ne ↦ omega (arith, p.counted g (omega (arith, below, ne)), now.others g ne)
-                  ];
+                  counted = λ g below. grind (arith, now.counted, p.counted g, now.others g);
                 }
           ]
           | inr enough ↦ record {
             next = p.next;
-            counted = λ g below. elim (cases_eq g j) [
-              | inl is ↦ subst (λ (z : ℕ). count z ≤ got_by p.next z) (sym is) (omega (arith, enough))
-              | inr ne ↦ p.counted g (omega (arith, below, ne))
-            ];
+            counted = λ g below. grind (arith, enough, p.counted g);
           }
         ]
 
@@ -417,10 +374,8 @@ module _ (c : Setting) (m : ℕ) (some : c.config.groups ≡ m + 1) (serves : c.
 
   followed : (moves : List Move) → IsRun c moves → (effects : List (List Effect)) → AreTimed c moves effects → IsExact c.config (in_order effects) → Followed moves effects
   followed [] run [] t exact = record { later = []; timely = tt; exact = tt; ahead = record { sends = refl; each = λ g. inl refl }; follows = tt }
-  followed [] run (now ∷ before) t exact = absurd t
-  followed (mv ∷ earlier) run [] t exact = absurd t
   followed (mv ∷ earlier) run (now ∷ before) t exact =
-      let p : Followed earlier before = followed earlier run.0 before t.0 (exact_tail c.config now (in_order before) exact) in
+      let p : Followed earlier before = followed earlier run.0 before t.0 (exact_before c.config now (in_order before) exact) in
       let grow : CountsNoLess c (reached c earlier) (reached c (mv ∷ earlier)) = counts_grow c (mv ∷ []) earlier serves checked run in
       let base : Next c.config m some (history_of c (mv ∷ earlier)) (counted_for (reached c (mv ∷ earlier))) (in_order p.later) (in_order before) = record {
         effects = [];
@@ -436,15 +391,7 @@ module _ (c : Setting) (m : ℕ) (some : c.config.groups ≡ m + 1) (serves : c.
       -- no take is in the order before it is counted
       few_taken : (l : List Effect) → Ahead c.config.groups (history_of c (mv ∷ earlier)) (counted_for (reached c (mv ∷ earlier))) (replay c.config.groups (now ++ in_order before)) (replay c.config.groups l) → (g : ℕ) → g < c.config.groups
           → length (handed (replay c.config.groups l) g) ≤ counted_for (reached c (mv ∷ earlier)) g
-      few_taken l ahead g inside = elim (ahead.each g) [
-        | inl is ↦ omega (
-          arith,
-          ap (λ (z : Side). length (handed_by z.answers)) is,
-          ap (λ (z : List Answer). length (handed_by z)) (t.1.take_answers g),
-          (counts_are_near c (mv ∷ earlier) serves checked run).taken_least g inside,
-        )
-        | inr one ↦ one.counted
-      ]
+      few_taken l ahead g inside = grind (arith, ahead.each g, t.1.take_answers g, (counts_are_near c (mv ∷ earlier) serves checked run).taken_least g inside)
 
       by_shut : (p : Followed earlier before) → Next c.config m some (history_of c (mv ∷ earlier)) (counted_for (reached c (mv ∷ earlier))) (in_order p.later) (now ++ in_order before) → (b : Bool) → is_shut (history_of c (mv ∷ earlier)) ≡ b → Followed (mv ∷ earlier) (now ∷ before)
       by_shut p k false is = record {
@@ -452,7 +399,7 @@ module _ (c : Setting) (m : ℕ) (some : c.config.groups ≡ m + 1) (serves : c.
         timely = (p.timely, on_time c.config.groups (history_of c (mv ∷ earlier)) (counted_for (reached c (mv ∷ earlier))) (replay c.config.groups (now ++ in_order before)) (replay c.config.groups (k.effects ++ in_order p.later)) t.1 k.ahead);
         exact = k.exact;
         ahead = k.ahead;
-        follows = (p.follows, few_taken (k.effects ++ in_order p.later) k.ahead, λ shut. absurd (true_false (sym shut ∙ is)));
+        follows = (p.follows, few_taken (k.effects ++ in_order p.later) k.ahead, λ shut. absurd (cc (shut, is)));
       }
       by_shut p k true is =
           let near : CountsOf c (reached c (mv ∷ earlier)) = counts_are_near c (mv ∷ earlier) serves checked run in
@@ -469,6 +416,7 @@ module _ (c : Setting) (m : ℕ) (some : c.config.groups ≡ m + 1) (serves : c.
             ahead = q.next.ahead;
             follows = (p.follows, few_taken (q.next.effects ++ in_order p.later) q.next.ahead, λ shut g inside. q.counted g inside);
           }
+  followed _ run _ t exact = absurd t
 
 of_list : (cfg : Config) (checked : config_fault cfg ≡ Ok tt) (moves : List Move) → IsRun (lists cfg) moves → HasCountedOrder (lists cfg) moves
 of_list cfg checked moves run =

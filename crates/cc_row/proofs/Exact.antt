@@ -1,5 +1,5 @@
 -- The state of each queue of a row is that of its own history.
-use Rattle.std.proofs.Common.{◌≡◌, ◌⊎◌, ℕ, ◌+◌, ◌<◌, Bool, true, false, ◌||◌, cond, List, [], ◌∷◌, ◌++◌, map, length, Some, inl, inr, refl, sym, ap, subst, ◌∙◌, arith, eq-eqb, length-append}
+use Rattle.std.proofs.Common.{◌≡◌, ◌⊎◌, ℕ, ◌+◌, ◌<◌, Bool, false, ◌||◌, cond, List, [], ◌∷◌, ◌++◌, map, length, Some, inl, inr, refl, sym, ap, subst, ◌∙◌, arith, eq-eqb, length-append}
 use Rattle.std.proofs.lemmas.Bool.{cases_eq, ne_eqb}
 use Rattle.std.proofs.lemmas.List.{length-map}
 use Rattle.std.specs.List.{slice_get}
@@ -14,7 +14,7 @@ use Rattle.cc_runs.specs.Linearizable.{Effect, replay, AnswersAfter, IsExact, Is
 use Rattle.cc_runs.proofs.Chains.Opening.{no_calls}
 use Rattle.cc_runs.proofs.ListRuns.Decided.{group_mine, group_other}
 use Rattle.cc_runs.proofs.Linear.Replay.{accepted_by_calls, replay_groups, replay_even}
-use Rattle.cc_row.specs.Names.{Config, Pass, Call, Item, Entry, Answer, SendAnswer, CloseAnswer, Chain}
+use Rattle.cc_row.specs.Names.{Config, Pass, Call, Item, Entry, Answer, Chain}
 use Rattle.cc_row.specs.Row.{At, new_item, items_at, shut_at, taken_at, IsChain}
 use Rattle.cc_row.specs.Queues.{AtQueue, AreApart, only, group_on, sender_of, seen, InOrder, ExactQueuesAreOne}
 use Rattle.cc_row.proofs.States.{items_here, items_else, items_none, shut_here, shut_else, shut_none, taken_here, taken_else, taken_other, taken_none}
@@ -25,27 +25,16 @@ use Rattle.cc_row.proofs.Chains.{chains_are_rows}
 
 sent : (cfg : Config) (pass : Pass) (call : Call) (number known : ℕ) (a : Answer) → IsSenders cfg pass call
     → accepted_item (record { pass = pass; call = call; number = number; known = known }) a ≡ new_item (sender_of pass) number call a
-sent cfg (Pass.Sender s) (Call.Send body) number known (Answer.Send (SendAnswer.Accepted place)) is = refl
-sent cfg (Pass.Sender s) (Call.Send body) number known _ is = refl
-sent cfg (Pass.Sender s) Call.Close number known (Answer.Send (SendAnswer.Accepted place)) is = refl
-sent cfg (Pass.Sender s) Call.Close number known _ is = refl
-sent cfg _ _ number known a is = absurd is
+sent cfg pass call number known a is = grind arith
 
 hands_none : (cfg : Config) (pass : Pass) (call : Call) (items : List Item) (shut : Bool) (taken all : ℕ) (a : Answer) → IsSenders cfg pass call → Exactly cfg items shut taken all call a → handed_item a ≡ []
-hands_none cfg (Pass.Sender s) (Call.Send body) items shut taken all (Answer.Send b) is h = refl
-hands_none cfg (Pass.Sender s) Call.Close items shut taken all (Answer.Close b) is h = refl
-hands_none cfg (Pass.Sender s) (Call.Send body) items shut taken all _ is h = absurd h
-hands_none cfg (Pass.Sender s) Call.Close items shut taken all _ is h = absurd h
-hands_none cfg _ _ items shut taken all a is h = absurd is
+hands_none cfg pass call items shut taken all a is h = grind arith
 
 adds_none : (cfg : Config) (g : ℕ) (pass : Pass) (call : Call) (sender number : ℕ) (a : Answer) → IsReceivers cfg g pass call → new_item sender number call a ≡ []
-adds_none cfg g (Pass.Receiver r) Call.Take sender number a is = refl
-adds_none cfg g _ _ sender number a is = absurd is
+adds_none cfg g pass call sender number a is = grind arith
 
 shuts_none : (cfg : Config) (g : ℕ) (pass : Pass) (call : Call) (items : List Item) (shut : Bool) (taken all : ℕ) (a : Answer) → IsReceivers cfg g pass call → Exactly cfg items shut taken all call a → shuts a ≡ false
-shuts_none cfg g (Pass.Receiver r) Call.Take items shut taken all (Answer.Take b) is h = refl
-shuts_none cfg g (Pass.Receiver r) Call.Take items shut taken all _ is h = absurd h
-shuts_none cfg g _ _ items shut taken all a is h = absurd is
+shuts_none cfg g pass call items shut taken all a is h = grind arith
 
 module _ (h : Record) (e : Entry) (a : Answer) where
   pub send_accepted : length h.sends.calls ≡ length h.sends.answers → accepted (noted Chain.Send h (Some e) (Some a)) ≡ accepted h ++ accepted_item e a
@@ -54,9 +43,7 @@ module _ (h : Record) (e : Entry) (a : Answer) where
       accepted_more (h.sends.calls ++ e ∷ []) h.sends.answers e a next ∙ ap (λ (l : List Item). l ++ accepted_item e a) (accepted_by_calls h.sends.answers h.sends.calls (e ∷ []) even)
 
   or_none : (b c : Bool) → (b || (c || false)) ≡ (b || c)
-  or_none true c = refl
-  or_none false true = refl
-  or_none false false = refl
+  or_none b c = grind arith
 
   send_shut : is_shut (noted Chain.Send h (Some e) (Some a)) ≡ (is_shut h || shuts a)
   send_shut = any-append shuts h.sends.answers (a ∷ []) ∙ or_none (is_shut h) (shuts a)
@@ -99,10 +86,7 @@ same_more cfg names q h o (Chain.Take y) e a apart there mine exact even n same 
     record {
       items = same.items ∙ sym (items_none d o q (adds_none cfg y e.pass e.call (sender_of e.pass) e.number a mine));
       shut = same.shut ∙ sym (shut_none d o q (shuts_none cfg y e.pass e.call (accepted h) (is_shut h) (length (handed h y)) (handed_to_all h) a mine exact));
-      taken = λ g inside. elim (cases_eq y g) [
-        | inl at ↦ by_group g at inside
-        | inr other ↦ ap length (take_other h e a y g (λ z. other (sym z))) ∙ same.taken g inside ∙ sym (taken_other d o q (names q g) (λ is. other (apart y g there inside is)))
-      ];
+      taken = λ g inside. grind (arith, by_group g, take_other h e a y g, same.taken g inside, taken_other d o q (names q g), apart y g there inside);
     }
   where
     by_group : (g : ℕ) → y ≡ g → g < cfg.groups → length (handed (noted (Chain.Take y) h (Some e) (Some a)) g) ≡ taken_at q (names q g) (shown names q (Chain.Take y) e a ∷ o)
@@ -132,10 +116,7 @@ module _ (cfg : ℕ → Config) where
   Exact order = (q : ℕ) → IsExact (cfg q) (only q order)
 
   pub exact_before : (e : AtQueue) (order : List AtQueue) → Exact (e ∷ order) → Exact order
-  exact_before e order exact q = elim (cases_eq e.at q) [
-    | inl is ↦ (subst (λ (l : List Effect). IsExact (cfg q) l) (only_here e order q is) (exact q)).0
-    | inr differ ↦ subst (λ (l : List Effect). IsExact (cfg q) l) (only_else e order q differ) (exact q)
-  ]
+  exact_before e order exact q = grind (arith, exact q)
 
   pub exact_now : (e : AtQueue) (order : List AtQueue) → Exact (e ∷ order) → IsExact (cfg e.at) (e.effect ∷ only e.at order)
   exact_now e order exact = subst (λ (l : List Effect). IsExact (cfg e.at) l) (only_here e order e.at refl) (exact e.at)
@@ -163,15 +144,7 @@ module _ (cfg : ℕ → Config) (names : ℕ → ℕ → ℕ) (apart : AreApart 
 
   -- what a group took doesn't matter to a sender
   pub any_taken : (c : Config) (pass : Pass) (items : List Item) (shut : Bool) (t u all : ℕ) (call : Call) (a : Answer) → IsSenders c pass call → Exactly c items shut t all call a → Exactly c items shut u all call a
-  any_taken c (Pass.Sender p) items shut t u all (Call.Send body) (Answer.Send SendAnswer.Closed) is h = h
-  any_taken c (Pass.Sender p) items shut t u all (Call.Send body) (Answer.Send SendAnswer.Spent) is h = h
-  any_taken c (Pass.Sender p) items shut t u all (Call.Send body) (Answer.Send SendAnswer.Full) is h = h
-  any_taken c (Pass.Sender p) items shut t u all (Call.Send body) (Answer.Send (SendAnswer.Accepted place)) is h = h
-  any_taken c (Pass.Sender p) items shut t u all Call.Close (Answer.Close (CloseAnswer.Shut total)) is h = h
-  any_taken c (Pass.Sender p) items shut t u all Call.Close (Answer.Close (CloseAnswer.Already total)) is h = h
-  any_taken c (Pass.Sender p) items shut t u all (Call.Send body) _ is h = absurd h
-  any_taken c (Pass.Sender p) items shut t u all Call.Close _ is h = absurd h
-  any_taken c _ items shut t u all _ a is h = absurd is
+  any_taken c pass items shut t u all call a is h = grind arith
 
   pub exactly_at : (q : ℕ) (h : Record) (o : List At) (s : Same names q (cfg q).groups h o) (x : Chain) (e : Entry) (a : Answer) → IsThere (cfg q) x → IsOfChain (cfg q) x e → AnswersAfter (cfg q) h x e.call a
       → Exactly (cfg q) (items_at q o) (shut_at q o) (taken_at q (group_on names q x) o) (handed_to_all h) e.call a

@@ -1,51 +1,45 @@
 -- A look that finds the row full: the row is full at a place in the order of the run.
-use Rattle.std.proofs.Common.{◌≡◌, ℕ, zero, suc, ◌+◌, ◌<◌, ◌≤◌, Bool, true, false, ◌||◌, List, [], ◌∷◌, ◌++◌, map, length, Some, inl, inr, refl, sym, ap, subst, ◌∙◌, arith}
-use Rattle.std.proofs.lemmas.Bool.{cases_eq, cases_lt}
+use Rattle.std.proofs.Common.{◌≡◌, ℕ, zero, suc, ◌+◌, ◌<◌, ◌≤◌, Bool, true, false, ◌||◌, List, [], ◌∷◌, ◌++◌, map, length, Some, refl, sym, ap, subst, ◌∙◌, arith}
 use Rattle.std.specs.List.{list_any}
 use Rattle.cc_model.specs.Record.{Record}
-use Rattle.cc_model.specs.Items.{accepted, accepted_by, is_shut, shuts, handed}
+use Rattle.cc_model.specs.Items.{accepted, is_shut, shuts, handed}
 use Rattle.cc_model.specs.Sequential.{Exactly}
 use Rattle.cc_model.proofs.Grows.{any-append}
 use Rattle.cc_runs.specs.State.{noted}
 use Rattle.cc_runs.specs.Run.{history_of, reached}
-use Rattle.cc_runs.specs.Counts.{counted, counted_for}
+use Rattle.cc_runs.specs.Counts.{counted_for}
 use Rattle.cc_runs.specs.Linearizable.{Effect, replay, AnswersAfter, IsExact, in_order, IsOnTime}
 use Rattle.cc_runs.proofs.Linear.Replay.{prefix_length, replay_even}
-use Rattle.cc_row.specs.Names.{Config, Call, Item, Entry, Answer, CloseAnswer, Chain, Setting, Move}
+use Rattle.cc_runs.proofs.Linear.Orders.{timely_now}
+use Rattle.cc_row.specs.Names.{Config, Call, Item, Entry, Answer, Chain, Setting, Move}
 use Rattle.cc_row.specs.Row.{At, taken_at, before}
 use Rattle.cc_row.specs.OneQueue.{own_name}
 use Rattle.cc_row.specs.Queues.{AreApart, seen}
 use Rattle.cc_row.specs.Runs.{flat}
-use Rattle.cc_row.specs.Threads.{RowEvent, RowSetting, moves_of, moves_there, last_of, queue_of}
+use Rattle.cc_row.specs.Threads.{RowEvent, RowSetting, moves_of, moves_there, last_of}
 use Rattle.cc_row.specs.Bound.{IsCrowded, IsFullRow, taken_before}
 use Rattle.cc_row.specs.BoundThreads.{queue_at, accepted_below, HasBound, FindsFull}
 use Rattle.cc_row.specs.BoundedRuns.{is_close}
 use Rattle.cc_row.specs.CountedOrders.{FollowsCounts}
 use Rattle.cc_row.proofs.Exact as exact
 use Rattle.cc_row.proofs.Use.{any_prefix, merged_exact}
-use Rattle.cc_row.proofs.Merge.{merge, Each, timely_now, only_merged}
+use Rattle.cc_row.proofs.Merge.{merge, Each, only_merged}
 use Rattle.cc_row.proofs.BoundLooks.{Sound, sound_then, near, beyond, behind, there, grown, accepted_up, accepted_stays}
 use Rattle.cc_row.proofs.BoundThreads.{elsewhere}
-use Rattle.cc_row.proofs.CountedOrders.{true_false, few}
+use Rattle.cc_row.proofs.CountedOrders.{few}
+use Rattle.cc_row.proofs.Sums.{grows}
 
 -- ---- one queue
 
 -- only a close shuts
 shuts_by_close : (cfg : Config) (items : List Item) (shut : Bool) (t all : ℕ) (call : Call) (a : Answer) → Exactly cfg items shut t all call a → shuts a ≡ true → is_close call ≡ true
-shuts_by_close cfg items shut t all Call.Close a h is = refl
-shuts_by_close cfg items shut t all (Call.Send body) (Answer.Close (CloseAnswer.Shut total)) h is = absurd h
-shuts_by_close cfg items shut t all Call.Take (Answer.Close (CloseAnswer.Shut total)) h is = absurd h
-shuts_by_close cfg items shut t all (Call.Send body) _ h is = absurd (true_false (sym is))
-shuts_by_close cfg items shut t all Call.Take _ h is = absurd (true_false (sym is))
+shuts_by_close cfg items shut t all call a h is = grind arith
 
 grows_or : (a b : Bool) (c d : Bool) → (a ≡ true → c ≡ true) → (b ≡ true → d ≡ true) → (a || (b || false)) ≡ true → (c || (d || false)) ≡ true
-grows_or true b c d first second is = ap (λ (z : Bool). z || (d || false)) (first refl)
-grows_or false b true d first second is = refl
-grows_or false true false d first second is = ap (λ (z : Bool). false || (z || false)) (second refl)
-grows_or false false false d first second is = absurd (true_false (sym is))
+grows_or a b c d first second is = grind arith
 
 shut_has_close : (cfg : Config) (l : List Effect) → IsExact cfg l → is_shut (replay cfg.groups l) ≡ true → list_any (λ (e : Entry). is_close e.call) (replay cfg.groups l).sends.calls ≡ true
-shut_has_close cfg [] ok is = absurd (true_false (sym is))
+shut_has_close cfg [] ok is = absurd (cc (sym is))
 shut_has_close cfg (x ∷ l) ok is = by (shut_has_close cfg l ok.0) x.chain x.entry x.answer ok.3 is
   where
     by : (is_shut (replay cfg.groups l) ≡ true → list_any (λ (e : Entry). is_close e.call) (replay cfg.groups l).sends.calls ≡ true) → (c : Chain) (e : Entry) (a : Answer) → AnswersAfter cfg (replay cfg.groups l) c e.call a
@@ -61,18 +55,11 @@ accepted_most : (n : ℕ) (h : Record) (l : List Effect) → IsOnTime h (replay 
 accepted_most n h l t =
     let p = t.calls Chain.Send in
     let q = t.answers Chain.Send in
-    omega (
-      arith,
-      few (replay n l).sends.calls p.0 h.sends.answers q.0 (omega (arith, (replay_even n l).0, prefix_length h.sends.answers (replay n l).sends.answers q)),
-      ap (λ (z : List Entry). length (accepted_by z h.sends.answers)) p.1,
-      ap (λ (z : List Answer). length (accepted_by (replay n l).sends.calls z)) q.1,
-    )
+    grind (arith, few (replay n l).sends.calls p.0 h.sends.answers q.0 (omega (arith, (replay_even n l).0, prefix_length h.sends.answers (replay n l).sends.answers q)), p.1, q.1)
 
 follows_most : (c : Setting) (moves : List Move) (l : List (List Effect)) → FollowsCounts c moves l → (g : ℕ) → g < c.config.groups → length (handed (replay c.config.groups (in_order l)) g) ≤ counted_for (reached c moves) g
 follows_most c [] [] f g inside = omega (arith, exact.none_handed (λ (q : ℕ). c.config) c.config.groups g)
-follows_most c [] (now ∷ before) f g inside = absurd f
-follows_most c (m ∷ moves) [] f g inside = absurd f
-follows_most c (m ∷ moves) (now ∷ before) f g inside = f.1 g inside
+follows_most c moves l f g inside = grind arith
 
 -- ---- the counts that a look finds
 
@@ -86,33 +73,20 @@ module _ (r : RowSetting) (count bound : ℕ) (has : HasBound r count bound) whe
 
     -- nothing was taken of a later queue
     none_later : (k : ℕ) → f.from < k → counted_for (queue_at r k seen) f.group ≡ 0
-    none_later k more = elim f.which [
-      | inr is ↦ omega (
-        arith,
-        counted_grow k,
-        elsewhere r count bound has (between ++ seen) s f.group f.inside k (λ z. omega (arith, z, is, more)),
-        beyond r count bound has (between ++ seen) s f.group f.inside k (omega (arith, is, more)),
-      )
-      | inl is ↦ elim (cases_lt f.from (queue_of f.group seen)) [
-        | inl gone ↦ absurd (omega (
-          arith,
-          f.finds,
-          ap (λ (z : ℕ). accepted_below r z seen) is,
-          ap (λ (z : ℕ). counted (queue_at r z seen)) is,
-          accepted_stays r count bound has between seen s f.from,
-          counted_grow f.from,
-          (near r seen first f.from).taken_least f.group (there r count bound has seen first f.group f.inside f.from),
-          behind r count bound has seen first f.group f.inside f.from gone,
-          (near r seen first f.from).most,
-          has.room,
-        ))
-        | inr still ↦ omega (
-          arith,
-          elsewhere r count bound has seen first f.group f.inside k (λ z. omega (arith, z, still, more)),
-          beyond r count bound has seen first f.group f.inside k (omega (arith, still, more)),
-        )
-      ]
-    ]
+    none_later k more = grind (
+      arith,
+      counted_grow k,
+      counted_grow f.from,
+      elsewhere r count bound has (between ++ seen) s f.group f.inside k,
+      beyond r count bound has (between ++ seen) s f.group f.inside k,
+      elsewhere r count bound has seen first f.group f.inside k,
+      beyond r count bound has seen first f.group f.inside k,
+      behind r count bound has seen first f.group f.inside f.from,
+      accepted_stays r count bound has between seen s f.from,
+      (near r seen first f.from).taken_least f.group (there r count bound has seen first f.group f.inside f.from),
+      (near r seen first f.from).most,
+      has.room,
+    )
 
     -- so a part of what was counted at first is no more than the look finds
     module _ (o : List At) (part : (k : ℕ) → taken_at k f.group o ≤ counted_for (queue_at r k seen) f.group) where
@@ -128,20 +102,16 @@ module _ (r : RowSetting) (count bound : ℕ) (has : HasBound r count bound) whe
 
       taken_until : (n : ℕ) → taken_before n f.group o ≤ accepted_below r f.from (between ++ seen) + counted_for (queue_at r f.from (between ++ seen)) f.group
       taken_until zero = omega arith
-      taken_until (suc n) = elim (cases_lt f.from n) [
-        | inl more ↦ omega (arith, taken_until n, part n, none_later n more)
-        | inr less ↦ elim (cases_eq n f.from) [
-          | inl is ↦ omega (
-            arith,
-            taken_below n,
-            part n,
-            counted_grow n,
-            ap (λ (z : ℕ). accepted_below r z (between ++ seen)) is,
-            ap (λ (z : ℕ). counted_for (queue_at r z (between ++ seen)) f.group) is,
-          )
-          | inr other ↦ omega (arith, taken_below (suc n), accepted_up r count bound has (between ++ seen) s f.group f.inside (suc n) f.from (omega (arith, less, other)))
-        ]
-      ]
+      taken_until (suc n) = grind (
+        arith,
+        taken_until n,
+        taken_below n,
+        taken_below (suc n),
+        part n,
+        counted_grow n,
+        none_later n,
+        accepted_up r count bound has (between ++ seen) s f.group f.inside (suc n) f.from,
+      )
 
   -- ---- the order of a run
 
@@ -170,11 +140,7 @@ module _ (r : RowSetting) (count bound : ℕ) (has : HasBound r count bound) whe
     )
 
     before_up : (n m : ℕ) → n ≤ m → before n (map (seen own_name) (flat (merge (moves_of events) f))) ≤ before m (map (seen own_name) (flat (merge (moves_of events) f)))
-    before_up n zero less = let z : n ≡ 0 = omega (arith, less) in omega (arith, ap (λ (k : ℕ). before k (map (seen own_name) (flat (merge (moves_of events) f)))) z)
-    before_up n (suc m) less = elim (cases_eq n (suc m)) [
-      | inl is ↦ omega (arith, ap (λ (k : ℕ). before k (map (seen own_name) (flat (merge (moves_of events) f)))) is)
-      | inr other ↦ omega (arith, before_up n m (omega (arith, less, other)))
-    ]
+    before_up = grows (λ k. before k (map (seen own_name) (flat (merge (moves_of events) f)))) (λ k. omega arith)
 
     taken_few : (g : ℕ) → g < count → (q : ℕ) → taken_at q g (map (seen own_name) (flat (merge (moves_of events) f))) ≤ counted_for (queue_at r q events) g
     taken_few g inside q = omega (
@@ -210,5 +176,5 @@ module _ (r : RowSetting) (count bound : ℕ) (has : HasBound r count bound) whe
       where
         is_open : (b : Bool) → is_shut (replay (r.of last).config.groups (in_order (f last))) ≡ b → is_shut (replay (r.of last).config.groups (in_order (f last))) ≡ false
         is_open false is = is
-        is_open true is = absurd (true_false (
+        is_open true is = absurd (cc (
             sym (any_prefix (λ (e : Entry). is_close e.call) _ _ ((on last).calls Chain.Send) (shut_has_close (r.of last).config (in_order (f last)) (ok last) is)) ∙ none))

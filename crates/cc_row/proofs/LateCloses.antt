@@ -1,16 +1,15 @@
 -- Calls of one queue, of which those that say that the queue is shut take effect after all others. So a send may get
 -- Full while a close is under way.
 use Rattle.std.proofs.Common.{◌≡◌, ◌≢◌, ◌⊎◌, ◌==◌, ℕ, ◌+◌, ◌<◌, ◌≤◌, Bool, true, false, ◌||◌, cond, List, [], ◌∷◌, ◌++◌, length, inl, inr, refl, sym, ap, subst, ◌∙◌, arith}
-use Rattle.std.proofs.lemmas.Bool.{cases_eq}
 use Rattle.std.proofs.lemmas.Option.{slice_get_within}
-use Rattle.cc_row.specs.Names.{Config, Body, Call, Item, Answer, SendAnswer, CloseAnswer, TakeAnswer}
+use Rattle.cc_row.specs.Names.{Config, Body, Call, Item, Answer}
 use Rattle.cc_model.specs.Items.{shuts, handed_item}
 use Rattle.cc_model.specs.Sequential.{Exactly}
 use Rattle.cc_row.specs.Row.{At, new_item, new_of, items_at, shut_at, taken_at}
 use Rattle.cc_row.specs.Bound.{IsSlowest, IsQueue}
 use Rattle.cc_row.specs.BoundedRuns.{says_shut, shut_calls, other_calls, shut_last}
-use Rattle.cc_row.proofs.States.{items_none, shut_here, shut_none, taken_other, taken_none}
-use Rattle.cc_row.proofs.Order.{clash, by_bool}
+use Rattle.cc_row.proofs.States.{items_none, shut_here, shut_none, taken_none}
+use Rattle.cc_row.proofs.Order.{clash}
 use Rattle.cc_row.proofs.Bound.{full, slowest, moved_to, queue_bound}
 
 -- ---- calls with the same state of the queue
@@ -47,10 +46,7 @@ slowest_same groups all a b same slow = record {
 
 -- calls that say that the queue is shut send no item
 pub no_item : (s n : ℕ) (call : Call) (a : Answer) → says_shut a ≡ true → new_item s n call a ≡ []
-no_item s n (Call.Send body) (Answer.Send (SendAnswer.Accepted place)) is = clash false is refl
-no_item s n (Call.Send body) _ is = refl
-no_item s n Call.Close a is = refl
-no_item s n Call.Take a is = refl
+no_item s n call a is = grind arith
 
 module _ (one : Config) (groups : ℕ) where
   -- a call that gets Full while as many items as the capacity wait, where the queue may be shut
@@ -85,17 +81,7 @@ module _ (one : Config) (groups : ℕ) where
   -- for such an answer it doesn't matter what all groups took, nor what a group took that hasn't taken all
   for_any : (items : List Item) (shut : Bool) (taken then all any : ℕ) (call : Call) (a : Answer) → says_shut a ≡ true
       → (taken ≡ length items → then ≡ taken) → Exact items shut taken all call a → Exact items shut then any call a
-  for_any items shut taken then all any (Call.Send body) (Answer.Send SendAnswer.Closed) is same h = h
-  for_any items shut taken then all any Call.Close (Answer.Close (CloseAnswer.Shut total)) is same h = h
-  for_any items shut taken then all any Call.Close (Answer.Close (CloseAnswer.Already total)) is same h = h
-  for_any items shut taken then all any Call.Take (Answer.Take (TakeAnswer.Ended total)) is same h =
-      (h.0, same h.1 ∙ h.1, h.2)
-  for_any items shut taken then all any _ (Answer.Send (SendAnswer.Accepted place)) is same h = clash false is refl
-  for_any items shut taken then all any _ (Answer.Send SendAnswer.Full) is same h = clash false is refl
-  for_any items shut taken then all any _ (Answer.Send SendAnswer.Spent) is same h = clash false is refl
-  for_any items shut taken then all any _ (Answer.Take (TakeAnswer.Got item)) is same h = clash false is refl
-  for_any items shut taken then all any _ (Answer.Take TakeAnswer.Empty) is same h = clash false is refl
-  for_any items shut taken then all any _ _ is same h = absurd h
+  for_any items shut taken then all any call a is same h = grind (arith, same)
 
   closing_on : (items : List Item) (taken then : ℕ → ℕ) (l : List At)
       → ((g : ℕ) → taken g ≡ length items → then g ≡ taken g) → Closing items taken l → Closing items then l
@@ -108,8 +94,7 @@ module _ (one : Config) (groups : ℕ) where
   )
 
   no_take : (a : Answer) → says_shut a ≡ true → handed_item a ≡ []
-  no_take (Answer.Take (TakeAnswer.Got item)) is = clash false is refl
-  no_take _ is = refl
+  no_take a is = grind arith
 
   -- while the queue is open there are none
   none_open : (items : List Item) (taken : ℕ → ℕ) (l : List At) → Closing items taken l → shut_at 0 l ≡ false → l ≡ []
@@ -118,21 +103,10 @@ module _ (one : Config) (groups : ℕ) where
     where
       opens : (shut : Bool) (call : Call) (a : Answer) → says_shut a ≡ true → shut ≡ false → shuts a ≡ false
           → Exact items shut (taken e.group) 0 call a → ⊥
-      opens shut (Call.Send body) (Answer.Send SendAnswer.Closed) so off not h = clash shut h off
-      opens shut Call.Close (Answer.Close (CloseAnswer.Shut total)) so off not h = clash true refl not
-      opens shut Call.Close (Answer.Close (CloseAnswer.Already total)) so off not h = clash shut h.0 off
-      opens shut Call.Take (Answer.Take (TakeAnswer.Ended total)) so off not h = clash shut h.0 off
-      opens shut _ (Answer.Send (SendAnswer.Accepted place)) so off not h = clash false so refl
-      opens shut _ (Answer.Send SendAnswer.Full) so off not h = clash false so refl
-      opens shut _ (Answer.Send SendAnswer.Spent) so off not h = clash false so refl
-      opens shut _ (Answer.Take (TakeAnswer.Got item)) so off not h = clash false so refl
-      opens shut _ (Answer.Take TakeAnswer.Empty) so off not h = clash false so refl
-      opens shut _ _ so off not h = h
+      opens shut call a so off not h = grind arith
 
       by : (b c2 : Bool) → shut_at 0 l ≡ b → shuts e.answer ≡ c2 → (shut_at 0 l || shuts e.answer) ≡ false → e ∷ l ≡ []
-      by true c2 p q so = clash (shut_at 0 l || shuts e.answer) (ap (λ (z : Bool). z || shuts e.answer) p) so
-      by false true p q so = clash (shut_at 0 l || shuts e.answer) ((λ i. p i || q i)) so
-      by false false p q so = absurd (opens (shut_at 0 l) e.call e.answer c.2 p q c.3)
+      by b d p q so = grind (arith, opens (shut_at 0 l) e.call e.answer c.2)
 
   -- at the end of other calls they are calls of the queue
   closing_last : (base l : List At) → IsQueue one groups base → shut_at 0 base ≡ false → (all : ℕ)
@@ -172,8 +146,7 @@ module _ (one : Config) (groups : ℕ) where
   Parts o = PartsOf (shut_calls o) (other_calls o) o
 
   not_shut : (a : Answer) → says_shut a ≡ false → shuts a ≡ false
-  not_shut (Answer.Close a) is = clash true refl is
-  not_shut _ is = refl
+  not_shut a is = grind arith
 
   -- another answer: the queue is open, or nothing changes, or an item is handed
   data May (items : List Item) (shut : Bool) (taken s n : ℕ) (call : Call) (a : Answer) : Type 0 where
@@ -185,26 +158,7 @@ module _ (one : Config) (groups : ℕ) where
       → length items ≤ all + one.capacity
       → (Exact items shut taken all call a ⊎ IsRefused items all call a)
       → Exact items false taken all call a × May items shut taken s n call a
-  was items shut taken all s n call a is most (inr r) = (
-    subst (λ (z : Call). Exact items false taken all z a) (sym r.sends)
-        (subst (λ (z : Answer). Exact items false taken all (Call.Send r.body) z) (sym r.told)
-        (refl, r.life, omega (arith, r.waits, most))),
-    leaves (ap (λ (z : Answer). new_item s n call z) r.told ∙ ap (λ (z : Call). new_item s n z full) r.sends)
-        (ap handed_item r.told),
-  )
-  was items shut taken all s n (Call.Send body) (Answer.Send (SendAnswer.Accepted place)) is most (inl h) =
-      ((refl, h.1, h.2, h.3), opened h.0)
-  was items shut taken all s n (Call.Send body) (Answer.Send SendAnswer.Full) is most (inl h) =
-      ((refl, h.1, h.2), opened h.0)
-  was items shut taken all s n (Call.Send body) (Answer.Send SendAnswer.Spent) is most (inl h) =
-      ((refl, h.1), opened h.0)
-  was items shut taken all s n Call.Take (Answer.Take (TakeAnswer.Got item)) is most (inl h) =
-      (h, hands refl (slice_get_within items taken item h))
-  was items shut taken all s n Call.Take (Answer.Take TakeAnswer.Empty) is most (inl h) = ((refl, h.1), opened h.0)
-  was items shut taken all s n _ (Answer.Send SendAnswer.Closed) is most (inl h) = clash true refl is
-  was items shut taken all s n _ (Answer.Close a) is most (inl h) = clash true refl is
-  was items shut taken all s n _ (Answer.Take (TakeAnswer.Ended total)) is most (inl h) = clash true refl is
-  was items shut taken all s n _ _ is most (inl h) = absurd h
+  was items shut taken all s n call a is most fits = grind (arith, opened, leaves, hands, slice_get_within)
 
   module _ (e : At) (o : List At) (fits : Fits e o) (p : Parts o) where
     abbrev Items : List Item
@@ -257,10 +211,7 @@ module _ (one : Config) (groups : ℕ) where
         subst (λ (l : List At). Closing (items_at 0 (e ∷ o)) (λ g. taken_at 0 g (e ∷ o)) l)
         (sym (none_open (items_at 0 o) (λ g. taken_at 0 g o) (shut_calls o) p.closing (p.shut ∙ off))) tt
     other_closing (leaves none same) = closing_more none (λ g all. taken_none e o 0 g same) (shut_calls o) p.closing
-    other_closing (hands none less) = closing_more none (λ g all. elim (cases_eq e.group g) [
-      | inl mine ↦ absurd (omega (arith, less, all, ap (λ (z : ℕ). taken_at 0 z o) mine))
-      | inr apart ↦ taken_other e o 0 g apart
-    ]) (shut_calls o) p.closing
+    other_closing (hands none less) = closing_more none (λ g all. grind (arith, less, all)) (shut_calls o) p.closing
 
     other_part : says_shut e.answer ≡ false → PartsOf (shut_calls o) (e ∷ other_calls o) (e ∷ o)
     other_part is =
@@ -287,12 +238,7 @@ module _ (one : Config) (groups : ℕ) where
         }
 
     part : Parts (e ∷ o)
-    part = elim (by_bool (says_shut e.answer)) [
-      | inl is ↦ subst (λ (b : Bool). PartsOf (cond b (e ∷ shut_calls o) (shut_calls o))
-          (cond b (other_calls o) (e ∷ other_calls o)) (e ∷ o)) (sym is) (late_part is fits.1.2)
-      | inr other ↦ subst (λ (b : Bool). PartsOf (cond b (e ∷ shut_calls o) (shut_calls o))
-          (cond b (other_calls o) (e ∷ other_calls o)) (e ∷ o)) (sym other) (other_part other)
-    ]
+    part = grind (arith, λ (is : says_shut e.answer ≡ true). late_part is fits.1.2, other_part)
 
   pub parts : (o : List At) → Mostly o → Parts o
   parts [] m = record {

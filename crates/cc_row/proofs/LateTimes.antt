@@ -22,8 +22,10 @@ use Rattle.cc_runs.proofs.Linear.Replay.{prefix_length}
 use Rattle.cc_runs.proofs.ListRuns.Ready.{list_answers_told}
 use Rattle.cc_runs.proofs.Ranges.{in_range}
 use Rattle.cc_runs.proofs.RunPrefixes.{prefix_more, prefixes_begin}
-use Rattle.cc_row.specs.Names.{Pass, Call, Item, Entry, Answer, SendAnswer, CloseAnswer, TakeAnswer, Chain, Served, Setting, Move}
-use Rattle.cc_row.specs.Row.{At, new_of, items_at, before, add}
+use Rattle.cc_runs.proofs.Linear.Orders.{timely_now}
+use Rattle.cc_runs.proofs.SendNumbers.{all_split}
+use Rattle.cc_row.specs.Names.{Pass, Call, Entry, Answer, SendAnswer, Chain, Served, Setting, Move}
+use Rattle.cc_row.specs.Row.{At, items_at, before, add}
 use Rattle.cc_row.specs.OneQueue.{own_name}
 use Rattle.cc_row.specs.Queues.{AtQueue, only, seen}
 use Rattle.cc_row.specs.Runs.{RowMove, flat}
@@ -35,8 +37,8 @@ use Rattle.cc_row.specs.BoundedRuns.{Sent, refused, with_looks, effects_before, 
 use Rattle.cc_row.proofs.BoundLooks.{Sound, sound_then, More, more_moves}
 use Rattle.cc_row.proofs.CloseRuns.{flat_later, told_front, told_later, effects_at, looks_none, before_both, none_before}
 use Rattle.cc_row.proofs.LateCloses.{no_item}
-use Rattle.cc_row.proofs.Merge.{moves_here, merge, cut, Each, each_before, only_merged, timely_now}
-use Rattle.cc_row.proofs.Order.{clash, by_bool}
+use Rattle.cc_row.proofs.Merge.{moves_here, merge, cut, Each, each_before, only_merged}
+use Rattle.cc_row.proofs.Order.{clash}
 use Rattle.cc_row.proofs.ShutCalls.{there, even_on, keep, part}
 use Rattle.cc_row.proofs.States.{items_none}
 use Rattle.cc_row.proofs.Use.{exacts_cut}
@@ -60,10 +62,6 @@ at_end : {X : Type 0} (z : X) (l b : List X) (w : X) → z ∷ l ≡ b ++ w ∷ 
     ((b : List X) × (l ≡ b ++ w ∷ []))
 at_end {X} z l [] w is = inl (head_same is, tail_same is)
 at_end {X} z l (y ∷ b) w is = inr (b, tail_same is)
-
-all_front : {X : Type 0} (P : X → Type 0) (xs ys : List X) → AllByRecursion P (xs ++ ys) → AllByRecursion P xs
-all_front {X} P [] ys all = tt
-all_front {X} P (x ∷ xs) ys all = (all.0, all_front P xs ys all.1)
 
 -- ---- the calls of a pass, up to one that is answered
 
@@ -109,7 +107,7 @@ module _ (f : Entry → Bool) (Bad : Answer → Type 0) where
       (good (bad_end (d ∷ calls) [] b e told tt is))
   chosen_front (d ∷ calls) (x ∷ answers) h c [] s b e told p q r even all good is =
       absurd (good (bad_end (d ∷ calls) (x ∷ answers) b e told
-      (all_front Bad (x ∷ answers) r.0 (subst (λ (l : List Answer). AllByRecursion Bad l) r.1 all)) is))
+      (all_split Bad (x ∷ answers) r.0 (subst (λ (l : List Answer). AllByRecursion Bad l) r.1 all)).0 is))
   chosen_front (d ∷ calls) (x ∷ answers) h [] (y ∷ a) s b e told p q r even all good is = absurd (omega (arith, even))
   chosen_front (d ∷ calls) (x ∷ answers) h (c ∷ cs) (y ∷ a) s b e told p q r even all good is =
       let lists : d ∷ (calls ++ p.0) ≡ c ∷ (cs ++ q.0) = sym p.1 ∙ q.1 in
@@ -227,8 +225,7 @@ others_in last (RowEffect.Refused s n body ∷ l) = others_in last l
 
 only_cond : (q : ℕ) (e : AtQueue) (l : List AtQueue) (t : Bool) → only q (cond t l (e ∷ l))
     ≡ cond t (only q l) (cond (e.at == q) (e.effect ∷ only q l) (only q l))
-only_cond q e l true = refl
-only_cond q e l false = refl
+only_cond q e l t = grind arith
 
 -- at the last queue
 pub only_last : (last : ℕ) (l : List AtQueue) → only last (not_closed last l) ≡ keep (only last l)
@@ -250,8 +247,7 @@ only_other last q (e ∷ l) apart = only_cond q e (not_closed last l) (says_clos
     ∙ by (cases_eq e.at q) (only_other last q l apart)
   where
     either : (t : Bool) (x : List Effect) → cond t x x ≡ x
-    either true x = refl
-    either false x = refl
+    either t x = grind arith
 
     by : (e.at ≡ q) ⊎ (e.at ≡ q → ⊥) → only q (not_closed last l) ≡ only q l
         → cond (says_closed last e) (only q (not_closed last l))
@@ -286,17 +282,13 @@ module _ (last : ℕ) where
   items_others : (q : ℕ) (l : List RowEffect) → items_at q (at_queues (calls_in (others last l)))
       ≡ items_at q (at_queues (calls_in l))
   items_others q [] = refl
-  items_others q (RowEffect.At e ∷ l) = elim (by_bool (says_closed last e)) [
-    | inl is ↦ ap (λ (b : Bool). items_at q (at_queues (calls_in (cond b (others last l)
-        (RowEffect.At e ∷ others last l))))) is
-        ∙ items_others q l
-        ∙ sym (items_none (seen own_name e) (at_queues (calls_in l)) q
-        (no_item (seen own_name e).sender (seen own_name e).number (seen own_name e).call e.effect.answer
-        (shows_none e is).1))
-    | inr off ↦ ap (λ (b : Bool). items_at q (at_queues (calls_in (cond b (others last l)
-        (RowEffect.At e ∷ others last l))))) off
-        ∙ ap (λ (z : List Item). cond (e.at == q) (z ++ new_of (seen own_name e)) z) (items_others q l)
-  ]
+  items_others q (RowEffect.At e ∷ l) = grind (
+    arith,
+    items_others q l,
+    items_none (seen own_name e) (at_queues (calls_in l)) q,
+    no_item (seen own_name e).sender (seen own_name e).number (seen own_name e).call e.effect.answer,
+    shows_none e,
+  )
   items_others q (RowEffect.Refused s n body ∷ l) = items_others q l
 
   before_others : (q : ℕ) (l : List RowEffect) → before q (at_queues (calls_in (others last l)))
@@ -307,24 +299,7 @@ module _ (last : ℕ) where
   -- what a caller gets says so exactly if the row's last queue says so
   told_says : (base : ℕ) (is_last : Bool) (a : Answer)
       → says_told (told_by base is_last a) ≡ cond is_last (says_shut a) false
-  told_says base true (Answer.Close (CloseAnswer.Shut total)) = refl
-  told_says base false (Answer.Close (CloseAnswer.Shut total)) = refl
-  told_says base true (Answer.Close (CloseAnswer.Already total)) = refl
-  told_says base false (Answer.Close (CloseAnswer.Already total)) = refl
-  told_says base true (Answer.Send SendAnswer.Closed) = refl
-  told_says base false (Answer.Send SendAnswer.Closed) = refl
-  told_says base true (Answer.Take (TakeAnswer.Ended total)) = refl
-  told_says base false (Answer.Take (TakeAnswer.Ended total)) = refl
-  told_says base true (Answer.Send (SendAnswer.Accepted place)) = refl
-  told_says base false (Answer.Send (SendAnswer.Accepted place)) = refl
-  told_says base true (Answer.Send SendAnswer.Full) = refl
-  told_says base false (Answer.Send SendAnswer.Full) = refl
-  told_says base true (Answer.Send SendAnswer.Spent) = refl
-  told_says base false (Answer.Send SendAnswer.Spent) = refl
-  told_says base true (Answer.Take (TakeAnswer.Got item)) = refl
-  told_says base false (Answer.Take (TakeAnswer.Got item)) = refl
-  told_says base true (Answer.Take TakeAnswer.Empty) = refl
-  told_says base false (Answer.Take TakeAnswer.Empty) = refl
+  told_says base is_last a = grind arith
 
   drops : (e : At) (t : Option Answer) (rest : List At) → says_told t ≡ true
       → other_calls (add e t rest) ≡ other_calls rest
@@ -345,13 +320,7 @@ module _ (last : ℕ) where
       let says : says_told t ≡ says_closed last e = told_says base (e.at == last) e.effect.answer in
       let parts : (b : Bool) → List At = λ b. told last (calls_in (cond b (others last l)
       (RowEffect.At e ∷ others last l))) in
-      elim (by_bool (says_closed last e)) [
-        | inl is ↦ ap parts is ∙ told_others l ∙ sym (drops new t (told last (calls_in l)) (says ∙ is))
-        | inr off ↦ ap parts off
-            ∙ ap (λ (n : ℕ). add new (told_by n (e.at == last) e.effect.answer) (told last (calls_in (others last l))))
-            (before_others e.at l) ∙ ap (λ (z : List At). add new t z) (told_others l)
-            ∙ sym (holds new t (told last (calls_in l)) (says ∙ off))
-      ]
+      grind (arith, told_others l, drops new t (told last (calls_in l)), before_others e.at l, holds new t (told last (calls_in l)))
   told_others (RowEffect.Refused s n body ∷ l) = ap (λ (z : List At). record {
     queue = 0;
     group = 0;
@@ -400,15 +369,7 @@ looks_front looks (RowEvent.Moves m ∷ later) seen (now ∷ before) =
     front_more (refused (looks (RowEvent.Moves m ∷ (later ++ seen))))
     (map RowEffect.At now ++ with_looks looks (later ++ seen) before) p.0
     (with_looks looks seen (effects_before later before)) p.1
-looks_front looks (RowEvent.Looks seat role ∷ later) seen effects =
-    looks_next looks _ later seen effects (looks_front looks later seen effects)
-looks_front looks (RowEvent.Leaves seat ∷ later) seen effects =
-    looks_next looks _ later seen effects (looks_front looks later seen effects)
-looks_front looks (RowEvent.Appends ∷ later) seen effects =
-    looks_next looks _ later seen effects (looks_front looks later seen effects)
-looks_front looks (RowEvent.GoesOn name ∷ later) seen effects =
-    looks_next looks _ later seen effects (looks_front looks later seen effects)
-looks_front looks (RowEvent.Closes ∷ later) seen effects =
+looks_front looks (_ ∷ later) seen effects =
     looks_next looks _ later seen effects (looks_front looks later seen effects)
 
 -- ---- one moment of a run
@@ -425,11 +386,7 @@ cut_of : (r : RowSetting) (later seen : List RowEvent) (f : ℕ → List (List E
 cut_of r [] seen f each ok = (f, refl, each, ok)
 cut_of r (RowEvent.Moves m ∷ later) seen f each ok =
     cut_of r later seen (cut m.at f) (each_before r.of m (moves_of (later ++ seen)) f each) (exacts_cut r.of m.at f ok)
-cut_of r (RowEvent.Looks seat role ∷ later) seen f each ok = cut_of r later seen f each ok
-cut_of r (RowEvent.Leaves seat ∷ later) seen f each ok = cut_of r later seen f each ok
-cut_of r (RowEvent.Appends ∷ later) seen f each ok = cut_of r later seen f each ok
-cut_of r (RowEvent.GoesOn name ∷ later) seen f each ok = cut_of r later seen f each ok
-cut_of r (RowEvent.Closes ∷ later) seen f each ok = cut_of r later seen f each ok
+cut_of r (_ ∷ later) seen f each ok = cut_of r later seen f each ok
 
 module _ (r : RowSetting) (seen : List RowEvent) (s : Sound r seen) (g : ℕ
     → List (List Effect)) (each : Each r.of (moves_of seen) g) (ok : (q : ℕ)

@@ -1,15 +1,16 @@
 -- A row of queues is one queue.
-use Rattle.std.proofs.Common.{◌≡◌, ◌==◌, ℕ, zero, suc, ◌+◌, ◌<◌, ◌≤◌, Bool, true, false, ◌||◌, List, [], ◌∷◌, ◌++◌, map, length, Option, Some, None, inl, inr, refl, sym, ap, subst, ◌∙◌, arith, append-nil, length-append, eq-eqb}
-use Rattle.std.proofs.lemmas.Bool.{cases_eq, ne_eqb}
+use Rattle.std.proofs.Common.{◌≡◌, ◌==◌, ℕ, zero, suc, ◌+◌, ◌<◌, ◌≤◌, Bool, true, false, ◌||◌, List, [], ◌∷◌, ◌++◌, map, length, Option, Some, None, refl, sym, ap, ◌∙◌, arith, append-nil, length-append}
 use Rattle.std.proofs.lemmas.Option.{slice_get_within}
 use Rattle.std.specs.List.{slice_get}
 use Rattle.cc_row.specs.Names.{Config, Body, Call, Item, Answer, SendAnswer, CloseAnswer, TakeAnswer}
 use Rattle.cc_model.specs.Items.{shuts, handed_item}
 use Rattle.cc_model.specs.Sequential.{Exactly}
+use Rattle.cc_model.proofs.Grows.{get_front}
 use Rattle.cc_row.specs.Row.{At, new_item, new_of, items_at, shut_at, taken_at, ended_at, StartsLate, IsRow, before, moved, reported_by, reported, add, outside, RowsAreQueues}
-use Rattle.cc_row.proofs.States.{items_here, items_else, items_none, shut_here, shut_else, shut_none, taken_here, taken_other, taken_none}
-use Rattle.cc_row.proofs.Order.{clash, by_bool, untouched, untaken, finished}
-use Rattle.cc_row.proofs.Sums.{row_items, row_taken, length_row, all_taken, rest_row, rest_taken, front_row, none_row, none_taken, other_taken, add_row, add_taken, get_left, get_right, get_map}
+use Rattle.cc_row.specs.Bound.{taken_before}
+use Rattle.cc_row.proofs.States.{items_here, items_none, shut_here, shut_else, shut_none, taken_here, taken_other, taken_none}
+use Rattle.cc_row.proofs.Order.{clash, untouched, untaken, finished}
+use Rattle.cc_row.proofs.Sums.{row_items, length_row, all_taken, rest_row, rest_taken, front_row, none_row, none_taken, other_taken, add_row, add_taken, get_right, get_map}
 
 -- an answer that changes nothing, or none
 abbrev pub Quiet : (sender number : ℕ) → Call → Option Answer → Type 0
@@ -20,7 +21,7 @@ Quiet s n call (Some a) = (new_item s n call a ≡ []) × (shuts a ≡ false) ×
 pub record Agrees (last : ℕ) (o outer : List At) : Type 0 where
   pub items : items_at 0 outer ≡ row_items (suc last) o
   pub shut : shut_at 0 outer ≡ shut_at last o
-  pub taken : (g : ℕ) → taken_at 0 g outer ≡ row_taken (suc last) g o
+  pub taken : (g : ℕ) → taken_at 0 g outer ≡ taken_before (suc last) g o
 
 -- ---- the states agree
 
@@ -33,15 +34,10 @@ module _ (last q g s n : ℕ) (o outer : List At) where
 
   -- neither changes anything
   quiet_agrees : (call : Call) (a : Answer) (t : Option Answer) → Quiet s n call (Some a) → Quiet s n call t → Agrees last o outer → Agrees last (inner call a ∷ o) (add (inner call a) t outer)
-  quiet_agrees call a None quiet _ same = record {
-    items = same.items ∙ sym (none_row (suc last) (inner call a) o quiet.0);
-    shut = same.shut ∙ sym (shut_none (inner call a) o last quiet.1);
-    taken = λ k. same.taken k ∙ sym (none_taken (suc last) k (inner call a) o quiet.2);
-  }
-  quiet_agrees call a (Some b) quiet too same = record {
-    items = items_none (shown call b) outer 0 too.0 ∙ same.items ∙ sym (none_row (suc last) (inner call a) o quiet.0);
-    shut = shut_none (shown call b) outer 0 too.1 ∙ same.shut ∙ sym (shut_none (inner call a) o last quiet.1);
-    taken = λ k. taken_none (shown call b) outer 0 k too.2 ∙ same.taken k ∙ sym (none_taken (suc last) k (inner call a) o quiet.2);
+  quiet_agrees call a t quiet too same = record {
+    items = grind (arith, append-nil, same.items, none_row (suc last) (inner call a) o quiet.0);
+    shut = grind (arith, same.shut);
+    taken = λ k. grind (arith, same.taken k, none_taken (suc last) k (inner call a) o quiet.2);
   }
 
   accepted_agrees : (body : Body) (place : ℕ) → q ≤ last → ((k : ℕ) → q < k → items_at k o ≡ []) → Agrees last o outer
@@ -63,20 +59,19 @@ module _ (last q g s n : ℕ) (o outer : List At) where
       record {
         items = items_none f outer 0 refl ∙ same.items ∙ sym (none_row (suc last) e o refl);
         shut = shut_none f outer 0 refl ∙ same.shut ∙ sym (shut_none e o last refl);
-        taken = λ k. elim (cases_eq g k) [
-          | inl mine ↦ omega (arith, taken_here f outer 0 k refl mine, same.taken k, add_taken (suc last) k e o (omega (arith, within)) mine)
-          | inr other ↦ taken_other f outer 0 k other ∙ same.taken k ∙ sym (other_taken (suc last) k e o other)
-        ];
+        taken = λ k. grind (
+          arith,
+          taken_here f outer 0 k,
+          same.taken k,
+          add_taken (suc last) k e o,
+          taken_other f outer 0 k,
+          other_taken (suc last) k e o,
+        );
       }
 
   shut_agrees : (total : ℕ) → Agrees last o outer
       → Agrees last (inner Call.Close (Answer.Close (CloseAnswer.Shut total)) ∷ o) (add (inner Call.Close (Answer.Close (CloseAnswer.Shut total))) (reported_by (before q o) (q == last) (Answer.Close (CloseAnswer.Shut total))) outer)
-  shut_agrees total same = elim (cases_eq q last) [
-    | inl at ↦ subst (λ (b : Bool). Agrees last (inner Call.Close (Answer.Close (CloseAnswer.Shut total)) ∷ o) (add (inner Call.Close (Answer.Close (CloseAnswer.Shut total))) (reported_by (before q o) b (Answer.Close (CloseAnswer.Shut total))) outer))
-        (sym (eq-eqb q last at)) (here at)
-    | inr other ↦ subst (λ (b : Bool). Agrees last (inner Call.Close (Answer.Close (CloseAnswer.Shut total)) ∷ o) (add (inner Call.Close (Answer.Close (CloseAnswer.Shut total))) (reported_by (before q o) b (Answer.Close (CloseAnswer.Shut total))) outer))
-        (sym (ne_eqb q last other)) (elsewhere other)
-  ]
+  shut_agrees total same = grind (arith, here, elsewhere)
     where
       here : q ≡ last → Agrees last (inner Call.Close (Answer.Close (CloseAnswer.Shut total)) ∷ o) (shown Call.Close (Answer.Close (CloseAnswer.Shut (before q o + total))) ∷ outer)
       here at =
@@ -102,29 +97,18 @@ module _ (last q g s n : ℕ) (o outer : List At) where
     where
       by : (c : Call) → new_item s n c (Answer.Send (SendAnswer.Accepted place)) ≡ [] → new_item s n c (Answer.Send (SendAnswer.Accepted (before q o + place))) ≡ []
       by (Call.Send body) is = absurd (omega (arith, ap length is))
-      by Call.Close is = refl
-      by Call.Take is = refl
-  quiet_told call (Answer.Send SendAnswer.Full) b quiet = tt
-  quiet_told call (Answer.Send SendAnswer.Spent) b quiet = tt
-  quiet_told call (Answer.Send SendAnswer.Closed) true quiet = quiet
-  quiet_told call (Answer.Send SendAnswer.Closed) false quiet = tt
+      by _ is = refl
   quiet_told call (Answer.Close (CloseAnswer.Shut total)) b quiet = clash false (sym quiet.1) refl
   quiet_told call (Answer.Close (CloseAnswer.Already total)) true quiet = (by call, refl, refl)
     where
       by : (c : Call) → new_item s n c (Answer.Close (CloseAnswer.Already (before q o + total))) ≡ []
-      by (Call.Send body) = refl
-      by Call.Close = refl
-      by Call.Take = refl
-  quiet_told call (Answer.Close (CloseAnswer.Already total)) false quiet = tt
+      by c = grind arith
   quiet_told call (Answer.Take (TakeAnswer.Got item)) b quiet = absurd (omega (arith, ap length quiet.2))
-  quiet_told call (Answer.Take TakeAnswer.Empty) b quiet = quiet
   quiet_told call (Answer.Take (TakeAnswer.Ended total)) true quiet = (by call, refl, refl)
     where
       by : (c : Call) → new_item s n c (Answer.Take (TakeAnswer.Ended (before q o + total))) ≡ []
-      by (Call.Send body) = refl
-      by Call.Close = refl
-      by Call.Take = refl
-  quiet_told call (Answer.Take (TakeAnswer.Ended total)) false quiet = tt
+      by c = grind arith
+  quiet_told call a b quiet = grind arith
 
   pub agrees_more : (cfg : Config) (shut : Bool) (taken all : ℕ) (items : List Item) (call : Call) (a : Answer) → q ≤ last → (shut ≡ false → (k : ℕ) → q < k → items_at k o ≡ [])
       → Exactly cfg items shut taken all call a → Agrees last o outer → Agrees last (inner call a ∷ o) (add (inner call a) (reported_by (before q o) (q == last) a) outer)
@@ -146,7 +130,7 @@ no_row : (n : ℕ) → row_items n [] ≡ []
 no_row zero = refl
 no_row (suc n) = append-nil (row_items n []) ∙ no_row n
 
-none_handed : (n g : ℕ) → row_taken n g [] ≡ 0
+none_handed : (n g : ℕ) → taken_before n g [] ≡ 0
 none_handed zero g = refl
 none_handed (suc n) g = omega (arith, none_handed n g)
 
@@ -159,19 +143,14 @@ agrees cfg last (e ∷ o) row =
 -- ---- no more items than calls
 
 pub new_few : (s n : ℕ) (call : Call) (a : Answer) → length (new_item s n call a) ≤ 1
-new_few s n (Call.Send body) (Answer.Send (SendAnswer.Accepted place)) = omega arith
-new_few s n _ _ = omega arith
+new_few s n call a = grind arith
 
 pub items_few : (q : ℕ) (o : List At) → length (items_at q o) ≤ length o
 items_few q [] = omega arith
-items_few q (e ∷ o) = elim (cases_eq e.queue q) [
-  | inl at ↦ omega (arith, ap length (items_here e o q at), length-append (items_at q o) (new_of e), new_few e.sender e.number e.call e.answer, items_few q o)
-  | inr other ↦ omega (arith, ap length (items_else e o q other), items_few q o)
-]
+items_few q (e ∷ o) = grind (arith, length-append, new_few e.sender e.number e.call e.answer, items_few q o)
 
 add_few : (e : At) (t : Option Answer) (rest : List At) → length (add e t rest) ≤ suc (length rest)
-add_few e None rest = omega arith
-add_few e (Some a) rest = omega arith
+add_few e t rest = grind arith
 
 pub outside_few : (last : ℕ) (o : List At) → length (outside last o) ≤ length o
 outside_few last [] = omega arith
@@ -180,9 +159,7 @@ outside_few last (e ∷ o) = omega (arith, add_few e (reported last e o) (outsid
 -- ---- the answers are exact
 
 late_first : (g : ℕ) (call : Call) (outer : List At) → StartsLate 0 g call outer
-late_first g (Call.Send body) outer = λ k less. absurd (omega (arith, less))
-late_first g Call.Close outer = λ k less. absurd (omega (arith, less))
-late_first g Call.Take outer = λ k less. absurd (omega (arith, less))
+late_first g call outer = grind arith
 
 module _ (cfg : ℕ → Config) (wide : Config) (last q g s n : ℕ) (o outer : List At)
     (before_it : IsRow cfg last o) (rest : IsRow (λ (z : ℕ). wide) 0 outer) (same : Agrees last o outer) (within : q ≤ last)
@@ -194,10 +171,7 @@ module _ (cfg : ℕ → Config) (wide : Config) (last q g s n : ℕ) (o outer : 
   one call b h = (rest, omega arith, late_first g call outer, (0, h))
 
   open_last : shut_at q o ≡ false → shut_at 0 outer ≡ false
-  open_last is = same.shut ∙ elim (cases_eq q last) [
-    | inl at ↦ ap (λ (z : ℕ). shut_at z o) (sym at) ∙ is
-    | inr other ↦ (untouched cfg last o before_it q last (omega (arith, within, other)) is).1
-  ]
+  open_last is = grind (arith, same.shut, untouched cfg last o before_it q last)
 
   beyond_open : shut_at q o ≡ false → (k : ℕ) → q < k → items_at k o ≡ []
   beyond_open is k more = (untouched cfg last o before_it q k more is).0
@@ -220,21 +194,15 @@ module _ (cfg : ℕ → Config) (wide : Config) (last q g s n : ℕ) (o outer : 
   at_last at late = omega (
     arith,
     same.taken g,
-    ap (λ (z : ℕ). row_taken (suc z) g o) at,
+    ap (λ (z : ℕ). taken_before (suc z) g o) at,
     all_taken q g o (λ k less. (finished cfg last o before_it k g (late k less)).1),
   )
 
   not_ended : shut_at q o ≡ false → ended_at q g o ≡ false
-  not_ended is = elim (by_bool (ended_at q g o)) [
-    | inl so ↦ clash (shut_at q o) (finished cfg last o before_it q g so).0 is
-    | inr off ↦ off
-  ]
+  not_ended is = grind (arith, finished cfg last o before_it q g)
 
   has_more : taken_at q g o < length (items_at q o) → ended_at q g o ≡ false
-  has_more some = elim (by_bool (ended_at q g o)) [
-    | inl so ↦ absurd (omega (arith, some, (finished cfg last o before_it q g so).1))
-    | inr off ↦ off
-  ]
+  has_more some = grind (arith, finished cfg last o before_it q g)
 
   got : (item : Item) → ((k : ℕ) → k < q → ended_at k g o ≡ true) → slice_get (items_at q o) (taken_at q g o) ≡ Some item
       → slice_get (items_at 0 outer) (taken_at 0 g outer) ≡ Some (moved (before q o) item)
@@ -244,14 +212,11 @@ module _ (cfg : ℕ → Config) (wide : Config) (last q g s n : ℕ) (o outer : 
       let place : taken_at 0 g outer ≡ length (row_items q o) + taken_at q g o = omega (arith, going (has_more (slice_get_within (items_at q o) (taken_at q g o) item h)) late, length_row q o) in
       let here : slice_get (row_items (suc q) o) (taken_at 0 g outer) ≡ Some (moved (before q o) item) =
       get_right (row_items q o) (map (moved (before q o)) (items_at q o)) (taken_at 0 g outer) (taken_at q g o) (moved (before q o) item) place (get_map (moved (before q o)) (items_at q o) (taken_at q g o) item h) in
-      ap (λ (l : List Item). slice_get l (taken_at 0 g outer)) (same.items ∙ split.1) ∙ get_left (row_items (suc q) o) split.0 (taken_at 0 g outer) (moved (before q o) item) here
+      ap (λ (l : List Item). slice_get l (taken_at 0 g outer)) (same.items ∙ split.1) ∙ get_front (row_items (suc q) o) split.0 (taken_at 0 g outer) (moved (before q o) item) here
 
   -- an answer of the last queue alone
   if_last : (call : Call) (a b : Answer) → reported_by (before q o) true a ≡ Some b → reported_by (before q o) false a ≡ None → (q ≡ last → Told call (Some b)) → Told call (reported_by (before q o) (q == last) a)
-  if_last call a b so none then = elim (cases_eq q last) [
-    | inl at ↦ subst (λ (t : Option Answer). Told call t) (sym (ap (λ (z : Bool). reported_by (before q o) z a) (eq-eqb q last at) ∙ so)) (then at)
-    | inr other ↦ subst (λ (t : Option Answer). Told call t) (sym (ap (λ (z : Bool). reported_by (before q o) z a) (ne_eqb q last other) ∙ none)) rest
-  ]
+  if_last call a b so none then = grind arith
 
   pub told_exactly : (all : ℕ) (call : Call) (a : Answer) → StartsLate q g call o
       → Exactly (cfg q) (items_at q o) (shut_at q o) (taken_at q g o) all call a → Told call (reported_by (before q o) (q == last) a)
@@ -287,8 +252,7 @@ module _ (cfg : ℕ → Config) (wide : Config) (last q g s n : ℕ) (o outer : 
 -- what stands in the call that is added in place of its answer doesn't matter
 re_add : (cfg : ℕ → Config) (e : At) (t : Option Answer) (outer : List At)
     → IsRow cfg 0 (add (record { queue = e.queue; group = e.group; sender = e.sender; number = e.number; call = e.call; answer = Answer.Take TakeAnswer.Empty }) t outer) → IsRow cfg 0 (add e t outer)
-re_add cfg e None outer row = row
-re_add cfg e (Some a) outer row = row
+re_add cfg e t outer row = grind arith
 
 pub rows_are_queues : RowsAreQueues
 rows_are_queues cfg wide last [] row room life = tt

@@ -1,21 +1,12 @@
 -- The orders of the queues of a row, merged by moves.
-use Rattle.std.proofs.Common.{◌≡◌, ◌==◌, ℕ, Bool, true, false, cond, List, [], ◌∷◌, ◌++◌, inl, inr, refl, sym, ap, subst, ◌∙◌, append-nil, eq-eqb}
-use Rattle.std.proofs.lemmas.Bool.{cases_eq, ne_eqb}
-use Rattle.cc_model.specs.Record.{Record}
-use Rattle.cc_model.specs.Items.{IsPrefix}
+use Rattle.std.proofs.Common.{◌≡◌, ◌==◌, ℕ, Bool, true, false, cond, List, [], ◌∷◌, ◌++◌, refl, sym, ap, subst, ◌∙◌, eq-eqb, arith}
+use Rattle.std.proofs.lemmas.Bool.{ne_eqb}
 use Rattle.cc_runs.specs.Run.{history_of}
-use Rattle.cc_runs.specs.OnChain.{calls_on, answers_on}
 use Rattle.cc_runs.specs.Linearizable.{Effect, replay, in_order, IsOnTime, IsTimely, IsLinearization}
-use Rattle.cc_runs.proofs.Linear.Orders.{linearizable}
+use Rattle.cc_runs.proofs.Linear.Orders.{linearizable, timely_now}
 use Rattle.cc_row.specs.Names.{Setting, Move}
 use Rattle.cc_row.specs.Queues.{AtQueue, only}
 use Rattle.cc_row.specs.Runs.{RowMove, moves_at, flat, IsRowTimely, IsRowRun}
-
-prefix_self : {X : Type 0} (xs : List X) → IsPrefix xs xs
-prefix_self xs = ([], sym (append-nil xs))
-
-silent_on_time : (h : Record) → IsOnTime h h
-silent_on_time h = record { calls = λ x. prefix_self (calls_on x h); answers = λ x. prefix_self (answers_on x h) }
 
 -- ---- lists of what each move does
 
@@ -28,22 +19,13 @@ tail [] = []
 tail (now ∷ before) = before
 
 pub head_tail : (l : List (List Effect)) → head l ++ in_order (tail l) ≡ in_order l
-head_tail [] = refl
-head_tail (now ∷ before) = refl
-
-pub timely_now : (c : Setting) (moves : List Move) (l : List (List Effect)) → IsTimely c moves l → IsOnTime (history_of c moves) (replay c.config.groups (in_order l))
-timely_now c [] [] t = silent_on_time (history_of c [])
-timely_now c [] (now ∷ before) t = absurd t
-timely_now c (m ∷ moves) [] t = absurd t
-timely_now c (m ∷ moves) (now ∷ before) t = t.1
+head_tail l = grind arith
 
 timely_tail : (c : Setting) (m : Move) (moves : List Move) (l : List (List Effect)) → IsTimely c (m ∷ moves) l → IsTimely c moves (tail l)
-timely_tail c m moves [] t = absurd t
-timely_tail c m moves (now ∷ before) t = t.0
+timely_tail c m moves l t = grind arith
 
 no_moves : (c : Setting) (l : List (List Effect)) → IsTimely c [] l → in_order l ≡ []
-no_moves c [] t = refl
-no_moves c (now ∷ before) t = absurd t
+no_moves c l t = grind arith
 
 -- ---- the merge
 
@@ -74,11 +56,7 @@ pub cut_else : (f : ℕ → List (List Effect)) (p q : ℕ) → (p ≡ q → ⊥
 cut_else f p q differ = ap (λ (b : Bool). cond b (tail (f q)) (f q)) (ne_eqb p q differ)
 
 pub each_before : (c : ℕ → Setting) (m : RowMove) (earlier : List RowMove) (f : ℕ → List (List Effect)) → Each c (m ∷ earlier) f → Each c earlier (cut m.at f)
-each_before c m earlier f each q = elim (cases_eq m.at q) [
-  | inl is ↦ subst (λ (l : List (List Effect)). IsTimely (c q) (moves_at q earlier) l) (sym (cut_here f m.at q is))
-      (timely_tail (c q) m.move (moves_at q earlier) (f q) (subst (λ (l : List Move). IsTimely (c q) l (f q)) (moves_here m earlier q is) (each q)))
-  | inr differ ↦ subst (λ (l : List (List Effect)). IsTimely (c q) (moves_at q earlier) l) (sym (cut_else f m.at q differ)) (subst (λ (l : List Move). IsTimely (c q) l (f q)) (moves_else m earlier q differ) (each q))
-]
+each_before c m earlier f each q = grind (arith, cut_here, timely_tail, moves_here, each q, cut_else, moves_else)
 
 only_append : (q : ℕ) (a b : List AtQueue) → only q (a ++ b) ≡ only q a ++ only q b
 only_append q [] b = refl
@@ -106,14 +84,7 @@ pub only_merged : (c : ℕ → Setting) (moves : List RowMove) (f : ℕ → List
 only_merged c [] f each q = sym (no_moves (c q) (f q) (each q))
 only_merged c (m ∷ earlier) f each q =
     let rest : only q (flat (merge earlier (cut m.at f))) ≡ in_order (cut m.at f q) = only_merged c earlier (cut m.at f) (each_before c m earlier f each) q in
-    elim (cases_eq m.at q) [
-      | inl is ↦
-          subst (λ (z : ℕ). only z (put m.at (head (f m.at)) ++ flat (merge earlier (cut m.at f))) ≡ head (f m.at) ++ only z (flat (merge earlier (cut m.at f)))) is (only_mine m.at (head (f m.at)) (flat (merge earlier (cut m.at f))))
-          ∙ ap (λ (z : List Effect). head (f m.at) ++ z) (rest ∙ ap in_order (cut_here f m.at q is))
-          ∙ ap (λ (z : ℕ). head (f z) ++ in_order (tail (f q))) is
-          ∙ head_tail (f q)
-      | inr differ ↦ only_put m.at q (head (f m.at)) (flat (merge earlier (cut m.at f))) differ ∙ rest ∙ ap in_order (cut_else f m.at q differ)
-    ]
+    grind (arith, only_mine, cut_here, head_tail, only_put, cut_else)
 
 pub row_timely : (c : ℕ → Setting) (moves : List RowMove) (f : ℕ → List (List Effect)) → Each c moves f → IsRowTimely c moves (merge moves f)
 row_timely c [] f each = tt

@@ -6,7 +6,7 @@ use Rattle.cc_model.specs.Items.{accepted, is_shut, handed, handed_to_all}
 use Rattle.cc_model.specs.Sequential.{Exactly}
 use Rattle.cc_runs.specs.OnChain.{IsThere}
 use Rattle.cc_runs.specs.Linearizable.{Effect, replay, AnswersAfter, IsExact, IsOfChain}
-use Rattle.cc_row.specs.Names.{Config, Call, Item, Entry, Answer, SendAnswer, CloseAnswer, TakeAnswer, Chain}
+use Rattle.cc_row.specs.Names.{Config, Call, Item, Entry, Answer, Chain}
 use Rattle.cc_row.specs.Row.{At, items_at, shut_at, taken_at, StartsNext, IsRow}
 use Rattle.cc_row.specs.Queues.{AreApart, only, group_on, seen, InOrder}
 use Rattle.cc_row.specs.OneQueue.{alone, own_name, IsMadeThere, OneQueueIsARow}
@@ -41,9 +41,7 @@ module _ (cfg : Config) where
   shown_long (e ∷ order) = ap suc (shown_long order)
 
   first : (g : ℕ) (call : Call) (o : List At) → StartsNext 0 g call o
-  first g (Call.Send body) o = λ k is. absurd (omega (arith, is))
-  first g Call.Close o = λ k is. absurd (omega (arith, is))
-  first g Call.Take o = λ k is. absurd (omega (arith, is))
+  first g call o = grind arith
 
   orderly : (order : List Effect) → InOrder own_name 0 (alone order)
   orderly [] = tt
@@ -57,16 +55,7 @@ module _ (cfg : Config) where
 
   -- there is room, whatever all groups took
   any_room : (items : List Item) (shut : Bool) (taken all other : ℕ) (call : Call) (a : Answer) → length items < cfg.capacity → Exactly cfg items shut taken all call a → Exactly cfg items shut taken other call a
-  any_room items shut taken all other (Call.Send body) (Answer.Send SendAnswer.Closed) room h = h
-  any_room items shut taken all other (Call.Send body) (Answer.Send SendAnswer.Spent) room h = h
-  any_room items shut taken all other (Call.Send body) (Answer.Send SendAnswer.Full) room h = absurd (omega (arith, room, h.2))
-  any_room items shut taken all other (Call.Send body) (Answer.Send (SendAnswer.Accepted place)) room h = (h.0, h.1, omega (arith, room), h.3)
-  any_room items shut taken all other Call.Close (Answer.Close (CloseAnswer.Shut total)) room h = h
-  any_room items shut taken all other Call.Close (Answer.Close (CloseAnswer.Already total)) room h = h
-  any_room items shut taken all other Call.Take (Answer.Take (TakeAnswer.Got item)) room h = h
-  any_room items shut taken all other Call.Take (Answer.Take TakeAnswer.Empty) room h = h
-  any_room items shut taken all other Call.Take (Answer.Take (TakeAnswer.Ended total)) room h = h
-  any_room items shut taken all other _ _ room h = absurd h
+  any_room items shut taken all other call a room h = grind arith
 
   module _ (h : Record) (o : List At) (s : Same own_name 0 cfg.groups h o) (room : length (items_at 0 o) < cfg.capacity) where
     moved : (t u all : ℕ) (call : Call) (a : Answer) → u ≡ t → Exactly cfg (items_at 0 o) (shut_at 0 o) t all call a → Exactly cfg (accepted h) (is_shut h) u (handed_to_all h) call a

@@ -1,6 +1,6 @@
 -- The calls of one queue that say that the queue is shut: on each chain they come last.
-use Rattle.std.proofs.Common.{◌≡◌, ◌⊎◌, ℕ, ◌<◌, ◌≤◌, Bool, true, false, ◌||◌, cond, List, [], ◌∷◌, ◌++◌, length, Some, inl, inr, refl, sym, ap, subst, ◌∙◌, arith, append-nil, append_assoc, length-append}
-use Rattle.std.proofs.lemmas.Bool.{cases_eq}
+use Rattle.std.proofs.lemmas.Bool.{cases_Bool, cases_eq}
+use Rattle.std.proofs.Common.{◌≡◌, ◌⊎◌, ℕ, ◌<◌, ◌≤◌, Bool, true, false, cond, List, [], ◌∷◌, ◌++◌, length, Some, inl, inr, refl, sym, ap, subst, ◌∙◌, arith, append-nil, append_assoc, length-append}
 use Rattle.std.proofs.lemmas.Option.{slice_get_within}
 use Rattle.std.specs.List.{AllByRecursion, list_any}
 use Rattle.cc_model.specs.Record.{Side, Record, of_group}
@@ -13,20 +13,16 @@ use Rattle.cc_runs.specs.OnChain.{IsThere, calls_on, answers_on}
 use Rattle.cc_runs.specs.Linearizable.{Effect, replay, AnswersAfter, IsExact, IsOfChain}
 use Rattle.cc_runs.proofs.ListRuns.Decided.{group_mine, group_other}
 use Rattle.cc_runs.proofs.Linear.Replay.{front_same, replay_groups, replay_even}
-use Rattle.cc_row.specs.Names.{Config, Pass, Call, Item, Entry, Answer, SendAnswer, CloseAnswer, TakeAnswer, Chain}
+use Rattle.cc_row.specs.Names.{Config, Pass, Call, Item, Entry, Answer, Chain}
 use Rattle.cc_row.specs.BoundedRuns.{says_shut}
 use Rattle.cc_row.proofs.Exact.{send_accepted}
-use Rattle.cc_row.proofs.Order.{clash, by_bool}
+use Rattle.cc_row.proofs.Order.{clash}
 
 -- a queue that is shut accepts nothing
 pub accepts_none : (cfg : Config) (pass : Pass) (call : Call) (number known : ℕ) (items : List Item) (shut : Bool)
     (t all : ℕ) (a : Answer) → Exactly cfg items shut t all call a → shut ≡ true
     → length (accepted_item (record { pass = pass; call = call; number = number; known = known }) a) ≡ 0
-accepts_none cfg pass (Call.Send body) number known items shut t all (Answer.Send
-    (SendAnswer.Accepted place)) h is = clash shut is h.0
-accepts_none cfg pass Call.Close number known items shut t all (Answer.Send (SendAnswer.Accepted place)) h is = absurd h
-accepts_none cfg pass Call.Take number known items shut t all (Answer.Send (SendAnswer.Accepted place)) h is = absurd h
-accepts_none cfg pass call number known items shut t all _ h is = refl
+accepts_none cfg pass call number known items shut t all a h is = grind arith
 
 -- ---- one call
 
@@ -67,15 +63,10 @@ AtEnd Chain.Send h = is_shut h ≡ true
 AtEnd (Chain.Take g) h = (is_shut h ≡ true) × (length (accepted h) ≤ length (handed h g))
 
 stays_shut : (h : Record) (a : Answer) → is_shut h ≡ true → list_any shuts (h.sends.answers ++ a ∷ []) ≡ true
-stays_shut h a is = any-append shuts h.sends.answers (a ∷ []) ∙ ap (λ (b : Bool). b || (shuts a || false)) is
+stays_shut h a is = grind (arith, any-append)
 
 now_shut : (l : List Answer) (a : Answer) → shuts a ≡ true → list_any shuts (l ++ a ∷ []) ≡ true
-now_shut l a is = any-append shuts l (a ∷ []) ∙ ap (λ (b : Bool). list_any shuts l || (b || false)) is
-    ∙ or_true (list_any shuts l)
-  where
-    or_true : (b : Bool) → (b || true) ≡ true
-    or_true true = refl
-    or_true false = refl
+now_shut l a is = grind (arith, any-append)
 
 -- takes grow
 hands : (h : Record) (c : Chain) (e : Entry) (a : Answer) (g : ℕ) → There c h
@@ -119,37 +110,17 @@ stays cfg h c e a inside even fits (Chain.Take g) is = by c inside fits
 module _ (cfg : Config) (items : List Item) (shut : Bool) (t all : ℕ) where
   finds_shut : (call : Call) (a : Answer) → Exactly cfg items shut t all call a → says_shut a ≡ true
       → ((shut ≡ true) ⊎ (shuts a ≡ true)) × (call ≡ Call.Take → (shut ≡ true) × (t ≡ length items))
-  finds_shut (Call.Send body) (Answer.Send SendAnswer.Closed) h is = (inl h, λ takes. absurd (cc))
-  finds_shut Call.Close (Answer.Close (CloseAnswer.Shut total)) h is = (inr refl, λ takes. absurd (cc))
-  finds_shut Call.Close (Answer.Close (CloseAnswer.Already total)) h is = (inl h.0, λ takes. absurd (cc))
-  finds_shut Call.Take (Answer.Take (TakeAnswer.Ended total)) h is = (inl h.0, λ takes. (h.0, h.1))
-  finds_shut _ (Answer.Send (SendAnswer.Accepted place)) h is = clash false is refl
-  finds_shut _ (Answer.Send SendAnswer.Full) h is = clash false is refl
-  finds_shut _ (Answer.Send SendAnswer.Spent) h is = clash false is refl
-  finds_shut _ (Answer.Take (TakeAnswer.Got item)) h is = clash false is refl
-  finds_shut _ (Answer.Take TakeAnswer.Empty) h is = clash false is refl
-  finds_shut _ _ h is = absurd h
+  finds_shut call a h is = grind arith
 
   finds_more : (call : Call) (a : Answer) → Exactly cfg items shut t all call a → says_shut a ≡ false
       → (shut ≡ false) ⊎ ((call ≡ Call.Take) × (t < length items))
-  finds_more (Call.Send body) (Answer.Send (SendAnswer.Accepted place)) h off = inl h.0
-  finds_more (Call.Send body) (Answer.Send SendAnswer.Full) h off = inl h.0
-  finds_more (Call.Send body) (Answer.Send SendAnswer.Spent) h off = inl h.0
-  finds_more Call.Take (Answer.Take (TakeAnswer.Got item)) h off = inr (refl, slice_get_within items t item h)
-  finds_more Call.Take (Answer.Take TakeAnswer.Empty) h off = inl h.0
-  finds_more _ (Answer.Send SendAnswer.Closed) h off = clash true refl off
-  finds_more _ (Answer.Close a) h off = clash true refl off
-  finds_more _ (Answer.Take (TakeAnswer.Ended total)) h off = clash true refl off
-  finds_more _ _ h off = absurd h
+  finds_more call a h off = grind (arith, slice_get_within)
 
 sender_takes : (cfg : Config) (pass : Pass) (call : Call) → IsSenders cfg pass call → call ≡ Call.Take → ⊥
-sender_takes cfg (Pass.Sender s) (Call.Send body) mine takes = absurd (cc)
-sender_takes cfg (Pass.Sender s) Call.Close mine takes = absurd (cc)
-sender_takes cfg _ _ mine takes = mine
+sender_takes cfg pass call mine takes = grind arith
 
 receiver_takes : (cfg : Config) (g : ℕ) (pass : Pass) (call : Call) → IsReceivers cfg g pass call → call ≡ Call.Take
-receiver_takes cfg g (Pass.Receiver p) Call.Take mine = refl
-receiver_takes cfg g _ _ mine = absurd mine
+receiver_takes cfg g pass call mine = grind arith
 
 comes : (cfg : Config) (h : Record) (c : Chain) (e : Entry) (a : Answer) → There c h → IsOfChain cfg c e
     → AnswersAfter cfg h c e.call a → says_shut a ≡ true → AtEnd c (noted c h (Some e) (Some a))
@@ -293,7 +264,7 @@ module _ (cfg : Config) (e : Effect) (l : List Effect) (exact : IsExact cfg (e �
       (part_then (side x h) (side x k) _ _ (end_stays x) (before x)))
 
   one_more : Parts (keep (e ∷ l))
-  one_more = elim (by_bool (says_shut e.answer)) [
+  one_more = elim (cases_Bool (says_shut e.answer)) [
     | inl is ↦ subst (λ (b : Bool). Parts (cond b (keep l) (e ∷ keep l))) (sym is) (late is (same_or x e.chain))
     | inr off ↦ subst (λ (b : Bool). Parts (cond b (keep l) (e ∷ keep l))) (sym off) (soon off (same_or x e.chain))
   ]

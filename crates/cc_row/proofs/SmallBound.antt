@@ -1,17 +1,16 @@
 -- The small row with a bound.
-use Rattle.std.proofs.Common.{◌≡◌, ℕ, zero, suc, ◌<◌, Bool, true, false, inl, inr, refl, ap, arith}
+use Rattle.std.proofs.Common.{◌≡◌, ℕ, ◌<◌, Bool, true, false, inl, inr, refl, ap, arith}
 use Rattle.cc_row.specs.Bound.{at_queues, IsSlowest, taken_before}
 use Rattle.cc_row.specs.SmallBound.{before_it, SmallBound}
 use Rattle.cc_row.proofs.Order.{clash}
 
-none : {X : Type 0} (k : ℕ) → k < 0 → X
+pub none : {X : Type 0} (k : ℕ) → k < 0 → X
 none {X} k less = absurd (omega (arith, less))
 
-first : (f : ℕ → Bool) → f 0 ≡ true → (k : ℕ) → k < 1 → f k ≡ true
-first f at zero less = at
-first f at (suc k) less = absurd (omega (arith, less))
+pub first : (f : ℕ → Bool) → f 0 ≡ true → (k : ℕ) → k < 1 → f k ≡ true
+first f at k less = grind arith
 
-nothing : (f : ℕ → ℕ) → f 0 ≡ 0 → IsSlowest 1 f 0
+pub nothing : (f : ℕ → ℕ) → f 0 ≡ 0 → IsSlowest 1 f 0
 nothing f is = record { least = λ g inside. omega arith; group = 0; inside = omega arith; is = is }
 
 pub small_bound_is : SmallBound

@@ -1,5 +1,5 @@
 -- The small row that is closed: its threads keep the rules, and an early return breaks one.
-use Rattle.std.proofs.Common.{◌≡◌, ℕ, zero, suc, Bool, true, false, cond, List, [], ◌∷◌, ◌++◌, get_or, slice_set, replicate, Option, Some, None, inl, inr, refl, sym, ap, subst, ◌∙◌, arith}
+use Rattle.std.proofs.Common.{◌≡◌, ℕ, zero, suc, Bool, true, false, cond, List, [], ◌∷◌, ◌++◌, get_or, slice_set, replicate, Option, Some, None, inl, refl, sym, ap, subst, ◌∙◌, arith}
 use Rattle.std.specs.List.{AllByRecursion, filter, flat_map}
 use Rattle.cc_model.specs.Record.{Side, Record, silent, of_group}
 use Rattle.cc_model.specs.Items.{is_pass, answered, calls_of}
@@ -15,7 +15,7 @@ use Rattle.cc_row.specs.BoundQueues.{effects_in}
 use Rattle.cc_row.specs.BoundedRuns.{Sent, with_looks, says_shut, Taken, IsTaken, others, HasEffect, IsInTime}
 use Rattle.cc_row.specs.SmallBoundRun.{shut, small_close, may_return, SmallClose}
 use Rattle.cc_row.proofs.LateTimes.{others_in, only_last}
-use Rattle.cc_row.proofs.Order.{clash, by_bool}
+use Rattle.cc_row.proofs.Order.{clash}
 use Rattle.cc_row.proofs.ShutCalls.{keep}
 use Rattle.cc_row.proofs.SmallBoundRun.{one_let, come}
 use Rattle.cc_row.proofs.SmallRun.{onto, walked, runs_of, Good}
@@ -115,11 +115,7 @@ replay_plain n [] = (tt, none n)
     none : (n : ℕ) → AllByRecursion PlainSide (replicate n silent)
     none zero = tt
     none (suc n) = (tt, none n)
-replay_plain n (e ∷ l) = elim (by_bool (says_shut e.answer)) [
-  | inl is ↦ subst (λ (b : Bool). PlainRecord (replay n (cond b (keep l) (e ∷ keep l)))) (sym is) (replay_plain n l)
-  | inr off ↦ subst (λ (b : Bool). PlainRecord (replay n (cond b (keep l) (e ∷ keep l)))) (sym off)
-      (by e.chain (replay n (keep l)) (replay_plain n l) off)
-]
+replay_plain n (e ∷ l) = grind (arith, replay_plain n l, by e.chain (replay n (keep l)) (replay_plain n l))
   where
     by : (c : Chain) (h : Record) → PlainRecord h → Plain e.answer → PlainRecord
         (noted c h (Some e.entry) (Some e.answer))

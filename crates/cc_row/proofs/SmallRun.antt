@@ -1,6 +1,6 @@
--- The small run of a row is one: each move is looked at in turn, with the states of both queues.
+-- The small run of a row is one: each move is looked at in turn, with the states of and_parts queues.
 use Rattle.std.proofs.Common.{◌≡◌, ◌≢◌, ℕ, zero, suc, ◌<◌, Bool, true, false, ◌&&◌, ◌||◌, ◌==◌, nat_lt, List, [], ◌∷◌, length, refl, sym, ap, subst, ◌∙◌, arith}
-use Rattle.std.proofs.lemmas.Bool.{ltb-true, ne_eqb}
+use Rattle.std.proofs.lemmas.Bool.{ltb-true, ne_eqb, and_parts}
 use Rattle.std.specs.List.{list_any}
 use Rattle.cc_model.specs.Body.{IsBody}
 use Rattle.cc_model.specs.Record.{Side}
@@ -20,11 +20,6 @@ use Rattle.cc_row.specs.Runs.{RowMove, moves_at, UsedInOrder, FoundEnded, IsUsed
 use Rattle.cc_row.proofs.Merge.{moves_here, moves_else}
 use Rattle.cc_row.specs.SmallRun.{queues, small_run, SmallRun}
 
-both : (a b : Bool) → (a && b) ≡ true → (a ≡ true) × (b ≡ true)
-both true true e = (refl, refl)
-both true false e = absurd (cc)
-both false b e = absurd (cc)
-
 -- ---- a move that can be made
 
 abbrev is_body : Words → Bool
@@ -32,12 +27,7 @@ is_body (Words.One (a ∷ [])) = true
 is_body _ = false
 
 body_is : (w : Words) → is_body w ≡ true → IsBody (record { words = w })
-body_is (Words.One (a ∷ [])) is = refl
-body_is (Words.One []) is = absurd (cc)
-body_is (Words.One (a ∷ b ∷ l)) is = absurd (cc)
-body_is (Words.Two l) is = absurd (cc)
-body_is (Words.Three l) is = absurd (cc)
-body_is (Words.Four l) is = absurd (cc)
+body_is w is = grind arith
 
 -- the calls that can be made on a chain
 abbrev may_call : Chain → Call → Bool
@@ -48,27 +38,21 @@ may_call _ _ = false
 
 call_is_on : (x : Chain) (call : Call) → may_call x call ≡ true → IsOn small_list.served x call
 call_is_on Chain.Send (Call.Send body) is = body_is body.words is
-call_is_on Chain.Send Call.Close is = tt
-call_is_on Chain.Send Call.Take is = absurd (cc)
-call_is_on (Chain.Take g) Call.Take is = tt
-call_is_on (Chain.Take g) (Call.Send body) is = absurd (cc)
-call_is_on (Chain.Take g) Call.Close is = absurd (cc)
+call_is_on x call is = grind arith
 
 abbrev idle : Phase → Bool
 idle Phase.Idle = true
 idle _ = false
 
 is_idle : (at : Phase) → idle at ≡ true → IsIdle at
-is_idle Phase.Idle is = tt
-is_idle _ is = absurd (cc)
+is_idle at is = grind arith
 
 abbrev finished : Phase → Bool
 finished (Phase.Finished told) = true
 finished _ = false
 
 is_finished : (at : Phase) → finished at ≡ true → IsFinished at
-is_finished (Phase.Finished told) is = tt
-is_finished _ is = absurd (cc)
+is_finished at is = grind arith
 
 abbrev has_step : Phase → Bool
 has_step Phase.Idle = false
@@ -76,9 +60,7 @@ has_step (Phase.Finished told) = false
 has_step _ = true
 
 on_event : (at : Phase) → has_step at ≡ true → event_at at ≢ Event.Idle
-on_event Phase.Idle is = absurd (cc)
-on_event (Phase.Finished told) is = absurd (cc)
-on_event _ is = λ e. cc
+on_event at is = grind arith
 
 -- of a call that knows nothing
 abbrev may : State → Move → Bool
@@ -89,13 +71,13 @@ may s (Move.Take p) = nat_lt p 3 && finished (s.stand p).phase
 
 can : (s : State) (m : Move) → may s m ≡ true → May small_list s m
 can s (Move.Begin p call zero) is =
-    let one = both (nat_lt p 3) _ is in
-    let two = both (may_call (chain_of small_list.config p) call) _ one.1 in
-    let three = both (idle (s.stand p).phase) _ two.1 in
+    let one = and_parts (nat_lt p 3) _ is in
+    let two = and_parts (may_call (chain_of small_list.config p) call) _ one.1 in
+    let three = and_parts (idle (s.stand p).phase) _ two.1 in
     (ltb-true p 3 one.0, call_is_on (chain_of small_list.config p) call two.0, is_idle (s.stand p).phase three.0, omega (arith, ltb-true (begun_after call (s.stand p).begun) 10 three.1), omega arith)
 can s (Move.Begin p call (suc known)) is = absurd (cc)
-can s (Move.Step p) is = let one = both (nat_lt p 3) _ is in (ltb-true p 3 one.0, on_event (s.stand p).phase one.1)
-can s (Move.Take p) is = let one = both (nat_lt p 3) _ is in (ltb-true p 3 one.0, is_finished (s.stand p).phase one.1)
+can s (Move.Step p) is = let one = and_parts (nat_lt p 3) _ is in (ltb-true p 3 one.0, on_event (s.stand p).phase one.1)
+can s (Move.Take p) is = let one = and_parts (nat_lt p 3) _ is in (ltb-true p 3 one.0, is_finished (s.stand p).phase one.1)
 
 -- ---- queues that are used in order
 
@@ -112,7 +94,7 @@ none_there x = ap (λ (s : Side). length s.calls) (no_calls 1 x)
 
 -- ---- the run, move by move
 
--- the states of both queues after a move, and whether it can be made
+-- the states of and_parts queues after a move, and whether it can be made
 abbrev pick : {X : Type 0} → ℕ → X → X → X
 pick {X} zero a b = a
 pick {X} (suc n) a b = b
@@ -141,11 +123,11 @@ pub record Good (seen : List RowMove) : Type 0 where
   pub others : (q : ℕ) → moves_at (suc (suc q)) seen ≡ []
   pub used : IsUsed queues own_name 1 seen
 
--- by the moves of both queues
+-- by the moves of and_parts queues
 used_by : (m : RowMove) (seen : List RowMove) (a b : List Move) → moves_at 0 (m ∷ seen) ≡ a → moves_at 1 (m ∷ seen) ≡ b → ((q : ℕ) → moves_at (suc (suc q)) (m ∷ seen) ≡ []) → in_order (reached small_list a) (reached small_list b) ≡ true
     → UsedInOrder queues own_name (m ∷ seen)
 used_by m seen a b first second others is =
-    let two = both (length (calls_on Chain.Send (reached small_list b).history) == 0 || is_shut (reached small_list a).history) _ is in
+    let two = and_parts (length (calls_on Chain.Send (reached small_list b).history) == 0 || is_shut (reached small_list a).history) _ is in
     record { senders = λ q some. by_senders two.0 q some; takers = λ q g inside some. by_takers two.1 q g inside some }
   where
     by_senders : (length (calls_on Chain.Send (reached small_list b).history) == 0 || is_shut (reached small_list a).history) ≡ true
@@ -210,9 +192,9 @@ module _ (m : RowMove) (seen : List RowMove) (good : Good seen) where
 pub walked : (later seen : List RowMove) → Good seen → walk (reached small_list (moves_at 0 seen)) (reached small_list (moves_at 1 seen)) later ≡ true → Good (onto later seen)
 walked [] seen good is = good
 walked (m ∷ later) seen good is =
-    let one = both (may_at m (reached small_list (moves_at 0 seen)) (reached small_list (moves_at 1 seen))) _ is in
-    let few = both (nat_lt m.at 2) _ one.0 in
-    let two = both (in_order (first_after m (reached small_list (moves_at 0 seen))) (second_after m (reached small_list (moves_at 1 seen)))) _ one.1 in
+    let one = and_parts (may_at m (reached small_list (moves_at 0 seen)) (reached small_list (moves_at 1 seen))) _ is in
+    let few = and_parts (nat_lt m.at 2) _ one.0 in
+    let two = and_parts (in_order (first_after m (reached small_list (moves_at 0 seen))) (second_after m (reached small_list (moves_at 1 seen)))) _ one.1 in
     let next = goes_on m seen good m.at refl (ltb-true m.at 2 few.0) few.1 two.0 in
     walked later (m ∷ seen) next.0 ((λ i. walk (next.1 i) (next.2 i) later) ∙ two.1)
 

@@ -1,6 +1,5 @@
 -- The threads of the small run keep the rules.
-use Rattle.std.proofs.Common.{◌≡◌, ◌≢◌, ℕ, zero, suc, List, [], ◌∷◌, inl, inr, refl, sym, ap, subst, ◌∙◌, arith}
-use Rattle.std.proofs.lemmas.Bool.{cases_eq}
+use Rattle.std.proofs.Common.{◌≡◌, ◌≢◌, ℕ, zero, suc, List, [], ◌∷◌, refl, sym, ap, subst, ◌∙◌, arith}
 use Rattle.cc_model.specs.Body.{body_of}
 use Rattle.cc_runs.specs.State.{State}
 use Rattle.cc_runs.specs.Run.{IsIdle, reached, moved}
@@ -33,11 +32,7 @@ record IsOf (q p : ℕ) (m : RowMove) : Type 0 where
 
 -- another pass stands as it did
 apart : (q p : ℕ) (m : RowMove) (earlier : List RowEvent) → IsOf q p m → (x y : ℕ) → (x ≡ q → y ≡ p → ⊥) → (state_at x (RowEvent.Moves m ∷ earlier)).stand y ≡ (state_at x earlier).stand y
-apart q p m earlier of x y other = elim (cases_eq m.at x) [
-  | inl here ↦ ap (λ (l : List Move). (reached (queues x) l).stand y) (moves_here m (moves_of earlier) x here)
-      ∙ stands_still (queues x) (state_at x earlier) m.move y (λ is. other (sym here ∙ of.at) (is ∙ of.by))
-  | inr differ ↦ ap (λ (l : List Move). (reached (queues x) l).stand y) (moves_else m (moves_of earlier) x differ)
-]
+apart q p m earlier of x y other = grind (arith, moves_here, stands_still, of.at, of.by, moves_else)
 
 steps_apart : (q p n : ℕ) (l : List RowMove) (earlier : List RowEvent) (x y : ℕ) → (x ≡ q → y ≡ p → ⊥) → (state_at x (with_moves (steps q p n l) earlier)).stand y ≡ (state_at x (with_moves l earlier)).stand y
 steps_apart q p zero l earlier x y other = refl
@@ -50,13 +45,7 @@ abbrev AllRest : List RowEvent → Type 0
 AllRest events = (x y : ℕ) → IsIdle ((state_at x events).stand y).phase
 
 makes_rest : (q p : ℕ) (call : Call) (n : ℕ) (l : List RowMove) (earlier : List RowEvent) → AllRest (with_moves l earlier) → AllRest (with_moves (makes q p call n l) earlier)
-makes_rest q p call n l earlier rest x y = elim (cases_eq x q) [
-  | inl here ↦ elim (cases_eq y p) [
-    | inl is ↦ subst (λ (z : ℕ). IsIdle ((state_at z (with_moves (makes q p call n l) earlier)).stand y).phase) (sym here) (subst (λ (z : ℕ). IsIdle ((state_at q (with_moves (makes q p call n l) earlier)).stand z).phase) (sym is) taken)
-    | inr ne ↦ away (λ at by. ne by)
-  ]
-  | inr ne ↦ away (λ at by. ne at)
-]
+makes_rest q p call n l earlier rest x y = grind (arith, taken, away)
   where
     taken : IsIdle ((state_at q (with_moves (makes q p call n l) earlier)).stand p).phase
     taken =

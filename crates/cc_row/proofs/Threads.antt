@@ -1,13 +1,13 @@
 -- Threads that keep the rules of a row use its queues in order, in every interleaving.
-use Rattle.std.proofs.Common.{◌≡◌, ◌≢◌, ◌⊎◌, ℕ, suc, ◌<◌, ◌≤◌, nat_lt, Bool, true, false, cond, List, [], ◌∷◌, ◌++◌, length, Some, None, append_assoc, inl, inr, refl, sym, ap, subst, ◌∙◌, arith, eq-eqb}
-use Rattle.std.proofs.lemmas.Bool.{cases_eq, cases_lt, ne_eqb}
+use Rattle.std.proofs.lemmas.Bool.{cases_eq}
+use Rattle.std.proofs.Common.{◌≡◌, ◌≢◌, ◌⊎◌, ℕ, suc, ◌<◌, ◌≤◌, nat_lt, Bool, true, cond, List, [], ◌∷◌, ◌++◌, length, Some, append_assoc, inl, inr, refl, sym, ap, subst, ◌∙◌, arith}
 use Rattle.std.specs.List.{list_any}
 use Rattle.cc_model.specs.Record.{Side}
 use Rattle.cc_model.specs.Items.{is_shut, shuts}
 use Rattle.cc_runs.specs.State.{State, chain_of}
 use Rattle.cc_runs.specs.Step.{stepped}
 use Rattle.cc_runs.specs.Lines.{event_at}
-use Rattle.cc_runs.specs.OnChain.{IsChain, IsChainOf, calls_on, answers_on}
+use Rattle.cc_runs.specs.OnChain.{IsChain, calls_on, answers_on}
 use Rattle.cc_runs.specs.Run.{IsRun, IsIdle, IsFinished, history_of, reached, moved, passes, nowhere}
 use Rattle.cc_runs.specs.Passes.{pass_of}
 use Rattle.cc_runs.specs.declared.phase.Event.{Event}
@@ -34,35 +34,20 @@ pub idle_first : (c : Setting) (p : ℕ) → IsIdle ((reached c []).stand p).pha
 idle_first c p = at_first (nat_lt p (passes c)) _
   where
     at_first : (b : Bool) (first : ℕ) → IsIdle (cond b (record { begun = 0; node = first; phase = Phase.Idle }) nowhere).phase
-    at_first true first = tt
-    at_first false first = tt
+    at_first b first = grind arith
 
 quiet_first : (c : Setting) (x : Chain) → Quiet c x []
 quiet_first c x = record { none = ap (λ (s : Side). s.calls) (no_calls c.config.groups x); idle = λ p on. idle_first c p }
 
 pub idle_event : (at : Phase) → IsIdle at → event_at at ≡ Event.Idle
-idle_event Phase.Idle is = refl
-idle_event _ is = absurd is
+idle_event at is = grind arith
 
 pub idle_unfinished : (at : Phase) → IsIdle at → IsFinished at → ⊥
-idle_unfinished Phase.Idle is ended = ended
-idle_unfinished _ is ended = is
+idle_unfinished at is ended = grind arith
 
 -- one of two chains is the other, or is apart from it
 pub chains : (x y : Chain) → (y ≡ x) ⊎ IsOther x y
-chains Chain.Send Chain.Send = inl refl
-chains Chain.Send (Chain.Take g) = inr tt
-chains (Chain.Take g) Chain.Send = inr tt
-chains (Chain.Take g) (Chain.Take h) = elim (cases_eq g h) [
-  | inl is ↦ inl (ap Chain.Take (sym is))
-  | inr differ ↦ inr differ
-]
-
-other_differs : (x y : Chain) → IsOther x y → y ≢ x
-other_differs Chain.Send Chain.Send other is = other
-other_differs Chain.Send (Chain.Take g) other is = absurd (cc)
-other_differs (Chain.Take g) Chain.Send other is = absurd (cc)
-other_differs (Chain.Take g) (Chain.Take h) other is = other (let same : h ≡ g = cc in sym same)
+chains x y = grind arith
 
 -- a begin by a pass of this chain
 abbrev BeginsOn : Setting → Chain → Move → Type 0
@@ -104,12 +89,6 @@ module _ (c : Setting) (x : Chain) (moves : List Move) (quiet : Quiet c x moves)
 
 -- ---- what stays
 
-some_same : {X : Type 0} {a b : X} → Some a ≡ Some b → a ≡ b
-some_same is = cc
-
-none_some : {X : Type 0} {a : X} → None ≡ Some a → ⊥
-none_some is = cc
-
 grown : (c : Setting) (m : Move) (moves : List Move) (x : Chain) (p : Answer → Bool) → IsRun c (m ∷ moves) → list_any p (answers_on x (history_of c moves)) ≡ true → list_any p (answers_on x (history_of c (m ∷ moves))) ≡ true
 grown c m moves Chain.Send p run is = any_prefix p _ _ (prefixes_begin c (m ∷ []) moves run).1.sends.answers is
 grown c m moves (Chain.Take g) p run is = any_prefix p _ _ ((prefixes_begin c (m ∷ []) moves run).1.takes g).answers is
@@ -125,10 +104,7 @@ module _ (r : RowSetting) where
   Runs moves = (q : ℕ) → IsRun (c q) (moves_at q moves)
 
   pub runs_before : (m : RowMove) (earlier : List RowMove) → Runs (m ∷ earlier) → Runs earlier
-  runs_before m earlier runs q = elim (cases_eq m.at q) [
-    | inl is ↦ (subst (λ (l : List Move). IsRun (c q) l) (moves_here m earlier q is) (runs q)).0
-    | inr differ ↦ subst (λ (l : List Move). IsRun (c q) l) (moves_else m earlier q differ) (runs q)
-  ]
+  runs_before m earlier runs q = grind (arith, runs q)
 
   -- the run of the queue that makes a move
   pub run_here : (m : RowMove) (earlier : List RowMove) → Runs (m ∷ earlier) → (q : ℕ) → m.at ≡ q → IsRun (c q) (m.move ∷ moves_at q earlier)
@@ -137,63 +113,25 @@ module _ (r : RowSetting) where
   -- what held of a queue's answers holds after one more move
   told_stays : (m : RowMove) (earlier : List RowMove) → Runs (m ∷ earlier) → (q : ℕ) (x : Chain) (p : Answer → Bool) → list_any p (answers_on x (history_of (c q) (moves_at q earlier))) ≡ true
       → list_any p (answers_on x (history_of (c q) (moves_at q (m ∷ earlier)))) ≡ true
-  told_stays m earlier runs q x p is = elim (cases_eq m.at q) [
-    | inl here ↦ subst (λ (l : List Move). list_any p (answers_on x (history_of (c q) l)) ≡ true) (sym (moves_here m earlier q here)) (grown (c q) m.move (moves_at q earlier) x p (run_here m earlier runs q here) is)
-    | inr differ ↦ subst (λ (l : List Move). list_any p (answers_on x (history_of (c q) l)) ≡ true) (sym (moves_else m earlier q differ)) is
-  ]
+  told_stays m earlier runs q x p is = grind (arith, moves_here, grown, run_here m earlier runs q, moves_else)
 
   ended_stays : (m : RowMove) (earlier : List RowMove) → Runs (m ∷ earlier) → (q name : ℕ) → FoundEnded (c q) (names q) (moves_at q earlier) name → FoundEnded (c q) (names q) (moves_at q (m ∷ earlier)) name
   ended_stays m earlier runs q name was = record { group = was.group; inside = was.inside; named = was.named; ended = told_stays m earlier runs q (Chain.Take was.group) ends was.ended }
 
   -- so does that a chain is quiet, if none of its passes may begin
   quiet_stays : (m : RowMove) (earlier : List RowMove) → Runs (m ∷ earlier) → (q : ℕ) (x : Chain) → (m.at ≡ q → BeginsOn (c q) x m.move → ⊥) → Quiet (c q) x (moves_at q earlier) → Quiet (c q) x (moves_at q (m ∷ earlier))
-  quiet_stays m earlier runs q x not quiet = elim (cases_eq m.at q) [
-    | inl here ↦ subst (λ (l : List Move). Quiet (c q) x l) (sym (moves_here m earlier q here)) (quiet_more (c q) x (moves_at q earlier) quiet m.move (run_here m earlier runs q here) (not here))
-    | inr differ ↦ subst (λ (l : List Move). Quiet (c q) x l) (sym (moves_else m earlier q differ)) quiet
-  ]
+  quiet_stays m earlier runs q x not quiet = grind (arith, moves_here m earlier q, quiet_more (c q) x (moves_at q earlier) quiet m.move, run_here m earlier runs q, moves_else m earlier q)
 
   -- ---- looks
 
-  goes_here : (name other : ℕ) (earlier : List RowEvent) → other ≡ name → queue_of name (RowEvent.GoesOn other ∷ earlier) ≡ suc (queue_of name earlier)
-  goes_here name other earlier is = ap (λ (b : Bool). cond b (suc (queue_of name earlier)) (queue_of name earlier)) (eq-eqb other name is)
-
-  goes_else : (name other : ℕ) (earlier : List RowEvent) → (other ≡ name → ⊥) → queue_of name (RowEvent.GoesOn other ∷ earlier) ≡ queue_of name earlier
-  goes_else name other earlier differ = ap (λ (b : Bool). cond b (suc (queue_of name earlier)) (queue_of name earlier)) (ne_eqb other name differ)
-
   pub queue_grows : (name : ℕ) (e : RowEvent) (earlier : List RowEvent) → queue_of name earlier ≤ queue_of name (e ∷ earlier)
-  queue_grows name (RowEvent.GoesOn other) earlier = elim (cases_eq other name) [
-    | inl is ↦ omega (arith, goes_here name other earlier is)
-    | inr differ ↦ omega (arith, goes_else name other earlier differ)
-  ]
-  queue_grows name (RowEvent.Moves m) earlier = omega arith
-  queue_grows name (RowEvent.Looks seat role) earlier = omega arith
-  queue_grows name (RowEvent.Leaves seat) earlier = omega arith
-  queue_grows name RowEvent.Appends earlier = omega arith
-  queue_grows name RowEvent.Closes earlier = omega arith
+  queue_grows name e earlier = grind arith
 
   pub last_grows : (e : RowEvent) (earlier : List RowEvent) → last_of earlier ≤ last_of (e ∷ earlier)
-  last_grows RowEvent.Appends earlier = omega arith
-  last_grows (RowEvent.Moves m) earlier = omega arith
-  last_grows (RowEvent.Looks seat role) earlier = omega arith
-  last_grows (RowEvent.Leaves seat) earlier = omega arith
-  last_grows (RowEvent.GoesOn name) earlier = omega arith
-  last_grows RowEvent.Closes earlier = omega arith
+  last_grows e earlier = grind arith
 
   found_grows : (role : Role) (e : RowEvent) (earlier : List RowEvent) → found_by role earlier ≤ found_by role (e ∷ earlier)
-  found_grows Role.Sends e earlier = last_grows e earlier
-  found_grows (Role.Takes name) e earlier = queue_grows name e earlier
-
-  look_here : (seat other : ℕ) (role : Role) (earlier : List RowEvent) → other ≡ seat → look_of seat (RowEvent.Looks other role ∷ earlier) ≡ Some (record { role = role; queue = found_by role earlier })
-  look_here seat other role earlier is = ap (λ (b : Bool). cond b (Some (record { role = role; queue = found_by role earlier })) (look_of seat earlier)) (eq-eqb other seat is)
-
-  look_else : (seat other : ℕ) (role : Role) (earlier : List RowEvent) → (other ≡ seat → ⊥) → look_of seat (RowEvent.Looks other role ∷ earlier) ≡ look_of seat earlier
-  look_else seat other role earlier differ = ap (λ (b : Bool). cond b (Some (record { role = role; queue = found_by role earlier })) (look_of seat earlier)) (ne_eqb other seat differ)
-
-  left_here : (seat other : ℕ) (earlier : List RowEvent) → other ≡ seat → look_of seat (RowEvent.Leaves other ∷ earlier) ≡ None
-  left_here seat other earlier is = ap (λ (b : Bool). cond b None (look_of seat earlier)) (eq-eqb other seat is)
-
-  left_else : (seat other : ℕ) (earlier : List RowEvent) → (other ≡ seat → ⊥) → look_of seat (RowEvent.Leaves other ∷ earlier) ≡ look_of seat earlier
-  left_else seat other earlier differ = ap (λ (b : Bool). cond b None (look_of seat earlier)) (ne_eqb other seat differ)
+  found_grows role e earlier = grind (arith, last_grows, queue_grows)
 
   -- ---- what threads that keep the rules keep
 
@@ -226,18 +164,15 @@ module _ (r : RowSetting) where
   is_reached q p events k found = by (chain_of (c q).config p) found.role found.serves (k.looked (r.seats q p) (record { role = found.role; queue = q }) found.looks)
     where
       by : (x : Chain) (role : Role) → Serves (names q) x role → q ≤ found_by role events → IsReached q x events
-      by Chain.Send Role.Sends is near = near
-      by Chain.Send (Role.Takes name) is near = absurd is
-      by (Chain.Take g) Role.Sends is near = absurd is
       by (Chain.Take g) (Role.Takes name) is near = subst (λ (z : ℕ). q ≤ queue_of z events) (sym is) near
+      by x role is near = grind arith
 
   began_there : (m : RowMove) (q : ℕ) (x : Chain) (earlier : List RowEvent) → Kept earlier → BeginsWhereFound r m.at m.move earlier → m.at ≡ q → BeginsOn (c q) x m.move → IsReached q x earlier
   began_there m q x earlier k found here on = by m.move (subst (λ (z : ℕ). BeginsWhereFound r z m.move earlier) here found) on
     where
       by : (move : Move) → BeginsWhereFound r q move earlier → BeginsOn (c q) x move → IsReached q x earlier
       by (Move.Begin p call known) found on = subst (λ (z : Chain). IsReached q z earlier) on (is_reached q p earlier k found)
-      by (Move.Step p) found on = absurd on
-      by (Move.Take p) found on = absurd on
+      by _ found on = absurd on
 
   abbrev state_at : ℕ → List RowEvent → State
   state_at q earlier = reached (c q) (moves_there q earlier)
@@ -292,47 +227,27 @@ module _ (r : RowSetting) where
     shut = k.shut;
     ended = k.ended;
     behind = k.behind;
-    looked = λ other look is. elim (cases_eq seat other) [
-      | inl here ↦ by_look look (sym (look_here other seat role earlier here) ∙ is)
-      | inr differ ↦ by_before look (k.looked other look (sym (look_else other seat role earlier differ) ∙ is))
-    ];
-    busy = λ q p not. elim (cases_eq seat (r.seats q p)) [
-      | inl here ↦ absurd (not (rest q p (sym here)))
-      | inr differ ↦ let has : HasFound r q p earlier = k.busy q p not in record { role = has.role; serves = has.serves; looks = look_else (r.seats q p) seat role earlier differ ∙ has.looks }
-    ];
+    looked =
+        λ other look is. grind (arith, k.looked other look, found_grows look.role (RowEvent.Looks seat role) earlier);
+    busy = λ q p not. let has : HasFound r q p earlier = k.busy q p not in record { role = has.role; serves = has.serves; looks = grind (arith, has.looks, rest q p, not) };
     no_send = k.no_send;
     no_take = k.no_take;
   }
-    where
-      by_before : (look : Look) → look.queue ≤ found_by look.role earlier → look.queue ≤ found_by look.role (RowEvent.Looks seat role ∷ earlier)
-      by_before look near = omega (arith, near, found_grows look.role (RowEvent.Looks seat role) earlier)
-
-      by_look : (look : Look) → Some (record { role = role; queue = found_by role earlier }) ≡ Some look → look.queue ≤ found_by look.role (RowEvent.Looks seat role ∷ earlier)
-      by_look look is = by_before look (subst (λ (z : Look). z.queue ≤ found_by z.role earlier) (some_same is) (omega arith))
 
   kept_leave : (seat : ℕ) (earlier : List RowEvent) → IsAtRest r seat earlier → Kept earlier → Kept (RowEvent.Leaves seat ∷ earlier)
   kept_leave seat earlier rest k = record {
     shut = k.shut;
     ended = k.ended;
     behind = k.behind;
-    looked = λ other look is. elim (cases_eq seat other) [
-      | inl here ↦ absurd (none_some (sym (left_here other seat earlier here) ∙ is))
-      | inr differ ↦ omega (arith, k.looked other look (sym (left_else other seat earlier differ) ∙ is), found_grows look.role (RowEvent.Leaves seat) earlier)
-    ];
-    busy = λ q p not. elim (cases_eq seat (r.seats q p)) [
-      | inl here ↦ absurd (not (rest q p (sym here)))
-      | inr differ ↦ let has : HasFound r q p earlier = k.busy q p not in record { role = has.role; serves = has.serves; looks = left_else (r.seats q p) seat earlier differ ∙ has.looks }
-    ];
+    looked = λ other look is. grind (arith, k.looked other look, found_grows look.role (RowEvent.Leaves seat) earlier);
+    busy = λ q p not. let has : HasFound r q p earlier = k.busy q p not in record { role = has.role; serves = has.serves; looks = grind (arith, has.looks, rest q p, not) };
     no_send = k.no_send;
     no_take = k.no_take;
   }
 
   kept_append : (earlier : List RowEvent) → is_shut (history_of (c (last_of earlier)) (moves_there (last_of earlier) earlier)) ≡ true → Kept earlier → Kept (RowEvent.Appends ∷ earlier)
   kept_append earlier closed k = record {
-    shut = λ q less. elim (cases_eq q (last_of earlier)) [
-      | inl is ↦ subst (λ (z : ℕ). is_shut (history_of (c z) (moves_there z earlier)) ≡ true) (sym is) closed
-      | inr differ ↦ k.shut q (omega (arith, less, differ))
-    ];
+    shut = λ q less. grind (arith, closed, k.shut q);
     ended = k.ended;
     behind = λ name. omega (arith, k.behind name);
     looked = λ seat look is. omega (arith, k.looked seat look is, found_grows look.role RowEvent.Appends earlier);
@@ -345,25 +260,13 @@ module _ (r : RowSetting) where
       → Kept earlier → Kept (RowEvent.GoesOn name ∷ earlier)
   kept_on name earlier before found k = record {
     shut = k.shut;
-    ended = λ other q less. elim (cases_eq name other) [
-      | inl is ↦ subst (λ (z : ℕ). FoundEnded (c q) (names q) (moves_there q earlier) z) is (mine q (omega (arith, less, goes_here other name earlier is, ap (λ (z : ℕ). queue_of z earlier) is)))
-      | inr differ ↦ k.ended other q (omega (arith, less, goes_else other name earlier differ))
-    ];
-    behind = λ other. elim (cases_eq name other) [
-      | inl is ↦ omega (arith, goes_here other name earlier is, ap (λ (z : ℕ). queue_of z earlier) is, before)
-      | inr differ ↦ omega (arith, goes_else other name earlier differ, k.behind other)
-    ];
+    ended = λ other q less. grind (arith, found, k.ended other q);
+    behind = λ other. grind (arith, k.behind other, before);
     looked = λ seat look is. omega (arith, k.looked seat look is, found_grows look.role (RowEvent.GoesOn name) earlier);
     busy = λ q p not. let has : HasFound r q p earlier = k.busy q p not in record { role = has.role; serves = has.serves; looks = has.looks };
     no_send = k.no_send;
     no_take = λ q g more. k.no_take q g (omega (arith, more, queue_grows (names q g) (RowEvent.GoesOn name) earlier));
   }
-    where
-      mine : (q : ℕ) → q < suc (queue_of name earlier) → FoundEnded (c q) (names q) (moves_there q earlier) name
-      mine q less = elim (cases_eq q (queue_of name earlier)) [
-        | inl is ↦ subst (λ (z : ℕ). FoundEnded (c z) (names z) (moves_there z earlier) name) (sym is) found
-        | inr differ ↦ k.ended name q (omega (arith, less, differ))
-      ]
 
   kept_close : (earlier : List RowEvent) → Kept earlier → Kept (RowEvent.Closes ∷ earlier)
   kept_close earlier k = record {
@@ -383,14 +286,8 @@ module _ (r : RowSetting) where
 
   in_order : (events : List RowEvent) → Kept events → UsedInOrder c names (moves_of events)
   in_order events k = record {
-    senders = λ q some. elim (cases_lt q (last_of events)) [
-      | inl less ↦ k.shut q less
-      | inr far ↦ absurd (some_calls (suc q) Chain.Send events (k.no_send (suc q) (omega (arith, far))) some)
-    ];
-    takers = λ q g inside some. elim (cases_lt q (queue_of (names (suc q) g) events)) [
-      | inl less ↦ k.ended (names (suc q) g) q less
-      | inr far ↦ absurd (some_calls (suc q) (Chain.Take g) events (k.no_take (suc q) g (omega (arith, far))) some)
-    ];
+    senders = λ q some. grind (arith, k.shut q, some_calls (suc q) Chain.Send events, k.no_send (suc q));
+    takers = λ q g inside some. grind (arith, k.ended (names (suc q) g) q, some_calls (suc q) (Chain.Take g) events, k.no_take (suc q) g);
   }
 
   -- whoever makes a move at a queue has found that queue
@@ -436,8 +333,7 @@ module _ (r : RowSetting) where
       let before : Good earlier = good earlier runs rules.0 in
       record { kept = kept_on name earlier rules.1.0 rules.1.1 before.kept; used = before.used }
   good (RowEvent.Closes ∷ earlier) runs rules =
-      let before : Good earlier = good earlier runs rules.0 in
-      record { kept = kept_close earlier before.kept; used = before.used }
+      let before = good earlier runs rules.0 in record { kept = kept_close earlier before.kept; used = before.used }
 
   -- ---- a queue that all have left
 
@@ -455,11 +351,7 @@ module _ (r : RowSetting) where
   finds_further q p role earlier lists inside left serves = by (chain_of (c q).config p) role serves (chain_is (c q) p inside)
     where
       by : (x : Chain) (role : Role) → Serves (names q) x role → IsChain (c q) x → q < found_by role earlier
-      by Chain.Send Role.Sends is there = left.senders
-      by Chain.Send (Role.Takes name) is there = absurd is
-      by (Chain.Take g) Role.Sends is there = absurd is
-      by (Chain.Take g) (Role.Takes name) is there =
-          subst (λ (z : ℕ). q < queue_of z earlier) is (left.groups g (subst (λ (z : Served). IsChainOf z (c q).config.groups (Chain.Take g)) (lists q) there))
+      by x role is there = grind (arith, left.senders, left.groups, lists q)
 
   abbrev found_at : Role → ℕ → Look
   found_at role q = record { role = role; queue = q }
@@ -471,18 +363,12 @@ module _ (r : RowSetting) where
 
   -- so no thread finds it that hadn't
   none_comes : (q p : ℕ) (e : RowEvent) (earlier : List RowEvent) → ((x : ℕ) → (c x).served ≡ Served.List) → p < passes (c q) → IsLeft r q earlier → (HasFound r q p earlier → ⊥) → HasFound r q p (e ∷ earlier) → ⊥
-  none_comes q p (RowEvent.Looks seat role) earlier lists inside left not has = elim (cases_eq seat (r.seats q p)) [
-    | inl here ↦ comes_late q p role has.role earlier lists inside left has.serves (some_same (sym (look_here (r.seats q p) seat role earlier here) ∙ has.looks))
-    | inr differ ↦ not record { role = has.role; serves = has.serves; looks = sym (look_else (r.seats q p) seat role earlier differ) ∙ has.looks }
-  ]
-  none_comes q p (RowEvent.Leaves seat) earlier lists inside left not has = elim (cases_eq seat (r.seats q p)) [
-    | inl here ↦ none_some (sym (left_here (r.seats q p) seat earlier here) ∙ has.looks)
-    | inr differ ↦ not record { role = has.role; serves = has.serves; looks = sym (left_else (r.seats q p) seat earlier differ) ∙ has.looks }
-  ]
-  none_comes q p (RowEvent.Moves m) earlier lists inside left not has = not record { role = has.role; serves = has.serves; looks = has.looks }
-  none_comes q p RowEvent.Appends earlier lists inside left not has = not record { role = has.role; serves = has.serves; looks = has.looks }
-  none_comes q p (RowEvent.GoesOn name) earlier lists inside left not has = not record { role = has.role; serves = has.serves; looks = has.looks }
-  none_comes q p RowEvent.Closes earlier lists inside left not has = not record { role = has.role; serves = has.serves; looks = has.looks }
+  none_comes q p (RowEvent.Looks seat role) earlier lists inside left not has =
+      not record { role = has.role; serves = has.serves; looks = grind (arith, has.looks, comes_late q p role has.role earlier lists inside left has.serves) }
+  none_comes q p (RowEvent.Leaves seat) earlier lists inside left not has =
+      not record { role = has.role; serves = has.serves; looks = grind (arith, has.looks) }
+  none_comes q p _ earlier lists inside left not has =
+      not record { role = has.role; serves = has.serves; looks = has.looks }
 
   none_came : (q p : ℕ) (after earlier : List RowEvent) → ((x : ℕ) → (c x).served ≡ Served.List) → p < passes (c q) → IsLeft r q earlier → (HasFound r q p earlier → ⊥) → HasFound r q p (after ++ earlier) → ⊥
   none_came q p [] earlier lists inside left not = not
@@ -492,8 +378,7 @@ pub final_last : (events : List RowEvent) → last_of events ≤ final_of events
 final_last events = by (is_closed events)
   where
     by : (b : Bool) → last_of events ≤ cond b (last_of events) (suc (last_of events))
-    by true = omega arith
-    by false = omega arith
+    by b = grind arith
 
 pub threads_make_rows : ThreadsMakeRows
 threads_make_rows r events kept =

@@ -14,6 +14,8 @@ use Rattle.cc_runs.specs.Linearizable.{Effect, replay, AnswersAfter, IsExact, Is
 use Rattle.cc_runs.proofs.Chains.Opening.{no_calls}
 use Rattle.cc_runs.proofs.ListRuns.Decided.{group_mine, group_other}
 use Rattle.cc_runs.proofs.Linear.Replay.{replay_groups, prefix_length}
+use Rattle.cc_runs.proofs.Linear.Orders.{timely_now}
+use Rattle.cc_runs.proofs.Linear.Insert.{exact_before}
 use Rattle.cc_row.specs.Names.{Config, Pass, Call, Item, Entry, Answer, Chain, Setting}
 use Rattle.cc_row.specs.Row.{At, ends, shut_at, ended_at, StartsNext}
 use Rattle.cc_row.specs.Queues.{AtQueue, AreApart, only, group_on, seen, InOrder}
@@ -21,21 +23,15 @@ use Rattle.cc_row.specs.Runs.{RowMove, moves_at, FoundEnded, UsedInOrder, IsUsed
 use Rattle.cc_row.proofs.States.{shut_else, ended_here, ended_else, ended_other, ended_none}
 use Rattle.cc_row.proofs.Exact as exact
 use Rattle.cc_row.proofs.Exact.{exact_queues_are_one}
-use Rattle.cc_row.proofs.Merge.{head, tail, head_tail, put, cut, merge, Each, cut_else, cut_here, each_before, timely_now, only_merged, row_timely, each_of}
+use Rattle.cc_row.proofs.Merge.{head, tail, head_tail, put, cut, merge, Each, cut_else, cut_here, each_before, only_merged, row_timely, each_of}
 
 -- ---- ends
 
 ends_none : (cfg : Config) (pass : Pass) (call : Call) (items : List Item) (shut : Bool) (taken all : ℕ) (a : Answer) → IsSenders cfg pass call → Exactly cfg items shut taken all call a → ends a ≡ false
-ends_none cfg (Pass.Sender s) (Call.Send body) items shut taken all (Answer.Send b) is h = refl
-ends_none cfg (Pass.Sender s) Call.Close items shut taken all (Answer.Close b) is h = refl
-ends_none cfg (Pass.Sender s) (Call.Send body) items shut taken all _ is h = absurd h
-ends_none cfg (Pass.Sender s) Call.Close items shut taken all _ is h = absurd h
-ends_none cfg _ _ items shut taken all a is h = absurd is
+ends_none cfg pass call items shut taken all a is h = grind arith
 
 or_none : (b c : Bool) → (b || (c || false)) ≡ (b || c)
-or_none true c = refl
-or_none false true = refl
-or_none false false = refl
+or_none b c = grind arith
 
 abbrev pub found : Record → ℕ → Bool
 found h g = list_any ends (of_group h g).answers
@@ -79,13 +75,12 @@ ended_same cfg names apart (e ∷ order) ok q g inside = by (ended_same cfg name
 
 calls_grow : (y x : Chain) (n : ℕ) (h : Record) (e : Entry) (a : Answer) → length h.takes ≡ n → ((g : ℕ) → x ≡ Chain.Take g → g < n) → 0 < length (calls_on x h) → 0 < length (calls_on x (noted y h (Some e) (Some a)))
 calls_grow Chain.Send Chain.Send n h e a size inside some = omega (arith, some, length-append h.sends.calls (e ∷ []))
-calls_grow Chain.Send (Chain.Take g) n h e a size inside some = some
-calls_grow (Chain.Take y) Chain.Send n h e a size inside some = some
 calls_grow (Chain.Take y) (Chain.Take g) n h e a size inside some = elim (cases_eq y g) [
   | inl at ↦ subst (λ (z : ℕ). 0 < length (calls_on (Chain.Take g) (noted (Chain.Take z) h (Some e) (Some a)))) (sym at)
       (omega (arith, ap (λ (s : Side). length s.calls) (group_mine h g (record { calls = (of_group h g).calls ++ e ∷ []; answers = (of_group h g).answers ++ a ∷ [] }) (omega (arith, inside g refl, size))), length-append (of_group h g).calls (e ∷ [])))
   | inr other ↦ omega (arith, some, ap (λ (s : Side). length s.calls) (group_other h y g (record { calls = (of_group h y).calls ++ e ∷ []; answers = (of_group h y).answers ++ a ∷ [] }) (λ z. other (sym z))))
 ]
+calls_grow _ _ n h e a size inside some = some
 
 calls_new : (x : Chain) (n : ℕ) (h : Record) (e : Entry) (a : Answer) → length h.takes ≡ n → ((g : ℕ) → x ≡ Chain.Take g → g < n) → 0 < length (calls_on x (noted x h (Some e) (Some a)))
 calls_new Chain.Send n h e a size inside = omega (arith, length-append h.sends.calls (e ∷ []))
@@ -98,10 +93,6 @@ has_calls n (d ∷ front) e more inside = calls_grow d.chain e.chain n (replay n
 
 -- ---- parts of exact orders
 
-pub exact_tail : (cfg : Config) (front l : List Effect) → IsExact cfg (front ++ l) → IsExact cfg l
-exact_tail cfg [] l ok = ok
-exact_tail cfg (e ∷ front) l ok = exact_tail cfg front l ok.0
-
 there_inside : (cfg : Config) (x : Chain) → IsThere cfg x → (g : ℕ) → x ≡ Chain.Take g → g < cfg.groups
 there_inside cfg Chain.Send there g is = absurd (cc)
 there_inside cfg (Chain.Take y) there g is = let same : y ≡ g = cc in omega (arith, there, same)
@@ -112,13 +103,10 @@ any_prefix {X} p a b front is = ap (λ (l : List X). list_any p l) front.1 ∙ a
 -- ---- what was used by now
 
 sender_starts : (cfg : Config) (p g : ℕ) (pass : Pass) (call : Call) (o : List At) → IsSenders cfg pass call → ((k : ℕ) → suc k ≡ p → shut_at k o ≡ true) → StartsNext p g call o
-sender_starts cfg p g (Pass.Sender s) (Call.Send body) o is shut = shut
-sender_starts cfg p g (Pass.Sender s) Call.Close o is shut = shut
-sender_starts cfg p g _ _ o is shut = absurd is
+sender_starts cfg p g pass call o is shut = grind arith
 
 taker_starts : (cfg : Config) (p g name : ℕ) (pass : Pass) (call : Call) (o : List At) → IsReceivers cfg g pass call → ((k : ℕ) → suc k ≡ p → ended_at k name o ≡ true) → StartsNext p name call o
-taker_starts cfg p g name (Pass.Receiver r) Call.Take o is ended = ended
-taker_starts cfg p g name _ _ o is ended = absurd is
+taker_starts cfg p g name pass call o is ended = grind arith
 
 skip_shut : (names : ℕ → ℕ → ℕ) (p k : ℕ) (l : List Effect) (rest : List AtQueue) → (p ≡ k → ⊥) → shut_at k (map (seen names) (put p l ++ rest)) ≡ shut_at k (map (seen names) rest)
 skip_shut names p k [] rest differ = refl
@@ -136,10 +124,7 @@ module _ (c : ℕ → Setting) where
   Exacts f = (q : ℕ) → IsExact (cfg q) (in_order (f q))
 
   pub exacts_cut : (p : ℕ) (f : ℕ → List (List Effect)) → Exacts f → Exacts (cut p f)
-  exacts_cut p f ok q = elim (cases_eq p q) [
-    | inl is ↦ subst (λ (l : List (List Effect)). IsExact (cfg q) (in_order l)) (sym (cut_here f p q is)) (exact_tail (cfg q) (head (f q)) (in_order (tail (f q))) (subst (λ (l : List Effect). IsExact (cfg q) l) (sym (head_tail (f q))) (ok q)))
-    | inr differ ↦ subst (λ (l : List (List Effect)). IsExact (cfg q) (in_order l)) (sym (cut_else f p q differ)) (ok q)
-  ]
+  exacts_cut p f ok q = grind (arith, cut_here, exact_before, head_tail, ok q, cut_else)
 
   pub merged_exact : (moves : List RowMove) (f : ℕ → List (List Effect)) → Each c moves f → Exacts f → exact.Exact cfg (flat (merge moves f))
   merged_exact moves f each ok q = subst (λ (l : List Effect). IsExact (cfg q) l) (sym (only_merged c moves f each q)) (ok q)
@@ -188,7 +173,7 @@ module _ (c : ℕ → Setting) where
     now_in_order last within before (e ∷ l) front is =
         let more : List Effect = l ++ in_order (tail (f m.at)) in
         let split : in_order (f m.at) ≡ front ++ e ∷ (l ++ in_order (tail (f m.at))) = sym (head_tail (f m.at)) ∙ ap (λ (z : List Effect). z ++ in_order (tail (f m.at))) (sym is) ∙ append_assoc front (e ∷ l) (in_order (tail (f m.at))) in
-        let parts : IsExact (cfg m.at) (e ∷ (l ++ in_order (tail (f m.at)))) = exact_tail (cfg m.at) front (e ∷ (l ++ in_order (tail (f m.at)))) (subst (λ (z : List Effect). IsExact (cfg m.at) z) split (ok m.at)) in
+        let parts : IsExact (cfg m.at) (e ∷ (l ++ in_order (tail (f m.at)))) = exact_before (cfg m.at) front (e ∷ (l ++ in_order (tail (f m.at)))) (subst (λ (z : List Effect). IsExact (cfg m.at) z) split (ok m.at)) in
         let has : 0 < length (calls_on e.chain (replay (cfg m.at).groups (in_order (f m.at)))) =
         subst (λ (z : List Effect). 0 < length (calls_on e.chain (replay (cfg m.at).groups z))) (sym split) (has_calls (cfg m.at).groups front e (l ++ in_order (tail (f m.at))) (there_inside (cfg m.at) e.chain parts.1)) in
         let on : IsOnTime (history_of (c m.at) (moves_at m.at (m ∷ earlier))) (replay (cfg m.at).groups (in_order (f m.at))) = on_time m.at in

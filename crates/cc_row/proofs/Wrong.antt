@@ -1,19 +1,13 @@
 -- Each wrong row has a small order from which it isn't one queue.
-use Rattle.std.proofs.Common.{◌≡◌, ℕ, zero, suc, ◌<◌, Bool, true, Some, refl, ap, arith}
+use Rattle.std.proofs.Common.{◌≡◌, Some, refl, ap, arith}
 use Rattle.cc_row.specs.Names.{Item}
 use Rattle.cc_row.specs.SmallRows.{narrow, item}
 use Rattle.cc_row.specs.WrongRows.{wide, unclosed, early, ahead, ended, WrongRows}
 use Rattle.cc_row.proofs.Law.{rows_are_queues}
+use Rattle.cc_row.proofs.SmallBound.{none, first}
 
 unlike : (x y : Item) → Some x ≡ Some y → x.place ≡ y.place
 unlike x y is = let same : x ≡ y = cc in ap (λ (z : Item). z.place) same
-
-none : {X : Type 0} (k : ℕ) → k < 0 → X
-none {X} k less = absurd (omega (arith, less))
-
-first : (f : ℕ → Bool) → f 0 ≡ true → (k : ℕ) → k < 1 → f k ≡ true
-first f at zero less = at
-first f at (suc k) less = absurd (omega (arith, less))
 
 pub wrong_rows : WrongRows
 wrong_rows = record {

@@ -1,26 +1,16 @@
 -- Each wrong rule of the bound lets two items into a row of one place; and Full isn't an answer of a queue that is closed.
-use Rattle.std.proofs.Common.{◌≡◌, ℕ, zero, suc, ◌<◌, Bool, true, ◌∷◌, inr, refl, arith}
+use Rattle.std.proofs.Common.{◌∷◌, inr, refl, arith}
 use Rattle.cc_row.specs.SmallRows.{body, narrow}
-use Rattle.cc_row.specs.Bound.{RowCall, IsSlowest, IsQueue, told}
+use Rattle.cc_row.specs.Bound.{RowCall, IsQueue, told}
 use Rattle.cc_row.specs.WrongBounds.{crowded, closed, WrongBounds}
 use Rattle.cc_row.proofs.Bound.{bounded_rows}
-use Rattle.cc_row.proofs.CountedOrders.{true_false}
-
-none : {X : Type 0} (k : ℕ) → k < 0 → X
-none {X} k less = absurd (omega (arith, less))
-
-first : (f : ℕ → Bool) → f 0 ≡ true → (k : ℕ) → k < 1 → f k ≡ true
-first f at zero less = at
-first f at (suc k) less = absurd (omega (arith, less))
-
-nothing : (f : ℕ → ℕ) → f 0 ≡ 0 → IsSlowest 1 f 0
-nothing f is = record { least = λ g inside. omega arith; group = 0; inside = omega arith; is = is }
+use Rattle.cc_row.proofs.SmallBound.{none, first, nothing}
 
 too_many : IsQueue narrow 1 (told 1 crowded) → ⊥
 too_many q = omega (arith, q.2.2.2, q.2.1.least 0 (omega arith))
 
 late_full : IsQueue narrow 1 (told 0 (RowCall.Refused 1 2 body ∷ closed)) → ⊥
-late_full q = true_false q.2.2.0
+late_full q = absurd (cc q.2.2.0)
 
 pub wrong_bounds : WrongBounds
 wrong_bounds = record {

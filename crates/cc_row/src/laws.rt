@@ -24,6 +24,7 @@ pub fn rows_are_queues()
 {}
 
 /// It suffices that each call begins after the queue before its own was closed, or was found ended by its group.
+#[tactic(auto, using(crate::proofs::Chains::chains_are_rows))]
 pub fn chains_are_rows()
     ensures { ChainsAreRows }
 {}
@@ -54,12 +55,14 @@ pub fn exact_queues_are_one()
 
 /// Each run of a row of proved queues has an order: each call at a queue takes effect between its exchange and its answer,
 /// each queue answers exactly as a sequential queue, and so does the row.
+#[tactic(auto, using(crate::proofs::Use::rows_are_linearizable))]
 pub fn rows_are_linearizable()
     ensures { RowsAreLinearizable }
 {}
 
 /// A row whose sends are let in while all groups are at the last queue, or while fewer items than the bound are in the row, is one queue with
 /// this capacity: no more items are in it, and a send returns Full exactly if as many are.
+#[tactic(auto, using(crate::proofs::Bound::bounded_rows))]
 pub fn bounded_rows_are_queues()
     ensures { BoundedRowsAreQueues }
 {}
@@ -111,6 +114,7 @@ pub fn looks_find_full_rows()
 
 /// Threads whose sends begin where no group is at an earlier queue, or after a look that found room while nobody else sends: at each moment
 /// no more items are in the row than the bound, for each group, by the takes that are counted.
+#[tactic(auto, using(crate::proofs::BoundThreads::threads_keep_bounds))]
 pub fn threads_keep_bounds()
     ensures { ThreadsKeepBounds }
 {}
@@ -128,6 +132,7 @@ pub fn counted_takes_are_open()
 
 /// Each run of a queue has an order that keeps real time, in which no take has an item before it is counted, and a
 /// take of a queue that is shut takes effect as soon as it is counted.
+#[tactic(auto, using(crate::proofs::CountedOrders::orders_follow_counts))]
 pub fn orders_follow_counts()
     ensures { OrdersFollowCounts }
 {}
@@ -138,6 +143,7 @@ pub fn orders_follow_counts()
 /// the row has exchanged by then. Else as many items as the bound are in the row at that place of the order, but it
 /// may be shut there. Then the calls that say that the row is shut take effect later, in another order of the run. It
 /// keeps real time too, if these calls return after the moment at which they take effect.
+#[tactic(auto, using(crate::proofs::BoundedRuns::bounded_threads))]
 pub fn bounded_threads_are_one()
     ensures { BoundedThreadsAreOne }
 {}

@@ -1,5 +1,5 @@
 -- A body is that of its tag and its words.
-use Rattle.std.proofs.Common.{◌≡◌, ℕ, zero, suc, ◌+◌, ◌-◌, ◌*◌, ◌/◌, ◌%◌, ◌^◌, ◌<◌, ◌≤◌, List, [], ◌∷◌, length, refl, ap, ◌∙◌, arith}
+use Rattle.std.proofs.Common.{◌≡◌, ℕ, zero, suc, ◌+◌, ◌-◌, ◌*◌, ◌/◌, ◌%◌, ◌^◌, ◌<◌, ◌≤◌, List, length, ap, ◌∙◌, arith, [], ◌∷◌, refl}
 use Rattle.cc_model.specs.Body.{IsBody, further_of, words_of, body_of}
 use Rattle.cc_model.proofs.Bodies.{few_words, of_its_words}
 use Rattle.cc_runs.specs.Names.{Body, BodyWords, Parcel}
@@ -20,10 +20,7 @@ body_back b whole = words_back (words_of b) (few_words b whole).0 (few_words b w
 
 -- what is made of words is a body
 pub body_made : (n : ℕ) (words : BodyWords) → IsBody (body_in n words)
-body_made zero words = refl
-body_made (suc zero) words = refl
-body_made (suc (suc zero)) words = refl
-body_made (suc (suc (suc n))) words = refl
+body_made n words = grind arith
 
 -- the same words make the same body
 pub body_same : (n : ℕ) (v w : BodyWords) → n ≤ 3 → ((j : ℕ) → j ≤ n → word v j ≡ word w j) → body_in n v ≡ body_in n w
@@ -54,16 +51,10 @@ body_told s number b less whole = ap (λ (n : ℕ). body_in n (words_in b)) (fur
 
 -- it has as many as the tag says
 further_in : (n : ℕ) (words : BodyWords) → n ≤ 3 → further_of (body_in n words) ≡ n
-further_in (suc (suc (suc (suc n)))) words few = absurd (omega (arith, few))
-further_in _ words few = refl
+further_in n words few = grind arith
 
 word_in : (n : ℕ) (words : BodyWords) (i : ℕ) → n ≤ 3 → i ≤ n → word (words_in (body_in n words)) i ≡ word words i
-word_in zero words (suc i) few low = absurd (omega (arith, low))
-word_in (suc zero) words (suc (suc i)) few low = absurd (omega (arith, low))
-word_in (suc (suc zero)) words (suc (suc (suc i))) few low = absurd (omega (arith, low))
-word_in (suc (suc (suc zero))) words (suc (suc (suc (suc i)))) few low = absurd (omega (arith, low))
-word_in (suc (suc (suc (suc n)))) words i few low = absurd (omega (arith, few))
-word_in _ words _ few low = refl
+word_in n words i few low = grind arith
 
 of_three_parts : (tag further : ℕ) → further ≡ tag / 2 ^ 48 % 4 → further * 2 ^ 48 + (tag / 2 ^ 32 % 2 ^ 16 % 2 ^ 16 * 2 ^ 32 + tag % 2 ^ 32) ≡ tag % 2 ^ 50
 of_three_parts tag further is = omega (arith, is)

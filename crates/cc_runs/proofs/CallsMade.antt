@@ -1,5 +1,5 @@
 -- The history has of each pass exactly those of its calls that have exchanged.
-use Rattle.std.proofs.Common.{◌≡◌, ◌≢◌, ◌⊎◌, ℕ, ◌<◌, Bool, true, false, ◌==◌, cond, refl, ap, sym, ◌∙◌, subst, inl, inr, Option, Some, None, List, [], ◌∷◌, ◌++◌, map}
+use Rattle.std.proofs.Common.{◌≡◌, ◌≢◌, ◌⊎◌, ℕ, ◌<◌, Bool, true, false, ◌==◌, cond, refl, ap, sym, ◌∙◌, subst, inl, inr, Option, Some, None, List, [], ◌∷◌, ◌++◌, map, arith}
 use Rattle.std.specs.List.{filter}
 use Rattle.std.proofs.lemmas.Bool.{cases_eq, eq-eqb, ne_eqb, lt-ltb}
 use Rattle.std.proofs.lemmas.List.{append-nil}
@@ -30,10 +30,7 @@ use Rattle.cc_runs.proofs.Leads.{IsAfter, LeadsAfter, goes_after}
 -- ---- no step but a begin gives a pass a call to exchange
 
 none_after : (at : Phase) → IsAfter (Unit {0}) at → to_exchange at ≡ []
-none_after (Phase.ResetNext call) never = absurd never
-none_after (Phase.ResetState call) never = absurd never
-none_after (Phase.Exchange call) never = absurd never
-none_after _ u = refl
+none_after at never = grind arith
 
 none_left : (c : Setting) (x : Chain) (own : ℕ) (at : Phase) (found : ℕ) → LeadsAfter (Unit {0}) at → to_exchange (goes c x own at found) ≡ []
 none_left = goes_after (Unit {0}) (λ (at : Phase). to_exchange at ≡ []) none_after
@@ -55,7 +52,6 @@ own_step c x own found f calls began at e its = e ∙ ap (λ (l : List Entry). f
 other_step : (f : Entry → Bool) (calls : List Entry) (at : Phase) → ((call : Entry) → at ≡ Phase.Exchange call → f call ≡ false) → filter f (appended calls (enters at)) ≡ filter f calls
 other_step f calls (Phase.Exchange call) its =
     filter-append f calls (call ∷ []) ∙ ap (λ (b : Bool). filter f calls ++ cond b (call ∷ []) []) (its call refl) ∙ append-nil (filter f calls)
-other_step f calls Phase.Idle its = refl
 other_step f calls _ its = refl
 
 -- the calls of a chain after a note
@@ -77,17 +73,15 @@ chosen_calls f (e ∷ calls) (a ∷ answers) = bare_more e (Some a) (chosen f ca
 
 -- ---- all runs
 
-pass_self : (who : Pass) → is_pass who who ≡ true
+pub pass_self : (who : Pass) → is_pass who who ≡ true
 pass_self (Pass.Sender s) = eq-eqb s s refl
 pass_self (Pass.Receiver r) = eq-eqb r r refl
 
 idle_none : (at : Phase) → IsIdle at → to_exchange at ≡ []
-idle_none Phase.Idle a = refl
-idle_none _ a = absurd a
+idle_none at a = grind arith
 
 finished_none : (at : Phase) → IsFinished at → to_exchange at ≡ []
-finished_none (Phase.Finished told) a = refl
-finished_none _ a = absurd a
+finished_none at a = grind arith
 
 -- two passes of one chain have two names
 two_names : (c : Setting) (x : Chain) (p q : ℕ) → IsOn c x p → IsOn c x q → q ≢ p → is_pass (pass_at c.config p) (pass_at c.config q) ≡ false

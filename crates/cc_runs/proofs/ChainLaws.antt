@@ -1,6 +1,6 @@
 -- The laws of the chains, from their invariant.
 use Rattle.std.proofs.Common.{◌≡◌, ◌≢◌, ◌⊎◌, ℕ, suc, ◌+◌, ◌<◌, ◌≤◌, refl, ap, sym, ◌∙◌, subst, arith, inl, inr, Some, List, length, Ok, ◌*◌}
-use Rattle.std.proofs.lemmas.Bool.{cases_lt, cases_eq}
+use Rattle.std.proofs.lemmas.Bool.{cases_eq, cases_lt}
 use Rattle.std.proofs.lemmas.Option.{slice_get-get_or, get_or_from_slice_get, slice_get_within}
 use Rattle.cc_model.specs.Config.{config_fault}
 use Rattle.cc_model.specs.Items.{calls_of}
@@ -10,7 +10,7 @@ use Rattle.cc_runs.proofs.Bodies.{few_further}
 use Rattle.cc_runs.proofs.Chains.Sides.{asks_word}
 use Rattle.cc_runs.specs.State.{side, State, chain_of, pass_at, word_of}
 use Rattle.cc_runs.specs.Lines.{operation}
-use Rattle.cc_model.specs.Record.{Side, silent}
+use Rattle.cc_model.specs.Record.{silent, Side}
 use Rattle.cc_runs.specs.Words.{groups}
 use Rattle.std.proofs.lemmas.List.{get_or_past}
 use Rattle.cc_runs.specs.Run.{IsRun, reached, passes}
@@ -20,7 +20,7 @@ use Rattle.cc_runs.specs.ChainLaws.{IsCombining, served_by, AreNodes, served_nod
 use Rattle.cc_runs.proofs.Ranges.{InRange, in_range}
 use Rattle.cc_runs.proofs.Chains.View.{view, pass_on, post_of, post_at, serving, request_words, request_long, asked_words, answer_words, answer_long}
 use Rattle.cc_runs.proofs.Chains.Frame.{answer_first}
-use Rattle.cc_runs.proofs.Chains.Registers.{IsChainOf, IsChain, call_at, answer_at, no_call, no_answer, OnTake, IsAnswer, HasRead, coded_words, tag_word, words_told}
+use Rattle.cc_runs.proofs.Chains.Registers.{IsChain, call_at, answer_at, no_call, no_answer, OnTake, IsAnswer, HasRead, coded_words, tag_word, words_told, IsChainOf}
 use Rattle.cc_runs.proofs.Chains.Facts.{own_node, some_words, coded_first, got_item}
 use Rattle.cc_runs.proofs.Chains.Ties.{Holds}
 use Rattle.cc_runs.proofs.Chains.Others.{IsOn}
@@ -36,16 +36,7 @@ use Rattle.cc_runs.proofs.CounterRuns.{counter_holds, counter_ready}
 use Rattle.cc_runs.proofs.ChainRuns.{has_told, not_other, silent_takes, sides_are}
 
 pub combining_rank : (x : Chain) (own : ℕ) (at : Phase) → IsCombining at → (post_of x own at).rank ≡ 5
-combining_rank x own (Phase.ReadNext round) a = refl
-combining_rank x own (Phase.Counting job service) a = refl
-combining_rank x own (Phase.Sending job service) a = refl
-combining_rank x own (Phase.Taking job service) a = refl
-combining_rank x own (Phase.WriteAnswer job told) a = refl
-combining_rank x own (Phase.WriteAnswerTag job item) a = refl
-combining_rank x own (Phase.WriteAnswerBody job item i) a = refl
-combining_rank x own (Phase.MarkDone job) a = refl
-combining_rank x own (Phase.HandOver at) a = refl
-combining_rank x own _ a = absurd (cc)
+combining_rank x own at a = grind arith
 
 -- the request's words, on either side
 holds_request : (s : State) (x : Chain) (at : ℕ) (e : Entry) → ((j : ℕ) → j < request_long x e → request_words x (λ (f : NodeField). s.mem (Word.Node x at f)) j ≡ asked_words x e j) → HoldsRequest s x at e
@@ -54,10 +45,7 @@ holds_request s (Chain.Take g) at e words = tt
 
 -- a pass that reads its answer
 reading_post : (x : Chain) (own : ℕ) (at : Phase) → IsReading at → post_of x own at ≡ post_of x own Phase.ReadAnswer
-reading_post x own Phase.ReadAnswer a = refl
-reading_post x own (Phase.ReadAnswerTag at) a = refl
-reading_post x own (Phase.ReadAnswerBody at i) a = refl
-reading_post x own _ a = absurd a
+reading_post x own at a = grind arith
 
 -- after the first word of an answer there are further ones for an item alone
 item_read : (what : Served) (x : Chain) (a : Answer) (A : Type 0) → IsAnswer what x a → OnTake x A → (A → code_of (ret_of what a) ≡ 1) → (item : Item) × (a ≡ Answer.Take (TakeAnswer.Got item))
@@ -65,21 +53,14 @@ item_read what Chain.Send a A is had code = absurd had
 item_read what (Chain.Take g) a A is had code = got_item what g a is (code had)
 
 tag_read : (what : Served) (x : Chain) (a : Answer) (words : NodeField → ℕ) (A : Type 0) → OnTake x A → answer_words x words 1 ≡ coded_words what x a 1 → words NodeField.Tag ≡ tag_word a
-tag_read what Chain.Send a words A had same = absurd had
-tag_read what (Chain.Take g) a words A had same = same
+tag_read what x a words A had same = grind arith
 
 body_read : (what : Served) (x : Chain) (a : Answer) (words : NodeField → ℕ) (i : ℕ) (A : Type 0) → OnTake x A → answer_words x words (suc (suc i)) ≡ coded_words what x a (suc (suc i)) → words (NodeField.Body i) ≡ word (words_told a) i
-body_read what Chain.Send a words i A had same = absurd had
-body_read what (Chain.Take g) a words i A had same = same
+body_read what x a words i A had same = grind arith
 
 -- a pass out of its chain has none of its words
 pub out_rank : (x : Chain) (own : ℕ) (at : Phase) → IsOut at → (post_of x own at).rank ≤ 2
-out_rank x own Phase.Idle a = omega arith
-out_rank x own (Phase.ResetNext call) a = omega arith
-out_rank x own (Phase.ResetState call) a = omega arith
-out_rank x own (Phase.Exchange call) a = omega arith
-out_rank x own (Phase.Finished told) a = omega arith
-out_rank x own _ a = absurd a
+out_rank x own at a = grind arith
 
 -- a pass of a chain x, and its place
 module _ (c : Setting) (r : InRange c.config) (s : State) (k : Chains c s) (x : Chain) (ok : IsChain c x) (p : ℕ) (on : IsOn c x p) where
@@ -106,15 +87,7 @@ module _ (c : Setting) (r : InRange c.config) (s : State) (k : Chains c s) (x : 
       safe.next_in c x ok r s on.number own (s.stand p).begun on.inside (k.holds x ok) at job.next (there at e) five low high is
 
   bounded_at : (at : Phase) → Here at → served_by at < c.config.bound
-  bounded_at (Phase.ReadNext round) e = served_at (Phase.ReadNext round) e refl (omega arith)
-  bounded_at (Phase.Counting job service) e = served_at (Phase.Counting job service) e refl (omega arith)
-  bounded_at (Phase.Sending job service) e = served_at (Phase.Sending job service) e refl (safe.send_low service)
-  bounded_at (Phase.Taking job service) e = served_at (Phase.Taking job service) e refl (omega arith)
-  bounded_at (Phase.WriteAnswer job told) e = served_at (Phase.WriteAnswer job told) e refl (omega arith)
-  bounded_at (Phase.WriteAnswerTag job item) e = served_at (Phase.WriteAnswerTag job item) e refl (omega arith)
-  bounded_at (Phase.WriteAnswerBody job item i) e = served_at (Phase.WriteAnswerBody job item i) e refl (omega arith)
-  bounded_at (Phase.MarkDone job) e = served_at (Phase.MarkDone job) e refl (omega arith)
-  bounded_at _ e = r.bound.0
+  bounded_at at e = grind (arith, served_at, safe.send_low, r.bound.0)
 
   nodes_at : (at : Phase) → Here at → AreNodes (passes_on c x) at
   nodes_at (Phase.WriteTag put request) e = safe.put_in c x ok r s on.number own (s.stand p).begun on.inside (k.holds x ok) (Phase.WriteTag put request) (there (Phase.WriteTag put request) e) refl
@@ -166,10 +139,7 @@ module _ (c : Setting) (r : InRange c.config) (s : State) (k : Chains c s) (x : 
   serves_send job service e = serves_next (Phase.Sending job service) job e (λ own. refl)
 
   serves_at : (at : Phase) → (s.stand p).phase ≡ at → WhileUndecided at (ServesNext s x (served_node at))
-  serves_at (Phase.Counting job service) e = serves_next (Phase.Counting job service) job e (λ own. refl)
-  serves_at (Phase.Sending job service) e = serves_send job service e
-  serves_at (Phase.Taking job service) e = serves_next (Phase.Taking job service) job e (λ own. refl)
-  serves_at _ e = tt
+  serves_at at e = grind (arith, serves_next, serves_send)
 
   -- the word of its answer that the pass reads next
   its_read : (at : Phase) → Here at → HasRead c.served x (answer_at (answers_on x s.history) ((k.holds x ok).ghost.at on.number)) at

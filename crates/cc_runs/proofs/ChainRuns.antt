@@ -1,6 +1,6 @@
 -- The chains over every run: the answer that a call gets, and that each step can be done.
-use Rattle.std.proofs.Common.{◌≡◌, ℕ, ◌^◌, ◌<◌, refl, ap, sym, ◌∙◌, subst, arith, Some, List, [], ◌∷◌, ◌++◌, length, Ok, inl, inr, false}
 use Rattle.std.proofs.lemmas.Bool.{cases_lt}
+use Rattle.std.proofs.Common.{◌≡◌, ℕ, ◌^◌, ◌<◌, refl, ap, sym, ◌∙◌, subst, arith, Some, List, [], ◌∷◌, ◌++◌, length, Ok, false, inl, inr}
 use Rattle.std.proofs.lemmas.List.{length-replicate, length-set, get_or_past}
 use Rattle.cc_model.specs.Record.{Side, Record, silent}
 use Rattle.cc_runs.specs.Words.{groups}
@@ -19,7 +19,7 @@ use Rattle.cc_runs.proofs.Counted.{Counts, senders_only}
 use Rattle.cc_runs.proofs.CounterRuns.{counter_holds}
 use Rattle.cc_runs.proofs.Chains.View.{members, pass_on, post_at, post_of}
 use Rattle.cc_runs.proofs.Chains.Opening.{no_calls}
-use Rattle.cc_runs.proofs.Chains.Registers.{IsChainOf, IsChain, calls_on, answers_on, call_at, answer_at, IsCall}
+use Rattle.cc_runs.proofs.Chains.Registers.{IsChain, calls_on, answers_on, call_at, answer_at, IsCall, IsChainOf}
 use Rattle.cc_runs.proofs.Chains.Others.{IsOther, IsOn, sender_chain}
 use Rattle.cc_runs.proofs.Chains.Safe as safe
 use Rattle.cc_runs.proofs.Chains.Safe.{IsService}
@@ -30,12 +30,11 @@ use Rattle.cc_runs.proofs.Chains.Decoded.{FitsIn, reads_back}
 -- a counter has no calls of receivers
 pub silent_takes : (c : Setting) → c.served ≡ Served.Counter → (moves : List Move) → IsRun c moves → (g : ℕ) → side (Chain.Take g) (reached c moves).history ≡ silent
 silent_takes c counter [] run g = no_calls (groups c.config) (Chain.Take g)
-silent_takes c counter (Move.Begin p call known ∷ earlier) run g = silent_takes c counter earlier run.0 g
-silent_takes c counter (Move.Take p ∷ earlier) run g = silent_takes c counter earlier run.0 g
 silent_takes c counter (Move.Step p ∷ earlier) run g =
     let less : p < passes c = run.1.0 in
     let sends : chain_of c.config p ≡ Chain.Send = sender_chain c.config p (omega (arith, senders_only c.served c.config counter)) in
     ap (λ (y : Chain). side (Chain.Take g) (stepped_from c (reached c earlier) y p ((reached c earlier).stand p)).history) sends ∙ silent_takes c counter earlier run.0 g
+silent_takes c counter (_ ∷ earlier) run g = silent_takes c counter earlier run.0 g
 
 module _ (c : Setting) (s : State) (k : Chains c s) where
   -- of a chain that there is
@@ -57,13 +56,12 @@ module _ (c : Setting) (s : State) (k : Chains c s) where
 -- a side for each group, at all times
 pub sides_are : (c : Setting) (moves : List Move) → length (reached c moves).history.takes ≡ groups c.config
 sides_are c [] = length-replicate (groups c.config) silent
-sides_are c (Move.Begin p call known ∷ earlier) = sides_are c earlier
-sides_are c (Move.Take p ∷ earlier) = sides_are c earlier
 sides_are c (Move.Step p ∷ earlier) = with_length (chain_of c.config p) (reached c earlier).history _ ∙ sides_are c earlier
   where
     with_length : (y : Chain) (h : Record) (now : Side) → length (with_side y h now).takes ≡ length h.takes
     with_length Chain.Send h now = refl
     with_length (Chain.Take g) h now = length-set h.takes g now
+sides_are c (_ ∷ earlier) = sides_are c earlier
 
 pub not_other : (c : Setting) → 0 < c.config.bound → (moves : List Move) → IsRun c moves → (x : Chain) → NotOther c x (reached c moves).history
 not_other c some moves run x = not_other_by c (reached c moves) (chains_hold c some moves run) c.served refl (λ e. silent_takes c e moves run) (sides_are c moves) x
@@ -80,10 +78,7 @@ has_told c some moves run p less told e =
     (ap (λ (z : ℕ). ((reached c moves).stand z).phase) (sym on.pass_is) ∙ e))
 
 entering_rank : (x : Chain) (own : ℕ) (at : Phase) → IsEntering at → (post_of x own at).rank ≡ 3
-entering_rank x own (Phase.WriteTag put request) a = refl
-entering_rank x own (Phase.WriteBody put request i) a = refl
-entering_rank x own (Phase.Link put) a = refl
-entering_rank x own _ a = absurd a
+entering_rank x own at a = grind arith
 
 -- a call that has exchanged and isn't linked is pending
 pub calls_wait : CallsWaitForTheirLink
@@ -111,8 +106,7 @@ last_answer c some moves run p less told e fits =
     }
 
 fits_counter : (what : Served) → what ≡ Served.Counter → (a : Answer) → FitsIn what a
-fits_counter Served.Counter e a = tt
-fits_counter Served.List e a = absurd (cc)
+fits_counter what e a = grind arith
 
 -- for a counter no number is in the way
 pub counter_answer : (c : Setting) → c.served ≡ Served.Counter → 0 < c.config.bound → (moves : List Move) → IsRun c moves → (p : ℕ) → p < passes c → (told : Answer) →

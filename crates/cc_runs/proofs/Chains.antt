@@ -17,7 +17,6 @@ pub mod Opening
 pub mod Runs
 pub mod Safe
 pub mod Serving
-pub mod ForList
 pub mod Last
 pub mod ReadAnswers
 pub mod Decoded

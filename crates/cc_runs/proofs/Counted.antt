@@ -57,15 +57,13 @@ total_far stands p (suc n) there far =
 
 total_near : (stands : ℕ → Stand) (p n : ℕ) (there : Stand) → p < n → total (hold stands p there) n + gone (stands p) ≡ total stands n + gone there
 total_near stands p zero there near = absurd (omega arith)
-total_near stands p (suc n) there near = elim (cases_eq n p) [
-  | inl same ↦
-      let here : gone (hold stands p there n) ≡ gone there = ap (λ (z : ℕ). gone (hold stands p there z)) same ∙ ap gone (hold_here stands p there) in
-      let old : gone (stands n) ≡ gone (stands p) = ap (λ (z : ℕ). gone (stands z)) same in
-      omega (arith, total_far stands p n there (omega arith))
-  | inr other ↦
-      let here : gone (hold stands p there n) ≡ gone (stands n) = ap gone (hold_apart stands p n there other) in
-      omega (arith, total_near stands p n there (omega arith))
-]
+total_near stands p (suc n) there near = grind (
+  arith,
+  hold_here stands p there,
+  total_far stands p n there,
+  hold_apart stands p n there,
+  total_near stands p n there,
+)
 
 pub total_most : (stands : ℕ → Stand) (n : ℕ) → ((p : ℕ) → p < n → (stands p).begun ≤ 2 ^ 32) → total stands n ≤ n * 2 ^ 32
 total_most stands zero few = omega arith
@@ -85,22 +83,13 @@ pub record Counts (c : Setting) (s : State) : Type 0 where
 
 module _ (c : Setting) (s : State) (p : ℕ) (inside : p < passes c) (k : Counts c s) (there : Stand) where
   begun_after_all : there.begun ≤ c.config.per_sender → (q : ℕ) → q < passes c → (hold s.stand p there q).begun ≤ c.config.per_sender
-  begun_after_all few q qn = elim (cases_eq q p) [
-    | inl same ↦ subst (λ (z : Stand). z.begun ≤ c.config.per_sender) (sym (hold_here s.stand p there) ∙ ap (hold s.stand p there) (sym same)) few
-    | inr ne ↦ subst (λ (z : Stand). z.begun ≤ c.config.per_sender) (sym (hold_apart s.stand p q there ne)) (k.begun_in q qn)
-  ]
+  begun_after_all few q qn = grind (arith, hold_here s.stand p there, hold_apart s.stand p q there, k.begun_in q qn)
 
   began_all : before_exchange there.phase ≤ there.begun → (q : ℕ) → q < passes c → before_exchange (hold s.stand p there q).phase ≤ (hold s.stand p there q).begun
-  began_all few q qn = elim (cases_eq q p) [
-    | inl same ↦ subst (λ (z : Stand). before_exchange z.phase ≤ z.begun) (sym (hold_here s.stand p there) ∙ ap (hold s.stand p there) (sym same)) few
-    | inr ne ↦ subst (λ (z : Stand). before_exchange z.phase ≤ z.begun) (sym (hold_apart s.stand p q there ne)) (k.began q qn)
-  ]
+  began_all few q qn = grind (arith, hold_here s.stand p there, hold_apart s.stand p q there, k.began q qn)
 
   counted_all : (n : ℕ) → HasCount n there.phase → ((q : ℕ) → q < passes c → q ≢ p → HasCount n (s.stand q).phase) → (q : ℕ) → q < passes c → HasCount n (hold s.stand p there q).phase
-  counted_all n here others q qn = elim (cases_eq q p) [
-    | inl same ↦ subst (λ (z : Stand). HasCount n z.phase) (sym (hold_here s.stand p there) ∙ ap (hold s.stand p there) (sym same)) here
-    | inr ne ↦ subst (λ (z : Stand). HasCount n z.phase) (sym (hold_apart s.stand p q there ne)) (others q qn ne)
-  ]
+  counted_all n here others q qn = grind (arith, hold_here s.stand p there, hold_apart s.stand p q there, others q qn)
 
   -- the pass goes there, and the history stays but for calls
   pub counts_on : (t : State) → t.stand ≡ hold s.stand p there → t.mem (Word.Object Object.Count) ≡ s.mem (Word.Object Object.Count) → t.history.sends.answers ≡ s.history.sends.answers →
@@ -137,16 +126,14 @@ module _ (c : Setting) (s : State) (p : ℕ) (inside : p < passes c) (k : Counts
 
 -- a counter has senders alone
 pub senders_only : (what : Served) (config : Config) → what ≡ Served.Counter → passes_of what config ≡ config.senders
-senders_only Served.Counter config e = refl
-senders_only Served.List config e = absurd (cc)
+senders_only what config e = grind arith
 
 pub not_both : Served.Counter ≡ Served.List → ⊥
 not_both e = cc
 
 -- only a combiner has read the counter
 not_counting : (own : ℕ) (at : Phase) → (post_of Chain.Send own at).rank ≢ 5 → (n : ℕ) → HasCount n at
-not_counting own (Phase.Counting job service) ne n = absurd (ne refl)
-not_counting own at ne n = tt
+not_counting own at ne n = grind arith
 
 module _ (c : Setting) (counter : c.served ≡ Served.Counter) (s : State) (k : Counts c s) (w : Holds c Chain.Send s) (p begun own : ℕ) (inside : p < passes c) (member : p < c.config.senders) where
   abbrev Here : Phase → Type 0

@@ -1,5 +1,5 @@
 -- The counter machine over every run.
-use Rattle.std.proofs.Common.{◌≡◌, ◌≢◌, ℕ, ◌+◌, ◌*◌, ◌-◌, ◌^◌, ◌<◌, ◌≤◌, cond, Bool, refl, ap, sym, ◌∙◌, subst, arith, List, [], ◌∷◌, length, Ok}
+use Rattle.std.proofs.Common.{◌≡◌, ◌≢◌, ℕ, ◌+◌, ◌*◌, ◌-◌, ◌^◌, ◌<◌, ◌≤◌, cond, Bool, refl, ap, sym, subst, arith, List, [], ◌∷◌, length, Ok, ◌∙◌}
 use Rattle.std.proofs.lemmas.Bool.{lt-ltb}
 use Rattle.cc_model.specs.Config.{config_fault}
 use Rattle.cc_runs.specs.Names.{Call, Answer, SendAnswer, Setting, Served, Chain, NodeField, Event, Stand, Job, Counting, Phase, Move}
@@ -35,20 +35,13 @@ counts_opened c = record {
 }
 
 only_sends : (what : Served) (x : Chain) (it : Call) → what ≡ Served.Counter → IsOn what x it → (begun : ℕ) → begun_after it begun ≡ begun + 1
-only_sends what x (Call.Send body) e on begun = refl
-only_sends Served.Counter Chain.Send Call.Close e on begun = absurd on
-only_sends Served.Counter (Chain.Take g) Call.Close e on begun = absurd on
-only_sends Served.Counter Chain.Send Call.Take e on begun = absurd on
-only_sends Served.Counter (Chain.Take g) Call.Take e on begun = absurd on
-only_sends Served.List x it e on begun = absurd (cc)
+only_sends what x it e on begun = grind arith
 
 idle_waits : (at : Phase) → IsIdle at → before_exchange at ≡ 0
-idle_waits Phase.Idle a = refl
-idle_waits _ a = absurd a
+idle_waits at a = grind arith
 
 finished_waits : (at : Phase) → IsFinished at → before_exchange at ≡ 0
-finished_waits (Phase.Finished told) a = refl
-finished_waits _ a = absurd a
+finished_waits at a = grind arith
 
 module _ (c : Setting) (counter : c.served ≡ Served.Counter) (s : State) (k : Counts c s) where
   sender : (p : ℕ) → p < passes c → p < c.config.senders

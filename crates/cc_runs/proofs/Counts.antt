@@ -1,5 +1,4 @@
 -- The counts of the list beside its history, after every run.
-pub mod Places
 pub mod State
 pub mod Ended
 pub mod Grow

@@ -1,9 +1,9 @@
 -- Each call that the history has of a pass out of its chain has its answer.
-use Rattle.std.proofs.Common.{◌≡◌, ℕ, suc, ◌<◌, ◌≤◌, Bool, true, false, cond, refl, ap, sym, ◌∙◌, subst, arith, inl, inr, Option, Some, None, List, [], ◌∷◌, length}
+use Rattle.std.proofs.Common.{◌≡◌, ℕ, ◌<◌, ◌≤◌, Bool, true, ap, sym, ◌∙◌, subst, arith, inl, inr, length}
 use Rattle.std.specs.List.{AllByRecursion}
 use Rattle.std.proofs.lemmas.Bool.{cases_lt, cases_eq, true≢false}
 use Rattle.cc_model.specs.Items.{HasAnswer, is_pass, calls_of}
-use Rattle.cc_runs.specs.Names.{Pass, Entry, Answer, Setting, Chain}
+use Rattle.cc_runs.specs.Names.{Pass, Entry, Setting, Chain}
 use Rattle.cc_runs.specs.State.{State, chain_of, pass_at}
 use Rattle.cc_runs.specs.Run.{reached}
 use Rattle.cc_runs.specs.ChainLaws.{CallsEndAnswered}
@@ -13,34 +13,19 @@ use Rattle.cc_runs.proofs.ChainRuns.{not_other}
 use Rattle.cc_runs.proofs.Chains.View.{members, pass_on, post_at}
 use Rattle.cc_runs.proofs.Chains.Registers.{calls_on, answers_on, call_at}
 use Rattle.cc_runs.proofs.Chains.Ties.{Holds}
-use Rattle.cc_runs.proofs.Chains.Last.{chosen}
+use Rattle.cc_runs.proofs.Chains.Last.{chosen, all_chosen}
 use Rattle.cc_runs.proofs.Chains.Others.{IsOn}
 use Rattle.cc_runs.proofs.Chains.Serving.{Chains, chains_hold, chain_is, on_chain}
 use Rattle.cc_runs.proofs.Chains.ReadAnswers.{NotOther, named, name_is, other_name, calls_one}
 
-keeps : (z : Entry × Option Answer) (rest : List (Entry × Option Answer)) (b : Bool) → (b ≡ true → HasAnswer z) → AllByRecursion HasAnswer rest → AllByRecursion HasAnswer (cond b (z ∷ rest) rest)
-keeps z rest true has all = (has refl, all)
-keeps z rest false has all = all
-
--- each of the chosen calls is among the first ones, which the answers belong to
-all_chosen : (f : Entry → Bool) (calls : List Entry) (answers : List Answer) → ((j : ℕ) → j < length calls → f (call_at calls j) ≡ true → j < length answers) → AllByRecursion HasAnswer (chosen f calls answers)
-all_chosen f [] answers early = tt
-all_chosen f (e ∷ calls) [] early =
-    keeps (e, None) (chosen f calls []) (f e) (λ is. absurd (let less : 0 < 0 = early 0 (omega arith) is in omega arith))
-    (all_chosen f calls [] (λ j less is. let later : suc j < 0 = early (suc j) (omega (arith, less)) is in omega (arith, later)))
-all_chosen f (e ∷ calls) (a ∷ answers) early =
-    keeps (e, Some a) (chosen f calls answers) (f e) (λ is. tt)
-    (all_chosen f calls answers (λ j less is. let later : suc j < suc (length answers) = early (suc j) (omega (arith, less)) is in omega (arith, later)))
-
--- pass n of the chain, out of it
-module _ (c : Setting) (x : Chain) (s : State) (w : Holds c x s) (n : ℕ) (inside : n < members c x) (out : (post_at x (s.stand (pass_on c x n))).rank ≤ 2) where
+-- pass n of the chain, out of it: the calls that aren't marked are of passes in the chain
+module _ (c : Setting) (x : Chain) (s : State) (w : Holds c x s) (n : ℕ) (out : (post_at x (s.stand (pass_on c x n))).rank ≤ 2) where
   abbrev is_its : Entry → Bool
   is_its e = is_pass (named c x n) e.pass
 
-  -- the calls that aren't marked are of passes in the chain
-  early : (j : ℕ) → j < length (calls_on x s.history) → is_its (call_at (calls_on x s.history) j) ≡ true → j < length (answers_on x s.history)
-  early j less is = elim (cases_lt j w.ghost.marked) [
-    | inl before ↦ omega (arith, before, w.ties.answers_are, w.inv.calls.in_order)
+  pub marked : (j : ℕ) → j < length (calls_on x s.history) → is_its (call_at (calls_on x s.history) j) ≡ true → j < w.ghost.marked
+  marked j less is = elim (cases_lt j w.ghost.marked) [
+    | inl before ↦ before
     | inr late ↦
         let below : j < w.ghost.calls = omega (arith, less, w.ties.calls_are) in
         let rank : 3 ≤ (post_at x (s.stand (pass_on c x (w.ghost.pass_of j)))).rank = w.inv.calls.open_low j (omega (arith, late)) below in
@@ -51,10 +36,13 @@ module _ (c : Setting) (x : Chain) (s : State) (w : Holds c x s) (n : ℕ) (insi
         ])
   ]
 
-  pub all_answered : NotOther c x s.history → AllByRecursion HasAnswer (calls_of (pass_at c.config (pass_on c x n)) s.history)
-  all_answered none =
+  early : (j : ℕ) → j < length (calls_on x s.history) → is_its (call_at (calls_on x s.history) j) ≡ true → j < length (answers_on x s.history)
+  early j less is = omega (arith, marked j less is, w.ties.answers_are, w.inv.calls.in_order)
+
+  all_answered : n < members c x → NotOther c x s.history → AllByRecursion HasAnswer (calls_of (pass_at c.config (pass_on c x n)) s.history)
+  all_answered inside none =
       let are : calls_of (pass_at c.config (pass_on c x n)) s.history ≡ chosen is_its (calls_on x s.history) (answers_on x s.history) = ap (λ (z : Pass). calls_of z s.history) (name_is c x n inside) ∙ calls_one c x s.history n inside none in
-      subst (AllByRecursion HasAnswer) (sym are) (all_chosen is_its (calls_on x s.history) (answers_on x s.history) early)
+      subst (AllByRecursion HasAnswer) (sym are) (all_chosen HasAnswer is_its (calls_on x s.history) (answers_on x s.history) (λ j less inside its. tt) (λ j less out its. absurd (omega (arith, out, early j less its))))
 
 pub calls_end : CallsEndAnswered
 calls_end c checked moves run p less out =
@@ -64,4 +52,4 @@ calls_end c checked moves run p less out =
     let k : Chains c s = chains_hold c r.bound.0 moves run in
     let on : IsOn c x p = on_chain c p less in
     let low : (post_at x (s.stand (pass_on c x on.number))).rank ≤ 2 = subst (λ (q : ℕ). (post_at x (s.stand q)).rank ≤ 2) on.pass_is (out_rank x (s.stand p).node (s.stand p).phase out) in
-    subst (λ (q : ℕ). AllByRecursion HasAnswer (calls_of (pass_at c.config q) s.history)) (sym on.pass_is) (all_answered c x s (k.holds x (chain_is c p less)) on.number on.inside low (not_other c r.bound.0 moves run x))
+    subst (λ (q : ℕ). AllByRecursion HasAnswer (calls_of (pass_at c.config q) s.history)) (sym on.pass_is) (all_answered c x s (k.holds x (chain_is c p less)) on.number low on.inside (not_other c r.bound.0 moves run x))

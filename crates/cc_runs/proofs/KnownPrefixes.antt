@@ -1,6 +1,6 @@
 -- As a history goes on, there is no less to be known of it: a prefix of a run gives a pass no more to know than the
 -- run.
-use Rattle.std.proofs.Common.{◌≡◌, ℕ, ◌+◌, ◌≤◌, Bool, true, false, ◌||◌, List, [], ◌∷◌, ◌++◌, length, map, get_or, suc, sym, ap, ◌∙◌, arith, length-append, if◌then◌else◌}
+use Rattle.std.proofs.Common.{◌≡◌, ℕ, ◌+◌, ◌≤◌, Bool, ◌||◌, List, ◌∷◌, ◌++◌, length, map, get_or, suc, sym, ap, ◌∙◌, arith, length-append, if◌then◌else◌, []}
 use Rattle.std.specs.List.{list_any}
 use Rattle.std.proofs.lemmas.List.{length-map}
 use Rattle.cc_runs.specs.Names.{Chain, Pass, Item, Entry, Answer}
@@ -14,17 +14,13 @@ use Rattle.cc_runs.proofs.RunPrefixes.{prefixes_begin}
 use Rattle.cc_runs.proofs.ChainLaws.{chain_laws}
 use Rattle.cc_runs.proofs.ListRuns.Least.{counts_get}
 
-accepted_grow : (calls more : List Entry) (answers later : List Answer) → length answers ≤ length calls → length (accepted_by calls answers) ≤ length (accepted_by (calls ++ more) (answers ++ later))
-accepted_grow [] more [] later order = omega arith
-accepted_grow [] more (a ∷ answers) later order = absurd (omega (arith, order))
-accepted_grow (d ∷ calls) more [] later order = omega arith
+pub accepted_grow : (calls more : List Entry) (answers later : List Answer) → length answers ≤ length calls → length (accepted_by calls answers) ≤ length (accepted_by (calls ++ more) (answers ++ later))
 accepted_grow (d ∷ calls) more (a ∷ answers) later order =
     omega (arith, accepted_grow calls more answers later (omega (arith, order)), length-append (accepted_item d a) (accepted_by calls answers), length-append (accepted_item d a) (accepted_by (calls ++ more) (answers ++ later)))
+accepted_grow calls more answers later order = grind arith
 
 shut_grow : (a b : Bool) → (if a then 1 else 0) ≤ (if a || b then 1 else 0)
-shut_grow true b = omega arith
-shut_grow false true = omega arith
-shut_grow false false = omega arith
+shut_grow a b = grind arith
 
 -- of lists of numbers of one length, none of which is less, the least is no less
 least_grows : (xs ys : List ℕ) → length xs ≡ length ys → ((k : ℕ) → get_or xs k 0 ≤ get_or ys k 0) → least xs ≤ least ys

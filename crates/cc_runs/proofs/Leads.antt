@@ -1,9 +1,9 @@
 -- The places after a step.
-use Rattle.std.proofs.Common.{ℕ, zero, suc, ◌+◌, Bool, true, false, ◌==◌, nat_lt, if◌then◌else◌}
+use Rattle.std.proofs.Common.{ℕ, zero, suc, ◌+◌, Bool, ◌==◌, nat_lt, arith, if◌then◌else◌}
 use Rattle.cc_runs.specs.Names.{Entry, Answer, TakeAnswer, Setting, Served, Chain, Round, Job, Phase}
 use Rattle.cc_runs.specs.Codes.{code_of, parcel, no_words, with_read, tag_of, further_words}
 use Rattle.cc_runs.specs.Lines.{goes, after_exchange, after_state, after_next, after_answer, after_ret}
-use Rattle.cc_runs.specs.ServiceLine.{Next, On, Decides, DecidesAndOn, Tells, phase_of}
+use Rattle.cc_runs.specs.ServiceLine.{Next, phase_of}
 use Rattle.cc_runs.specs.CountLines as count_side
 use Rattle.cc_runs.specs.SendLines as send_side
 use Rattle.cc_runs.specs.TakeLines as take_side
@@ -11,10 +11,7 @@ use Rattle.cc_runs.specs.TakeLines as take_side
 -- a step of a service: on in the service, or to the writing of an answer
 module _ {S : Type 0} (P : Phase → Type 0) (in_service : Job → S → Phase) (job : Job) (on : (service : S) → P (in_service job service)) (over : (told : Answer) → P (Phase.WriteAnswer job told)) where
   pub leads : (next : Next S) → P (phase_of in_service job next)
-  leads (On service) = on service
-  leads (Decides told) = over told
-  leads (DecidesAndOn told service) = on service
-  leads (Tells told) = over told
+  leads next = grind arith
 
 -- a place of a pass that has exchanged, or has no call; in a service in which T holds
 abbrev pub IsAfter : Type 0 → Phase → Type 0
@@ -37,8 +34,7 @@ LeadsAfter T at = IsAfter T at
 -- what holds of all such places holds of where a step leads
 module _ (T : Type 0) (P : Phase → Type 0) (after : (at : Phase) → IsAfter T at → P at) where
   either : (b : Bool) (first second : Phase) → P first → P second → P (if b then first else second)
-  either true first second a z = a
-  either false first second a z = z
+  either b first second a z = grind arith
 
   from_exchange : (x : Chain) (own : ℕ) (call : Entry) → P (after_exchange x own call)
   from_exchange Chain.Send own call = after (Phase.WriteTag own _) tt
@@ -64,8 +60,6 @@ module _ (T : Type 0) (P : Phase → Type 0) (after : (at : Phase) → IsAfter T
   from_ret what (Chain.Take g) ret = either (code_of ret == 1) _ _ (after (Phase.ReadAnswerTag _) tt) (either (code_of ret == 2) _ _ (after (Phase.Finished _) tt) (after (Phase.Finished _) tt))
 
   pub goes_after : (c : Setting) (x : Chain) (own : ℕ) (at : Phase) (found : ℕ) → LeadsAfter T at → P (goes c x own at found)
-  goes_after c x own (Phase.ResetNext call) found never = absurd never
-  goes_after c x own (Phase.ResetState call) found never = absurd never
   goes_after c x own Phase.Idle found u = after Phase.Idle tt
   goes_after c x own (Phase.Exchange call) found u = from_exchange x own call
   goes_after c x own (Phase.WriteTag put request) found u = after (Phase.WriteBody put request 0) tt
@@ -85,3 +79,4 @@ module _ (T : Type 0) (P : Phase → Type 0) (after : (at : Phase) → IsAfter T
   goes_after c x own (Phase.ReadAnswerTag at) found u = after (Phase.ReadAnswerBody (parcel at found no_words) 0) tt
   goes_after c x own (Phase.ReadAnswerBody at i) found u = either (nat_lt i (further_words at.tag)) _ _ (after (Phase.ReadAnswerBody (with_read at i found) (i + 1)) tt) (after (Phase.Finished _) tt)
   goes_after c x own (Phase.Finished told) found u = after (Phase.Finished told) tt
+  goes_after c x own _ found never = absurd never

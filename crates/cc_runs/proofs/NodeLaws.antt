@@ -22,40 +22,19 @@ use Rattle.cc_runs.proofs.Chains.Serving.{Chains, chains_hold, chain_is, on_chai
 -- ---- ranks
 
 rank_combining : (x : Chain) (own : ℕ) (at : Phase) → (post_of x own at).rank ≡ 5 → IsCombining at
-rank_combining x own (Phase.ReadNext round) e = refl
-rank_combining x own (Phase.Counting job service) e = refl
-rank_combining x own (Phase.Sending job service) e = refl
-rank_combining x own (Phase.Taking job service) e = refl
-rank_combining x own (Phase.WriteAnswer job told) e = refl
-rank_combining x own (Phase.WriteAnswerTag job item) e = refl
-rank_combining x own (Phase.WriteAnswerBody job item i) e = refl
-rank_combining x own (Phase.MarkDone job) e = refl
-rank_combining x own (Phase.HandOver at) e = refl
-rank_combining x own _ e = absurd (omega (arith, e))
+rank_combining x own at e = grind arith
 
 rank_asking : (x : Chain) (own : ℕ) (at : Phase) → 3 ≤ (post_of x own at).rank → (post_of x own at).rank ≤ 4 → IsAsking at
-rank_asking x own (Phase.WriteTag put request) low high = tt
-rank_asking x own (Phase.WriteBody put request i) low high = tt
-rank_asking x own (Phase.Link put) low high = tt
-rank_asking x own Phase.ReadState low high = tt
-rank_asking x own _ low high = absurd (omega (arith, low, high))
+rank_asking x own at low high = grind arith
 
 asking_rank : (x : Chain) (own : ℕ) (at : Phase) → IsAsking at → ((post_of x own at).rank ≡ 3) ⊎ ((post_of x own at).rank ≡ 4)
-asking_rank x own (Phase.WriteTag put request) a = inl refl
-asking_rank x own (Phase.WriteBody put request i) a = inl refl
-asking_rank x own (Phase.Link put) a = inl refl
-asking_rank x own Phase.ReadState a = inr refl
-asking_rank x own _ a = absurd a
+asking_rank x own at a = grind arith
 
 rank_linked : (x : Chain) (own : ℕ) (at : Phase) → (post_of x own at).rank ≡ 4 → at ≡ Phase.ReadState
-rank_linked x own Phase.ReadState e = refl
-rank_linked x own _ e = absurd (omega (arith, e))
+rank_linked x own at e = grind arith
 
 entering_rank : (x : Chain) (own : ℕ) (at : Phase) → IsEntering at → (post_of x own at).rank ≡ 3
-entering_rank x own (Phase.WriteTag put request) a = refl
-entering_rank x own (Phase.WriteBody put request i) a = refl
-entering_rank x own (Phase.Link put) a = refl
-entering_rank x own _ a = absurd a
+entering_rank x own at a = grind arith
 
 -- a combiner that answers a request has decided its answer
 record AnswersAt (p : Post) (n : ℕ) : Type 0 where

@@ -1,5 +1,5 @@
 -- The state after the stores of an opening.
-use Rattle.std.proofs.Common.{if◌then◌else◌, ◌==◌, ◌≡◌, ℕ, ◌+◌, ◌<◌, nat_lt, refl, arith}
+use Rattle.std.proofs.Common.{if◌then◌else◌, ◌==◌, ◌≡◌, ℕ, ◌+◌, ◌<◌, nat_lt, arith}
 use Rattle.cc_runs.specs.Names.{Config, Chain, ItemField, Object, Word}
 use Rattle.cc_runs.specs.Words.{groups, put}
 use Rattle.cc_runs.specs.Run.{first_word}
@@ -13,15 +13,13 @@ pub freed_all : (c : Config) → freed c (c.capacity + 1) ≡ first_word c
 freed_all c = λ i w. at w i
   where
     at : (w : Word) → freed c (c.capacity + 1) w ≡ first_word c w
-    at (Word.Item i ItemField.Passed) = refl
-    at _ = refl
+    at w = grind arith
 
 pub freed_more : (c : Config) (n : ℕ) → 0 < n → put (freed c n) (Word.Item n ItemField.Passed) (groups c) ≡ freed c (n + 1)
 freed_more c n some = λ i w. at w i
   where
     at : (w : Word) → put (freed c n) (Word.Item n ItemField.Passed) (groups c) w ≡ freed c (n + 1) w
-    at (Word.Item i ItemField.Passed) = grind arith
-    at _ = refl
+    at w = grind arith
 
 -- the words after the first stores and those of the first n groups
 abbrev pub opened : Config → ℕ → Word → ℕ
@@ -39,44 +37,16 @@ pub started : (c : Config) (m : Word → ℕ) → ((w : Word) → m w ≡ 0) →
 started c m none = λ i w. at w i
   where
     at : (w : Word) → first_stores m w ≡ opened c 0 w
-    at (Word.Tail Chain.Send) = refl
-    at (Word.Tail (Chain.Take g)) = grind (arith, none (Word.Tail (Chain.Take g)))
-    at (Word.Object Object.Last) = refl
-    at (Word.Object Object.Cursor) = refl
-    at (Word.Object Object.Shut) = none (Word.Object Object.Shut)
-    at (Word.Object Object.Count) = none (Word.Object Object.Count)
-    at (Word.Object (Object.Head g)) = grind (arith, none (Word.Object (Object.Head g)))
-    at (Word.Object (Object.Taken g)) = grind (arith, none (Word.Object (Object.Taken g)))
-    at w = none w
+    at w = grind (arith, none w)
 
 pub group_more : (c : Config) (n : ℕ) → put (put (opened c n) (Word.Tail (Chain.Take n)) 1) (Word.Object (Object.Head n)) 1 ≡ opened c (n + 1)
 group_more c n = λ i w. at w i
   where
     at : (w : Word) → put (put (opened c n) (Word.Tail (Chain.Take n)) 1) (Word.Object (Object.Head n)) 1 w ≡ opened c (n + 1) w
-    at (Word.Tail Chain.Send) = refl
-    at (Word.Tail (Chain.Take g)) = grind arith
-    at (Word.Object Object.Last) = grind arith
-    at (Word.Object Object.Cursor) = grind arith
-    at (Word.Object Object.Shut) = grind arith
-    at (Word.Object Object.Count) = grind arith
-    at (Word.Object (Object.Head g)) = grind arith
-    at (Word.Object (Object.Taken g)) = grind arith
-    at w = refl
+    at w = grind arith
 
 pub groups_all : (c : Config) → opened c (groups c) ≡ freed c 1
 groups_all c = λ i w. at w i
   where
     at : (w : Word) → opened c (groups c) w ≡ freed c 1 w
-    at (Word.Item i ItemField.Passed) = grind arith
-    at (Word.Item i ItemField.Tag) = refl
-    at (Word.Item i (ItemField.Body j)) = refl
-    at (Word.Item i ItemField.Next) = refl
-    at (Word.Tail Chain.Send) = refl
-    at (Word.Tail (Chain.Take g)) = refl
-    at (Word.Object Object.Last) = refl
-    at (Word.Object Object.Cursor) = refl
-    at (Word.Object Object.Shut) = refl
-    at (Word.Object Object.Count) = refl
-    at (Word.Object (Object.Head g)) = refl
-    at (Word.Object (Object.Taken g)) = refl
-    at w = refl
+    at w = grind arith

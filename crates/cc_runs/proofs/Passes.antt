@@ -1,5 +1,5 @@
 -- The moves of one pass, and that others' moves leave it alone.
-use Rattle.std.proofs.Common.{◌≡◌, ◌≢◌, ℕ, Bool, true, false, ◌==◌, List, [], ◌∷◌, ◌++◌, refl, ap, sym, ◌∙◌, ne_eqb, if◌then◌else◌}
+use Rattle.std.proofs.Common.{◌≡◌, ◌≢◌, ℕ, Bool, true, false, ◌==◌, List, [], ◌∷◌, ◌++◌, refl, ap, sym, ◌∙◌, ne_eqb, if◌then◌else◌, arith}
 use Rattle.std.proofs.lemmas.Bool.{eqb-false}
 use Rattle.cc_runs.specs.Names.{Setting, Move}
 use Rattle.cc_runs.specs.State.{State, pass_at}
@@ -21,8 +21,7 @@ pub others_move : (p : ℕ) (m : Move) (ms : List Move) → by p (m ∷ ms) ≡ 
 others_move p m ms h = go (pass_of m == p) h
   where
     go : (b : Bool) → (if b then m ∷ by p ms else by p ms) ≡ [] → (b ≡ false) × (by p ms ≡ [])
-    go true h = absurd (cc)
-    go false h = (refl, h)
+    go b h = grind arith
 
 pub by-other : (p q : ℕ) (m : Move) (ms : List Move) → pass_of m ≡ p → p ≢ q → by q ms ≡ [] → by q (m ∷ ms) ≡ []
 by-other p q m ms is ne none = ap (λ (b : Bool). if b then m ∷ by q ms else by q ms) (ne_eqb (pass_of m) q (λ e. ne (sym is ∙ e))) ∙ none
@@ -46,16 +45,14 @@ others_made c [] seen p none = refl
 others_made c (Move.Begin q call known ∷ more) seen p none =
     let t = others_move p (Move.Begin q call known) more none in
     ap (λ (b : Bool). if b then made c (more ++ seen) p ++ record { pass = pass_at c.config q; call = call; number = number_of call ((reached c (more ++ seen)).stand q).begun; known = known } ∷ [] else made c (more ++ seen) p) t.0 ∙ others_made c more seen p t.1
-others_made c (Move.Step q ∷ more) seen p none = others_made c more seen p (others_move p (Move.Step q) more none).1
-others_made c (Move.Take q ∷ more) seen p none = others_made c more seen p (others_move p (Move.Take q) more none).1
+others_made c (e ∷ more) seen p none = others_made c more seen p (others_move p e more none).1
 
 others_did : (c : Setting) (more seen : List Move) (p : ℕ) → by p more ≡ [] → kinds c (more ++ seen) p ≡ kinds c seen p
 others_did c [] seen p none = refl
 others_did c (Move.Step q ∷ more) seen p none =
     let t = others_move p (Move.Step q) more none in
     ap (λ (b : Bool). if b then then_did (event_at ((reached c (more ++ seen)).stand p).phase) (kinds c (more ++ seen) p) else kinds c (more ++ seen) p) t.0 ∙ others_did c more seen p t.1
-others_did c (Move.Begin q call known ∷ more) seen p none = others_did c more seen p (others_move p (Move.Begin q call known) more none).1
-others_did c (Move.Take q ∷ more) seen p none = others_did c more seen p (others_move p (Move.Take q) more none).1
+others_did c (e ∷ more) seen p none = others_did c more seen p (others_move p e more none).1
 
 pub others_leave : OthersLeaveAPass
 others_leave c more seen p none = (others_stand c more seen p none, others_made c more seen p none, others_did c more seen p none)

@@ -8,7 +8,6 @@ pub mod Served
 pub mod Combiner
 pub mod Turns
 pub mod Nearer
-pub mod Open
 pub mod Falls
 pub mod Laws
 pub mod Rounds

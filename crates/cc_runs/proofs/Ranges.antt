@@ -1,5 +1,5 @@
 -- The ranges of a checked configuration.
-use Rattle.std.proofs.Common.{◌≡◌, ℕ, ◌-◌, ◌^◌, ◌≤◌, Bool, true, false, not, cond, refl, Result, Ok, Err, arith}
+use Rattle.std.proofs.Common.{◌≡◌, ℕ, ◌-◌, ◌^◌, ◌≤◌, Bool, true, not, cond, Result, Ok, Err, arith}
 use Rattle.cc_model.specs.Range.{within}
 use Rattle.cc_model.specs.Config.{config_fault}
 use Rattle.cc_runs.specs.Names.{Config, ConfigFault}
@@ -15,8 +15,7 @@ pub record InRange (c : Config) : Type 0 where
 
 -- a test that finds no fault, and the tests after it
 no_fault : (b : Bool) (f : ConfigFault) (rest : Result (Unit {0}) ConfigFault) → cond (not b) (Err f) rest ≡ Ok tt → (b ≡ true) × (rest ≡ Ok tt)
-no_fault true f rest e = (refl, e)
-no_fault false f rest e = absurd (cc)
+no_fault b f rest e = grind arith
 
 both : (low high n : ℕ) → within low high n ≡ true → (low ≤ n) × (n ≤ high)
 both low high n e = (grind (arith, e), grind (arith, e))

@@ -1,29 +1,22 @@
 -- The words of a body, read one by one.
-use Rattle.std.proofs.Common.{◌≡◌, ◌≢◌, ℕ, zero, suc, ◌<◌, ◌≤◌, refl, ap, sym, ◌∙◌, arith, inl, inr, Bool, true, false, nat_lt, cond}
-use Rattle.std.proofs.lemmas.Bool.{cases_eq, ltb-true, ltb-false}
+use Rattle.std.proofs.Common.{◌≡◌, ◌≢◌, ℕ, ◌<◌, ◌≤◌, refl, ap, ◌∙◌, arith, Bool, true, false, nat_lt, cond}
+use Rattle.std.proofs.lemmas.Bool.{ltb-true, ltb-false}
 use Rattle.cc_runs.specs.Names.{Body, Item, BodyWords, Parcel}
 use Rattle.cc_runs.specs.Codes.{word, with_word, further_words, tag_sender, tag_number, item_in, item_of, behind}
 use Rattle.cc_runs.proofs.Bodies.{body_same, few_further}
 
 -- the word that was read
 word_here : (body : BodyWords) (i value : ℕ) → i ≤ 3 → word (with_word body i value) i ≡ value
-word_here body (suc (suc (suc (suc i)))) value most = absurd (omega arith)
-word_here body _ value most = refl
+word_here body i value most = grind arith
 
 -- and each other one
 word_other : (body : BodyWords) (i value j : ℕ) → j ≢ i → word (with_word body i value) j ≡ word body j
-word_other body zero value zero ne = absurd (ne refl)
-word_other body (suc zero) value (suc zero) ne = absurd (ne refl)
-word_other body (suc (suc zero)) value (suc (suc zero)) ne = absurd (ne refl)
-word_other body (suc (suc (suc zero))) value (suc (suc (suc zero))) ne = absurd (ne refl)
-word_other body _ value _ ne = refl
+word_other body i value j ne = grind arith
 
 -- the first words are these, and so is the next one
 pub next_word : (body : BodyWords) (words : ℕ → ℕ) (i value : ℕ) → i ≤ 3 → value ≡ words i → ((j : ℕ) → j < i → word body j ≡ words j) → (j : ℕ) → j ≤ i → word (with_word body i value) j ≡ words j
-next_word body words i value most is front j low = elim (cases_eq j i) [
-  | inl same ↦ ap (λ (k : ℕ). word (with_word body i value) k) same ∙ word_here body i value most ∙ is ∙ ap words (sym same)
-  | inr ne ↦ word_other body i value j ne ∙ front j (omega arith)
-]
+next_word body words i value most is front j low =
+    grind (arith, word_here body i value most, word_other body i value j, front j)
 
 -- an item is given by its place, its tag and its words
 pub one_item : (p : Parcel) {place tag : ℕ} (body : BodyWords) → p.place ≡ place → p.tag ≡ tag → ((j : ℕ) → j ≤ further_words p.tag → word p.body j ≡ word body j) → item_in p ≡ item_of place tag body

@@ -1,9 +1,8 @@
 -- A prefix of a run is a run, and its history begins the later one.
-use Rattle.std.proofs.Common.{◌≡◌, ℕ, ◌≤◌, length, slice_set, subst, arith, inl, inr, List, [], ◌∷◌, ◌++◌, Option, Some, None, refl, sym, ap, ◌∙◌, append_assoc, append-nil}
-use Rattle.std.proofs.lemmas.Bool.{cases_eq, cases_lt}
+use Rattle.std.proofs.Common.{◌≡◌, ℕ, ◌≤◌, length, arith, List, [], ◌∷◌, ◌++◌, Option, Some, None, refl, sym, ap, ◌∙◌, append_assoc, append-nil}
 use Rattle.std.proofs.lemmas.List.{length-set, get_or_past}
 use Rattle.cc_runs.proofs.ListRuns.Decided.{group_mine, group_other}
-use Rattle.cc_model.specs.Record.{Side, Record, silent, of_group, with_takes}
+use Rattle.cc_model.specs.Record.{Side, Record, of_group, with_takes}
 use Rattle.cc_model.specs.Items.{IsPrefix, SideBegins, Begins}
 use Rattle.cc_runs.specs.Names.{Entry, Answer, Setting, Chain, Move}
 use Rattle.cc_runs.specs.State.{State, appended, noted, chain_of}
@@ -23,7 +22,7 @@ front_appended xs (Some x) = (x ∷ [], refl)
 side_self : (s : Side) → SideBegins s s
 side_self s = record { calls = prefix_self s.calls; answers = prefix_self s.answers }
 
-begins_self : (h : Record) → Begins h h
+pub begins_self : (h : Record) → Begins h h
 begins_self h = record { sends = side_self h.sends; takes = λ y. side_self (of_group h y); groups = refl }
 
 side_more : (s l m : Side) → SideBegins s l → SideBegins l m → SideBegins s m
@@ -41,23 +40,20 @@ side_appended s call told = record { calls = front_appended s.calls call; answer
 
 -- if there is no such group nothing changes
 past : (h : Record) (y x : ℕ) (now : Side) → length h.takes ≤ y → of_group (with_takes h y now) x ≡ of_group h x
-past h y x now far = elim (cases_eq x y) [
-  | inl is ↦ get_or_past (slice_set h.takes y now) x silent (omega (arith, is, far, length-set h.takes y now)) ∙ sym (get_or_past h.takes x silent (omega (arith, is, far)))
-  | inr ne ↦ group_other h y x now ne
-]
+past h y x now far = grind (arith, get_or_past, length-set, group_other)
 
 pub begins_noted : (x : Chain) (h : Record) (call : Option Entry) (told : Option Answer) → Begins h (noted x h call told)
 begins_noted Chain.Send h call told = record { sends = side_appended h.sends call told; takes = λ y. side_self (of_group h y); groups = refl }
 begins_noted (Chain.Take g) h call told = record {
   sends = side_self h.sends;
-  takes = λ y. elim (cases_lt g (length h.takes)) [
-    | inl inside ↦ elim (cases_eq y g) [
-      | inl is ↦ subst (λ (z : ℕ). SideBegins (of_group h z) (of_group (with_takes h g (now call told)) z)) (sym is)
-          (subst (λ (s : Side). SideBegins (of_group h g) s) (sym (group_mine h g (now call told) inside)) (side_appended (of_group h g) call told))
-      | inr ne ↦ subst (λ (s : Side). SideBegins (of_group h y) s) (sym (group_other h g y (now call told) ne)) (side_self (of_group h y))
-    ]
-    | inr far ↦ subst (λ (s : Side). SideBegins (of_group h y) s) (sym (past h g y (now call told) far)) (side_self (of_group h y))
-  ];
+  takes = λ y. grind (
+    arith,
+    group_mine h g (now call told),
+    side_appended (of_group h g) call told,
+    group_other h g y (now call told),
+    side_self (of_group h y),
+    past h g y (now call told),
+  );
   groups = sym (length-set h.takes g (now call told));
 }
   where
@@ -66,9 +62,8 @@ begins_noted (Chain.Take g) h call told = record {
 
 -- one move
 begins_moved : (c : Setting) (s : State) (m : Move) → Begins s.history (moved c s m).history
-begins_moved c s (Move.Begin p call known) = begins_self s.history
-begins_moved c s (Move.Take p) = begins_self s.history
 begins_moved c s (Move.Step p) = begins_noted (chain_of c.config p) s.history _ _
+begins_moved c s _ = begins_self s.history
 
 pub prefixes_begin : PrefixesBegin
 prefixes_begin c [] earlier r = (r, begins_self (history_of c earlier))

@@ -1,5 +1,5 @@
 -- No call has a greater number than there are sends of one sender.
-use Rattle.std.proofs.Common.{◌≡◌, ℕ, zero, suc, ◌≤◌, Bool, true, false, ◌==◌, cond, refl, sym, subst, arith, nat_lt, Option, Some, None, List, [], ◌∷◌, ◌++◌, get_or, slice_set}
+use Rattle.std.proofs.Common.{◌≡◌, ℕ, zero, suc, ◌≤◌, Bool, true, ◌==◌, cond, refl, sym, subst, arith, nat_lt, Option, Some, None, List, [], ◌∷◌, ◌++◌, get_or, slice_set}
 use Rattle.std.specs.List.{AllByRecursion, filter}
 use Rattle.cc_model.specs.Record.{Side, Record, silent}
 use Rattle.cc_model.proofs.Grows.{all-append}
@@ -16,7 +16,7 @@ use Rattle.cc_runs.proofs.CallsMade.{own_step}
 
 -- ---- lists
 
-all_split : {X : Type 0} (P : X → Type 0) (xs ys : List X) → AllByRecursion P (xs ++ ys) → AllByRecursion P xs × AllByRecursion P ys
+pub all_split : {X : Type 0} (P : X → Type 0) (xs ys : List X) → AllByRecursion P (xs ++ ys) → AllByRecursion P xs × AllByRecursion P ys
 all_split P [] ys all = (tt, all)
 all_split P (x ∷ xs) ys all = let rest = all_split P xs ys all.1 in ((all.0, rest.0), rest.1)
 
@@ -31,8 +31,7 @@ set_all P (z ∷ xs) (suc y) (suc x) new d a b = set_all P xs y x new d a b
 set_all P _ _ _ new d a b = b
 
 all_kept : (e : Option Entry) → filter (λ (z : Entry). true) (appended [] e) ≡ appended [] e
-all_kept None = refl
-all_kept (Some e) = refl
+all_kept e = grind arith
 
 module _ (P : Entry → Type 0) where
   abbrev All : List Entry → Type 0
@@ -53,16 +52,13 @@ module _ (P : Entry → Type 0) where
       (subst All (all_kept (enters at)) both.0, both.1)
 
   either : (b : Bool) (first second : Stand) → All (to_exchange first.phase) → All (to_exchange second.phase) → All (to_exchange (cond b first second).phase)
-  either true first second a z = a
-  either false first second a z = z
+  either b first second a z = grind arith
 
 -- ---- all runs
 
 -- a begin that a sender may make has such a number
 few : (what : Call) (begun most : ℕ) → begun_after what begun ≤ most → number_of what begun ≤ most
-few (Call.Send body) begun most less = less
-few Call.Close begun most less = omega arith
-few Call.Take begun most less = omega arith
+few what begun most less = grind arith
 
 module _ (c : Setting) where
   abbrev IsFew : Entry → Type 0

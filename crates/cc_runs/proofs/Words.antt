@@ -1,61 +1,27 @@
 -- Two words that there are lie in two places of a row, so a store changes the word of its name alone.
-use Rattle.std.proofs.Common.{◌≡◌, ◌≢◌, ◌⊎◌, ℕ, ◌+◌, ◌*◌, ◌<◌, ◌≤◌, Bool, true, false, ◌&&◌, ◌==◌, nat_lt, List, length, slice_index_or, slice_set, IsTrue, cond, refl, ap, sym, ◌∙◌, subst, arith, ⊎_elim, inl, inr, if◌then◌else◌}
+use Rattle.std.proofs.Common.{◌≡◌, ◌≢◌, ◌⊎◌, ℕ, zero, suc, ◌+◌, ◌*◌, ◌<◌, ◌≤◌, Bool, true, false, ◌&&◌, nat_lt, List, length, slice_index_or, slice_set, IsTrue, cond, refl, ap, sym, ◌∙◌, subst, arith, ⊎_elim, inl, inr, if◌then◌else◌}
 use Rattle.std.proofs.Math.Nat.{mul-le-mul_left}
-use Rattle.std.proofs.lemmas.Bool.{cases_lt, eqb-true, eq-eqb, cases_Bool, false≢true}
+use Rattle.std.proofs.lemmas.Bool.{cases_lt, cases_Bool, false≢true, and_parts}
 use Rattle.std.proofs.lemmas.List.{get_or-set_same, get_or-set_other}
 use Rattle.cc_runs.specs.Names.{Chain, NodeField, ItemField, Object, Word}
-use Rattle.cc_runs.specs.Words.{Layout, Spacing, IsRoomy, dense, node_field, item_field, is_node_field, is_item_field, same_field, same_part, lies, exists, same, same_chain, object_number, word_in_row, put, OneToOne}
-
-and_both : (a b : Bool) → a && b ≡ true → (a ≡ true) × (b ≡ true)
-and_both true b e = (refl, e)
-and_both false b e = absurd (cc)
-
--- a body has four words
-pub body_word : (i : ℕ) → IsTrue (nat_lt i 4) → i < 4
-body_word i a = grind arith
+use Rattle.cc_runs.specs.Words.{Layout, Spacing, IsRoomy, dense, node_field, item_field, is_node_field, is_item_field, same_field, same_part, lies, exists, same, same_chain, object_number, word_in_row, put, OneToOne, send_nodes, take_nodes, items, row_size}
 
 -- two fields that there are have two places
 field_same : (x : Chain) (f g : NodeField) → IsTrue (is_node_field f) → IsTrue (is_node_field g) → node_field x f ≡ node_field x g → f ≡ g
-field_same x NodeField.Next NodeField.Next a b e = refl
-field_same x NodeField.State NodeField.State a b e = refl
-field_same x NodeField.Tag NodeField.Tag a b e = refl
-field_same x NodeField.Ret NodeField.Ret a b e = refl
-field_same Chain.Send (NodeField.Body i) (NodeField.Body j) a b e = ap (λ (k : ℕ). NodeField.Body k) (omega (arith, e))
-field_same (Chain.Take g) (NodeField.Body i) (NodeField.Body j) a b e = ap (λ (k : ℕ). NodeField.Body k) (omega (arith, e))
-field_same Chain.Send (NodeField.Body i) NodeField.Ret a b e = absurd (omega (arith, e, body_word i a))
-field_same Chain.Send NodeField.Ret (NodeField.Body i) a b e = absurd (omega (arith, e, body_word i b))
-field_same Chain.Send _ _ a b e = absurd (omega (arith, e))
-field_same (Chain.Take g) _ _ a b e = absurd (omega (arith, e))
+field_same x f g a b e = grind arith
 
 pub field_small : (x : Chain) (f : NodeField) → IsTrue (is_node_field f) → node_field x f < 8
-field_small Chain.Send (NodeField.Body i) a = omega (arith, body_word i a)
-field_small (Chain.Take g) (NodeField.Body i) a = omega (arith, body_word i a)
-field_small _ _ a = omega arith
+field_small x f a = grind arith
 
 -- the order of the fields is one for all groups
 field_fixed : (g h : ℕ) (f : NodeField) → node_field (Chain.Take g) f ≡ node_field (Chain.Take h) f
-field_fixed g h NodeField.Next = refl
-field_fixed g h NodeField.State = refl
-field_fixed g h NodeField.Tag = refl
-field_fixed g h (NodeField.Body i) = refl
-field_fixed g h NodeField.Ret = refl
+field_fixed g h f = grind arith
 
 part_same : (f g : ItemField) → IsTrue (is_item_field f) → IsTrue (is_item_field g) → item_field f ≡ item_field g → f ≡ g
-part_same ItemField.Tag ItemField.Tag a b e = refl
-part_same ItemField.Next ItemField.Next a b e = refl
-part_same ItemField.Passed ItemField.Passed a b e = refl
-part_same (ItemField.Body i) (ItemField.Body j) a b e = ap (λ (k : ℕ). ItemField.Body k) (omega (arith, e))
-part_same (ItemField.Body i) ItemField.Tag a b e = absurd (omega (arith, e))
-part_same (ItemField.Body i) ItemField.Next a b e = absurd (omega (arith, e, body_word i a))
-part_same (ItemField.Body i) ItemField.Passed a b e = absurd (omega (arith, e, body_word i a))
-part_same ItemField.Tag (ItemField.Body i) a b e = absurd (omega (arith, e))
-part_same ItemField.Next (ItemField.Body i) a b e = absurd (omega (arith, e, body_word i b))
-part_same ItemField.Passed (ItemField.Body i) a b e = absurd (omega (arith, e, body_word i b))
-part_same _ _ a b e = absurd (omega (arith, e))
+part_same f g a b e = grind arith
 
 pub part_small : (f : ItemField) → IsTrue (is_item_field f) → item_field f < 7
-part_small (ItemField.Body i) a = omega (arith, body_word i a)
-part_small _ a = omega arith
+part_small f a = grind arith
 
 -- a later one of a kind begins after an earlier one's end
 steps_apart : (n i count : ℕ) → i < count → n * i + n ≤ n * count
@@ -90,14 +56,14 @@ within k l (Word.Tail (Chain.Take g)) a = steps_apart k.end_step g l.groups (gri
 within k l (Word.Object (Object.Head g)) a = steps_apart k.end_step g l.groups (grind arith)
 within k l (Word.Object (Object.Taken g)) a = steps_apart k.end_step g l.groups (grind arith)
 within k l (Word.Node Chain.Send i f) a =
-    let t = and_both (nat_lt i (l.senders + 1)) (is_node_field f) a in
+    let t = and_parts (nat_lt i (l.senders + 1)) (is_node_field f) a in
     (steps_apart k.node_step i (l.senders + 1) (grind (arith, t.0)), field_small Chain.Send f t.1)
 within k l (Word.Node (Chain.Take g) i f) a =
-    let t = and_both (nat_lt g l.groups && nat_lt i (l.receivers + 1)) (is_node_field f) a in
-    let u = and_both (nat_lt g l.groups) (nat_lt i (l.receivers + 1)) t.0 in
+    let t = and_parts (nat_lt g l.groups && nat_lt i (l.receivers + 1)) (is_node_field f) a in
+    let u = and_parts (nat_lt g l.groups) (nat_lt i (l.receivers + 1)) t.0 in
     (steps_apart k.node_step i (l.receivers + 1) (grind (arith, u.1)), field_small (Chain.Take g) f t.1, groups_apart k.node_step (l.receivers + 1) g l.groups (grind (arith, u.0)))
 within k l (Word.Item i f) a =
-    let t = and_both (nat_lt i (l.capacity + 2)) (is_item_field f) a in
+    let t = and_parts (nat_lt i (l.capacity + 2)) (is_item_field f) a in
     (steps_apart k.item_step i (l.capacity + 2) (grind (arith, t.0)), part_small f t.1)
 within k l _ a = omega arith
 
@@ -118,6 +84,29 @@ object_tail k r l (Object.Head h) g e = omega (arith, e, r, steps_order k.end_st
 object_tail k r l (Object.Taken h) g e = omega (arith, e, r, steps_order k.end_step h g)
 object_tail k r l _ g e = omega (arith, e, r)
 
+-- the kinds of words, in the order of their places
+abbrev rank : Word → ℕ
+rank (Word.Tail Chain.Send) = 0
+rank (Word.Node Chain.Send i f) = 2
+rank (Word.Node (Chain.Take g) i f) = 3
+rank (Word.Item i f) = 4
+rank _ = 1
+
+-- where the words of a kind begin
+abbrev first : Spacing → Layout → ℕ → ℕ
+first k l zero = 0
+first k l (suc zero) = k.objects
+first k l (suc (suc zero)) = send_nodes k l
+first k l (suc (suc (suc zero))) = take_nodes k l 0
+first k l (suc (suc (suc (suc zero)))) = items k l
+first k l _ = row_size k l
+
+between : (k : Spacing) → IsRoomy k → (l : Layout) (w : Word) → IsTrue (exists l w) → (first k l (rank w) ≤ lies k l w) × (lies k l w < first k l (suc (rank w)))
+between k r l w e = grind (arith, object_low k r l, within k l, within k l w e)
+
+objects_same : (k : Spacing) → IsRoomy k → (l : Layout) (c d : Object) → lies k l (Word.Object c) ≡ lies k l (Word.Object d) → c ≡ d
+objects_same k r l c d e = grind (arith, steps_order k.end_step (group_of c) (group_of d))
+
 -- so there is in a dense row
 pub roomy : IsRoomy dense
 roomy = omega arith
@@ -125,19 +114,16 @@ roomy = omega arith
 pub one_to_one : OneToOne
 one_to_one k r l (Word.Tail Chain.Send) (Word.Tail Chain.Send) a b e = refl
 one_to_one k r l (Word.Tail (Chain.Take g)) (Word.Tail (Chain.Take h)) a b e = ap (λ (z : ℕ). Word.Tail (Chain.Take z)) (omega (arith, e, r, steps_order k.end_step g h))
-one_to_one k r l (Word.Object Object.Last) (Word.Object Object.Last) a b e = refl
-one_to_one k r l (Word.Object Object.Shut) (Word.Object Object.Shut) a b e = refl
-one_to_one k r l (Word.Object Object.Count) (Word.Object Object.Count) a b e = refl
-one_to_one k r l (Word.Object Object.Cursor) (Word.Object Object.Cursor) a b e = refl
-one_to_one k r l (Word.Object (Object.Head g)) (Word.Object (Object.Head h)) a b e = ap (λ (z : ℕ). Word.Object (Object.Head z)) (omega (arith, e, r, steps_order k.end_step g h))
-one_to_one k r l (Word.Object (Object.Taken g)) (Word.Object (Object.Taken h)) a b e = ap (λ (z : ℕ). Word.Object (Object.Taken z)) (omega (arith, e, r, steps_order k.end_step g h))
+one_to_one k r l (Word.Tail (Chain.Take g)) (Word.Object d) a b e = absurd (object_tail k r l d g (sym e))
+one_to_one k r l (Word.Object c) (Word.Tail (Chain.Take h)) a b e = absurd (object_tail k r l c h e)
+one_to_one k r l (Word.Object c) (Word.Object d) a b e = ap (λ (z : Object). Word.Object z) (objects_same k r l c d e)
 one_to_one k r l (Word.Node Chain.Send i f) (Word.Node Chain.Send j g) a b e =
     let m = within k l (Word.Node Chain.Send i f) a in
     let n = within k l (Word.Node Chain.Send j g) b in
     let index : i ≡ j = omega (arith, m, n, e, r, steps_order k.node_step i j) in
     let start : k.node_step * i ≡ k.node_step * j = ap (λ (z : ℕ). k.node_step * z) index in
     let field : node_field Chain.Send f ≡ node_field Chain.Send g = omega (arith, e, start) in
-    λ q. Word.Node Chain.Send (index q) (field_same Chain.Send f g (and_both (nat_lt i (l.senders + 1)) (is_node_field f) a).1 (and_both (nat_lt j (l.senders + 1)) (is_node_field g) b).1 field q)
+    λ q. Word.Node Chain.Send (index q) (field_same Chain.Send f g (and_parts (nat_lt i (l.senders + 1)) (is_node_field f) a).1 (and_parts (nat_lt j (l.senders + 1)) (is_node_field g) b).1 field q)
 one_to_one k r l (Word.Node (Chain.Take c) i f) (Word.Node (Chain.Take d) j g) a b e =
     let m = within k l (Word.Node (Chain.Take c) i f) a in
     let n = within k l (Word.Node (Chain.Take d) j g) b in
@@ -146,113 +132,42 @@ one_to_one k r l (Word.Node (Chain.Take c) i f) (Word.Node (Chain.Take d) j g) a
     let index : i ≡ j = omega (arith, m, n, e, r, before, steps_order k.node_step i j) in
     let start : k.node_step * i ≡ k.node_step * j = ap (λ (z : ℕ). k.node_step * z) index in
     let field : node_field (Chain.Take c) f ≡ node_field (Chain.Take c) g = omega (arith, e, before, start, field_fixed c d g) in
-    λ q. Word.Node (Chain.Take (group q)) (index q) (field_same (Chain.Take c) f g (and_both (nat_lt c l.groups && nat_lt i (l.receivers + 1)) (is_node_field f) a).1 (and_both (nat_lt d l.groups && nat_lt j (l.receivers + 1)) (is_node_field g) b).1 field q)
+    λ q. Word.Node (Chain.Take (group q)) (index q) (field_same (Chain.Take c) f g (and_parts (nat_lt c l.groups && nat_lt i (l.receivers + 1)) (is_node_field f) a).1 (and_parts (nat_lt d l.groups && nat_lt j (l.receivers + 1)) (is_node_field g) b).1 field q)
 one_to_one k r l (Word.Item i f) (Word.Item j g) a b e =
     let m = within k l (Word.Item i f) a in
     let n = within k l (Word.Item j g) b in
     let index : i ≡ j = omega (arith, m, n, e, r, steps_order k.item_step i j) in
     let start : k.item_step * i ≡ k.item_step * j = ap (λ (z : ℕ). k.item_step * z) index in
     let field : item_field f ≡ item_field g = omega (arith, e, start) in
-    λ q. Word.Item (index q) (part_same f g (and_both (nat_lt i (l.capacity + 2)) (is_item_field f) a).1 (and_both (nat_lt j (l.capacity + 2)) (is_item_field g) b).1 field q)
-one_to_one k r l (Word.Tail Chain.Send) (Word.Tail (Chain.Take h)) a b e = absurd (omega (arith, within k l (Word.Tail Chain.Send) a, within k l (Word.Tail (Chain.Take h)) b, e, r))
-one_to_one k r l (Word.Tail Chain.Send) (Word.Object d) a b e = absurd (omega (arith, within k l (Word.Tail Chain.Send) a, object_low k r l d b, e, r))
-one_to_one k r l (Word.Tail Chain.Send) (Word.Node Chain.Send j q) a b e = absurd (omega (arith, within k l (Word.Tail Chain.Send) a, within k l (Word.Node Chain.Send j q) b, e, r))
-one_to_one k r l (Word.Tail Chain.Send) (Word.Node (Chain.Take h) j q) a b e = absurd (omega (arith, within k l (Word.Tail Chain.Send) a, within k l (Word.Node (Chain.Take h) j q) b, e, r))
-one_to_one k r l (Word.Tail Chain.Send) (Word.Item j q) a b e = absurd (omega (arith, within k l (Word.Tail Chain.Send) a, within k l (Word.Item j q) b, e, r))
-one_to_one k r l (Word.Tail (Chain.Take g)) (Word.Tail Chain.Send) a b e = absurd (omega (arith, within k l (Word.Tail (Chain.Take g)) a, within k l (Word.Tail Chain.Send) b, e, r))
-one_to_one k r l (Word.Tail (Chain.Take g)) (Word.Object d) a b e = absurd (omega (arith, within k l (Word.Tail (Chain.Take g)) a, object_low k r l d b, object_tail k r l d g, e, r))
-one_to_one k r l (Word.Tail (Chain.Take g)) (Word.Node Chain.Send j q) a b e = absurd (omega (arith, within k l (Word.Tail (Chain.Take g)) a, within k l (Word.Node Chain.Send j q) b, e, r))
-one_to_one k r l (Word.Tail (Chain.Take g)) (Word.Node (Chain.Take h) j q) a b e = absurd (omega (arith, within k l (Word.Tail (Chain.Take g)) a, within k l (Word.Node (Chain.Take h) j q) b, e, r))
-one_to_one k r l (Word.Tail (Chain.Take g)) (Word.Item j q) a b e = absurd (omega (arith, within k l (Word.Tail (Chain.Take g)) a, within k l (Word.Item j q) b, e, r))
-one_to_one k r l (Word.Object c) (Word.Tail Chain.Send) a b e = absurd (omega (arith, object_low k r l c a, within k l (Word.Tail Chain.Send) b, e, r))
-one_to_one k r l (Word.Object c) (Word.Tail (Chain.Take h)) a b e = absurd (omega (arith, object_low k r l c a, object_tail k r l c h, within k l (Word.Tail (Chain.Take h)) b, e, r))
-one_to_one k r l (Word.Object c) (Word.Node Chain.Send j q) a b e = absurd (omega (arith, object_low k r l c a, within k l (Word.Node Chain.Send j q) b, e, r))
-one_to_one k r l (Word.Object c) (Word.Node (Chain.Take h) j q) a b e = absurd (omega (arith, object_low k r l c a, within k l (Word.Node (Chain.Take h) j q) b, e, r))
-one_to_one k r l (Word.Object c) (Word.Item j q) a b e = absurd (omega (arith, object_low k r l c a, within k l (Word.Item j q) b, e, r))
-one_to_one k r l (Word.Node Chain.Send i f) (Word.Tail Chain.Send) a b e = absurd (omega (arith, within k l (Word.Node Chain.Send i f) a, within k l (Word.Tail Chain.Send) b, e, r))
-one_to_one k r l (Word.Node Chain.Send i f) (Word.Tail (Chain.Take h)) a b e = absurd (omega (arith, within k l (Word.Node Chain.Send i f) a, within k l (Word.Tail (Chain.Take h)) b, e, r))
-one_to_one k r l (Word.Node Chain.Send i f) (Word.Object d) a b e = absurd (omega (arith, within k l (Word.Node Chain.Send i f) a, object_low k r l d b, e, r))
-one_to_one k r l (Word.Node Chain.Send i f) (Word.Node (Chain.Take h) j q) a b e = absurd (omega (arith, within k l (Word.Node Chain.Send i f) a, within k l (Word.Node (Chain.Take h) j q) b, e, r))
-one_to_one k r l (Word.Node Chain.Send i f) (Word.Item j q) a b e = absurd (omega (arith, within k l (Word.Node Chain.Send i f) a, within k l (Word.Item j q) b, e, r))
-one_to_one k r l (Word.Node (Chain.Take g) i f) (Word.Tail Chain.Send) a b e = absurd (omega (arith, within k l (Word.Node (Chain.Take g) i f) a, within k l (Word.Tail Chain.Send) b, e, r))
-one_to_one k r l (Word.Node (Chain.Take g) i f) (Word.Tail (Chain.Take h)) a b e = absurd (omega (arith, within k l (Word.Node (Chain.Take g) i f) a, within k l (Word.Tail (Chain.Take h)) b, e, r))
-one_to_one k r l (Word.Node (Chain.Take g) i f) (Word.Object d) a b e = absurd (omega (arith, within k l (Word.Node (Chain.Take g) i f) a, object_low k r l d b, e, r))
-one_to_one k r l (Word.Node (Chain.Take g) i f) (Word.Node Chain.Send j q) a b e = absurd (omega (arith, within k l (Word.Node (Chain.Take g) i f) a, within k l (Word.Node Chain.Send j q) b, e, r))
-one_to_one k r l (Word.Node (Chain.Take g) i f) (Word.Item j q) a b e = absurd (omega (arith, within k l (Word.Node (Chain.Take g) i f) a, within k l (Word.Item j q) b, e, r))
-one_to_one k r l (Word.Item i f) (Word.Tail Chain.Send) a b e = absurd (omega (arith, within k l (Word.Item i f) a, within k l (Word.Tail Chain.Send) b, e, r))
-one_to_one k r l (Word.Item i f) (Word.Tail (Chain.Take h)) a b e = absurd (omega (arith, within k l (Word.Item i f) a, within k l (Word.Tail (Chain.Take h)) b, e, r))
-one_to_one k r l (Word.Item i f) (Word.Object d) a b e = absurd (omega (arith, within k l (Word.Item i f) a, object_low k r l d b, e, r))
-one_to_one k r l (Word.Item i f) (Word.Node Chain.Send j q) a b e = absurd (omega (arith, within k l (Word.Item i f) a, within k l (Word.Node Chain.Send j q) b, e, r))
-one_to_one k r l (Word.Item i f) (Word.Node (Chain.Take h) j q) a b e = absurd (omega (arith, within k l (Word.Item i f) a, within k l (Word.Node (Chain.Take h) j q) b, e, r))
-one_to_one k r l (Word.Object c) (Word.Object d) a b e = absurd (omega (arith, steps_order k.end_step (group_of c) (group_of d), e, r))
+    λ q. Word.Item (index q) (part_same f g (and_parts (nat_lt i (l.capacity + 2)) (is_item_field f) a).1 (and_parts (nat_lt j (l.capacity + 2)) (is_item_field g) b).1 field q)
+one_to_one k r l v w a b e = grind (arith, between k r l v a, between k r l w b)
 
 chain_is : (x y : Chain) → same_chain x y ≡ true → x ≡ y
-chain_is Chain.Send Chain.Send e = refl
-chain_is (Chain.Take g) (Chain.Take h) e = ap (λ (k : ℕ). Chain.Take k) (eqb-true g h e)
-chain_is _ _ e = absurd (cc)
+chain_is x y e = grind arith
 
 object_is : (a b : Object) → object_number a ≡ object_number b → a ≡ b
-object_is Object.Last Object.Last e = refl
-object_is Object.Shut Object.Shut e = refl
-object_is Object.Count Object.Count e = refl
-object_is Object.Cursor Object.Cursor e = refl
-object_is (Object.Head g) (Object.Head h) e = ap (λ (k : ℕ). Object.Head k) (omega arith)
-object_is (Object.Taken g) (Object.Taken h) e = ap (λ (k : ℕ). Object.Taken k) (omega arith)
-object_is _ _ e = absurd (omega (arith, e))
+object_is a b e = grind arith
 
 field_is : (f g : NodeField) → same_field f g ≡ true → f ≡ g
-field_is NodeField.Next NodeField.Next e = refl
-field_is NodeField.State NodeField.State e = refl
-field_is NodeField.Tag NodeField.Tag e = refl
-field_is NodeField.Ret NodeField.Ret e = refl
-field_is (NodeField.Body i) (NodeField.Body j) e = ap (λ (k : ℕ). NodeField.Body k) (eqb-true i j e)
-field_is _ _ e = absurd (cc)
+field_is f g e = grind arith
 
 part_is : (f g : ItemField) → same_part f g ≡ true → f ≡ g
-part_is ItemField.Tag ItemField.Tag e = refl
-part_is ItemField.Next ItemField.Next e = refl
-part_is ItemField.Passed ItemField.Passed e = refl
-part_is (ItemField.Body i) (ItemField.Body j) e = ap (λ (k : ℕ). ItemField.Body k) (eqb-true i j e)
-part_is _ _ e = absurd (cc)
+part_is f g e = grind arith
 
 pub same_is : (v w : Word) → same v w ≡ true → v ≡ w
-same_is (Word.Tail x) (Word.Tail y) e = ap (λ (z : Chain). Word.Tail z) (chain_is x y e)
-same_is (Word.Object a) (Word.Object b) e = ap (λ (z : Object). Word.Object z) (object_is a b (eqb-true (object_number a) (object_number b) e))
-same_is (Word.Node x i f) (Word.Node y j g) e =
-    let t = and_both (same_field f g && same_chain x y) (i == j) e in
-    let u = and_both (same_field f g) (same_chain x y) t.0 in
-    let field = field_is f g u.0 in
-    let chain = chain_is x y u.1 in
-    let index = eqb-true i j t.1 in
-    λ k. Word.Node (chain k) (index k) (field k)
-same_is (Word.Item i f) (Word.Item j g) e =
-    let t = and_both (same_part f g) (i == j) e in
-    let field = part_is f g t.0 in
-    let index = eqb-true i j t.1 in
-    λ k. Word.Item (index k) (field k)
-same_is _ _ e = absurd (cc)
+same_is v w e = grind (arith, chain_is, object_is, field_is, part_is)
 
 chain_self : (x : Chain) → same_chain x x ≡ true
-chain_self Chain.Send = refl
-chain_self (Chain.Take g) = eq-eqb g g refl
+chain_self x = grind arith
 
 field_self : (f : NodeField) → same_field f f ≡ true
-field_self (NodeField.Body i) = eq-eqb i i refl
-field_self _ = refl
+field_self f = grind arith
 
 part_self : (f : ItemField) → same_part f f ≡ true
-part_self (ItemField.Body i) = eq-eqb i i refl
-part_self _ = refl
-
-both_and : (a b : Bool) → a ≡ true → b ≡ true → a && b ≡ true
-both_and true b e f = f
-both_and false b e f = absurd (cc)
+part_self f = grind arith
 
 pub same_self : (w : Word) → same w w ≡ true
-same_self (Word.Tail x) = chain_self x
-same_self (Word.Object a) = eq-eqb (object_number a) (object_number a) refl
-same_self (Word.Node x i f) = both_and (same_field f f && same_chain x x) (i == i) (both_and (same_field f f) (same_chain x x) (field_self f) (chain_self x)) (eq-eqb i i refl)
-same_self (Word.Item i f) = both_and (same_part f f) (i == i) (part_self f) (eq-eqb i i refl)
+same_self w = grind (arith, chain_self, field_self, part_self)
 
 pub stored_words : (k : Spacing) → IsRoomy k → (l : Layout) (words : List ℕ) (w : Word) (value : ℕ) → IsTrue (exists l w) → lies k l w < length words → word_in_row k l (slice_set words (lies k l w) value) ≡ put (word_in_row k l words) w value
 stored_words k r l words w value a below = λ i v. at v i

@@ -1,7 +1,7 @@
 -- The machine as it is keeps the law that each call ends, and two others don't.
 use Rattle.std.proofs.Common.{◌≡◌, ◌≢◌, ℕ, zero, suc, ◌+◌, ◌%◌, ◌<◌, ◌≤◌, Bool, true, false, ◌&&◌, ◌==◌, cond, List, [], ◌∷◌, ◌++◌, length, refl, ap, sym, ◌∙◌, subst, arith, inl, inr, eq-eqb, ne_eqb, mod-lt}
 use Rattle.std.specs.List.{AllByRecursion}
-use Rattle.std.proofs.lemmas.Bool.{cases_eq}
+use Rattle.std.proofs.lemmas.Bool.{cases_eq, and_parts}
 use Rattle.cc_model.specs.Body.{body_of}
 use Rattle.cc_runs.specs.Names.{Answer, SendAnswer, Call, Setting, Served, Chain, NodeField, ItemField, Word, Event, Job, Parcel, Round, Sending, Phase, Move}
 use Rattle.cc_runs.specs.State.{State}
@@ -20,9 +20,7 @@ use Rattle.cc_runs.proofs.Progress.Ends.{each_call_ends}
 -- ---- the machine as it is
 
 same_move : (c : Setting) (s : State) (m : Move) → moved_by stepped c s m ≡ moved c s m
-same_move c s (Move.Step p) = refl
-same_move c s (Move.Begin p call known) = refl
-same_move c s (Move.Take p) = refl
+same_move c s m = grind arith
 
 same_state : (c : Setting) (moves : List Move) → reached_by stepped c moves ≡ reached c moves
 same_state c [] = refl
@@ -57,9 +55,7 @@ steps_on (Phase.Finished told) = false
 steps_on _ = true
 
 on_event : (at : Phase) → steps_on at ≡ true → event_at at ≢ Event.Idle
-on_event Phase.Idle is = absurd (cc)
-on_event (Phase.Finished told) is = absurd (cc)
-on_event _ is = λ e. cc
+on_event at is = grind arith
 
 -- rounds of one step each
 abbrev lone_rounds : ℕ → List (List Move)
@@ -80,15 +76,10 @@ module _ (step : Setting → State → ℕ → State) where
   may_all seen zero = true
   may_all seen (suc k) = may_all seen k && steps_on ((reached_by step lone (steps k ++ seen)).stand 0).phase
 
-  both : (a b : Bool) → (a && b) ≡ true → (a ≡ true) × (b ≡ true)
-  both true true e = (refl, refl)
-  both true false e = absurd (cc)
-  both false b e = absurd (cc)
-
   first_run : (seen : List Move) (k : ℕ) → IsRunBy step lone seen → may_all seen k ≡ true → IsRunBy step lone (steps k ++ seen)
   first_run seen zero run all = run
   first_run seen (suc k) run all =
-      let two = both (may_all seen k) (steps_on ((reached_by step lone (steps k ++ seen)).stand 0).phase) all in
+      let two = and_parts (may_all seen k) (steps_on ((reached_by step lone (steps k ++ seen)).stand 0).phase) all in
       (first_run seen k run two.0, (omega arith, on_event ((reached_by step lone (steps k ++ seen)).stand 0).phase two.1))
 
   -- a state in which the sender steps for ever
@@ -106,8 +97,7 @@ module _ (step : Setting → State → ℕ → State) where
     ever_rounds (suc k) = (ever_rounds k, λ n inside has. only n inside)
       where
         only : (n : ℕ) → n < 1 → by n (Move.Step 0 ∷ []) ≢ []
-        only zero inside = λ e. cc
-        only (suc n) inside = absurd (omega (arith, inside))
+        only n inside = grind arith
 
     refused : ((s : State) → P s → IsFinished (s.stand 0).phase → ⊥) → EachCallEndsBy step → ⊥
     refused not_ended law =

@@ -13,18 +13,21 @@ pub fn counts_grow()
 {}
 
 /// A look sees each call that had ended when the look began.
+#[tactic(auto, using(crate::proofs::Counts::Laws::ended_calls_are_seen))]
 pub fn ended_calls_are_seen()
     ensures { EndedCallsAreSeen }
 {}
 
 /// If a look finds as many items accepted as the queue holds beyond those that some group has taken, then the queue was full when the
 /// look began.
+#[tactic(auto, using(crate::proofs::Counts::Laws::looks_find_full))]
 pub fn looks_find_full()
     ensures { LooksFindFull }
 {}
 
 /// If a look finds no more items accepted than a group has taken, and none more taken by another group, then the group had all items when
 /// the look began.
+#[tactic(auto, using(crate::proofs::Counts::Laws::looks_find_none))]
 pub fn looks_find_none()
     ensures { LooksFindNone }
 {}

@@ -12,6 +12,7 @@ pub fn no_call_is_stuck()
 
 /// While one of the first calls of a chain has no answer, or the pass of one of them waits, it is some pass's turn: the pass
 /// combines for them, or reads state 0, or is in one of them and writes its request or its link.
+#[tactic(auto, using(crate::proofs::Progress::Laws::someones_turn))]
 pub fn it_is_someones_turn()
     ensures { SomeonesTurn }
 {}
@@ -24,33 +25,39 @@ pub fn moves_bring_nearer()
 
 /// The steps ahead of a call are at most those of a service, and three more, for each call before it that has no answer and for
 /// itself; and those of one service, and of the entries of all passes.
+#[tactic(auto, using(crate::proofs::Progress::Laws::ahead_is_bounded))]
 pub fn ahead_is_bounded()
     ensures { AheadIsBounded }
 {}
 
 /// No chain has more calls without an answer than it has passes.
+#[tactic(auto, using(crate::proofs::Progress::Laws::open_calls_are_few))]
 pub fn open_calls_are_few()
     ensures { OpenCallsAreFew }
 {}
 
 /// Bounded bypass: whatever other passes do, those whose turn it is make no more steps than were ahead of a call until it is
 /// served, also if other calls come after it.
+#[tactic(auto, using(crate::proofs::Progress::Laws::turns_are_few))]
 pub fn turns_are_few()
     ensures { TurnsAreFew }
 {}
 
 /// No starvation under a fair scheduler: a call has its answer after more rounds than there were steps ahead of it. In a round each
 /// pass that was in one of the calls up to it moves. Other passes, and those of other chains, may stop for ever.
+#[tactic(auto, using(crate::proofs::Progress::Rounds::answers_come_soon))]
 pub fn answers_come_soon()
     ensures { AnswersComeSoon }
 {}
 
 /// So after a number of rounds that depends on the configuration alone each call that had exchanged has its answer.
+#[tactic(auto, using(crate::proofs::Progress::Rounds::each_call_is_answered))]
 pub fn each_call_is_answered()
     ensures { EachCallIsAnswered }
 {}
 
 /// So a call that waits has waited for no more rounds than there were steps ahead of it.
+#[tactic(auto, using(crate::proofs::Progress::Rounds::waits_are_short))]
 pub fn waits_are_short()
     ensures { WaitsAreShort }
 {}
@@ -63,12 +70,14 @@ pub fn calls_are_served()
 
 /// From its begin on: a call has read its answer after a number of rounds that depends on the configuration alone, if each pass of its
 /// chain that has a step moves in each round. Passes of other chains may stop for ever.
+#[tactic(auto, using(crate::proofs::Progress::Ends::each_call_ends))]
 pub fn each_call_ends()
     ensures { EachCallEnds }
 {}
 
 /// Passes that stop in their calls, as an abandoned one does, stop no call that exchanged before these: it is answered after as many
 /// rounds of the other passes.
+#[tactic(auto, using(crate::proofs::Progress::Stopped::none_before_stops))]
 pub fn stopped_calls_stop_none_before()
     ensures { NoneBeforeStops }
 {}

@@ -1,18 +1,16 @@
 -- A load by a seat that does no step: it changes no word and adds no move, and the seat has seen the longest run afterwards.
-use Rattle.std.proofs.Common.{◌≡◌, ℕ, List, [], length, set, get_or, IsTrue, None, refl, sym, ap, ◌∙◌, subst, append-nil}
-use mathlib.Core.Option.{some}
-use lib.ListN.{get_elem?}
+use Rattle.std.proofs.Common.{◌≡◌, ℕ, List, [], get_or, IsTrue, None, refl, sym, ap, ◌∙◌, subst}
 use Rattle.atomic_table.specs.Seated.{TableId}
 use Rattle.atomic_table.specs.Table.{State, Me, keeps, Allows}
 use Rattle.cc_steps.specs.Names.{Move, Object, Setting, Word, View, Role}
 use Rattle.cc_runs.specs.Words.{layout_of, exists}
-use Rattle.cc_steps.specs.Slots.{held, slot}
+use Rattle.cc_steps.specs.Slots.{slot}
 use Rattle.cc_steps.specs.Seen.{stand_in, word_in, made_in, did_in}
 use Rattle.cc_steps.specs.Shown.{passing, Shown, stand_of}
 use Rattle.cc_steps.specs.Counted.{FoundAt, Watched, HasWatched}
 use Rattle.cc_steps.specs.Walk.{Walk, walk_of, Sound}
 use Rattle.cc_steps.proofs.Keeps.{word_found}
-use Rattle.cc_steps.proofs.Joined.{viewed_as, viewed_set, set_found}
+use Rattle.cc_steps.proofs.Joined.{viewed_as, after_load}
 use Rattle.cc_steps.proofs.Runs.{later_on, made-others, did-others, stand-others, step_safe}
 
 module _ (c : Setting) (s : State (Unit {0}) View) (h : Shown c s) (place : ℕ) where
@@ -28,28 +26,16 @@ module _ (c : Setting) (s : State (Unit {0}) View) (h : Shown c s) (place : ℕ)
 pub watches_so : (c : Setting) (slots id : ℕ) (me : Me (Unit {0}) View) (place : ℕ) → me.0.role ≡ Role.Pass → Allows (Shown c) slots id me place (λ x. x) (λ x m'. Watched me.0 place x m'.0)
 watches_so c slots id me place is s h _ at _ =
     let v : View = me.0 in
-    let known = viewed_as c s h id v Role.Pass is at in
-    let w : View = passing c v.number h.log in
-    let same : passing c v.number h.log ≡ passing v.setting v.number h.log = λ i. passing (sym known.0 i) v.number h.log in
-    let still : set s.words place (get_or s.words place 0) ≡ s.words = set_found s.words place in (
-      w,
+    let known = viewed_as c s h id v Role.Pass is at in (
+      passing c v.number h.log,
       keeps,
       tt,
+      after_load c s h id place v h.log known ([], refl, refl),
       record {
-        log = h.log;
-        next = h.next;
-        owner = h.owner;
-        top = h.top;
-        run = h.run;
-        checked = h.checked;
-        wide = ap length still ∙ h.wide;
-        configured = λ i lt. ap (λ (l : List ℕ). get_or l i 0) still ∙ h.configured i lt;
-        words = ap (held (layout_of c.config)) still ∙ h.words;
-        views = viewed_set c s h s.views id w (λ j u _ e. h.views j u e) (refl, known.1, known.2, ([], refl, refl), (h.log, sym (append-nil h.log)));
-        unborn = h.unborn;
-        few = h.few;
+        view = λ i. passing (sym known.0 i) v.number h.log;
+        mine = known.3;
+        found_at = subst (λ (x : Setting). FoundAt x h.log place (get_or s.words place 0)) (sym known.0) (found_at c s h place);
       },
-      record { view = same; mine = known.3; found_at = subst (λ (x : Setting). FoundAt x h.log place (get_or s.words place 0)) (sym known.0) (found_at c s h place) },
     )
 
 -- ---- what that gives a pass

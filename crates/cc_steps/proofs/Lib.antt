@@ -7,10 +7,8 @@ pub mod Joined
 pub mod Counted
 pub mod StepFacts
 pub mod ReadAnswers
-pub mod Own
 pub mod StepLaws
 pub mod Laid
 pub mod Dealt
 pub mod OnChains
 pub mod RefusedClaims
-pub mod EarlyStores

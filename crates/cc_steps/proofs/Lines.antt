@@ -1,5 +1,5 @@
 -- The slots of a table: past the configuration, and on different lines if different threads write.
-use Rattle.std.proofs.Common.{◌≡◌, ℕ, ◌+◌, ◌*◌, ◌<◌, ◌≤◌, Bool, true, false, ◌&&◌, nat_lt, IsTrue, refl, sym, ap, ◌∙◌, arith}
+use Rattle.std.proofs.Common.{◌≡◌, ℕ, ◌+◌, ◌*◌, ◌<◌, ◌≤◌, Bool, true, ◌&&◌, nat_lt, IsTrue, refl, sym, ap, ◌∙◌, arith}
 use Rattle.std.proofs.lemmas.Bool.{and_parts}
 use Rattle.cc_steps.specs.Names.{Chain, Object, Word}
 use Rattle.cc_runs.specs.Words.{Layout, IsRoomy, exists, is_node_field, is_item_field}
@@ -11,17 +11,7 @@ spread_roomy = omega arith
 
 -- the first eight words are no machine's
 pub past_config : (l : Layout) (w : Word) → 8 ≤ slot l w
-past_config l (Word.Tail Chain.Send) = omega arith
-past_config l (Word.Tail (Chain.Take g)) = omega arith
-past_config l (Word.Object Object.Last) = omega arith
-past_config l (Word.Object Object.Shut) = omega arith
-past_config l (Word.Object Object.Count) = omega arith
-past_config l (Word.Object Object.Cursor) = omega arith
-past_config l (Word.Object (Object.Head g)) = omega arith
-past_config l (Word.Object (Object.Taken g)) = omega arith
-past_config l (Word.Node Chain.Send i f) = omega arith
-past_config l (Word.Node (Chain.Take g) i f) = omega arith
-past_config l (Word.Item i f) = omega arith
+past_config l w = grind arith
 
 -- a word is on the line that the first one next to it begins
 record OnLine (l : Layout) (w : Word) : Type 0 where
@@ -33,10 +23,6 @@ record OnLine (l : Layout) (w : Word) : Type 0 where
 on_line : (l : Layout) (w : Word) → IsTrue (exists l w) → OnLine l w
 on_line l (Word.Tail Chain.Send) a = record { line = 2; begins = refl; low = omega arith; high = omega arith }
 on_line l (Word.Tail (Chain.Take g)) a = record { line = 6 + 4 * g; begins = omega arith; low = omega arith; high = omega arith }
-on_line l (Word.Object Object.Last) a = record { line = 4; begins = refl; low = omega arith; high = omega arith }
-on_line l (Word.Object Object.Shut) a = record { line = 4; begins = refl; low = omega arith; high = omega arith }
-on_line l (Word.Object Object.Count) a = record { line = 4; begins = refl; low = omega arith; high = omega arith }
-on_line l (Word.Object Object.Cursor) a = record { line = 4; begins = refl; low = omega arith; high = omega arith }
 on_line l (Word.Object (Object.Head g)) a = record { line = 8 + 4 * g; begins = omega arith; low = omega arith; high = omega arith }
 on_line l (Word.Object (Object.Taken g)) a = record { line = 8 + 4 * g; begins = omega arith; low = omega arith; high = omega arith }
 on_line l (Word.Node Chain.Send i f) a =
@@ -48,24 +34,14 @@ on_line l (Word.Node (Chain.Take g) i f) a =
 on_line l (Word.Item i f) a =
     let few = part_small f (and_parts (nat_lt i (l.capacity + 2)) (is_item_field f) a).1 in
     record { line = 6 + 4 * l.groups + 2 * (l.senders + 1) + 2 * (l.groups * (l.receivers + 1)) + i; begins = omega arith; low = omega arith; high = omega (arith, few) }
+on_line l (Word.Object _) a = record { line = 4; begins = refl; low = omega arith; high = omega arith }
 
 -- and that one is there too
 there : (a b : Bool) → a && b ≡ true → a && true ≡ true
-there true b e = refl
-there false b e = absurd (cc e)
+there a b e = grind arith
 
 exists_beside : (l : Layout) (w : Word) → IsTrue (exists l w) → IsTrue (exists l (first_beside w))
-exists_beside l (Word.Tail Chain.Send) a = a
-exists_beside l (Word.Tail (Chain.Take g)) a = a
-exists_beside l (Word.Object Object.Last) a = a
-exists_beside l (Word.Object Object.Shut) a = a
-exists_beside l (Word.Object Object.Count) a = a
-exists_beside l (Word.Object Object.Cursor) a = a
-exists_beside l (Word.Object (Object.Head g)) a = a
-exists_beside l (Word.Object (Object.Taken g)) a = a
-exists_beside l (Word.Node Chain.Send i f) a = there (nat_lt i (l.senders + 1)) (is_node_field f) a
-exists_beside l (Word.Node (Chain.Take g) i f) a = there (nat_lt g l.groups && nat_lt i (l.receivers + 1)) (is_node_field f) a
-exists_beside l (Word.Item i f) a = there (nat_lt i (l.capacity + 2)) (is_item_field f) a
+exists_beside l w a = grind (arith, there, nat_lt, is_node_field, l.groups, is_item_field)
 
 pub lines_apart : LinesApart
 lines_apart l v w a b same =

@@ -1,7 +1,7 @@
 -- The pass that has just stepped has seen the longest run: all moves of a pass are covered by what it has seen.
-use Rattle.std.proofs.Common.{◌≡◌, ℕ, ◌+◌, ◌*◌, ◌<◌, ◌≤◌, Bool, ◌&&◌, nat_lt, cond, List, [], ◌∷◌, ◌++◌, length, IsTrue, refl, sym, ap, ◌∙◌, subst, arith}
+use Rattle.std.proofs.Common.{◌≡◌, ℕ, ◌+◌, ◌*◌, ◌<◌, ◌≤◌, Bool, nat_lt, cond, List, [], ◌∷◌, ◌++◌, length, IsTrue, refl, sym, ap, ◌∙◌, subst, arith}
 use Rattle.std.proofs.lemmas.Bool.{and_parts, eq-eqb}
-use Rattle.cc_steps.specs.Names.{Move, Chain, Object, Word, Role}
+use Rattle.cc_steps.specs.Names.{Move, Chain, Word, Role}
 use Rattle.cc_runs.specs.Words.{Layout, layout_of, exists, is_node_field, is_item_field}
 use Rattle.cc_runs.specs.State.{word_of}
 use Rattle.cc_runs.specs.Passes.{pass_of, by}
@@ -30,28 +30,18 @@ groups_in : (g groups m : ℕ) → g < groups → g * m + m ≤ groups * m
 groups_in g groups m less = grind arith
 
 slot_in : (l : Layout) (w : Word) → IsTrue (exists l w) → slot l w < slot_count l
-slot_in l (Word.Tail Chain.Send) a = omega arith
-slot_in l (Word.Tail (Chain.Take g)) a = let less : g < l.groups = grind arith in omega (arith, less)
-slot_in l (Word.Object Object.Last) a = omega arith
-slot_in l (Word.Object Object.Shut) a = omega arith
-slot_in l (Word.Object Object.Count) a = omega arith
-slot_in l (Word.Object Object.Cursor) a = omega arith
-slot_in l (Word.Object (Object.Head g)) a = let less : g < l.groups = grind arith in omega (arith, less)
-slot_in l (Word.Object (Object.Taken g)) a = let less : g < l.groups = grind arith in omega (arith, less)
-slot_in l (Word.Node Chain.Send i f) a =
-    let t = and_parts (nat_lt i (l.senders + 1)) (is_node_field f) a in
-    let less : i < l.senders + 1 = grind (arith, t.0) in
-    omega (arith, less, field_small Chain.Send f t.1)
-slot_in l (Word.Node (Chain.Take g) i f) a =
-    let t = and_parts (nat_lt g l.groups && nat_lt i (l.receivers + 1)) (is_node_field f) a in
-    let u = and_parts (nat_lt g l.groups) (nat_lt i (l.receivers + 1)) t.0 in
-    let low : g < l.groups = grind (arith, u.0) in
-    let less : i < l.receivers + 1 = grind (arith, u.1) in
-    omega (arith, less, groups_in g l.groups (l.receivers + 1) low, field_small (Chain.Take g) f t.1)
-slot_in l (Word.Item i f) a =
-    let t = and_parts (nat_lt i (l.capacity + 2)) (is_item_field f) a in
-    let less : i < l.capacity + 2 = grind (arith, t.0) in
-    omega (arith, less, part_small f t.1)
+slot_in l w a = grind (
+  arith,
+  and_parts,
+  nat_lt,
+  is_node_field,
+  field_small Chain.Send,
+  l.groups,
+  groups_in,
+  field_small,
+  is_item_field,
+  part_small,
+)
 
 pub stepper : StepperHasSeenAll
 stepper s j v call h at ready =

@@ -1,5 +1,5 @@
 -- Runs that go on: others' moves leave a pass at its place, and what one step adds to a run.
-use Rattle.std.proofs.Common.{◌≡◌, ◌≢◌, ℕ, ◌<◌, ◌≤◌, Bool, List, [], ◌∷◌, ◌++◌, IsTrue, Option, Some, None, Ok, refl, sym, ap, ◌∙◌, subst, eq-eqb, append_assoc, if◌then◌else◌}
+use Rattle.std.proofs.Common.{◌≡◌, ◌≢◌, ℕ, ◌<◌, ◌≤◌, Bool, List, [], ◌∷◌, ◌++◌, IsTrue, Option, Some, None, Ok, refl, sym, ap, ◌∙◌, subst, eq-eqb, append_assoc, if◌then◌else◌, arith}
 use Rattle.cc_model.specs.Config.{config_fault}
 use Rattle.cc_steps.specs.Names.{Call, Move, Setting, Word, Stand, Phase, Event}
 use Rattle.cc_runs.specs.Words.{layout_of, exists}
@@ -30,8 +30,7 @@ entered_stand c p seen log None = refl
 entered_stand c p seen log (Some call) = hold_here (reached c log).stand p (begins c.config p call (known_in c p seen) ((reached c log).stand p))
 
 pub begun_words : (c : Setting) (p : ℕ) (seen log : List Move) (call : Option Call) → (reached c (begun c p seen call log)).mem ≡ (reached c log).mem
-begun_words c p seen log None = refl
-begun_words c p seen log (Some call) = refl
+begun_words c p seen log call = grind arith
 
 -- a step
 pub stepped_stand : (c : Setting) (p : ℕ) (log : List Move) → stand_in c (Move.Step p ∷ log) p ≡ advanced c (chain_of c.config p) (stand_in c log p) (word_in c log (word_of (does_at c p (stand_in c log p))))
@@ -49,12 +48,10 @@ taken_stand c p log (Phase.Finished told) = hold_here (reached c log).stand p (r
 taken_stand c p log _ = refl
 
 taken_words : (c : Setting) (p : ℕ) (log : List Move) (at : Phase) → (reached c (taken p at log)).mem ≡ (reached c log).mem
-taken_words c p log (Phase.Finished told) = refl
-taken_words c p log _ = refl
+taken_words c p log at = grind arith
 
 pub taken_history : (c : Setting) (p : ℕ) (log : List Move) (at : Phase) → history_of c (taken p at log) ≡ history_of c log
-taken_history c p log (Phase.Finished told) = refl
-taken_history c p log _ = refl
+taken_history c p log at = grind arith
 
 -- ---- all of one step on the table
 
@@ -95,13 +92,11 @@ did-others c more seen p none = (others_leave c more seen p none).2
 
 taken_made : (c : Setting) (p : ℕ) (log : List Move) (at : Phase) → made_in c (taken p at log) p ≡ made_in c log p
 unfolding made_in
-taken_made c p log (Phase.Finished told) = refl
-taken_made c p log _ = refl
+taken_made c p log at = grind arith
 
 taken_did : (c : Setting) (p : ℕ) (log : List Move) (at : Phase) → did_in c (taken p at log) p ≡ did_in c log p
 unfolding did_in
-taken_did c p log (Phase.Finished told) = refl
-taken_did c p log _ = refl
+taken_did c p log at = grind arith
 
 begun_made : (c : Setting) (p : ℕ) (seen log : List Move) (call : Option Call) → made_in c (begun c p seen call log) p ≡ with_begun c p seen call (stand_in c log p) (made_in c log p)
 unfolding made_in stand_in
@@ -111,8 +106,7 @@ begun_made c p seen log (Some call) =
 
 begun_did : (c : Setting) (p : ℕ) (seen log : List Move) (call : Option Call) → did_in c (begun c p seen call log) p ≡ did_in c log p
 unfolding did_in
-begun_did c p seen log None = refl
-begun_did c p seen log (Some call) = refl
+begun_did c p seen log call = grind arith
 
 step_made : (c : Setting) (p : ℕ) (log : List Move) → made_in c (Move.Step p ∷ log) p ≡ made_in c log p
 unfolding made_in
@@ -164,12 +158,10 @@ taken_run c p log (Phase.Finished told) less is r = (r, (less, subst (λ (x : Ph
 taken_run c p log _ less is r = r
 
 begun_run : (c : Setting) (p : ℕ) (seen log : List Move) (call : Option Call) → p < passes c → CanStart c p call ((reached c log).stand p) → IsRun c log → ((known_in c p seen) ≤ known_in c p log) → IsRun c (begun c p seen call log)
-begun_run c p seen log None less can r known = r
-begun_run c p seen log (Some call) less can r known = (r, (less, can.0, can.1, can.2, known))
+begun_run c p seen log call less can r known = grind arith
 
 step_can : (c : Setting) (p : ℕ) (seen log : List Move) (call : Option Call) (at : Stand) → CanStart c p call at → event_at (entered c p seen call at).phase ≢ Event.Idle
-step_can c p seen log None at can = can
-step_can c p seen log (Some call) at can = λ e. absurd (cc e)
+step_can c p seen log call at can = grind arith
 
 pub added_run : (c : Setting) (p : ℕ) (seen log : List Move) (call : Option Call) → p < passes c → CanStart c p call (stand_in c log p) → IsRun c log → known_in c p seen ≤ known_in c p log → IsRun c (added c p seen call log) × IsRun c (begun c p seen call log)
 unfolding stand_in
@@ -193,8 +185,7 @@ step_safe c checked p seen log call at less r stands =
     (safe.word, subst (λ (m : Word → ℕ). IsPhaseSafe c (entered c p seen call at).node (m (word_of (does_at c p (entered c p seen call at)))) (entered c p seen call at).phase) (begun_words c p seen log call) safe.numbers)
 
 pub of_taken : (c : Setting) (p : ℕ) (log : List Move) (at : Phase) → IsRun c (taken p at log) → IsRun c log
-of_taken c p log (Phase.Finished told) r = r.0
-of_taken c p log _ r = r
+of_taken c p log at r = grind arith
 
 pub of_added : (c : Setting) (p : ℕ) (seen log : List Move) (call : Option Call) → IsRun c (added c p seen call log) → IsRun c (begun c p seen call log)
 of_added c p seen log call r = (of_taken c p (Move.Step p ∷ begun c p seen call log) _ r).0

@@ -1,5 +1,5 @@
 -- The clauses of a step about the run that its pass has seen: before the step, with others' moves, and after it.
-use Rattle.std.proofs.Common.{◌≡◌, ℕ, ◌<◌, List, ◌++◌, Option, Some, None, Ok, sym, ap, ◌∙◌, subst}
+use Rattle.std.proofs.Common.{◌≡◌, ℕ, ◌<◌, List, ◌++◌, Option, Ok, sym, ap, ◌∙◌, subst, arith}
 use Rattle.cc_model.specs.Config.{config_fault}
 use Rattle.cc_steps.specs.Names.{Call, Move, Setting}
 use Rattle.cc_runs.specs.Run.{IsRun, passes}
@@ -8,8 +8,7 @@ use Rattle.cc_steps.specs.Walk.{Walk, Walked, walked_to, next_stand}
 use Rattle.cc_steps.proofs.Runs.{stand-others, of_added}
 
 of_begun : (c : Setting) (p : ℕ) (seen log : List Move) (call : Option Call) → IsRun c (begun c p seen call log) → IsRun c log
-of_begun c p seen log None r = r
-of_begun c p seen log (Some call) r = r.0
+of_begun c p seen log call r = grind arith
 
 module _ (v w : Walk) (call : Option Call) (found : ℕ) (k : Walked v call w) (step : w ≡ walked_to v call found w.seen) where
   abbrev pub C : Setting

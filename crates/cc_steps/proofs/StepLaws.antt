@@ -1,7 +1,8 @@
--- The laws of every run about one step: nodes that are used again, and calls that wait for their link.
-use Rattle.std.proofs.Common.{◌≡◌, ℕ, List, ◌∷◌, ◌++◌, Option, Some, None, refl, sym, ap, ◌∙◌, subst}
+-- The laws of every run about one step: nodes that are used again, calls that wait for their link, and which stores may be early
+-- (each but the mark of a send or a close).
+use Rattle.std.proofs.Common.{◌≡◌, ℕ, List, ◌∷◌, ◌++◌, Option, Some, None, refl, sym, ap, ◌∙◌, subst, arith, ◌≢◌, true}
 use Rattle.cc_model.specs.Record.{Record}
-use Rattle.cc_steps.specs.Names.{Call, Move, Setting, Served, Chain, ItemField, NodeField, Word, Kind, Event, Phase, Counting, Sending, Taking, Stand}
+use Rattle.cc_steps.specs.Names.{Call, Move, Setting, Served, Chain, ItemField, NodeField, Word, Kind, Event, Phase, Sending, Stand, Entry}
 use Rattle.cc_runs.proofs.Chains.Facts.{noted_none}
 use Rattle.cc_runs.specs.State.{Operation, Store, chain_of, pass_at, word_of, noted}
 use Rattle.cc_runs.specs.Lines.{operation, event_at, goes, enters, decides}
@@ -13,34 +14,47 @@ use Rattle.cc_runs.proofs.ChainLaws.{chain_laws}
 use Rattle.cc_runs.proofs.ChainRuns.{calls_wait}
 use Rattle.cc_runs.specs.Step.{advanced}
 use Rattle.cc_steps.specs.Seen.{stand_in, word_in, does_at, rested}
-use Rattle.cc_steps.specs.Walk.{Walk, Walked, Steps, CanBegin, IsPendingIn, walked_to}
+use Rattle.cc_steps.specs.Walk.{Walk, Walked, Steps, CanBegin, IsPendingIn, walked_to, IsEarly}
 use Rattle.cc_steps.specs.Reuse.{HasReused, HasOwned}
 use Rattle.cc_steps.proofs.Runs.{taken_history}
 use Rattle.cc_steps.proofs.StepFacts.{same, number, checked, below, run_then, run_here, stands, stands_then}
+use Rattle.cc_runs.specs.Early.{may_be_early}
+
+-- no step but a mark is late
+by_kind : (x : Chain) (at : Phase) (kind : Kind) → event_at at ≡ Event.Did kind → kind ≢ Kind.MarkDone → may_be_early x at ≡ true
+by_kind x at kind e other = grind arith
+
+pub is_early : (v : Walk) (kind : Kind) (op : Operation) → Steps v kind op → kind ≢ Kind.MarkDone → IsEarly v None
+is_early v kind op can other = by_kind (chain_of v.setting.config v.number) v.stand.phase kind can.0 other
+
+-- nor is the reset by which a call begins
+resets : (x : Chain) (call : Entry) → may_be_early x (Phase.ResetNext call) ≡ true
+resets x call = grind arith
+
+pub begin_is_early : (v : Walk) (call : Call) → IsEarly v (Some call)
+begin_is_early v call = resets (chain_of v.setting.config v.number) _
+
+-- nor is the mark of a take, whose chain is that of its word
+by_word : (c : Setting) (x : Chain) (own : ℕ) (at : Phase) (g n : ℕ) → event_at at ≡ Event.Did Kind.MarkDone → operation c x own at ≡ Store (Word.Node (Chain.Take g) n NodeField.State) 2 → may_be_early x at ≡ true
+by_word c x own at g n e o = grind arith
+
+pub take_mark_is_early : (v : Walk) (g n : ℕ) → Steps v Kind.MarkDone (Store (Word.Node (Chain.Take g) n NodeField.State) 2) → IsEarly v None
+take_mark_is_early v g n can = by_word v.setting (chain_of v.setting.config v.number) v.stand.node v.stand.phase g n can.0 can.1
 
 -- the step is a reset of this node, and leads on to its preparation
 resets_at : (c : Setting) (x : Chain) (b own n : ℕ) (f : ItemField) (at : Phase) → event_at at ≡ Event.Did Kind.ResetListNode → operation c x own at ≡ Store (Word.Item n f) 0 → Resets at n × Prepares (goes c x own at 0) n
 resets_at c x b own n f (Phase.Sending job (Sending.ResetPassed parcel at)) e o = let is : at ≡ n = cc o in (is, is)
 resets_at c x b own n f (Phase.Sending job (Sending.ResetItemNext parcel at)) e o = let is : at ≡ n = cc o in (is, is)
-resets_at c x b own n f (Phase.Counting job Counting.ReadTag) e o = absurd (cc e)
-resets_at c x b own n f (Phase.Taking job Taking.ReadHead) e o = absurd (cc e)
-resets_at c x b own n f _ e o = absurd (cc e)
+resets_at c x b own n f at e o = grind arith
 
 -- the node that is reset is the pass's own
 owns_at : (c : Setting) (x y : Chain) (own n : ℕ) (at : Phase) → event_at at ≡ Event.Did Kind.ResetState → operation c x own at ≡ Store (Word.Node y n NodeField.State) 1 → (x ≡ y) × (own ≡ n)
-owns_at c x y own n (Phase.ResetState call) e o = (cc o, cc o)
-owns_at c x y own n (Phase.Counting job Counting.ReadTag) e o = absurd (cc e)
-owns_at c x y own n (Phase.Sending job Sending.ReadTag) e o = absurd (cc e)
-owns_at c x y own n (Phase.Taking job Taking.ReadHead) e o = absurd (cc e)
-owns_at c x y own n _ e o = absurd (cc e)
+owns_at c x y own n at e o = grind arith
 
 -- a link puts nothing into the history, and its call has exchanged
 links_at : (c : Setting) (x : Chain) (h : Record) (at : Phase) (found : ℕ) → event_at at ≡ Event.Did Kind.Link → IsEntering at × (noted x h (enters at) (decides c at found) ≡ h)
 links_at c x h (Phase.Link put) found e = (tt, noted_none x h)
-links_at c x h (Phase.Counting job Counting.ReadTag) found e = absurd (cc e)
-links_at c x h (Phase.Sending job Sending.ReadTag) found e = absurd (cc e)
-links_at c x h (Phase.Taking job Taking.ReadHead) found e = absurd (cc e)
-links_at c x h _ found e = absurd (cc e)
+links_at c x h at found e = grind arith
 
 still_prepares : (n : ℕ) (pl : Phase) (at : Stand) → at.phase ≡ pl → Prepares pl n → Prepares (rested pl at).phase n
 still_prepares n (Phase.Finished told) at is p = absurd p

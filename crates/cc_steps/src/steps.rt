@@ -26,7 +26,7 @@ use cc_runs::{Chain, ItemField, NodeField, Object, Word};
 
 /// ResetNext, by the caller: stores 0 into `next` of its own node. The call begins with this step, knowing what its pass has
 /// seen. `own`: the pass owned the node, and no other pass of its chain did.
-#[tactic(auto, using(crate::proofs::StepLaws::begun_owned, crate::proofs::EarlyStores::begin_is_early))]
+#[tactic(auto, using(crate::proofs::StepLaws::begun_owned, crate::proofs::StepLaws::begin_is_early))]
 #[inline(always)]
 pub fn reset_next(words: &ChainWords<'_>, seat: &mut PassSeat, node: u64, call: Call)
     requires here { IsOf words.now.topic seat.old }
@@ -40,7 +40,7 @@ pub fn reset_next(words: &ChainWords<'_>, seat: &mut PassSeat, node: u64, call: 
 }
 
 /// ResetState, by the caller: stores 1, waiting, into `state` of its own node. `own`: as at `reset_next`.
-#[tactic(auto, using(crate::proofs::Walks::can_do, crate::proofs::StepLaws::owned, crate::proofs::EarlyStores::is_early))]
+#[tactic(auto, using(crate::proofs::Walks::can_do, crate::proofs::StepLaws::owned, crate::proofs::StepLaws::is_early))]
 #[inline(always)]
 pub fn reset_state(words: &ChainWords<'_>, seat: &mut PassSeat, node: u64)
     requires here { IsOf words.now.topic seat.old }
@@ -69,7 +69,7 @@ pub fn exchange_tail(words: &ChainWords<'_>, seat: &mut PassSeat, link: u64) -> 
 
 /// WriteRequest, by a sender: stores the tag or a word of the body of its request into its current
 /// node.
-#[tactic(auto, using(crate::proofs::Walks::can_do, crate::proofs::EarlyStores::is_early))]
+#[tactic(auto, using(crate::proofs::Walks::can_do, crate::proofs::StepLaws::is_early))]
 #[inline(always)]
 pub fn write_request(
     words: &ChainWords<'_>,
@@ -89,7 +89,7 @@ pub fn write_request(
 
 /// Link, by the caller: stores the link of the node that it left to the chain into `next` of its current one, so that a
 /// combiner comes upon the request. `pending`: in the history that the pass has seen, its last call has no answer.
-#[tactic(auto, using(crate::proofs::Walks::can_do, crate::proofs::EarlyStores::is_early))]
+#[tactic(auto, using(crate::proofs::Walks::can_do, crate::proofs::StepLaws::is_early))]
 #[inline(always)]
 pub fn link_next(words: &ChainWords<'_>, seat: &mut PassSeat, node: u64, link: u64)
     requires here { IsOf words.now.topic seat.old }
@@ -156,7 +156,7 @@ pub fn read_object(words: &ChainWords<'_>, seat: &mut PassSeat, object: Object) 
 }
 
 /// WriteObject, by a combiner: stores a word of its side of the list.
-#[tactic(auto, using(crate::proofs::Walks::can_do, crate::proofs::EarlyStores::is_early))]
+#[tactic(auto, using(crate::proofs::Walks::can_do, crate::proofs::StepLaws::is_early))]
 #[inline(always)]
 pub fn write_object(words: &ChainWords<'_>, seat: &mut PassSeat, object: Object, value: u64)
     requires here { IsOf words.now.topic seat.old }
@@ -170,7 +170,7 @@ pub fn write_object(words: &ChainWords<'_>, seat: &mut PassSeat, object: Object,
 
 /// WriteAnswer, by a combiner: stores the answer word, or the tag or a word of the body of the item that was handed out, into
 /// the node that it serves.
-#[tactic(auto, using(crate::proofs::Walks::can_do, crate::proofs::EarlyStores::is_early))]
+#[tactic(auto, using(crate::proofs::Walks::can_do, crate::proofs::StepLaws::is_early))]
 #[inline(always)]
 pub fn write_answer(
     words: &ChainWords<'_>,
@@ -190,7 +190,7 @@ pub fn write_answer(
 
 /// MarkDone, by a combiner: stores 2 into `state` of the node that it served, after the last word of the answer. The mark of a send
 /// or a close may not be early, and that of a take may.
-#[tactic(auto, using(crate::proofs::Walks::can_do, crate::proofs::EarlyStores::take_mark_is_early))]
+#[tactic(auto, using(crate::proofs::Walks::can_do, crate::proofs::StepLaws::take_mark_is_early))]
 #[inline(always)]
 pub fn mark_done(words: &ChainWords<'_>, seat: &mut PassSeat, chain: Chain, node: u64)
     requires here { IsOf words.now.topic seat.old }
@@ -208,7 +208,7 @@ pub fn mark_done(words: &ChainWords<'_>, seat: &mut PassSeat, chain: Chain, node
 }
 
 /// HandOver, by a combiner: stores 0 into `state` of the node at which it stopped, whose caller serves from there on.
-#[tactic(auto, using(crate::proofs::Walks::can_do, crate::proofs::EarlyStores::is_early))]
+#[tactic(auto, using(crate::proofs::Walks::can_do, crate::proofs::StepLaws::is_early))]
 #[inline(always)]
 pub fn hand_over(words: &ChainWords<'_>, seat: &mut PassSeat, node: u64)
     requires here { IsOf words.now.topic seat.old }
@@ -251,7 +251,7 @@ pub fn read_passed(words: &ChainWords<'_>, seat: &mut PassSeat, node: u64) -> u6
 
 /// ResetListNode, by the senders' combiner: stores 0 into that count, or into `next`, of a node that it found free. `reuse`:
 /// if the node was in the list before, the take that went past it was decided; and no take holds it.
-#[tactic(auto, using(crate::proofs::Walks::can_do, crate::proofs::EarlyStores::is_early))]
+#[tactic(auto, using(crate::proofs::Walks::can_do, crate::proofs::StepLaws::is_early))]
 #[inline(always)]
 pub fn reset_list_node(words: &ChainWords<'_>, seat: &mut PassSeat, node: u64, field: ItemField)
     requires here { IsOf words.now.topic seat.old }
@@ -266,7 +266,7 @@ pub fn reset_list_node(words: &ChainWords<'_>, seat: &mut PassSeat, node: u64, f
 
 /// WriteItem, by the senders' combiner: stores the tag or a word of the body of an item into the node that it
 /// prepares.
-#[tactic(auto, using(crate::proofs::Walks::can_do, crate::proofs::EarlyStores::is_early))]
+#[tactic(auto, using(crate::proofs::Walks::can_do, crate::proofs::StepLaws::is_early))]
 #[inline(always)]
 pub fn write_item(
     words: &ChainWords<'_>,
@@ -286,7 +286,7 @@ pub fn write_item(
 
 /// LinkLast, by the senders' combiner: stores the link of the node that it prepared, or of the closing mark, into `next` of
 /// the last node. The send is accepted, or the queue closed, with this step.
-#[tactic(auto, using(crate::proofs::Walks::can_do, crate::proofs::EarlyStores::is_early))]
+#[tactic(auto, using(crate::proofs::Walks::can_do, crate::proofs::StepLaws::is_early))]
 #[inline(always)]
 pub fn link_last(words: &ChainWords<'_>, seat: &mut PassSeat, last: u64, link: u64)
     requires here { IsOf words.now.topic seat.old }

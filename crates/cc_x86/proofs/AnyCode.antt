@@ -1,12 +1,12 @@
 -- Code that follows the table by atomic steps follows it with store buffers too. Up to any moment its run is one of
 -- the passes. By their law this is one of atomic steps, in which each thread finds the same. So the next access is
 -- again that of the pass.
-use Rattle.std.proofs.Common.{◌≡◌, ◌≢◌, inl, inr, ℕ, Bool, true, false, cond, refl, ap, sym, ◌∙◌, subst, ⊎_elim, List, [], ◌∷◌, ◌++◌, Option, Some, None, Ok}
+use Rattle.std.proofs.Common.{◌≡◌, ◌≢◌, inl, inr, ℕ, Bool, true, false, cond, refl, ap, sym, ◌∙◌, subst, ⊎_elim, List, [], ◌∷◌, ◌++◌, Option, Some, None, Ok, arith}
 use Rattle.std.specs.Prelude.{nat_lt}
 use Rattle.std.proofs.lemmas.Bool.{lt-ltb}
 use Rattle.cc_model.specs.Config.{config_fault}
 use Rattle.cc_x86.specs.Program as threads
-use Rattle.cc_x86.specs.Program.{Operation, Store, Outside, Stop, Program, State, Effect, Turn, hold, found, written}
+use Rattle.cc_x86.specs.Program.{Operation, Store, Outside, Stop, Program, State, Turn, hold, found, written}
 use Rattle.cc_x86.specs.Sequential as atomic
 use Rattle.cc_x86.specs.Buffered as buffers
 use Rattle.cc_x86.specs.Buffered.{Plain, is_plain, Waiting, found_behind, at_once, acts_with, MayAct}
@@ -14,7 +14,7 @@ use Rattle.cc_x86.specs.Posted.{Waits, AreWaiting, IsOrderly, Order, order}
 use Rattle.cc_x86.specs.Driven as driven
 use Rattle.cc_x86.specs.Driven.{Tagged, Crew, Move, TakesUp, Leaves, Acts, Drains, stores, tagged, waits_more, drained_by, reached, Fresh, AreFresh, MayTakeUp, MayDrain, IsDrivenRun, by_passes, drains_with, done}
 use Rattle.cc_x86.specs.Names as queue
-use Rattle.cc_x86.specs.Names.{Setting, Served, Chain, Word, Job, Phase, Stand}
+use Rattle.cc_x86.specs.Names.{Setting, Served, Chain, Word, Phase, Stand}
 use Rattle.cc_x86.specs.Threads.{Ask, passes_as_threads, opened, next_at, moves_of}
 use Rattle.cc_x86.specs.OnX86.{MayBegin}
 use Rattle.cc_x86.specs.Early.{early, waits_at, waiting, early_order}
@@ -103,8 +103,7 @@ module _ {W S X : Type 0} (c : Program W S) (early : Plain S) (waits : Waits S) 
         same_does = rules.next_is p (m.own p) (r.own p).0 at_own
 
         flag_stays : (f : Bool) → (f ≡ true → early p (r.own p).0 ≡ true) → f ≡ is_plain both_early p (r.own p) f
-        flag_stays true it = sym (it refl)
-        flag_stays false it = refl
+        flag_stays f it = grind arith
 
         same_flag : flag ≡ both_flag
         same_flag = flag_stays flag (λ e. rules.plain_is p (m.own p) (r.own p).0 at_own

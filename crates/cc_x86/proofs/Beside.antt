@@ -1,8 +1,8 @@
 -- A program that runs beside another one. It makes the other's accesses, and its own states go on by what these find.
 -- So the pairs of both states make a program, whose runs are those of the other. The law of posted stores speaks of the
 -- pairs too: so the program beside finds the same with store buffers as by atomic steps.
-use Rattle.std.proofs.Common.{◌≡◌, ℕ, Bool, true, false, cond, ◌==◌, refl, ap, sym, ◌∙◌, subst, List, [], ◌∷◌, ◌++◌, Option}
-use Rattle.cc_x86.specs.Program.{Operation, Load, Store, Locked, Outside, Stop, Program, State, Effect, Turn, hold, found, written}
+use Rattle.std.proofs.Common.{◌≡◌, ℕ, Bool, true, cond, ◌==◌, refl, ap, sym, ◌∙◌, subst, List, [], ◌∷◌, ◌++◌, Option, arith}
+use Rattle.cc_x86.specs.Program.{Operation, Store, Program, State, Effect, Turn, hold, found, written}
 use Rattle.cc_x86.specs.Sequential as atomic
 use Rattle.cc_x86.specs.Buffered as buffers
 use Rattle.cc_x86.specs.Buffered.{Plain, is_plain, Waiting, Machine, found_behind, at_once, buffered, acts_with, MayAct}
@@ -34,8 +34,7 @@ abbrev pub firsts : {S X : Type 0} → (ℕ → S × X) → ℕ → S
 firsts own p = (own p).0
 
 first_cond : {S X : Type 0} (b : Bool) (x y : S × X) → (cond b x y).0 ≡ cond b x.0 y.0
-first_cond true x y = refl
-first_cond false x y = refl
+first_cond b x y = grind arith
 
 hold_first : {S X : Type 0} (xs : ℕ → S × X) (p : ℕ) (x : S × X) → firsts (hold xs p x) ≡ hold (firsts xs) p x.0
 hold_first xs p x = λ i q. first_cond (p == q) x (xs q) i
@@ -72,11 +71,7 @@ module _ {W S X : Type 0} (c : Program W S) (plain : Plain S) (waits : Waits S) 
   look_first : (p : ℕ) (own : S × X) (words : W → ℕ) (posted : List (Waiting W)) (settled : W → ℕ) (does : Operation W)
       → IsLook c.same (waits_both waits) p own words posted settled does
       → IsLook c.same waits p own.0 words posted settled does
-  look_first p own words posted settled (Load w) look = look
-  look_first p own words posted settled (Outside v) look = tt
-  look_first p own words posted settled (Store w v) look = absurd look
-  look_first p own words posted settled (Locked w f) look = absurd look
-  look_first p own words posted settled Stop look = absurd look
+  look_first p own words posted settled does look = grind arith
 
   leads_first : {ts : List Turn} {settled : W → ℕ} {posted : ℕ → List (Waiting W)} {busy : Option ℕ}
       → Leads B (plain_both plain) (waits_both waits) sb ts settled posted busy
@@ -100,11 +95,7 @@ module _ {W S X : Type 0} (c : Program W S) (plain : Plain S) (waits : Waits S) 
 
   apart_both : (p : ℕ) (own : S × X) (posted : ℕ → List (Waiting W)) (settled : W → ℕ) (does : Operation W)
       → IsApart c.same waits p own.0 posted settled does → IsApart c.same (waits_both waits) p own posted settled does
-  apart_both p own posted settled (Load w) apart = apart
-  apart_both p own posted settled (Store w v) apart = apart
-  apart_both p own posted settled (Locked w f) apart = apart
-  apart_both p own posted settled (Outside v) apart = tt
-  apart_both p own posted settled Stop apart = tt
+  apart_both p own posted settled does apart = grind arith
 
   pub orderly_both : (Holds : List Turn → Type 0)
       → IsOrderly c plain waits s Holds → IsOrderly B (plain_both plain) (waits_both waits) sb Holds
@@ -122,16 +113,14 @@ module _ {W S X : Type 0} (c : Program W S) (plain : Plain S) (waits : Waits S) 
 
   flag_first : (p : ℕ) (own : S × X) (plainly : Bool)
       → is_plain (plain_both plain) p own plainly ≡ is_plain plain p own.0 plainly
-  flag_first p own true = refl
-  flag_first p own false = refl
+  flag_first p own plainly = grind arith
 
   abbrev first_machine : Machine W (S × X) → Machine W S
   first_machine m = record { words = m.words; own = firsts m.own; buffer = m.buffer }
 
   drained_first : (m : Machine W (S × X)) (p : ℕ) (l : List (Waiting W))
       → first_machine (buffers.drained_by B m p l) ≡ buffers.drained_by c (first_machine m) p l
-  drained_first m p [] = refl
-  drained_first m p (e ∷ newer) = refl
+  drained_first m p l = grind arith
 
   moved_first : (m : Machine W (S × X)) (move : buffers.Move)
       → first_machine (buffers.moved B (plain_both plain) m move) ≡ buffers.moved c plain (first_machine m) move
@@ -179,13 +168,10 @@ module _ {W S X : Type 0} (c : Program W S) (plain : Plain S) (waits : Waits S) 
 
   crew_drained : (m : Crew W (S × X)) (t : ℕ) (l : List (Tagged W))
       → first_crew (driven.drained_by B m t l) ≡ driven.drained_by c (first_crew m) t l
-  crew_drained m t [] = refl
-  crew_drained m t (e ∷ newer) = refl
+  crew_drained m t l = grind arith
 
   crew_moved : (m : Crew W (S × X)) (move : Move)
       → first_crew (driven.moved B (plain_both plain) m move) ≡ driven.moved c plain (first_crew m) move
-  crew_moved m (TakesUp t p) = refl
-  crew_moved m (Leaves t) = refl
   crew_moved m (Acts t turn plainly) =
       let p : ℕ = turn.thread in
       let does : Operation W = c.next p (m.own p).0 in
@@ -197,6 +183,7 @@ module _ {W S X : Type 0} (c : Program W S) (plain : Plain S) (waits : Waits S) 
         drives = m.drives;
       }
   crew_moved m (Drains t) = crew_drained m t (m.buffer t)
+  crew_moved m _ = refl
 
   pub crew_first : (moves : List Move)
       → first_crew (driven.reached B (plain_both plain) sb moves) ≡ driven.reached c plain s moves
@@ -228,8 +215,6 @@ module _ {W S X : Type 0} (c : Program W S) (plain : Plain S) (waits : Waits S) 
 
   pub done_first : (moves : List Move) → done B (plain_both plain) sb moves ≡ done c plain s moves
   done_first [] = refl
-  done_first (TakesUp t p ∷ earlier) = done_first earlier
-  done_first (Leaves t ∷ earlier) = done_first earlier
   done_first (Acts t turn plainly ∷ earlier) =
       let p : ℕ = turn.thread in
       let m : Crew W (S × X) = driven.reached B (plain_both plain) sb earlier in
@@ -246,25 +231,21 @@ module _ {W S X : Type 0} (c : Program W S) (plain : Plain S) (waits : Waits S) 
       ap (λ (z : Crew W S). drains_with (z.buffer t) ++ done B (plain_both plain) sb earlier) (crew_first earlier)
       ∙ ap (λ (l : List (Effect W)). drains_with ((driven.reached c plain s earlier).buffer t) ++ l)
       (done_first earlier)
+  done_first (_ ∷ earlier) = done_first earlier
 
   pub by_passes_first : (moves : List Move) → by_passes B (plain_both plain) sb moves ≡ by_passes c plain s moves
   by_passes_first [] = refl
-  by_passes_first (TakesUp t p ∷ earlier) = by_passes_first earlier
-  by_passes_first (Leaves t ∷ earlier) = by_passes_first earlier
   by_passes_first (Acts t turn plainly ∷ earlier) =
       ap (λ (l : List buffers.Move). buffers.Acts turn plainly ∷ l) (by_passes_first earlier)
   by_passes_first (Drains t ∷ earlier) =
       ap (λ (z : Crew W S). drains_of (z.buffer t) (by_passes B (plain_both plain) sb earlier)) (crew_first earlier)
       ∙ ap (λ (l : List buffers.Move). drains_of ((driven.reached c plain s earlier).buffer t) l)
       (by_passes_first earlier)
+  by_passes_first (_ ∷ earlier) = by_passes_first earlier
 
   stays_both : (p : ℕ) (own : S × X) (does : Operation W)
       → StaysFresh c fresh p own.0 does → StaysFresh B (fresh_both fresh) p own does
-  stays_both p own (Load w) stays = stays
-  stays_both p own (Store w v) stays = stays
-  stays_both p own (Outside v) stays = stays
-  stays_both p own (Locked w f) stays = tt
-  stays_both p own Stop stays = tt
+  stays_both p own does stays = grind arith
 
   pub fresh_stays : AreFresh c fresh → AreFresh B (fresh_both fresh)
   fresh_stays are p own it = stays_both p own (c.next p own.0) (are p own.0 it)

@@ -1,6 +1,6 @@
 -- A run with store buffers is a run of atomic steps in which a plain store has its turn when it leaves the buffer. There a
 -- thread is behind by just the stores that wait: since it looks at nothing while one waits, that makes no difference to it.
-use Rattle.std.proofs.Common.{◌≡◌, ℕ, Bool, true, false, cond, ◌==◌, refl, ap, sym, ◌∙◌, subst, List, [], ◌∷◌, ◌++◌}
+use Rattle.std.proofs.Common.{◌≡◌, ℕ, Bool, true, false, cond, ◌==◌, refl, ap, sym, ◌∙◌, subst, List, [], ◌∷◌, ◌++◌, arith}
 use Rattle.std.proofs.lemmas.Bool.{eqb-true}
 use Rattle.cc_x86.specs.Program.{Operation, Load, Store, Locked, Outside, Stop, Program, State, Effect, Turn, hold, put, found, written}
 use Rattle.cc_x86.specs.Sequential as sequential
@@ -40,8 +40,7 @@ module _ {W S : Type 0} (c : Program W S) (plain : Plain S) where
 
   -- a store that is plain is one that may be
   pub may_be : (p : ℕ) (own : S) (plainly : Bool) → is_plain plain p own plainly ≡ true → plain p own ≡ true
-  may_be p own true e = e
-  may_be p own false e = absurd (cc)
+  may_be p own plainly e = grind arith
 
   module _ (s : State W S) where
     record Tied (m : Machine W S) (ts : List Turn) (es : List (Effect W)) : Type 0 where
@@ -147,8 +146,7 @@ most_at {W} c p own (Store w v) Stop is = subst (λ (o : Operation W). LooksAtNo
 most_at c p own _ after is = tt
 
 none_at : {W S : Type 0} (c : Program W S) (p : ℕ) (own : S) (does : Operation W) → IsFencedAt c p own does false
-none_at c p own (Store w v) = tt
-none_at c p own _ = tt
+none_at c p own does = grind arith
 
 pub most_are_fenced : (W S : Type 0) → MostAreFenced W S
 most_are_fenced W S c = (λ p own. most_at c p own (c.next p own) (c.next p (c.after p own 0)) refl, λ p own. none_at c p own (c.next p own))

@@ -1,10 +1,11 @@
 -- Threads that drive several passes make a run in which each pass has a buffer of its own: its stores among those of the one thread
 -- that has any.
-use Rattle.std.proofs.Common.{◌≡◌, ◌≢◌, ◌⊎◌, inl, inr, ℕ, Bool, true, false, cond, ◌==◌, refl, ap, sym, ◌∙◌, subst, ⊎_elim, List, [], ◌∷◌, ◌++◌, append-nil, Some, None}
+use Rattle.std.proofs.Common.{◌≡◌, ◌≢◌, ◌⊎◌, inl, inr, ℕ, Bool, true, false, cond, ◌==◌, refl, ap, sym, ◌∙◌, subst, ⊎_elim, List, [], ◌∷◌, ◌++◌, append-nil, Some, None, arith}
+use Rattle.std.proofs.lemmas.Option.{none-some, same_Some}
 use Rattle.std.proofs.lemmas.Bool.{eqb-true, eqb-false, eq-eqb, ne_eqb}
-use Rattle.cc_x86.specs.Program.{Operation, Load, Store, Locked, Outside, Stop, Program, State, Effect, Turn, hold, put}
+use Rattle.cc_x86.specs.Program.{Operation, Store, Locked, Outside, Program, State, Effect, Turn, hold, put}
 use Rattle.cc_x86.specs.Buffered as buffers
-use Rattle.cc_x86.specs.Buffered.{Plain, is_plain, Waiting, Machine, seen, found_behind, at_once, buffered, acts_with, MayAct, arrived, shown, IsBufferedRun}
+use Rattle.cc_x86.specs.Buffered.{Plain, is_plain, Waiting, Machine, found_behind, at_once, buffered, acts_with, MayAct, arrived, shown, IsBufferedRun}
 use Rattle.cc_x86.specs.Driven.{Tagged, Crew, Move, TakesUp, Leaves, Acts, Drains, stores, tagged, waits_more, acted_by, drained_by, reached, of_pass, Fresh, StaysFresh, AreFresh, MayTakeUp, MayDrain, IsDrivenRun, drains_of, by_passes, drains_with, done, DrivenRunsAreByPasses}
 use Rattle.cc_x86.proofs.Stores.{by_bool, at_hold', held}
 
@@ -51,17 +52,7 @@ module _ {W : Type 0} where
 
   buffered_more : (waiting : List (Waiting W)) (p : ℕ) (does : Operation W) (flag : Bool) → buffered waiting does flag ≡ waiting ++ waits_more p does flag
   buffered_more waiting p (Store w v) true = refl
-  buffered_more waiting p (Store w v) false = sym (append-nil waiting)
-  buffered_more waiting p (Load w) flag = sym (append-nil waiting)
-  buffered_more waiting p (Locked w f) flag = sym (append-nil waiting)
-  buffered_more waiting p (Outside v) flag = sym (append-nil waiting)
-  buffered_more waiting p Stop flag = sym (append-nil waiting)
-
-same_thread : (p q : ℕ) → Some p ≡ Some q → p ≡ q
-same_thread p q e = cc
-
-none_some : (p : ℕ) → None ≡ Some p → ⊥
-none_some p e = cc
+  buffered_more waiting p _ _ = sym (append-nil waiting)
 
 either : (p q : ℕ) (P : Type 0) → (p ≡ q → P) → (p ≢ q → P) → P
 either p q P here there = by_bool P (p == q) (λ it. here (eqb-true p q it)) (λ it. there (eqb-false p q it))
@@ -104,21 +95,11 @@ module _ {W S : Type 0} (c : Program W S) (plain : Plain S) (fresh : Fresh S) (s
       where
         by_op : (o : Operation W) (f : Bool) → MayAct (stores (m.buffer t)) o f → MayAct (b.buffer p) o f
         by_op (Store w v) false e = empty_same e
-        by_op (Store w v) true e = tt
         by_op (Locked w g) f e = empty_same e
-        by_op Stop f e = e
-        by_op (Load w) f e = tt
-        by_op (Outside v) f e = tt
+        by_op o f e = grind arith
 
     found_same : (o : Operation W) → c.next p (m.own p) ≡ o → found_behind c.same b.words (b.buffer p) o told ≡ found_behind c.same m.words (stores (m.buffer t)) o told
-    found_same (Load w) is = ⊎_elim
-        (λ (f : fresh p (m.own p) ≡ true). absurd (subst (λ (o : Operation W). StaysFresh c fresh p (m.own p) o) is (are_fresh p (m.own p) f)))
-        (λ (a : AllOf p (m.buffer t)). ap (λ (ws : W → ℕ). seen c.same (b.buffer p) w (ws w)) k.words ∙ ap (λ (l : List (Waiting W)). seen c.same l w (m.words w)) (its_home.1 ∙ all_of p (m.buffer t) a))
-        (k.driven t p drives).1
-    found_same (Store w v) is = refl
-    found_same (Locked w g) is = ap (λ (ws : W → ℕ). ws w) k.words
-    found_same (Outside v) is = refl
-    found_same Stop is = refl
+    found_same o is = grind (arith, ⊎_elim, k.words, its_home.1, all_of, (k.driven t p drives).1)
 
     abbrev finds : ℕ
     finds = found_behind c.same m.words (stores (m.buffer t)) does told
@@ -167,11 +148,9 @@ module _ {W S : Type 0} (c : Program W S) (plain : Plain S) (fresh : Fresh S) (s
       where
         by_op : (o : Operation W) → StaysFresh c fresh p (m.own p) o → MayAct (stores (m.buffer t)) o flag
             → (fresh p (c.after p (m.own p) (found_behind c.same m.words (stores (m.buffer t)) o told)) ≡ true) ⊎ AllOf p (m.buffer t ++ tagged p (waits_more p o flag))
-        by_op (Load w) stays may = absurd stays
-        by_op (Store w v) stays may = inl stays
         by_op (Outside v) stays may = inl (stays told)
         by_op (Locked w g) stays may = inr (subst (λ (l : List (Tagged W)). AllOf p (l ++ [])) (sym (no_stores (m.buffer t) may)) tt)
-        by_op Stop stays may = absurd may
+        by_op o stays may = grind arith
 
     acts_keep : MayAct (stores (m.buffer t)) does flag → Tie m' b'
     acts_keep may = record {
@@ -184,7 +163,7 @@ module _ {W S : Type 0} (c : Program W S) (plain : Plain S) (fresh : Fresh S) (s
           (λ it. let here : t ≡ u = k.one t u p drives (its ∙ ap (λ (z : ℕ). Some z) (sym it)) in
           subst (λ (z : ℕ). Home m' b' z u × ((fresh z (m'.own z) ≡ true) ⊎ AllOf z (m'.buffer u))) it
           (subst (λ (v : ℕ). Home m' b' p v × ((fresh p (m'.own p) ≡ true) ⊎ AllOf p (m'.buffer v))) here (home_own, own_ready)))
-          (λ other. let apart : u ≢ t = λ it. other (same_thread p q (sym drives ∙ ap m.drives (sym it) ∙ its)) in
+          (λ other. let apart : u ≢ t = λ it. other (same_Some p q (sym drives ∙ ap m.drives (sym it) ∙ its)) in
           let before = k.driven u q its in
           (home_other q u other before.0, ⊎_elim (λ (f : fresh q (m.own q) ≡ true). inl (ap (fresh q) (away m.own p q (c.after p (m.own p) finds) (λ it. other (sym it))) ∙ f)) (λ (a : AllOf q (m.buffer u)). inr (subst (AllOf q) (sym (buffer_there u apart)) a)) before.1));
       one = k.one;
@@ -268,7 +247,7 @@ module _ {W S : Type 0} (c : Program W S) (plain : Plain S) (fresh : Fresh S) (s
     own = k.own;
     home = k.home;
     driven = λ u q its. either u t (Home m b q u × ((fresh q (m.own q) ≡ true) ⊎ AllOf q (m.buffer u)))
-        (λ it. let same_pass : p ≡ q = same_thread p q (sym (held m.drives t (Some p)) ∙ ap (hold m.drives t (Some p)) (sym it) ∙ its) in
+        (λ it. let same_pass : p ≡ q = same_Some p q (sym (held m.drives t (Some p)) ∙ ap (hold m.drives t (Some p)) (sym it) ∙ its) in
         subst (λ (v : ℕ). Home m b q v × ((fresh q (m.own q) ≡ true) ⊎ AllOf q (m.buffer v))) (sym it)
         (subst (λ (z : ℕ). Home m b z t × ((fresh z (m.own z) ≡ true) ⊎ AllOf z (m.buffer t))) same_pass (home_now, ready)))
         (λ other. k.driven u q (sym (away m.drives t u (Some p) other) ∙ its));
@@ -299,7 +278,7 @@ module _ {W S : Type 0} (c : Program W S) (plain : Plain S) (fresh : Fresh S) (s
     where
       kept : (u q : ℕ) → hold m.drives t None u ≡ Some q → m.drives u ≡ Some q
       kept u q its = either u t (m.drives u ≡ Some q)
-          (λ it. absurd (none_some q (sym (held m.drives t None) ∙ ap (hold m.drives t None) (sym it) ∙ its)))
+          (λ it. absurd (none-some q (sym (held m.drives t None) ∙ ap (hold m.drives t None) (sym it) ∙ its)))
           (λ other. sym (away m.drives t u None other) ∙ its)
 
   -- ---- a run
@@ -348,7 +327,7 @@ module _ {W S : Type 0} (c : Program W S) (plain : Plain S) (fresh : Fresh S) (s
   follow [] run = record {
     run = tt;
     effects = refl;
-    tie = record { words = refl; own = refl; home = λ p. (0, (λ u other. refl, refl)); driven = λ t p its. absurd (none_some p its); one = λ t u p a d. absurd (none_some p a) };
+    tie = record { words = refl; own = refl; home = λ p. (0, (λ u other. refl, refl)); driven = λ t p its. absurd (none-some p its); one = λ t u p a d. absurd (none-some p a) };
   }
   follow (TakesUp t p ∷ earlier) run = let k : So earlier = follow earlier run.0 in
       record { run = k.run; effects = k.effects; tie = takes_up (reached c plain s earlier) (arrived c plain s (by_passes c plain s earlier)) k.tie t p run.1 }

@@ -1,6 +1,6 @@
 -- A front of a run with store buffers leads to a front of the run of atomic steps.
-use Rattle.std.proofs.Common.{◌≡◌, ℕ, Bool, true, false, refl, ap, sym, ◌∙◌, List, [], ◌∷◌, ◌++◌, append_assoc}
-use Rattle.cc_x86.specs.Program.{Operation, Load, Store, Locked, Outside, Stop, Program, Turn}
+use Rattle.std.proofs.Common.{◌≡◌, ℕ, Bool, true, refl, ap, sym, ◌∙◌, List, [], ◌∷◌, ◌++◌, append_assoc}
+use Rattle.cc_x86.specs.Program.{Operation, Store, Program, Turn}
 use Rattle.cc_x86.specs.Program as threads
 use Rattle.cc_x86.specs.Sequential as atomic
 use Rattle.cc_x86.specs.Buffered as buffers
@@ -14,11 +14,7 @@ use Rattle.cc_x86.proofs.Threads.{runs_are_those_of_atomic_steps}
 
 turn_adds : {W : Type 0} (t : Turn) (does : Operation W) (flag : Bool) (earlier : List Turn) → (now : List Turn) × (turn_of t does flag earlier ≡ now ++ earlier)
 turn_adds t (Store w v) true earlier = ([], refl)
-turn_adds t (Store w v) false earlier = (t ∷ [], refl)
-turn_adds t (Load w) flag earlier = (t ∷ [], refl)
-turn_adds t (Locked w f) flag earlier = (t ∷ [], refl)
-turn_adds t (Outside v) flag earlier = (t ∷ [], refl)
-turn_adds t Stop flag earlier = (t ∷ [], refl)
+turn_adds t _ _ earlier = (t ∷ [], refl)
 
 turns_add : {W S : Type 0} (c : Program W S) (plain : Plain S) (s : threads.State W S) (later seen : List buffers.Move)
     → (now : List Turn) × (turns c plain s (later ++ seen) ≡ now ++ turns c plain s seen)

@@ -3,7 +3,7 @@ use Rattle.std.proofs.Common.{◌≡◌, ℕ, zero, suc, ◌<◌, Bool, true, fa
 use Rattle.std.proofs.lemmas.Bool.{ne_eqb}
 use Rattle.cc_x86.specs.Program.{State, Turn, hold, found, written}
 use Rattle.cc_x86.specs.Sequential as sequential
-use Rattle.cc_x86.specs.Sequential.{reached, IsRun, stepped_by}
+use Rattle.cc_x86.specs.Sequential.{reached, IsRun}
 use Rattle.cc_x86.specs.Buffered.{Waiting, Machine, Move, Acts, Drains, is_plain, buffered, acted_by, drained_by, arrived}
 use Rattle.cc_x86.specs.Fenced.{IsFencedAt, turns}
 use Rattle.cc_x86.specs.Litmus.{next_of, after_of, crossing, begin, all_plain, StoreBuffering, tells, heard, passing, MessagePassing}
@@ -18,11 +18,10 @@ abbrev left : Bool → Bool → List (Waiting ℕ)
 left a b = cond b [] (cond a [] (cond b (record { word = 1; value = 1 } ∷ []) (cond a (record { word = 0; value = 1 } ∷ []) (cond b (record { word = 1; value = 1 } ∷ []) (cond a (record { word = 0; value = 1 } ∷ []) [])))))
 
 none_left : (p : ℕ) → (arrived crossing all_plain begin both).buffer p ≡ []
-none_left zero = refl
-none_left (suc zero) = refl
 none_left (suc (suc p)) =
     ap (λ (a : Bool). left a (1 == suc (suc p))) (ne_eqb 0 (suc (suc p)) (λ e. absurd (omega arith)))
     ∙ ap (λ (b : Bool). left false b) (ne_eqb 1 (suc (suc p)) (λ e. absurd (omega arith)))
+none_left _ = refl
 
 -- who has written finds that its word is written
 record Kept (s : State ℕ ℕ) : Type 0 where
@@ -44,9 +43,7 @@ keeps_by s k (suc zero) (suc zero) told is acts = record {
   second = λ h. k.second (omega (arith, is));
   not_both = λ e f. let w : s.words 0 ≡ 1 = k.first (omega (arith, e)) in absurd (omega (arith, w, f));
 }
-keeps_by s k zero (suc (suc own)) told is acts = absurd acts
-keeps_by s k (suc zero) (suc (suc own)) told is acts = absurd acts
-keeps_by s k (suc (suc p)) own told is acts = absurd acts
+keeps_by s k p own told is acts = grind arith
 
 keeps : (ts : List Turn) → IsRun crossing begin ts → Kept (reached crossing begin ts)
 keeps [] run = record { first = λ h. absurd (omega arith); second = λ h. absurd (omega arith); not_both = λ e f. absurd (omega arith) }
@@ -62,20 +59,16 @@ store_buffering = record {
 -- ---- message passing
 
 told_of_it : (x : ℕ) → heard 1 0 x ≡ 2 → 0 < x
-told_of_it zero e = absurd (omega (arith, e))
-told_of_it (suc x) e = omega arith
+told_of_it x e = grind arith
 
 has_read_once : (x : ℕ) → heard 1 0 x ≡ 4 → ⊥
-has_read_once zero e = omega (arith, e)
-has_read_once (suc x) e = omega (arith, e)
+has_read_once x e = grind arith
 
 misses_it : (x : ℕ) → heard 1 2 x ≡ 4 → 0 < x → ⊥
-misses_it zero e h = omega (arith, h)
-misses_it (suc x) e h = omega (arith, e)
+misses_it x e h = grind arith
 
 has_read_twice : (x : ℕ) → heard 1 2 x ≡ 2 → ⊥
-has_read_twice zero e = omega (arith, e)
-has_read_twice (suc x) e = omega (arith, e)
+has_read_twice x e = grind arith
 
 -- the word 0 is written first
 record Told (s : State ℕ ℕ) : Type 0 where
@@ -111,9 +104,7 @@ tells_by s k (suc zero) (suc (suc zero)) told is acts = record {
   heard_of_it = λ e. absurd (has_read_twice (s.words 0) e);
   not_missed = λ e. misses_it (s.words 0) e (k.heard_of_it is);
 }
-tells_by s k zero (suc (suc own)) told is acts = absurd acts
-tells_by s k (suc zero) (suc (suc (suc own))) told is acts = absurd acts
-tells_by s k (suc (suc p)) own told is acts = absurd acts
+tells_by s k p own told is acts = grind arith
 
 all_told : (ts : List Turn) → IsRun passing begin ts → Told (reached passing begin ts)
 all_told [] run = record { first = λ h. absurd (omega (arith, h)); second = λ h. absurd (omega (arith, h)); heard_of_it = λ e. absurd (omega (arith, e)); not_missed = λ e. omega (arith, e) }
@@ -121,10 +112,7 @@ all_told (t ∷ earlier) run = tells_by (reached passing begin earlier) (all_tol
 
 -- thread 1 writes nothing
 quiet : (own : ℕ) (flag : Bool) (waiting : List (Waiting ℕ)) → waiting ≡ [] → buffered waiting (tells 1 own) flag ≡ []
-quiet zero flag waiting e = e
-quiet (suc zero) flag waiting e = e
-quiet (suc (suc zero)) flag waiting e = e
-quiet (suc (suc (suc own))) flag waiting e = e
+quiet own flag waiting e = grind arith
 
 acts_quietly : (m : Machine ℕ ℕ) (p told : ℕ) (flag : Bool) → m.buffer 1 ≡ [] → (acted_by passing m p told (tells p (m.own p)) flag).buffer 1 ≡ []
 acts_quietly m p told flag e =
@@ -145,14 +133,7 @@ none_of_1 (Acts t plainly ∷ earlier) = acts_quietly (arrived passing all_plain
 none_of_1 (Drains p ∷ earlier) = drains_quietly (arrived passing all_plain begin earlier) p ((arrived passing all_plain begin earlier).buffer p) refl (none_of_1 earlier)
 
 fenced_at : (p own : ℕ) → IsFencedAt passing p own (tells p own) true
-fenced_at zero zero = tt
-fenced_at zero (suc zero) = tt
-fenced_at zero (suc (suc own)) = tt
-fenced_at (suc zero) zero = tt
-fenced_at (suc zero) (suc zero) = tt
-fenced_at (suc zero) (suc (suc zero)) = tt
-fenced_at (suc zero) (suc (suc (suc own))) = tt
-fenced_at (suc (suc p)) own = tt
+fenced_at p own = grind arith
 
 pub message_passing : MessagePassing
 message_passing moves run missed =

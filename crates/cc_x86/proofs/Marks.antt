@@ -1,16 +1,12 @@
 -- The small run in which a take misses an item: each of its moves is looked at in turn.
-use Rattle.std.proofs.Common.{◌≡◌, ℕ, zero, suc, Bool, true, false, ◌&&◌, refl, List, [], ◌∷◌}
+use Rattle.std.proofs.Common.{◌≡◌, ℕ, zero, suc, Bool, true, false, ◌&&◌, refl, List, [], ◌∷◌, arith}
+use Rattle.std.proofs.lemmas.Bool.{and_parts}
 use Rattle.cc_x86.specs.Program.{Operation, Load, Store, Locked, Outside, Stop, Program, State}
 use Rattle.cc_x86.specs.Buffered.{Plain, is_plain, Waiting, Machine, Move, Acts, Drains, arrived, MayAct, MayDrain, May, IsBufferedRun}
 use Rattle.cc_runs.specs.SmallWaits.{small_list}
 use Rattle.cc_x86.specs.Threads.{opened}
 use Rattle.cc_x86.specs.Early.{early}
 use Rattle.cc_x86.specs.Marks.{marks_too, small, steps, drains, acts, before_mark, sent, returned, taken, MarksOfSendsAreNeeded}
-
-both : (a b : Bool) → (a && b) ≡ true → (a ≡ true) × (b ≡ true)
-both true true e = (refl, refl)
-both true false e = absurd (cc)
-both false b e = absurd (cc)
 
 module _ {W : Type 0} where
   -- ---- a move that can be made
@@ -20,12 +16,10 @@ module _ {W : Type 0} where
   none_waits (e ∷ newer) = false
 
   none_is : (waiting : List (Waiting W)) → none_waits waiting ≡ true → waiting ≡ []
-  none_is [] is = refl
-  none_is (e ∷ newer) is = absurd (cc)
+  none_is waiting is = grind arith
 
   some_is : (waiting : List (Waiting W)) → none_waits waiting ≡ false → waiting ≡ [] → ⊥
-  some_is [] some is = cc
-  some_is (e ∷ newer) some is = cc
+  some_is waiting some is = grind arith
 
   abbrev can_act : List (Waiting W) → Operation W → Bool → Bool
   can_act waiting (Store w v) false = none_waits waiting
@@ -37,19 +31,15 @@ module _ {W : Type 0} where
 
   acts_so : (waiting : List (Waiting W)) (does : Operation W) (flag : Bool) → can_act waiting does flag ≡ true → MayAct waiting does flag
   acts_so waiting (Store w v) false is = none_is waiting is
-  acts_so waiting (Store w v) true is = tt
   acts_so waiting (Locked w f) flag is = none_is waiting is
-  acts_so waiting (Load w) flag is = tt
-  acts_so waiting (Outside v) flag is = tt
-  acts_so waiting Stop flag is = absurd (cc)
+  acts_so waiting does flag is = grind arith
 
   abbrev can_drain : List (Waiting W) → Bool
   can_drain [] = false
   can_drain (e ∷ newer) = true
 
   drains_so : (waiting : List (Waiting W)) → can_drain waiting ≡ true → MayDrain waiting
-  drains_so [] is = absurd (cc)
-  drains_so (e ∷ newer) is = tt
+  drains_so waiting is = grind arith
 
   module _ {S : Type 0} (c : Program W S) (plain : Plain S) (s : State W S) where
     abbrev can : Machine W S → Move → Bool
@@ -69,7 +59,7 @@ module _ {W : Type 0} where
     is_run : (moves : List Move) → all_can moves ≡ true → IsBufferedRun c plain s moves
     is_run [] is = tt
     is_run (m ∷ earlier) is =
-        let one = both (can (arrived c plain s earlier) m) (all_can earlier) is in
+        let one = and_parts (can (arrived c plain s earlier) m) (all_can earlier) is in
         (is_run earlier one.1, may_so (arrived c plain s earlier) m one.0)
 
     steps_before : (p n : ℕ) (earlier : List Move) → IsBufferedRun c plain s (steps p n earlier) → IsBufferedRun c plain s earlier

@@ -1,14 +1,14 @@
 -- The law of posted stores: each move keeps the tie to the run of atomic steps. A thread does there the stores that wait when it looks,
 -- or, if it hasn't looked, when they leave its buffer; a load that waits has no turn.
 use Rattle.std.proofs.Common.{◌≡◌, ℕ, length, Bool, true, false, cond, ◌==◌, refl, ap, sym, ◌∙◌, subst, List, [], ◌∷◌, ◌++◌, append_assoc, append-nil, None}
-use Rattle.std.proofs.lemmas.Bool.{eqb-true}
+use Rattle.std.proofs.lemmas.Bool.{eqb-true, eqb-false}
 use Rattle.cc_x86.specs.Program.{Operation, Load, Store, Locked, Outside, Stop, Program, State, Effect, Turn, hold, put, found, written}
 use Rattle.cc_x86.specs.Sequential as sequential
-use Rattle.cc_x86.specs.Sequential.{stepped_by, reached, effects, IsRun}
+use Rattle.cc_x86.specs.Sequential.{stepped_by, reached, effects}
 use Rattle.cc_x86.specs.Buffered.{Plain, is_plain, Waiting, Machine, Move, Acts, Drains, seen, found_behind, acted_by, drained_by, arrived, acts_with, drains_with, shown, MayAct, MayDrain, IsBufferedRun}
 use Rattle.cc_x86.specs.Posted.{Waits, AreWaiting, IsLook, IsWrite, Opens, Looks, Writes, Settles, has, Alone, AloneAt, IsOrderly, Order, doing, looks_in, acts_in, but_first, drains_in, order, outsides, IsFromStore, IsAlike, PostedStoresAreNotSeen}
 use Rattle.cc_x86.proofs.Buffers.{at_hold, Behind, one_more, may_be}
-use Rattle.cc_x86.proofs.Stores.{first_false, second_false, by_bool, has_front, unseen, front_none, at_hold', differ, longer, held}
+use Rattle.cc_x86.proofs.Stores.{first_false, second_false, by_bool, has_front, unseen, front_none, at_hold', longer, held}
 use Rattle.cc_x86.proofs.Tied.{HoldsBefore, Tied, Committed, one_turn, words_at, commit, holds_before, apart}
 
 module _ {W S : Type 0} (c : Program W S) (plain : Plain S) (waits : Waits S) (s : State W S) where
@@ -256,7 +256,7 @@ module _ {W S : Type 0} (c : Program W S) (plain : Plain S) (waits : Waits S) (s
     drains_by p e newer [] true is splits all holds =
         subst (λ (l : List (Waiting W)). After (drained_by c m p (e ∷ newer)) record { turns = record { thread = p; told = 0 } ∷ ts; late = hold B p l } (drains_with p (e ∷ newer) ++ es)) (sym (ap but_first splits))
         (done_now p e newer is splits (before record { thread = p; told = 0 } ts holds))
-    drains_by p e newer [] false is splits all holds = absurd (differ (length (e ∷ newer)) (length (B p)) all (ap length (sym splits)))
+    drains_by p e newer [] false is splits all holds = absurd (eqb-false (length (e ∷ newer)) (length (B p)) all (ap length (sym splits)))
     drains_by p e newer (d ∷ older) false is splits all holds = settles p e newer older (is ∙ ap (λ (z : Waiting W). z ∷ older) (ap (first d) splits)) (ap but_first splits)
     drains_by p e newer (d ∷ older) true is splits all holds =
         absurd (longer older (B p) (sym (eqb-true (length (e ∷ newer)) (length (B p)) all) ∙ ap length (sym splits)))
@@ -292,9 +292,7 @@ module _ {W S : Type 0} (c : Program W S) (plain : Plain S) (waits : Waits S) (s
     acted_before o t (Load w) f false holds = holds_before c plain waits s Holds before t.thread (o.late t.thread) o.turns (before t (doing t.thread (o.late t.thread) o.turns) holds)
     acted_before o t (Outside v) f b holds = holds_before c plain waits s Holds before t.thread (o.late t.thread) o.turns (before t (doing t.thread (o.late t.thread) o.turns) holds)
     acted_before o t (Store w v) true b holds = holds
-    acted_before o t (Store w v) false b holds = before t o.turns holds
-    acted_before o t (Locked w g) f b holds = before t o.turns holds
-    acted_before o t Stop f b holds = before t o.turns holds
+    acted_before o t _ _ b holds = before t o.turns holds
 
     drained_before : (o : Order W) (p : ℕ) (l : List (Waiting W)) (b : Bool) → Holds (cond b (record { turns = record { thread = p; told = 0 } ∷ o.turns; late = hold o.late p l }) o).turns → Holds o.turns
     drained_before o p l true holds = before record { thread = p; told = 0 } o.turns holds
@@ -350,9 +348,7 @@ acts_add o t (Load w) flag true = ([], refl)
 acts_add o t (Load w) flag false = look_adds o t
 acts_add o t (Outside v) flag it_waits = look_adds o t
 acts_add o t (Store w v) true it_waits = ([], refl)
-acts_add o t (Store w v) false it_waits = (t ∷ [], refl)
-acts_add o t (Locked w g) flag it_waits = (t ∷ [], refl)
-acts_add o t Stop flag it_waits = (t ∷ [], refl)
+acts_add o t _ _ it_waits = (t ∷ [], refl)
 
 drain_adds : {W : Type 0} (o : Order W) (p : ℕ) (l : List (Waiting W)) (b : Bool)
     → (now : List Turn) × ((cond b (record { turns = record { thread = p; told = 0 } ∷ o.turns; late = hold o.late p l }) o).turns ≡ now ++ o.turns)

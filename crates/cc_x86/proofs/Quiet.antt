@@ -1,6 +1,7 @@
 -- Fenced stores are posted for their own thread alone: the finer discipline allows all that the coarser one allows.
-use Rattle.std.proofs.Common.{◌≡◌, ℕ, Bool, true, cond, refl, ap, sym, ◌∙◌, subst, List, [], ◌∷◌, ◌++◌, Option, Some, None, ◌⊎◌, inl, inr, ⊎_elim}
-use Rattle.cc_x86.specs.Program.{Operation, Load, Store, Locked, Outside, Stop, Program, State, Turn, found}
+use Rattle.std.proofs.Common.{◌≡◌, ℕ, Bool, true, cond, refl, ap, sym, ◌∙◌, subst, List, [], ◌∷◌, ◌++◌, Option, Some, None, ◌⊎◌, inl, inr, ⊎_elim, arith}
+use Rattle.std.proofs.lemmas.Option.{none-some}
+use Rattle.cc_x86.specs.Program.{Operation, Store, Program, State, Turn, found}
 use Rattle.cc_x86.specs.Sequential.{reached}
 use Rattle.cc_x86.specs.Buffered.{Plain, Waiting}
 use Rattle.cc_x86.specs.Posted.{Waits, IsLook, IsFor, Leads, Opens, Posts, Looks, Writes, Settles, has, Alone, IsApart, FencedStoresAreOrderly}
@@ -17,9 +18,7 @@ module _ {W S : Type 0} (c : Program W S) (plain : Plain S) (waits : Waits S) (s
   its_own (Some r) p q its e = let same_thread : r ≡ q = cc in sym same_thread ∙ its
 
   no_look : (p : ℕ) (own : S) (words : W → ℕ) (posted : List (Waiting W)) (settled : W → ℕ) (does : Operation W) → IsLook c.same waits p own words posted settled does → LooksAtNothing does → ⊥
-  no_look p own words posted settled (Load w) look blind = blind
-  no_look p own words posted settled (Outside v) look blind = blind
-  no_look p own words posted settled _ look blind = look
+  no_look p own words posted settled does look blind = grind arith
 
   then_blind : (p : ℕ) (own : S) (w : W) (v : ℕ) → c.next p own ≡ Store w v → plain p own ≡ true → (words : W → ℕ) → LooksAtNothing (c.next p (c.after p own (found words (c.next p own) 0)))
   then_blind p own w v is its_plain words =
@@ -46,24 +45,17 @@ module _ {W S : Type 0} (c : Program W S) (plain : Plain S) (waits : Waits S) (s
         blind = λ q e. absurd (cc);
       }
   quiet (Writes {ts} {settled} {posted} p told does l is write none) = record { none = (quiet l).none; blind = λ q e. absurd (cc) }
-  quiet (Settles {ts} {settled} {posted} p e newer l is) = absurd (⊎_elim (λ (empty : posted p ≡ []). some e newer (sym is ∙ empty)) (λ (its : None ≡ Some p). no_thread p its) ((quiet l).none p))
+  quiet (Settles {ts} {settled} {posted} p e newer l is) = absurd (⊎_elim (λ (empty : posted p ≡ []). some e newer (sym is ∙ empty)) (λ (its : None ≡ Some p). none-some p its) ((quiet l).none p))
     where
       some : (e : Waiting W) (newer : List (Waiting W)) → e ∷ newer ≡ [] → ⊥
       some e newer same = cc
-
-      no_thread : (p : ℕ) → None ≡ Some p → ⊥
-      no_thread p same = cc
 
   alone_then : {ts : List Turn} {settled : W → ℕ} {posted : ℕ → List (Waiting W)} {busy : Option ℕ} → Leads c plain waits s ts settled posted busy → (p : ℕ) → IsFor busy p → (w : W) → Alone c.same posted p w
   alone_then {posted = posted} {busy = busy} l p its w q other =
       ⊎_elim (λ (e : posted q ≡ []). ap (λ (d : List (Waiting W)). has c.same d w) e) (λ (e : busy ≡ Some q). absurd (other (its_own busy p q its e))) ((quiet l).none q)
 
   apart_then : (p : ℕ) (own : S) (posted : ℕ → List (Waiting W)) (settled : W → ℕ) (does : Operation W) → ((w : W) → Alone c.same posted p w) → IsApart c.same waits p own posted settled does
-  apart_then p own posted settled (Load w) alone = λ looks. alone w
-  apart_then p own posted settled (Store w v) alone = λ x same. alone x
-  apart_then p own posted settled (Locked w f) alone = (alone w, λ x same. alone x)
-  apart_then p own posted settled (Outside v) alone = tt
-  apart_then p own posted settled Stop alone = tt
+  apart_then p own posted settled does alone = grind arith
 
 pub fenced_stores_are_orderly : (W S : Type 0) → FencedStoresAreOrderly W S
 fenced_stores_are_orderly W S c plain waits s fenced ts settled posted busy l holds p its =

@@ -1,5 +1,5 @@
 -- Lists of stores that wait, tests, and states by thread.
-use Rattle.std.proofs.Common.{◌≡◌, ◌≢◌, ℕ, suc, length, Bool, true, false, cond, ◌==◌, refl, ap, sym, ◌∙◌, List, [], ◌∷◌, ◌++◌, arith}
+use Rattle.std.proofs.Common.{◌≡◌, ◌≢◌, ℕ, suc, length, Bool, true, false, cond, ◌==◌, refl, ap, sym, List, [], ◌∷◌, ◌++◌, arith}
 use Rattle.std.proofs.lemmas.Bool.{eqb-true, eqb-false, eq-eqb}
 use Rattle.std.proofs.lemmas.List.{length-append}
 use Rattle.cc_x86.specs.Program.{hold}
@@ -7,23 +7,16 @@ use Rattle.cc_x86.specs.Buffered.{Waiting, seen}
 use Rattle.cc_x86.specs.Posted.{has}
 
 pub first_false : (a b : Bool) → cond a true b ≡ false → a ≡ false
-first_false true b e = absurd (cc)
-first_false false b e = refl
+first_false a b e = grind arith
 
 pub second_false : (a b : Bool) → cond a true b ≡ false → b ≡ false
-second_false true b e = absurd (cc)
-second_false false b e = e
-
-both_false : (a b : Bool) → a ≡ false → b ≡ false → cond a true b ≡ false
-both_false true b ea eb = absurd (cc)
-both_false false b ea eb = eb
+second_false a b e = grind arith
 
 pub contradiction : (b : Bool) → b ≡ true → b ≡ false → ⊥
 contradiction b e f = cc
 
 pub by_bool : (Q : Type 0) (b : Bool) → (b ≡ true → Q) → (b ≡ false → Q) → Q
-by_bool Q true at_true at_false = at_true refl
-by_bool Q false at_true at_false = at_false refl
+by_bool Q b at_true at_false = grind arith
 
 module _ {W : Type 0} (same : W → W → Bool) where
   pub seen_snoc : (xs : List (Waiting W)) (e : Waiting W) (x : W) (shared : ℕ) → seen same (xs ++ e ∷ []) x shared ≡ cond (same e.word x) e.value (seen same xs x shared)
@@ -31,22 +24,16 @@ module _ {W : Type 0} (same : W → W → Bool) where
   seen_snoc (d ∷ xs) e x shared = seen_snoc xs e x (cond (same d.word x) d.value shared)
 
   pub has_snoc : (xs : List (Waiting W)) (e : Waiting W) (x : W) → has same xs x ≡ false → same e.word x ≡ false → has same (xs ++ e ∷ []) x ≡ false
-  has_snoc [] e x none not = both_false (same e.word x) false not refl
-  has_snoc (d ∷ xs) e x none not =
-      both_false (same d.word x) (has same (xs ++ e ∷ []) x) (first_false (same d.word x) (has same xs x) none)
-      (has_snoc xs e x (second_false (same d.word x) (has same xs x) none) not)
+  has_snoc [] e x none not = grind (arith, not)
+  has_snoc (d ∷ xs) e x none not = grind (arith, has_snoc xs e x, none, not)
 
   pub has_front : (xs ys : List (Waiting W)) (x : W) → has same (xs ++ ys) x ≡ false → has same xs x ≡ false
   has_front [] ys x none = refl
-  has_front (d ∷ xs) ys x none =
-      both_false (same d.word x) (has same xs x) (first_false (same d.word x) (has same (xs ++ ys) x) none)
-      (has_front xs ys x (second_false (same d.word x) (has same (xs ++ ys) x) none))
+  has_front (d ∷ xs) ys x none = grind (arith, has_front xs ys x, none)
 
   pub unseen : (xs : List (Waiting W)) (x : W) (shared : ℕ) → has same xs x ≡ false → seen same xs x shared ≡ shared
   unseen [] x shared none = refl
-  unseen (d ∷ xs) x shared none =
-      unseen xs x (cond (same d.word x) d.value shared) (second_false (same d.word x) (has same xs x) none)
-      ∙ ap (λ (b : Bool). cond b d.value shared) (first_false (same d.word x) (has same xs x) none)
+  unseen (d ∷ xs) x shared none = grind (arith, unseen xs x, none)
 
 pub front_none : {X : Type 0} (xs ys : List X) → xs ++ ys ≡ [] → (xs ≡ []) × (ys ≡ [])
 front_none [] ys e = (refl, e)
@@ -60,11 +47,8 @@ at_hold' Q p q here there = by_case (p == q) refl
     by_case true e = here (eqb-true p q e)
     by_case false e = there (λ same. eqb-false p q e (sym same))
 
-pub differ : (a b : ℕ) → (a == b) ≡ false → a ≡ b → ⊥
-differ a b e same = eqb-false a b e same
-
 pub longer : {X : Type 0} (xs ys : List X) → length ys ≡ suc (length (xs ++ ys)) → ⊥
-longer xs ys e = grind (arith, length-append xs ys, e)
+longer xs ys e = grind (arith, length-append, e)
 
 pub held : {X : Type 0} (xs : ℕ → X) (p : ℕ) (x : X) → hold xs p x p ≡ x
 held xs p x = ap (λ b. cond b x (xs p)) (eq-eqb p p refl)

@@ -1,17 +1,16 @@
 -- The passes as threads do what the machine does.
-use Rattle.std.proofs.Common.{◌≡◌, ◌⊎◌, inl, inr, ℕ, ◌<◌, Bool, true, false, cond, refl, ap, sym, ◌∙◌, subst, List, [], ◌∷◌}
+use Rattle.std.proofs.Common.{◌≡◌, ◌⊎◌, inl, inr, ℕ, ◌<◌, Bool, true, false, cond, refl, ap, sym, ◌∙◌, subst, List, [], ◌∷◌, arith}
 use Rattle.std.proofs.lemmas.Bool.{ltb-true, lt-ltb}
 use Rattle.std.specs.Prelude.{nat_lt}
 use Rattle.cc_x86.specs.Program as threads
-use Rattle.cc_x86.specs.Program.{Program, Turn, hold, put, found, written}
+use Rattle.cc_x86.specs.Program.{Turn, hold, found, written}
 use Rattle.cc_x86.specs.Sequential as atomic
 use Rattle.cc_x86.specs.Buffered as buffers
-use Rattle.cc_x86.specs.Buffered.{Plain}
 use Rattle.cc_x86.specs.Fenced.{LooksAtNothing, turns}
 use Rattle.cc_x86.proofs.Buffers as general
-use Rattle.cc_x86.specs.Names.{Setting, Answer, Chain, Word, Stand, Phase, Move, Event, Counting, Sending, Taking}
+use Rattle.cc_x86.specs.Names.{Setting, Answer, Chain, Word, Stand, Phase, Move, Event}
 use Rattle.cc_runs.specs.Words.{same}
-use Rattle.cc_runs.specs.State.{State, Operation, Load, Store, Swap, Add, chain_of, word_of, stored}
+use Rattle.cc_runs.specs.State.{State, Operation, chain_of, word_of, stored}
 use Rattle.cc_runs.specs.Lines.{operation, goes, node_after, event_at}
 use Rattle.cc_runs.specs.Step.{advanced}
 use Rattle.cc_runs.specs.Run.{passes, begins, rests, May, IsRun, IsIdle, IsFinished, moved, reached}
@@ -26,81 +25,55 @@ IsBusy (Phase.Finished told) = ⊥
 IsBusy _ = Unit {0}
 
 writes_same : (words : Word → ℕ) (does : Operation) → written same words (as_thread does) ≡ stored words does
-writes_same words (Load w) = refl
-writes_same words (Store w value) = refl
-writes_same words (Swap w value) = refl
-writes_same words (Add w value) = refl
+writes_same words does = grind arith
 
 -- where a store leads does not hang on what was there
 goes_same : (c : Setting) (x : Chain) (own : ℕ) (at : Phase) (words : Word → ℕ) (told : ℕ) →
     goes c x own at (found words (as_thread (operation c x own at)) told) ≡ goes c x own at (words (word_of (operation c x own at)))
-goes_same c x own (Phase.Counting job Counting.ReadTag) words told = refl
-goes_same c x own (Phase.Counting job _) words told = refl
-goes_same c x own (Phase.Sending job Sending.ReadTag) words told = refl
-goes_same c x own (Phase.Sending job _) words told = refl
-goes_same c x own (Phase.Taking job Taking.ReadHead) words told = refl
-goes_same c x own (Phase.Taking job _) words told = refl
-goes_same c x own _ words told = refl
+goes_same c x own at words told = grind arith
 
 node_same : (c : Setting) (x : Chain) (own : ℕ) (at : Phase) (words : Word → ℕ) (told : ℕ) →
     node_after own at (found words (as_thread (operation c x own at)) told) ≡ node_after own at (words (word_of (operation c x own at)))
-node_same c x own Phase.Idle words told = refl
-node_same c x own _ words told = refl
+node_same c x own at words told = grind arith
 
 -- ---- what a pass does at its place
 
 pub busy_next : (c : Setting) (x : Chain) (own : ℕ) (at : Phase) → IsBusy at → next_at c x own at ≡ as_thread (operation c x own at)
-busy_next c x own Phase.Idle busy = absurd busy
-busy_next c x own (Phase.Finished told) busy = absurd busy
-busy_next c x own _ busy = refl
+busy_next c x own at busy = grind arith
 
 pub busy_after : (c : Setting) (asks : ℕ → Ask) (p : ℕ) (s : Stand) (at : Phase) (x : ℕ) → IsBusy at → after_at c asks p s at x ≡ advanced c (chain_of c.config p) s x
-busy_after c asks p s Phase.Idle x busy = absurd busy
-busy_after c asks p s (Phase.Finished told) x busy = absurd busy
-busy_after c asks p s _ x busy = refl
+busy_after c asks p s at x busy = grind arith
 
 pub busy_move : (asks : ℕ → Ask) (t : Turn) (at : Phase) → IsBusy at → move_at asks t at ≡ Move.Step t.thread
-busy_move asks t Phase.Idle busy = absurd busy
-busy_move asks t (Phase.Finished told) busy = absurd busy
-busy_move asks t _ busy = refl
+busy_move asks t at busy = grind arith
 
 abbrev IsStep : Event → Type 0
 IsStep (Event.Did what) = Unit {0}
 IsStep Event.Idle = ⊥
 
 busy_step : (at : Phase) → IsBusy at → IsStep (event_at at)
-busy_step Phase.Idle busy = absurd busy
-busy_step (Phase.Finished told) busy = absurd busy
-busy_step _ busy = tt
+busy_step at busy = grind arith
 
 pub idle_next : (c : Setting) (x : Chain) (own : ℕ) (at : Phase) → IsIdle at → next_at c x own at ≡ threads.Outside 0
-idle_next c x own Phase.Idle idle = refl
-idle_next c x own _ idle = absurd idle
+idle_next c x own at idle = grind arith
 
 pub idle_after : (c : Setting) (asks : ℕ → Ask) (p : ℕ) (s : Stand) (at : Phase) (x : ℕ) → IsIdle at → after_at c asks p s at x ≡ begins c.config p (asks x).call (asks x).known s
-idle_after c asks p s Phase.Idle x idle = refl
-idle_after c asks p s _ x idle = absurd idle
+idle_after c asks p s at x idle = grind arith
 
 pub idle_move : (asks : ℕ → Ask) (t : Turn) (at : Phase) → IsIdle at → move_at asks t at ≡ Move.Begin t.thread (asks t.told).call (asks t.told).known
-idle_move asks t Phase.Idle idle = refl
-idle_move asks t _ idle = absurd idle
+idle_move asks t at idle = grind arith
 
 pub finished_next : (c : Setting) (x : Chain) (own : ℕ) (at : Phase) → IsFinished at → next_at c x own at ≡ threads.Outside 0
-finished_next c x own (Phase.Finished told) finished = refl
-finished_next c x own _ finished = absurd finished
+finished_next c x own at finished = grind arith
 
 pub finished_after : (c : Setting) (asks : ℕ → Ask) (p : ℕ) (s : Stand) (at : Phase) (x : ℕ) → IsFinished at → after_at c asks p s at x ≡ rests s
-finished_after c asks p s (Phase.Finished told) x finished = refl
-finished_after c asks p s _ x finished = absurd finished
+finished_after c asks p s at x finished = grind arith
 
 pub finished_move : (asks : ℕ → Ask) (t : Turn) (at : Phase) → IsFinished at → move_at asks t at ≡ Move.Take t.thread
-finished_move asks t (Phase.Finished told) finished = refl
-finished_move asks t _ finished = absurd finished
+finished_move asks t at finished = grind arith
 
 pub stands_so : (at : Phase) → IsIdle at ⊎ IsFinished at ⊎ IsBusy at
-stands_so Phase.Idle = inl tt
-stands_so (Phase.Finished told) = inr (inl tt)
-stands_so _ = inr (inr tt)
+stands_so at = grind arith
 
 -- ---- a turn is a move
 
@@ -118,8 +91,7 @@ module _ (c : Setting) (asks : ℕ → Ask) (s : State) (t : Turn) where
       × ((moved c s m).stand ≡ hold s.stand t.thread (after_at c asks t.thread (s.stand t.thread) (s.stand t.thread).phase (found s.mem does t.told)))
 
   is_pass : (b : Bool) → atomic.Acts (cond b (next_at c (chain_of c.config t.thread) (s.stand t.thread).node (s.stand t.thread).phase) threads.Stop) → b ≡ true
-  is_pass true acts = refl
-  is_pass false acts = absurd acts
+  is_pass b acts = grind arith
 
   module _ (inside : t.thread < passes c) (does_so : (passes_as_threads c asks).next t.thread (s.stand t.thread) ≡ next_at c (chain_of c.config t.thread) (s.stand t.thread).node (s.stand t.thread).phase) where
     abbrev x : Chain
@@ -191,9 +163,7 @@ module _ (c : Setting) (asks : ℕ → Ask) where
     pub stand : (reached c (moves_of c asks ts)).stand ≡ (atomic.reached (passes_as_threads c asks) (opened c) ts).own
 
   pub may_earlier : (m : Move) (ms : List Move) → MayBegin c (m ∷ ms) → MayBegin c ms × Allowed c asks (reached c ms) record { thread = 0; told = 0 } m
-  may_earlier (Move.Begin p call known) ms may = (may.0, may.1)
-  may_earlier (Move.Step p) ms may = (may, tt)
-  may_earlier (Move.Take p) ms may = (may, tt)
+  may_earlier m ms may = grind arith
 
   extends : (t : Turn) (earlier : List Turn) → IsSame earlier
       → atomic.Acts ((passes_as_threads c asks).next t.thread ((atomic.reached (passes_as_threads c asks) (opened c) earlier).own t.thread))

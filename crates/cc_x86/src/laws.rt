@@ -95,6 +95,7 @@ pub fn code_follows_with_buffers()
 }
 
 /// The premise holds of the passes themselves, and not of code with a plain mark of a send, among others.
+#[tactic(auto, using(crate::proofs::AnyCode::premise_of_code))]
 pub fn premise_of_code()
     ensures { PremiseOfCode }
 {}

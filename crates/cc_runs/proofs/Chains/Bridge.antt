@@ -1,7 +1,7 @@
 -- A step of a call on its chain is a step of the abstract chain.
-use Rattle.std.proofs.Common.{◌≡◌, ◌≢◌, ℕ, suc, ◌+◌, ◌-◌, ◌<◌, ◌≤◌, Bool, true, false, ◌==◌, cond, refl, ap, sym, ◌∙◌, arith, inl, inr}
-use Rattle.std.proofs.lemmas.Bool.{cases_eq, eqb-true, eqb-false}
-use Rattle.cc_runs.specs.Names.{Entry, Answer, TakeAnswer, Setting, Chain, NodeField, Word, Round, Job, Stand, Phase}
+use Rattle.std.proofs.Common.{◌≡◌, ◌≢◌, ℕ, suc, ◌+◌, ◌-◌, ◌<◌, ◌≤◌, Bool, true, false, ◌==◌, cond, refl, ap, sym, ◌∙◌, arith}
+use Rattle.std.proofs.lemmas.Bool.{eqb-true, eqb-false}
+use Rattle.cc_runs.specs.Names.{Entry, Answer, Setting, Chain, NodeField, Word, Round, Job, Stand, Phase}
 use Rattle.cc_runs.specs.Codes.{ret_of}
 use Rattle.cc_runs.specs.State.{State, word_of}
 use Rattle.cc_runs.specs.Lines.{operation, after_state, after_next}
@@ -48,10 +48,7 @@ module _ (c : Setting) (x : Chain) (s : State) (p begun own : ℕ) where
       record {
         tail = tail;
         nodes = λ i j. cell_of x (λ f. words i f j);
-        posts = λ q qn. elim (cases_eq q p) [
-          | inl is ↦ ap (λ (z : ℕ). post_at x ((after at).stand (pass_on c x z))) is ∙ own_post ∙ ap (λ (z : ℕ). post_at x (s.stand (pass_on c x z))) (sym is)
-          | inr ne ↦ others at q ne
-        ];
+        posts = λ q qn. grind (arith, others at q);
       }
 
   pub reset_next : (call : Entry) → s.stand (pass_on c x p) ≡ standing (Phase.ResetNext call) → Resets (view c x s) (view c x (after (Phase.ResetNext call))) p
@@ -75,8 +72,7 @@ module _ (c : Setting) (x : Chain) (s : State) (p begun own : ℕ) where
       let was = was_at (Phase.Exchange call) e in
       let is : post_at x ((after (Phase.Exchange call)).stand (pass_on c x p)) ≡ entering (s.mem (Word.Tail x) - 1) own (asked_words x call) 0 =
       is_at (Phase.Exchange call) ∙ exchanged_post x (s.mem (Word.Tail x) - 1) own call in
-      let tail : (after (Phase.Exchange call)).mem (Word.Tail x) ≡ own + 1 = put_here s.mem (Word.Tail x) (own + 1) in
-      grind (arith, others (Phase.Exchange call))
+      let tail = put_here s.mem (Word.Tail x) (own + 1) in grind (arith, others (Phase.Exchange call))
 
   pub asks : (call : Entry) → (j : ℕ) → asked_words x call j ≡ (post_at x ((after (Phase.Exchange call)).stand (pass_on c x p))).asks j
   asks call j = sym (ap (λ (z : Post). z.asks j) (is_at (Phase.Exchange call) ∙ exchanged_post x (s.mem (Word.Tail x) - 1) own call))
@@ -96,14 +92,12 @@ module _ (c : Setting) (x : Chain) (s : State) (p begun own : ℕ) where
   pub collect : (w : ℕ) → s.stand (pass_on c x p) ≡ standing Phase.ReadState → s.mem (Word.Node x own NodeField.State) ≡ suc (suc w) → Collects (view c x s) (view c x (after Phase.ReadState)) p
   collect w e saw =
       let was = was_at Phase.ReadState e in
-      let is : post_at x ((after Phase.ReadState).stand (pass_on c x p)) ≡ post_of x own Phase.ReadAnswer = state_at (suc (suc w)) saw in
-      grind (arith, others Phase.ReadState)
+      let is = state_at (suc (suc w)) saw in grind (arith, others Phase.ReadState)
 
   pub start : s.stand (pass_on c x p) ≡ standing Phase.ReadState → s.mem (Word.Node x own NodeField.State) ≡ 0 → Starts (view c x s) (view c x (after Phase.ReadState)) p
   start e saw =
       let was = was_at Phase.ReadState e in
-      let is : post_at x ((after Phase.ReadState).stand (pass_on c x p)) ≡ resting own own 0 0 = state_at 0 saw in
-      grind (arith, others Phase.ReadState)
+      let is = state_at 0 saw in grind (arith, others Phase.ReadState)
 
   next_at : (round : Round) (w : ℕ) → s.mem (Word.Node x round.at NodeField.Next) ≡ w → post_at x ((after (Phase.ReadNext round)).stand (pass_on c x p)) ≡ post_of x own (after_next c.served x round w)
   next_at round w saw = is_at (Phase.ReadNext round) ∙ ap (λ (z : ℕ). post_of x own (after_next c.served x round z)) saw
@@ -111,8 +105,7 @@ module _ (c : Setting) (x : Chain) (s : State) (p begun own : ℕ) where
   pub stop : (round : Round) → s.stand (pass_on c x p) ≡ standing (Phase.ReadNext round) → s.mem (Word.Node x round.at NodeField.Next) ≡ 0 → Stops (view c x s) (view c x (after (Phase.ReadNext round))) p
   stop round e saw =
       let was = was_at (Phase.ReadNext round) e in
-      let is : post_at x ((after (Phase.ReadNext round)).stand (pass_on c x p)) ≡ resting own round.at 0 3 = next_at round 0 saw in
-      grind (arith, others (Phase.ReadNext round))
+      let is = next_at round 0 saw in grind (arith, others (Phase.ReadNext round))
 
   pub pick : (round : Round) (w : ℕ) → s.stand (pass_on c x p) ≡ standing (Phase.ReadNext round) → s.mem (Word.Node x round.at NodeField.Next) ≡ suc w → Picks (view c x s) (view c x (after (Phase.ReadNext round))) p
   pick round w e saw =
@@ -131,11 +124,7 @@ module _ (c : Setting) (x : Chain) (s : State) (p begun own : ℕ) where
       grind (arith, others at)
 
   told_in : (told : Answer) (j : ℕ) → j < told_next told → j < answer_long told → j ≤ 0
-  told_in (Answer.Take (TakeAnswer.Got item)) j a b = omega arith
-  told_in (Answer.Take TakeAnswer.Empty) j a b = omega arith
-  told_in (Answer.Take (TakeAnswer.Ended total)) j a b = omega arith
-  told_in (Answer.Send told) j a b = omega arith
-  told_in (Answer.Close told) j a b = omega arith
+  told_in told j a b = grind arith
 
   pub write_answer : (job : Job) (told : Answer) → s.stand (pass_on c x p) ≡ standing (Phase.WriteAnswer job told) →
       Tells (answer_long told) (view c x s) (view c x (after (Phase.WriteAnswer job told))) p (ret_of c.served told)

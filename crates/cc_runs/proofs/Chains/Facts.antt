@@ -50,27 +50,18 @@ exchanged_free c (Chain.Take g) p own call = record { call = tt; read = λ a. tt
 
 -- a service begins
 pub serves_it : (s : Served) (n : ℕ) (x : Chain) (e : Entry) (a : Answer) (job : Job) → IsChainOf s n x → HasService s x e a (serves s x job)
-serves_it Served.Counter n Chain.Send e a job ok = (tt, tt)
-serves_it Served.Counter n (Chain.Take g) e a job ok = absurd ok
-serves_it Served.List n Chain.Send e a job ok = tt
-serves_it Served.List n (Chain.Take g) e a job ok = tt
+serves_it s n x e a job ok = grind arith
 
 -- the first word of an answer is written
 pub answers_it : (s : Served) (x : Chain) (e : Entry) (a told : Answer) (job : Job) → a ≡ told → IsAnswer s x told → HasService s x e a (after_answer job told)
-answers_it Served.List (Chain.Take g) e a (Answer.Take (TakeAnswer.Got item)) job same is = same
-answers_it Served.List Chain.Send e a (Answer.Take (TakeAnswer.Got item)) job same is = absurd is
-answers_it Served.Counter Chain.Send e a (Answer.Take (TakeAnswer.Got item)) job same is = absurd is
-answers_it Served.Counter (Chain.Take g) e a (Answer.Take (TakeAnswer.Got item)) job same is = absurd is
-answers_it s x e a _ job same is = tt
+answers_it s x e a told job same is = grind arith
 
 -- a request is marked
 pub done_it : (s : Served) (x : Chain) (e : Entry) (a : Answer) (job : Job) (b : Bool) → HasService s x e a (cond b (Phase.HandOver job.next) (Phase.ReadNext record { at = job.next; served = job.round.served + 1 }))
-done_it s x e a job true = tt
-done_it s x e a job false = tt
+done_it s x e a job b = grind arith
 
 pub done_rank : (x : Chain) (own : ℕ) (job : Job) (b : Bool) → (post_of x own (cond b (Phase.HandOver job.next) (Phase.ReadNext record { at = job.next; served = job.round.served + 1 }))).rank ≡ 5
-done_rank x own job true = refl
-done_rank x own job false = refl
+done_rank x own job b = grind arith
 
 pub some_words : (a : Answer) → (1 ≤ answer_long a) × (answer_long a ≤ all_told)
 some_words (Answer.Take (TakeAnswer.Got item)) = omega (arith, few_further (tag_of item))
@@ -82,21 +73,14 @@ few_asked Chain.Send e = omega (arith, few_further (request_in e).tag)
 few_asked (Chain.Take g) e = omega arith
 
 pub coded_first : (s : Served) (x : Chain) (a : Answer) → coded_words s x a 0 ≡ ret_of s a
-coded_first s Chain.Send a = refl
-coded_first s (Chain.Take g) a = refl
+coded_first s x a = grind arith
 
 -- an answer word of code 1 on a receivers' chain is that of an item
 pub got_long : (s : Served) (g : ℕ) (a : Answer) → IsAnswer s (Chain.Take g) a → code_of (ret_of s a) ≡ 1 → answer_long a ≡ further_words (tag_word a) + 3
-got_long Served.List g (Answer.Take (TakeAnswer.Got item)) is code = refl
-got_long Served.List g (Answer.Take TakeAnswer.Empty) is code = absurd (omega (arith, code))
-got_long Served.List g (Answer.Take (TakeAnswer.Ended total)) is code = absurd (omega (arith, code))
-got_long _ g _ is code = absurd is
+got_long s g a is code = grind arith
 
 pub got_item : (s : Served) (g : ℕ) (a : Answer) → IsAnswer s (Chain.Take g) a → code_of (ret_of s a) ≡ 1 → (item : Item) × (a ≡ Answer.Take (TakeAnswer.Got item))
-got_item Served.List g (Answer.Take (TakeAnswer.Got item)) is code = (item, refl)
-got_item Served.List g (Answer.Take TakeAnswer.Empty) is code = absurd (omega (arith, code))
-got_item Served.List g (Answer.Take (TakeAnswer.Ended total)) is code = absurd (omega (arith, code))
-got_item _ g _ is code = absurd is
+got_item s g a is code = grind arith
 
 -- what is read after the first word: the end, or an item to come
 pub record ReadsOn (c : Setting) (s : Served) (g p own : ℕ) (a : Answer) (at : Phase) : Type 0 where
@@ -125,5 +109,4 @@ reads_item s g a code = ap (λ (b : Bool). cond b (Answer.Take (TakeAnswer.Got (
 
 -- each pass has one node
 pub own_node : (x : Chain) (own : ℕ) (at : Phase) → (post_of x own at).node ≡ own
-own_node x own (Phase.Exchange call) = refl
-own_node x own _ = refl
+own_node x own at = grind arith

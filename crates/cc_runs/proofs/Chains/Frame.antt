@@ -1,8 +1,8 @@
 -- The change that a store makes to a chain's words, and a step to the places of the passes.
-use Rattle.std.proofs.Common.{◌≡◌, ◌≢◌, ℕ, zero, suc, Bool, false, ◌&&◌, ◌==◌, cond, refl, ap, sym, ◌∙◌, arith}
+use Rattle.std.proofs.Common.{◌≡◌, ◌≢◌, ℕ, Bool, false, ◌&&◌, ◌==◌, cond, refl, ap, sym, ◌∙◌, arith}
 use Rattle.std.proofs.Math.Bool.{and-false}
 use Rattle.std.proofs.lemmas.Bool.{eq-eqb, ne_eqb}
-use Rattle.cc_runs.specs.Names.{Setting, Chain, NodeField, Word, Stand, Entry, Answer, TakeAnswer, Served, Job}
+use Rattle.cc_runs.specs.Names.{Setting, Chain, NodeField, Word, Stand, Entry, Answer, Served, Job}
 use Rattle.cc_runs.specs.Words.{put, same, same_chain, same_field}
 use Rattle.cc_runs.specs.State.{hold}
 use Rattle.cc_runs.proofs.Words.{same_self}
@@ -35,48 +35,28 @@ pub hold_apart : (stands : ℕ → Stand) (p q : ℕ) (there : Stand) → q ≢ 
 hold_apart stands p q there ne = ap (λ (b : Bool). cond b there (stands q)) (ne_eqb p q (λ e. ne (sym e)))
 
 pub pass_apart : (c : Setting) (x : Chain) (p q : ℕ) → q ≢ p → pass_on c x q ≢ pass_on c x p
-pass_apart c Chain.Send p q ne same = ne same
-pass_apart c (Chain.Take g) p q ne same = ne (omega arith)
+pass_apart c x p q ne same = grind arith
 
 -- request and answer words look at their own fields alone
 pub request_same : (x : Chain) (v w : NodeField → ℕ) (j : ℕ) → v NodeField.Tag ≡ w NodeField.Tag → ((i : ℕ) → v (NodeField.Body i) ≡ w (NodeField.Body i)) → request_words x v j ≡ request_words x w j
-request_same Chain.Send v w zero a b = a
-request_same Chain.Send v w (suc i) a b = b i
-request_same (Chain.Take g) v w j a b = refl
+request_same x v w j a b = grind arith
 
 pub answer_same : (x : Chain) (v w : NodeField → ℕ) (j : ℕ) → v NodeField.Ret ≡ w NodeField.Ret → v NodeField.Tag ≡ w NodeField.Tag → ((i : ℕ) → v (NodeField.Body i) ≡ w (NodeField.Body i)) → answer_words x v j ≡ answer_words x w j
-answer_same Chain.Send v w zero r a b = r
-answer_same Chain.Send v w (suc zero) r a b = refl
-answer_same Chain.Send v w (suc (suc i)) r a b = refl
-answer_same (Chain.Take g) v w zero r a b = r
-answer_same (Chain.Take g) v w (suc zero) r a b = a
-answer_same (Chain.Take g) v w (suc (suc i)) r a b = b i
+answer_same x v w j r a b = grind arith
 
 -- the first word of an answer, and the others
 pub answer_first : (x : Chain) (w : NodeField → ℕ) → answer_words x w 0 ≡ w NodeField.Ret
-answer_first Chain.Send w = refl
-answer_first (Chain.Take g) w = refl
+answer_first x w = grind arith
 
 pub answer_later : (x : Chain) (v w : NodeField → ℕ) (j : ℕ) → j ≢ 0 → v NodeField.Tag ≡ w NodeField.Tag → ((i : ℕ) → v (NodeField.Body i) ≡ w (NodeField.Body i)) → answer_words x v j ≡ answer_words x w j
-answer_later x v w zero ne a b = absurd (ne refl)
-answer_later Chain.Send v w (suc zero) ne a b = refl
-answer_later Chain.Send v w (suc (suc i)) ne a b = refl
-answer_later (Chain.Take g) v w (suc zero) ne a b = a
-answer_later (Chain.Take g) v w (suc (suc i)) ne a b = b i
+answer_later x v w j ne a b = grind arith
 
 -- how a chain sees a call that has exchanged, and a combiner that begins a service
 pub exchanged_post : (x : Chain) (own put : ℕ) (call : Entry) → post_of x own (after_exchange x put call) ≡ entering own put (asked_words x call) 0
-exchanged_post Chain.Send own put call = refl
-exchanged_post (Chain.Take g) own put call = refl
+exchanged_post x own put call = grind arith
 
 pub serves_post : (served : Served) (x : Chain) (own : ℕ) (job : Job) → post_of x own (serves served x job) ≡ serving own job 1 0
-serves_post Served.Counter x own job = refl
-serves_post Served.List Chain.Send own job = refl
-serves_post Served.List (Chain.Take g) own job = refl
+serves_post served x own job = grind arith
 
 pub after_answer_post : (x : Chain) (own : ℕ) (job : Job) (told : Answer) → post_of x own (after_answer job told) ≡ serving own job 2 (told_next told)
-after_answer_post x own job (Answer.Take (TakeAnswer.Got item)) = refl
-after_answer_post x own job (Answer.Take TakeAnswer.Empty) = refl
-after_answer_post x own job (Answer.Take (TakeAnswer.Ended total)) = refl
-after_answer_post x own job (Answer.Send told) = refl
-after_answer_post x own job (Answer.Close told) = refl
+after_answer_post x own job told = grind arith

@@ -68,32 +68,14 @@ module _ (c : Setting) (x : Chain) (calls : List Entry) (answers : List Answer) 
   more_calls e = calls ++ e ∷ []
 
   entered_now : (e : Entry) (own : ℕ) → IsCall c x p e → (k : ℕ) → k < g.calls + 1 → IsCall c x ((extended x g p e own).pass_of k) (call_at (more_calls e) k)
-  entered_now e own is k l = elim (cases_eq k g.calls) [
-    | inl same ↦
-        subst (λ (z : ℕ). IsCall c x z (call_at (more_calls e) k)) (sym (changed_here g.pass_of g.calls p k same))
-        (subst (λ (z : Entry). IsCall c x p z) (sym (call_new calls e k (ties.calls_are ∙ sym same))) is)
-    | inr ne ↦
-        subst (λ (z : ℕ). IsCall c x z (call_at (more_calls e) k)) (sym (changed_away g.pass_of g.calls p k ne))
-        (subst (λ (z : Entry). IsCall c x (g.pass_of k) z) (sym (call_old calls e g.calls k ties.calls_are (omega arith))) (ties.entered k (omega arith)))
-  ]
+  entered_now e own is k l =
+      grind (arith, changed_here, changed_away, call_new, call_old, ties.calls_are, ties.entered k)
 
   asked_now : (e : Entry) (own k j : ℕ) → k < g.calls + 1 → (extended x g p e own).asked k j ≡ asked_words x (call_at (more_calls e) k) j
-  asked_now e own k j l = elim (cases_eq k g.calls) [
-    | inl same ↦
-        ap (λ (f : ℕ → ℕ). f j) (changed_here g.asked g.calls (asked_words x e) k same) ∙ ap (λ (z : Entry). asked_words x z j) (sym (call_new calls e k (ties.calls_are ∙ sym same)))
-    | inr ne ↦
-        ap (λ (f : ℕ → ℕ). f j) (changed_away g.asked g.calls (asked_words x e) k ne) ∙ ties.asked k j (omega arith)
-        ∙ ap (λ (z : Entry). asked_words x z j) (sym (call_old calls e g.calls k ties.calls_are (omega arith)))
-  ]
+  asked_now e own k j l = grind (arith, changed_here, changed_away, call_new, call_old, ties.calls_are, ties.asked k j)
 
   long_now : (e : Entry) (own k : ℕ) → k < g.calls + 1 → (extended x g p e own).asks_long k ≡ request_long x (call_at (more_calls e) k)
-  long_now e own k l = elim (cases_eq k g.calls) [
-    | inl same ↦
-        changed_here g.asks_long g.calls (request_long x e) k same ∙ ap (λ (z : Entry). request_long x z) (sym (call_new calls e k (ties.calls_are ∙ sym same)))
-    | inr ne ↦
-        changed_away g.asks_long g.calls (request_long x e) k ne ∙ ties.asks_long k (omega arith)
-        ∙ ap (λ (z : Entry). request_long x z) (sym (call_old calls e g.calls k ties.calls_are (omega arith)))
-  ]
+  long_now e own k l = grind (arith, changed_here, changed_away, call_new, call_old, ties.calls_are, ties.asks_long k)
 
   -- nobody but p changes, and p has nothing to read yet
   pub ties_entered : (e : Entry) (own : ℕ) (there : Stand) → IsCall c x p e → stand' p ≡ there → ((q : ℕ) → q ≢ p → stand' q ≡ stand q) → g.server ≢ p + 1 → ((q : ℕ) → g.server ≡ q + 1 → q < members c x) →

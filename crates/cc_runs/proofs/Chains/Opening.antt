@@ -1,5 +1,5 @@
 -- A chain at the opening.
-use Rattle.std.proofs.Common.{◌≡◌, ℕ, zero, suc, ◌+◌, ◌*◌, ◌%◌, ◌-◌, ◌<◌, replicate, get_or, Bool, cond, refl, ap, sym, ◌∙◌, subst, arith, []}
+use Rattle.std.proofs.Common.{◌≡◌, ℕ, suc, ◌+◌, ◌*◌, ◌%◌, ◌-◌, ◌<◌, replicate, get_or, Bool, cond, refl, ap, sym, ◌∙◌, subst, arith, []}
 use Rattle.std.proofs.lemmas.Bool.{lt-ltb, le-ltb}
 use Rattle.std.proofs.lemmas.Nat.{mod-mul-add, mul-add-lt}
 use Rattle.std.proofs.Math.Nat.{mul_comm}
@@ -34,8 +34,7 @@ receiver_node config g p less =
     ∙ ap (λ (z : ℕ). z % config.receivers + 1) back ∙ ap (λ (z : ℕ). z + 1) (mod-mul-add g config.receivers p less)
 
 all_senders : (s : Served) (config : Config) (p : ℕ) → p < config.senders → p < passes_of s config
-all_senders Served.Counter config p less = less
-all_senders Served.List config p less = omega arith
+all_senders s config p less = grind arith
 
 all_receivers : (s : Served) (config : Config) (g p : ℕ) → IsChainOf s (groups config) (Chain.Take g) → p < config.receivers → config.senders + (g * config.receivers + p) < passes_of s config
 all_receivers Served.List config g p ok less = omega (arith, mul-add-lt g config.receivers p (groups config) ok less, mul_comm config.receivers (groups config))
@@ -117,9 +116,8 @@ no_calls n Chain.Send = refl
 no_calls n (Chain.Take g) = all_silent n g
   where
     all_silent : (n g : ℕ) → get_or (replicate n silent) g silent ≡ silent
-    all_silent zero g = refl
-    all_silent (suc n) zero = refl
     all_silent (suc n) (suc g) = all_silent n g
+    all_silent _ _ = refl
 
 has_side : (c : Setting) (x : Chain) → IsChain c x → HasSide x (empty (groups c.config))
 has_side c Chain.Send ok = tt

@@ -2,7 +2,7 @@
 -- change.
 use Rattle.std.proofs.Common.{◌≡◌, ◌≢◌, ◌⊎◌, ℕ, ◌+◌, ◌*◌, ◌/◌, ◌%◌, ◌-◌, ◌<◌, ◌≤◌, Bool, false, ◌&&◌, ◌==◌, cond, refl, ap, sym, ◌∙◌, subst, arith, inl, inr, List}
 use Rattle.std.proofs.Math.Bool.{and-false}
-use Rattle.std.proofs.lemmas.Bool.{cases_eq, cases_lt, lt-ltb, le-ltb, ne_eqb}
+use Rattle.std.proofs.lemmas.Bool.{cases_eq, cases_lt, lt-ltb, le-ltb}
 use Rattle.std.proofs.lemmas.List.{get_or-set_other}
 use Rattle.std.proofs.lemmas.Nat.{div-mul-add, div-add-mod'}
 use Rattle.std.proofs.Math.Nat.{mod-lt, div-lt_iff_lt-mul}
@@ -32,10 +32,7 @@ IsOther (Chain.Take g) (Chain.Take h) = g ≢ h
 IsOther Chain.Send Chain.Send = ⊥
 
 other_off : (x y : Chain) → IsOther x y → same_chain y x ≡ false
-other_off Chain.Send (Chain.Take g) o = refl
-other_off (Chain.Take g) Chain.Send o = refl
-other_off Chain.Send Chain.Send o = absurd o
-other_off (Chain.Take g) (Chain.Take h) o = ne_eqb h g (λ e. o (sym e))
+other_off x y o = grind arith
 
 put_other : (mem : Word → ℕ) (x y : Chain) (k i : ℕ) (f g : NodeField) (value : ℕ) → IsOther x y → put mem (Word.Node y k f) value (Word.Node x i g) ≡ mem (Word.Node x i g)
 put_other mem x y k i f g value o =
@@ -48,11 +45,8 @@ put_tail mem x y value o = ap (λ (b : Bool). cond b value (mem (Word.Tail x))) 
 
 module _ (c : Setting) (mem : Word → ℕ) (x y : Chain) (o : IsOther x y) (own : ℕ) where
   other_tail : (at : Phase) → stored mem (operation c y own at) (Word.Tail x) ≡ mem (Word.Tail x)
-  other_tail (Phase.Exchange call) = put_tail mem x y (own + 1) o
-  other_tail (Phase.Counting job service) = count_tail c mem x job.round.at service
-  other_tail (Phase.Sending job service) = send_tail c mem x job.round.at service
-  other_tail (Phase.Taking job service) = take_tail c mem x (group_of y) service
-  other_tail _ = refl
+  other_tail at =
+      grind (arith, put_tail mem x y (own + 1) o, count_tail c mem x, send_tail c mem x, take_tail c mem x (group_of y))
 
   other_words : (i : ℕ) (f : NodeField) (at : Phase) → stored mem (operation c y own at) (Word.Node x i f) ≡ mem (Word.Node x i f)
   other_words i f (Phase.ResetNext call) = put_other mem x y own i NodeField.Next f 0 o
@@ -72,10 +66,8 @@ module _ (c : Setting) (mem : Word → ℕ) (x y : Chain) (o : IsOther x y) (own
 
 -- the history of a chain doesn't get the other's calls and answers
 pub side_other : (x y : Chain) (h : Record) (now : Side) → IsOther x y → side x (with_side y h now) ≡ side x h
-side_other Chain.Send (Chain.Take g) h now o = refl
-side_other (Chain.Take g) Chain.Send h now o = refl
-side_other Chain.Send Chain.Send h now o = absurd o
 side_other (Chain.Take g) (Chain.Take k) h now o = get_or-set_other h.takes k g now silent o
+side_other x y h now o = grind arith
 
 -- a state in which the chain's words, history and passes are as they were
 unseen : (c : Setting) (x : Chain) (s t : State) → Holds c x s → t.mem (Word.Tail x) ≡ s.mem (Word.Tail x) → ((i : ℕ) (f : NodeField) → t.mem (Word.Node x i f) ≡ s.mem (Word.Node x i f)) →
@@ -110,12 +102,7 @@ own_put c x s p there w same m =
     let others : (q : ℕ) → q ≢ p → (put_there s (pass_on c x p) there).stand (pass_on c x q) ≡ s.stand (pass_on c x q) = λ q ne. hold_apart s.stand (pass_on c x p) (pass_on c x q) there (pass_apart c x p q ne) in
     let mine : (put_there s (pass_on c x p) there).stand (pass_on c x p) ≡ there = hold_here s.stand (pass_on c x p) there in
     let posts : (q : ℕ) → post_at x ((put_there s (pass_on c x p) there).stand (pass_on c x q)) ≡ post_at x (s.stand (pass_on c x q)) =
-    λ q. elim (cases_eq q p) [
-      | inl is ↦
-          ap (λ (z : ℕ). post_at x ((put_there s (pass_on c x p) there).stand (pass_on c x z))) is ∙ ap (λ (z : Stand). post_at x z) mine ∙ same
-          ∙ ap (λ (z : ℕ). post_at x (s.stand (pass_on c x z))) (sym is)
-      | inr ne ↦ ap (λ (z : Stand). post_at x z) (others q ne)
-    ] in
+    λ q. grind (arith, same, others q) in
     record {
       ghost = w.ghost;
       inv = by_stay.keeps (members c x) c.config.bound (view c x s) (view c x (put_there s (pass_on c x p) there)) w.ghost w.inv record { tail = refl; nodes = λ i. refl; posts = λ q qn. posts q };
@@ -136,8 +123,7 @@ pub record IsOff (c : Setting) (x : Chain) (p : ℕ) : Type 0 where
   pub away : (q : ℕ) → q < members c x → pass_on c x q ≢ p
 
 pub group_in : (s : Served) (n g : ℕ) → IsChainOf s n (Chain.Take g) → g < n
-group_in Served.List n g ok = ok
-group_in Served.Counter n g ok = absurd ok
+group_in s n g ok = grind arith
 
 -- a receiver, by its group and its number in it
 pub record InGroup (config : Config) (p : ℕ) : Type 0 where
@@ -173,10 +159,7 @@ group_is config g number less =
     ap (λ (k : ℕ). k / config.receivers) back ∙ div-mul-add g config.receivers number less
 
 some_receivers : (s : Served) (config : Config) (p g : ℕ) → IsChainOf s (groups config) (Chain.Take g) → p < passes_of s config → config.senders ≤ p → 0 < config.receivers
-some_receivers Served.List config p g ok less far = elim (cases_eq config.receivers 0) [
-  | inl none ↦ absurd (omega (arith, less, far, ap (λ (k : ℕ). groups config * k) none))
-  | inr some ↦ omega (arith, some)
-]
+some_receivers Served.List config p g ok less far = grind arith
 some_receivers Served.Counter config p g ok less far = absurd ok
 
 pub which : (c : Setting) (x : Chain) → IsChain c x → (p : ℕ) → p < passes c → IsOn c x p ⊎ IsOff c x p

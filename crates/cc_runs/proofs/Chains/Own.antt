@@ -19,20 +19,16 @@ use Rattle.cc_runs.proofs.Chains.Read as by_side
 
 -- the object that is served, and its place
 pub counts_where : (s : Served) (x : Chain) → Counts s x → (s ≡ Served.Counter) × (x ≡ Chain.Send)
-counts_where Served.Counter Chain.Send a = (refl, refl)
-counts_where _ _ a = absurd a
+counts_where s x a = grind arith
 
 pub sends_where : (s : Served) (x : Chain) (A : Type 0) → Sends s x A → (s ≡ Served.List) × (x ≡ Chain.Send)
-sends_where Served.List Chain.Send A a = (refl, refl)
-sends_where _ _ A a = absurd a
+sends_where s x A a = grind arith
 
 pub sends_has : (s : Served) (x : Chain) (A : Type 0) → Sends s x A → A
-sends_has Served.List Chain.Send A a = a
-sends_has _ _ A a = absurd a
+sends_has s x A a = grind arith
 
 pub takes_where : (s : Served) (x : Chain) → Takes s x → (s ≡ Served.List) × (x ≡ Chain.Take (group_of x))
-takes_where Served.List (Chain.Take g) a = (refl, refl)
-takes_where _ _ a = absurd a
+takes_where s x a = grind arith
 
 module _ (c : Setting) (some : 0 < c.config.bound) (s : State) (p begun own : ℕ) where
   count_step : (x : Chain) (ok : IsChain c x) (inside : p < members c x) (w : Holds c x s) (job : Job) (at : Counting) → At c x ok some s p begun own inside w (Phase.Counting job at) →
@@ -81,7 +77,6 @@ module _ (c : Setting) (some : 0 < c.config.bound) (s : State) (p begun own : �
       service c x ok some s p begun own inside w (Phase.Taking job at) job e refl refl refl out (take_tail c s.mem x (group_of x) at) (λ i f. take_words c s.mem x (group_of x) i f at)
 
   pub step : (x : Chain) (ok : IsChain c x) (inside : p < members c x) (w : Holds c x s) (at : Phase) → At c x ok some s p begun own inside w at → event_at at ≢ Event.Idle → Holds c x (then c x ok some s p begun own inside w at)
-  step x ok inside w Phase.Idle e busy = absurd (busy refl)
   step x ok inside w (Phase.ResetNext call) e busy = steps.reset_next c x ok some s p begun own inside w call e
   step x ok inside w (Phase.ResetState call) e busy = steps.reset_state c x ok some s p begun own inside w call e
   step x ok inside w (Phase.Exchange call) e busy = steps.exchange c x ok some s p begun own inside w call e
@@ -101,4 +96,4 @@ module _ (c : Setting) (some : 0 < c.config.bound) (s : State) (p begun own : �
   step x ok inside w Phase.ReadAnswer e busy = by_side.read_answer c some s p begun own x ok inside w e
   step x ok inside w (Phase.ReadAnswerTag at) e busy = by_side.read_tag c some s p begun own x ok inside w at e
   step x ok inside w (Phase.ReadAnswerBody parcel i) e busy = by_side.read_body c some s p begun own x ok inside w parcel i e
-  step x ok inside w (Phase.Finished told) e busy = absurd (busy refl)
+  step x ok inside w _ e busy = absurd (busy refl)

@@ -1,6 +1,6 @@
 -- The answer that a call reads is its answer in the history.
-use Rattle.std.proofs.Common.{◌≡◌, ◌≢◌, ℕ, zero, suc, ◌+◌, ◌*◌, ◌/◌, ◌-◌, ◌<◌, ◌≤◌, Bool, true, false, cond, refl, ap, sym, ◌∙◌, subst, arith, inl, inr, Option, Some, None, List, [], ◌∷◌, ◌++◌, length, get_or}
-use Rattle.std.proofs.lemmas.Bool.{cases_eq, lt-ltb, le-ltb, eq-eqb, ne_eqb}
+use Rattle.std.proofs.Common.{◌≡◌, ◌≢◌, ℕ, zero, suc, ◌+◌, ◌*◌, ◌/◌, ◌-◌, ◌<◌, ◌≤◌, Bool, true, false, cond, refl, ap, sym, ◌∙◌, subst, arith, Option, Some, None, List, [], ◌∷◌, ◌++◌, length, get_or}
+use Rattle.std.proofs.lemmas.Bool.{lt-ltb, le-ltb, eq-eqb, ne_eqb}
 use Rattle.std.proofs.lemmas.List.{append-nil}
 use Rattle.std.proofs.lemmas.List.Elements.{filter-append}
 use Rattle.std.specs.List.{filter, flat_map}
@@ -38,12 +38,10 @@ other_name c (Chain.Take g) p q ne = ne_eqb (g * c.config.receivers + p + 1) (g 
 
 -- passes of two chains have two names
 pub apart_names : (c : Setting) (x y : Chain) (p q : ℕ) → IsOther x y → p < members c x → q < members c y → is_pass (named c x p) (named c y q) ≡ false
-apart_names c Chain.Send (Chain.Take g) p q o pn qn = refl
-apart_names c (Chain.Take g) Chain.Send p q o pn qn = refl
-apart_names c Chain.Send Chain.Send p q o pn qn = absurd o
 apart_names c (Chain.Take g) (Chain.Take h) p q o pn qn =
     ne_eqb (g * c.config.receivers + p + 1) (h * c.config.receivers + q + 1)
     (λ e. o (sym (div-mul-add g c.config.receivers p pn) ∙ ap (λ (k : ℕ). k / c.config.receivers) (omega (arith, e)) ∙ div-mul-add h c.config.receivers q qn))
+apart_names c x y p q o pn qn = grind arith
 
 -- none of another chain's calls is a pass's of this one
 abbrev pub NotOther : Setting → Chain → Record → Type 0
@@ -155,10 +153,7 @@ module _ (c : Setting) (x : Chain) (s : State) (w : Holds c x s) (none : NotOthe
   open_by (suc p) serves =
       let served : w.ghost.server ≡ p + 1 = omega (arith, serves) in
       let low : w.ghost.marked ≤ w.ghost.at n = w.inv.passes.early n inside entering in
-      elim (cases_eq (post_at x (s.stand (pass_on c x p))).stage 2) [
-        | inl is ↦ let ne : w.ghost.at n ≢ w.ghost.marked = not_decided p served is in omega (arith, low, ne, w.inv.serving.decided p served is)
-        | inr ne ↦ omega (arith, low, w.inv.serving.undecided p served ne)
-      ]
+      grind (arith, not_decided p served, w.inv.serving.decided p served, w.inv.serving.undecided p served)
 
   pub open_on : Ends (calls_of (pass_at c.config (pass_on c x n)) s.history) (call_at (calls_on x s.history) (w.ghost.at n)) None
   open_on =

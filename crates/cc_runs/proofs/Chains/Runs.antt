@@ -13,17 +13,13 @@ use Rattle.cc_runs.proofs.Chains.Others.{IsOn, IsOff, which, other_step, other_p
 use Rattle.cc_runs.proofs.Chains.Opening.{opened}
 
 idle_is : (at : Phase) → IsIdle at → at ≡ Phase.Idle
-idle_is Phase.Idle a = refl
-idle_is _ a = absurd a
+idle_is at a = grind arith
 
 finished_post : (x : Chain) (node : ℕ) (at : Phase) → IsFinished at → post_of x node at ≡ out 0 node
-finished_post x node (Phase.Finished told) a = refl
-finished_post x node _ a = absurd a
+finished_post x node at a = grind arith
 
 number_in : (call : Call) (begun limit : ℕ) → begun_after call begun ≤ limit → number_of call begun ≤ limit
-number_in (Call.Send body) begun limit less = less
-number_in Call.Close begun limit less = omega arith
-number_in Call.Take begun limit less = omega arith
+number_in call begun limit less = grind arith
 
 module _ (c : Setting) (x : Chain) (ok : IsChain c x) (some : 0 < c.config.bound) (s : State) (w : Holds c x s) where
   step_own : (p : ℕ) → IsOn c x p → event_at (s.stand p).phase ≢ Event.Idle → Holds c x (stepped c s p)

@@ -27,8 +27,7 @@ pub four_words : (i tag : ℕ) → i ≤ further_words tag → IsTrue (nat_lt i 
 four_words i tag most = lt-ltb i 4 (omega (arith, few_further tag))
 
 pub on_take : (x : Chain) (A : Type 0) → OnTake x A → A
-on_take Chain.Send A a = absurd a
-on_take (Chain.Take g) A a = a
+on_take x A a = grind arith
 
 pub tail_exists : (c : Setting) (x : Chain) → IsChain c x → IsTrue (exists (layout_of c.config) (Word.Tail x))
 tail_exists c Chain.Send ok = refl
@@ -46,8 +45,7 @@ IsService (Phase.Taking job service) = Unit {0}
 IsService _ = ⊥
 
 open_call : (x : Chain) (h : Record) → length (answers_on x h) < length (calls_on x h) → HasOpenCall h x
-open_call Chain.Send h less = less
-open_call (Chain.Take g) h less = less
+open_call x h less = grind arith
 
 pub send_high : (service : Sending) → 1 ≤ send_stage service
 send_high service = (send_in service).0
@@ -159,9 +157,6 @@ module _ (c : Setting) (x : Chain) (ok : IsChain c x) (r : InRange c.config) (s 
   safe_at (Phase.Link put) e fit served = record { word = node_exists c x ok own NodeField.Next refl (own_in (Phase.Link put) e); numbers = omega (arith, put_in (Phase.Link put) e refl, few_members c x r) }
   safe_at Phase.ReadState e fit served = record { word = node_exists c x ok own NodeField.State refl (own_in Phase.ReadState e); numbers = tt }
   safe_at (Phase.ReadNext round) e fit served = record { word = node_exists c x ok round.at NodeField.Next refl (target_in (Phase.ReadNext round) e refl); numbers = tt }
-  safe_at (Phase.Counting job service) e fit served = served tt
-  safe_at (Phase.Sending job service) e fit served = served tt
-  safe_at (Phase.Taking job service) e fit served = served tt
   safe_at (Phase.WriteAnswer job told) e fit served = record { word = node_exists c x ok job.round.at NodeField.Ret refl (target_in (Phase.WriteAnswer job told) e refl); numbers = told_fits job told e fit }
   safe_at (Phase.WriteAnswerTag job item) e fit served = record { word = node_exists c x ok job.round.at NodeField.Tag refl (target_in (Phase.WriteAnswerTag job item) e refl); numbers = tt }
   safe_at (Phase.WriteAnswerBody job item i) e fit served =
@@ -175,6 +170,7 @@ module _ (c : Setting) (x : Chain) (ok : IsChain c x) (r : InRange c.config) (s 
       let has = on_take x _ (subst (λ (z : Stand). HasRead c.served x (answer_at (answers_on x s.history) (w.ghost.at p)) z.phase) e (w.ties.read p inside)) in
       record { word = node_exists c x ok own (NodeField.Body i) (four_words i at.tag has.3) (own_in (Phase.ReadAnswerBody at i) e); numbers = tt }
   safe_at (Phase.Finished told) e fit served = record { word = tail_exists c x ok; numbers = tt }
+  safe_at at e fit served = grind arith
 
   send_open : (job : Job) (service : Sending) → At (Phase.Sending job service) → WhileUndecided (Phase.Sending job service) (HasOpenCall s.history x)
   send_open job (Sending.WriteLastMark total) e = tt
@@ -186,7 +182,4 @@ module _ (c : Setting) (x : Chain) (ok : IsChain c x) (r : InRange c.config) (s 
   send_open job service e = open_call x s.history (unanswered (Phase.Sending job service) e refl refl)
 
   pub open_at : (at : Phase) → At at → IsOpenAt s.history x at
-  open_at (Phase.Counting job service) e = open_call x s.history (unanswered (Phase.Counting job service) e refl refl)
-  open_at (Phase.Sending job service) e = send_open job service e
-  open_at (Phase.Taking job service) e = open_call x s.history (unanswered (Phase.Taking job service) e refl refl)
-  open_at _ e = tt
+  open_at at e = grind (arith, open_call x s.history, unanswered, send_open)

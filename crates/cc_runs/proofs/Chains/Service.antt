@@ -96,25 +96,19 @@ module _ (c : Setting) (job : Job) (e : Entry) where
 -- a service changes no word of a chain
 module _ (c : Setting) (mem : Word → ℕ) where
   pub send_tail : (x : Chain) (at : ℕ) (service : Sending) → stored mem (send_side.operation c.config at service) (Word.Tail x) ≡ mem (Word.Tail x)
-  send_tail x at Sending.ReadTag = refl
-  send_tail x at _ = refl
+  send_tail x at service = grind arith
 
   pub send_words : (x : Chain) (at i : ℕ) (f : NodeField) (service : Sending) → stored mem (send_side.operation c.config at service) (Word.Node x i f) ≡ mem (Word.Node x i f)
-  send_words x at i f Sending.ReadTag = refl
-  send_words x at i f _ = refl
+  send_words x at i f service = grind arith
 
   pub take_tail : (x : Chain) (g : ℕ) (service : Taking) → stored mem (take_side.operation g service) (Word.Tail x) ≡ mem (Word.Tail x)
-  take_tail x g Taking.ReadHead = refl
-  take_tail x g _ = refl
+  take_tail x g service = grind arith
 
   pub take_words : (x : Chain) (g i : ℕ) (f : NodeField) (service : Taking) → stored mem (take_side.operation g service) (Word.Node x i f) ≡ mem (Word.Node x i f)
-  take_words x g i f Taking.ReadHead = refl
-  take_words x g i f _ = refl
+  take_words x g i f service = grind arith
 
   pub count_tail : (x : Chain) (at : ℕ) (service : Counting) → stored mem (count_side.operation at service) (Word.Tail x) ≡ mem (Word.Tail x)
-  count_tail x at Counting.ReadTag = refl
-  count_tail x at _ = refl
+  count_tail x at service = grind arith
 
   pub count_words : (x : Chain) (at i : ℕ) (f : NodeField) (service : Counting) → stored mem (count_side.operation at service) (Word.Node x i f) ≡ mem (Word.Node x i f)
-  count_words x at i f Counting.ReadTag = refl
-  count_words x at i f _ = refl
+  count_words x at i f service = grind arith

@@ -1,7 +1,6 @@
 -- The combiner of a chain, and the call that it serves, after every run.
-use Rattle.std.proofs.Common.{◌≡◌, ◌⊎◌, ℕ, ◌+◌, ◌-◌, ◌*◌, ◌/◌, ◌<◌, ◌≤◌, refl, ap, sym, ◌∙◌, subst, arith, inl, inr, Some, List, length}
+use Rattle.std.proofs.Common.{◌≡◌, ◌⊎◌, ℕ, ◌+◌, ◌-◌, ◌/◌, ◌<◌, ◌≤◌, ap, sym, ◌∙◌, subst, arith, inl, inr, Some, List, length}
 use Rattle.std.specs.List.{slice_get}
-use Rattle.std.proofs.lemmas.Bool.{cases_lt, cases_eq}
 use Rattle.std.proofs.lemmas.Option.{slice_get-get_or}
 use Rattle.std.proofs.Math.Nat.{div-lt_iff_lt-mul}
 use Rattle.cc_runs.specs.Names.{Config, Entry, Setting, Served, Chain, NodeField, Word, Job, Stand, Counting, Sending, Taking, Phase, Move}
@@ -25,22 +24,16 @@ pub chains_hold : (c : Setting) → 0 < c.config.bound → (moves : List Move) �
 chains_hold c some moves run = record { some = some; holds = λ x ok. chain_holds c x ok some moves run }
 
 not_other : (x : Chain) → IsOther x x → ⊥
-not_other Chain.Send o = o
-not_other (Chain.Take g) o = o refl
+not_other x o = grind arith
 
 pub taken_chain : (what : Served) (config : Config) (p : ℕ) → p < passes_of what config → config.senders ≤ p → IsChainOf what (groups config) (Chain.Take ((p - config.senders) / config.receivers))
-taken_chain Served.List config p less far = elim (cases_eq config.receivers 0) [
-  | inl none ↦ absurd (omega (arith, less, far, ap (λ (k : ℕ). groups config * k) none))
-  | inr some ↦ (div-lt_iff_lt-mul (omega (arith, some))).1 (omega (arith, less, far))
-]
+taken_chain Served.List config p less far = grind (arith, div-lt_iff_lt-mul)
 taken_chain Served.Counter config p less far = absurd (omega arith)
 
 -- the chain of a pass
 pub chain_is : (c : Setting) (p : ℕ) → p < passes c → IsChain c (chain_of c.config p)
-chain_is c p less = elim (cases_lt p c.config.senders) [
-  | inl near ↦ subst (λ (y : Chain). IsChain c y) (sym (sender_chain c.config p near)) tt
-  | inr far ↦ subst (λ (y : Chain). IsChain c y) (sym (receiver_chain c.config p far)) (taken_chain c.served c.config p less far)
-]
+chain_is c p less =
+    grind (arith, sender_chain c.config p, receiver_chain c.config p, taken_chain c.served c.config p less)
 
 on_by : (c : Setting) (p : ℕ) → IsOn c (chain_of c.config p) p ⊎ IsOff c (chain_of c.config p) p → IsOn c (chain_of c.config p) p
 on_by c p (inl on) = on
@@ -54,8 +47,7 @@ abbrev pub Combines : Stand → Type 0
 Combines at = (post_at Chain.Send at).rank ≡ 5
 
 same_rank : (x y : Chain) (own : ℕ) (at : Phase) → (post_of x own at).rank ≡ (post_of y own at).rank
-same_rank x y own (Phase.Link put) = refl
-same_rank x y own _ = refl
+same_rank x y own at = grind arith
 
 module _ (c : Setting) (s : State) (k : Chains c s) where
   -- one pass of a chain combines at most

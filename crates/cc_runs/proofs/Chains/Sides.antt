@@ -13,8 +13,7 @@ use Rattle.cc_runs.proofs.Combining.CombinerSteps.{Tells}
 
 -- words from the second on don't ask for the first, nor the others for one word of the body
 pub words_later : (a b : ℕ) (body : ℕ → ℕ) (j : ℕ) → j ≢ 0 → words_of a body j ≡ words_of b body j
-words_later a b body zero ne = absurd (ne refl)
-words_later a b body (suc i) ne = refl
+words_later a b body j ne = grind arith
 
 pub words_but : (tag : ℕ) (a b : ℕ → ℕ) (i j : ℕ) → ((k : ℕ) → k ≢ i → a k ≡ b k) → j ≢ suc i → words_of tag a j ≡ words_of tag b j
 words_but tag a b i zero same ne = refl
@@ -22,13 +21,11 @@ words_but tag a b i (suc k) same ne = same k (λ e. ne (ap suc e))
 
 -- what a request asks for is its body's words
 pub asks_word : (r : Request) (i : ℕ) → i ≤ 3 → asks_in r (suc i) ≡ word r.body i
-asks_word r (suc (suc (suc (suc i)))) most = absurd (omega arith)
-asks_word r _ most = refl
+asks_word r i most = grind arith
 
 -- and after all of them nothing
 asks_late : (r : Request) (j : ℕ) → all_wrote Chain.Send ≤ j → asks_in r j ≡ 0
-asks_late r (suc (suc (suc (suc (suc (suc j)))))) far = refl
-asks_late r _ far = absurd (omega arith)
+asks_late r j far = grind arith
 
 module _ (c : Setting) (s : State) (p begun own : ℕ) where
   pub write_tag : (long put : ℕ) (request : Request) → s.stand (pass_on c Chain.Send p) ≡ standing c Chain.Send s p begun own (Phase.WriteTag put request) →

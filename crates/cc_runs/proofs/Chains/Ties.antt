@@ -1,6 +1,6 @@
 -- The ties of a chain to the history, and those of them that a step keeps.
-use Rattle.std.proofs.Common.{◌≡◌, ◌≢◌, ℕ, ◌+◌, ◌<◌, ◌≤◌, List, length, refl, ap, sym, ◌∙◌, subst, arith, inl, inr}
 use Rattle.std.proofs.lemmas.Bool.{cases_eq}
+use Rattle.std.proofs.Common.{◌≡◌, ◌≢◌, ℕ, ◌+◌, ◌<◌, ◌≤◌, List, length, sym, subst, arith, ap, ◌∙◌, inl, inr, refl}
 use Rattle.cc_runs.specs.Names.{Entry, Answer, Setting, Served, Chain, Stand, Sending, Phase}
 use Rattle.cc_runs.specs.State.{State}
 use Rattle.cc_runs.specs.Run.{IsFinished}
@@ -37,13 +37,7 @@ pub record Holds (c : Setting) (x : Chain) (s : State) : Type 0 where
   pub side_in : HasSide x s.history
 
 pub send_in : (service : Sending) → (1 ≤ send_stage service) × (send_stage service ≤ 2)
-send_in Sending.ReadTag = omega arith
-send_in (Sending.WriteLastMark total) = omega arith
-send_in (Sending.WriteShut total) = omega arith
-send_in (Sending.WriteLast place at) = omega arith
-send_in (Sending.WriteCount place at) = omega arith
-send_in (Sending.WriteCursor place at) = omega arith
-send_in _ = omega arith
+send_in service = grind arith
 
 -- only a service asks which call it serves
 pub service_call : (served : Served) (x : Chain) (own : ℕ) (e e' : Entry) (a : Answer) (at : Phase) → (1 ≤ (post_of x own at).stage → (post_of x own at).stage ≤ 2 → e ≡ e') → HasService served x e a at → HasService served x e' a at

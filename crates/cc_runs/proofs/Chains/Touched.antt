@@ -1,5 +1,5 @@
 -- Which node of a chain a step touches.
-use Rattle.std.proofs.Common.{◌≡◌, ◌⊎◌, ℕ, refl, ap, sym, ◌∙◌, inl, inr}
+use Rattle.std.proofs.Common.{◌≡◌, ◌⊎◌, ℕ, refl, ap, sym, ◌∙◌, inl, inr, arith}
 use Rattle.cc_runs.specs.Names.{Setting, Chain, NodeField, Word, Job, Counting, Sending, Taking, Phase}
 use Rattle.cc_runs.specs.State.{word_of}
 use Rattle.cc_runs.specs.CountLines as count_side
@@ -35,29 +35,17 @@ module _ (c : Setting) (x y : Chain) (own i : ℕ) (f : NodeField) where
   send_touches job service sends e = absurd (cc)
 
   take_touches : (g : ℕ) (service : Taking) → word_of (take_side.operation g service) ≡ Word.Node y i f → ⊥
-  take_touches g Taking.ReadHead e = cc
-  take_touches g service e = cc
+  take_touches g service e = grind arith
 
   pub touches : (at : Phase) → ((job : Job) (service : Counting) → at ≡ Phase.Counting job service → x ≡ Chain.Send) → ((job : Job) (service : Sending) → at ≡ Phase.Sending job service → x ≡ Chain.Send) →
       word_of (operation c x own at) ≡ Word.Node y i f → Touches x y own i at
-  touches Phase.Idle counts sends e = absurd (cc)
-  touches (Phase.ResetNext call) counts sends e = own_node (Phase.ResetNext call) _ e
-  touches (Phase.ResetState call) counts sends e = own_node (Phase.ResetState call) _ e
-  touches (Phase.Exchange call) counts sends e = absurd (cc)
-  touches (Phase.WriteTag put request) counts sends e = own_node (Phase.WriteTag put request) _ e
-  touches (Phase.WriteBody put request i) counts sends e = own_node (Phase.WriteBody put request i) _ e
-  touches (Phase.Link put) counts sends e = own_node (Phase.Link put) _ e
-  touches Phase.ReadState counts sends e = own_node Phase.ReadState _ e
-  touches (Phase.ReadNext round) counts sends e = its_node (Phase.ReadNext round) round.at _ refl refl e
-  touches (Phase.Counting job service) counts sends e = count_touches job service (counts job service refl) e
-  touches (Phase.Sending job service) counts sends e = send_touches job service (sends job service refl) e
-  touches (Phase.Taking job service) counts sends e = absurd (take_touches (group_of x) service e)
-  touches (Phase.WriteAnswer job told) counts sends e = its_node (Phase.WriteAnswer job told) job.round.at _ refl refl e
-  touches (Phase.WriteAnswerTag job item) counts sends e = its_node (Phase.WriteAnswerTag job item) job.round.at _ refl refl e
-  touches (Phase.WriteAnswerBody job item i) counts sends e = its_node (Phase.WriteAnswerBody job item i) job.round.at _ refl refl e
-  touches (Phase.MarkDone job) counts sends e = its_node (Phase.MarkDone job) job.round.at _ refl refl e
-  touches (Phase.HandOver at) counts sends e = its_node (Phase.HandOver at) at _ refl refl e
-  touches Phase.ReadAnswer counts sends e = own_node Phase.ReadAnswer _ e
-  touches (Phase.ReadAnswerTag at) counts sends e = own_node (Phase.ReadAnswerTag at) _ e
-  touches (Phase.ReadAnswerBody p i) counts sends e = own_node (Phase.ReadAnswerBody p i) _ e
-  touches (Phase.Finished told) counts sends e = absurd (cc)
+  touches at counts sends e = grind (
+    arith,
+    own_node,
+    own_node Phase.ReadState,
+    its_node,
+    count_touches,
+    send_touches,
+    take_touches (group_of x),
+    own_node Phase.ReadAnswer,
+  )

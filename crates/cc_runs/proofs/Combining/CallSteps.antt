@@ -1,9 +1,9 @@
 -- The steps of a call, from the resets of its node to the end, but for those of the combiner.
-use Rattle.std.proofs.Common.{◌≡◌, ℕ, ◌+◌, ◌<◌, ◌≤◌, ◌≢◌, ◌⊎◌, inl, inr, arith}
+use Rattle.std.proofs.Common.{◌≡◌, ℕ, ◌+◌, ◌<◌, ◌≤◌, ◌≢◌, ◌⊎◌, arith}
 use Rattle.std.proofs.lemmas.Bool.{cases_eq}
 use Rattle.cc_runs.proofs.Combining.Chain.{Chain, Ghost}
 use Rattle.cc_runs.proofs.Combining.Invariant.{Inv, Words}
-use Rattle.cc_runs.proofs.Combining.Apart.{node_chain, chain_apart, node_apart, reads_two, reads_zero}
+use Rattle.cc_runs.proofs.Combining.Apart.{node_chain, node_apart, reads_two, reads_zero}
 use Rattle.cc_runs.proofs.Combining.Step.{Loads, Stores, post_at}
 
 -- a pass that is out of the chain resets a word of its own node
@@ -118,10 +118,7 @@ module _ (n h : ℕ) (v v' : Chain) (g : Ghost) (p : ℕ) (inside : p < n) (i : 
 
     -- and of the chain's nodes all but its own
     chain_at : (k : ℕ) → g.marked ≤ k → k ≤ g.calls → (v'.node (g.chain k) ≡ v.node (g.chain k)) ⊎ (k ≡ g.at p)
-    chain_at k a b = elim (cases_eq k (g.at p)) [
-      | inl same ↦ inr same
-      | inr ne ↦ inl (t.stores.nodes (g.chain k) (λ same. ne (chain_apart n h v g i k (g.at p) a (i.passes.early p inside t.before) b (omega (arith, i.passes.at_in p inside (omega arith))) (grind (arith, own)))))
-    ]
+    chain_at k a b = grind (arith, t.stores.nodes (g.chain k))
 
   pub writes : Writes (g.asks_long (g.at p)) v v' p → Inv n h v' g
   writes t = grind (arith, post_at v v' p t.step.stores.others, cell t.step.stores, not_server (omega arith), own t.step, chain_state t.step, chain_at t.step, words)

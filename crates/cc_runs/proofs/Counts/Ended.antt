@@ -1,12 +1,14 @@
--- The calls of a pass that is out of its chain are counted.
-use Rattle.std.proofs.Common.{◌≡◌, ℕ, zero, suc, ◌+◌, ◌<◌, ◌≤◌, Bool, true, false, ◌||◌, cond, List, [], ◌∷◌, length, Option, Some, None, inl, inr, refl, sym, ap, ◌∙◌, subst, arith}
-use Rattle.std.proofs.lemmas.Bool.{cases_lt, cases_eq, true≢false}
-use Rattle.std.proofs.lemmas.Option.{slice_get-get_or}
+-- The places of accepted items go up, and a queue is shut once; so the calls of a pass that is out of its chain are counted.
+use Rattle.std.proofs.Common.{◌≡◌, ℕ, zero, suc, ◌+◌, ◌<◌, ◌≤◌, Bool, true, ◌||◌, List, [], ◌∷◌, length, Some, ap, ◌∙◌, subst, arith, length-append, false, inl, inr, refl, sym}
+use Rattle.std.proofs.Math.Bool.{or-true}
 use Rattle.std.specs.List.{AllByRecursion, slice_get, list_any}
-use Rattle.cc_model.specs.Items.{is_pass, shuts, calls_of}
-use Rattle.cc_runs.specs.Names.{Config, Pass, Entry, Answer, SendAnswer, CloseAnswer, Setting, Served, Chain, Phase, Sending, Job, Move}
+use Rattle.cc_model.specs.Items.{accepted_by, accepted_item, shuts, is_pass, calls_of}
+use Rattle.cc_model.specs.Legal.{SendSideAnswer, SendSideAnswers, IsSenders}
+use Rattle.cc_runs.specs.Names.{Config, Pass, Call, Entry, Answer, SendAnswer, CloseAnswer, Served, Chain, Phase, Sending, Job, Move}
+use Rattle.std.proofs.lemmas.Bool.{cases_lt}
+use Rattle.std.proofs.lemmas.Option.{slice_get-get_or, same_Some}
 use Rattle.cc_runs.specs.State.{State, chain_of, pass_at}
-use Rattle.cc_runs.specs.Run.{passes, reached, IsRun, IsIdle}
+use Rattle.cc_runs.specs.Run.{passes, reached, IsRun}
 use Rattle.cc_runs.specs.ChainLaws.{IsOut}
 use Rattle.cc_runs.specs.Counts.{counted, mark_of, IsSeen, AreSeen}
 use Rattle.cc_runs.proofs.ChainLaws.{out_rank}
@@ -14,58 +16,85 @@ use Rattle.cc_runs.proofs.ChainRuns.{not_other}
 use Rattle.cc_runs.proofs.Chains.View.{pass_on, post_of, post_at}
 use Rattle.cc_runs.proofs.Chains.Registers.{calls_on, answers_on, call_at, answer_at, no_answer, IsAnswer, HasSend, HasService}
 use Rattle.cc_runs.proofs.Chains.Ties.{Holds}
-use Rattle.cc_runs.proofs.Chains.Last.{chosen}
+use Rattle.cc_runs.proofs.Chains.Last.{chosen, all_chosen}
 use Rattle.cc_runs.proofs.Chains.Others.{IsOn}
 use Rattle.cc_runs.proofs.Chains.Serving.{Chains, chains_hold, chain_is, on_chain, sending_where}
-use Rattle.cc_runs.proofs.Chains.ReadAnswers.{named, name_is, other_name, calls_one}
+use Rattle.cc_runs.proofs.Chains.ReadAnswers.{named, name_is, calls_one}
 use Rattle.cc_runs.proofs.LinkedList.Invariant.{LInv}
 use Rattle.cc_runs.proofs.ListRuns.View.{enq_at, queue_of}
 use Rattle.cc_runs.proofs.ListRuns.Ties.{further}
 use Rattle.cc_runs.proofs.ListRuns.Facts.{lists}
 use Rattle.cc_runs.proofs.ListRuns.Invariant.{Parts}
 use Rattle.cc_runs.proofs.ListRuns.Runs.{Whole}
-use Rattle.cc_runs.proofs.Counts.Places.{within, up, once}
 use Rattle.cc_runs.proofs.Counts.State.{Late, Closing, late_at, closing_at, stage, count_now, count_late, either_count, shut_now}
+use Rattle.cc_runs.proofs.EndAnswered.{marked}
+
+abbrev Senders : Config → List Entry → Type 0
+Senders c calls = AllByRecursion (λ (e : Entry). IsSenders c e.pass e.call) calls
+
+-- the first answer
+module _ (c : Config) (n known place number : ℕ) where
+  one_item : (shut : Bool) (pass : Pass) (call : Call) → IsSenders c pass call → SendSideAnswer c n shut known call (Answer.Send (SendAnswer.Accepted place))
+      → (place ≡ n) × (length (accepted_item (record { pass = pass; call = call; number = number; known = known }) (Answer.Send (SendAnswer.Accepted place))) ≡ 1)
+  one_item shut pass call is h = grind arith
+
+-- each place is among those of the items
+within : (c : Config) (n : ℕ) (shut : Bool) (calls : List Entry) (answers : List Answer) → SendSideAnswers c n shut calls answers → Senders c calls → (j place : ℕ) → slice_get answers j ≡ Some (Answer.Send (SendAnswer.Accepted place))
+    → (n ≤ place) × (place < n + length (accepted_by calls answers))
+within c n shut calls [] h all j place is = absurd (cc)
+within c n shut [] (a ∷ answers) h all j place is = absurd h
+within c n shut (e ∷ calls) (a ∷ answers) h all zero place is =
+    let told : a ≡ Answer.Send (SendAnswer.Accepted place) = same_Some a (Answer.Send (SendAnswer.Accepted place)) is in
+    let one = one_item c n e.known place e.number shut e.pass e.call all.0 (subst (λ (z : Answer). SendSideAnswer c n shut e.known e.call z) told h.0) in
+    (omega (arith, one.0), omega (arith, one.0, one.1, ap (λ (z : Answer). length (accepted_item e z)) told, length-append (accepted_item e a) (accepted_by calls answers)))
+within c n shut (e ∷ calls) (a ∷ answers) h all (suc j) place is =
+    let later = within c (n + length (accepted_item e a)) (shut || shuts a) calls answers h.1 all.1 j place is in
+    (omega (arith, later.0), omega (arith, later.1, length-append (accepted_item e a) (accepted_by calls answers)))
+
+-- the places go up
+up : (c : Config) (n : ℕ) (shut : Bool) (calls : List Entry) (answers : List Answer) → SendSideAnswers c n shut calls answers → Senders c calls → (j k place next : ℕ) → j < k → slice_get answers j ≡ Some (Answer.Send (SendAnswer.Accepted place))
+    → slice_get answers k ≡ Some (Answer.Send (SendAnswer.Accepted next)) → place < next
+up c n shut calls [] h all j k place next less is then = absurd (cc (is))
+up c n shut [] (a ∷ answers) h all j k place next less is then = absurd h
+up c n shut (e ∷ calls) (a ∷ answers) h all j zero place next less is then = absurd (omega (arith, less))
+up c n shut (e ∷ calls) (a ∷ answers) h all zero (suc k) place next less is then =
+    let told : a ≡ Answer.Send (SendAnswer.Accepted place) = same_Some a (Answer.Send (SendAnswer.Accepted place)) is in
+    let one = one_item c n e.known place e.number shut e.pass e.call all.0 (subst (λ (z : Answer). SendSideAnswer c n shut e.known e.call z) told h.0) in
+    let later = within c (n + length (accepted_item e a)) (shut || shuts a) calls answers h.1 all.1 k next then in
+    omega (arith, one.0, one.1, ap (λ (z : Answer). length (accepted_item e z)) told, later.0)
+up c n shut (e ∷ calls) (a ∷ answers) h all (suc j) (suc k) place next less is then =
+    up c (n + length (accepted_item e a)) (shut || shuts a) calls answers h.1 all.1 j k place next (omega (arith, less)) is then
+
+-- ---- shut once
+
+no_second : (c : Config) (n known total : ℕ) (call : Call) → SendSideAnswer c n true known call (Answer.Close (CloseAnswer.Shut total)) → ⊥
+no_second c n known total call h = grind arith
+
+none_after : (c : Config) (n : ℕ) (calls : List Entry) (answers : List Answer) → SendSideAnswers c n true calls answers → (j total : ℕ) → slice_get answers j ≡ Some (Answer.Close (CloseAnswer.Shut total)) → ⊥
+none_after c n calls [] h j total is = absurd (cc)
+none_after c n [] (a ∷ answers) h j total is = h
+none_after c n (e ∷ calls) (a ∷ answers) h zero total is = no_second c n e.known total e.call (subst (λ (z : Answer). SendSideAnswer c n true e.known e.call z) (same_Some a (Answer.Close (CloseAnswer.Shut total)) is) h.0)
+none_after c n (e ∷ calls) (a ∷ answers) h (suc j) total is = none_after c (n + length (accepted_item e a)) calls answers h.1 j total is
+
+once : (c : Config) (n : ℕ) (shut : Bool) (calls : List Entry) (answers : List Answer) → SendSideAnswers c n shut calls answers → (j k first second : ℕ) → j < k → slice_get answers j ≡ Some (Answer.Close (CloseAnswer.Shut first))
+    → slice_get answers k ≡ Some (Answer.Close (CloseAnswer.Shut second)) → ⊥
+once c n shut calls [] h j k first second less is then = absurd (cc (is))
+once c n shut [] (a ∷ answers) h j k first second less is then = h
+once c n shut (e ∷ calls) (a ∷ answers) h j zero first second less is then = absurd (omega (arith, less))
+once c n shut (e ∷ calls) (a ∷ answers) h zero (suc k) first second less is then =
+    let told : a ≡ Answer.Close (CloseAnswer.Shut first) = same_Some a (Answer.Close (CloseAnswer.Shut first)) is in
+    let now : (shut || shuts a) ≡ true = ap (λ (z : Answer). shut || shuts z) told ∙ or-true shut in
+    none_after c (n + length (accepted_item e a)) calls answers (subst (λ (b : Bool). SendSideAnswers c (n + length (accepted_item e a)) b calls answers) now h.1) k second then
+once c n shut (e ∷ calls) (a ∷ answers) h (suc j) (suc k) first second less is then = once c (n + length (accepted_item e a)) (shut || shuts a) calls answers h.1 j k first second (omega (arith, less)) is then
 
 -- ---- the calls that a filter has chosen
 
-keeps : (count mark : ℕ) (z : Entry × Option Answer) (rest : List (Entry × Option Answer)) (b : Bool) → (b ≡ true → IsSeen count mark z) → AllByRecursion (IsSeen count mark) rest → AllByRecursion (IsSeen count mark) (cond b (z ∷ rest) rest)
-keeps count mark z rest true has all = (has refl, all)
-keeps count mark z rest false has all = all
-
-abbrev pub Each : (count mark : ℕ) → (Entry → Bool) → List Entry → List Answer → Type 0
+abbrev Each : (count mark : ℕ) → (Entry → Bool) → List Entry → List Answer → Type 0
 Each count mark f calls answers = (j : ℕ) → j < length calls → j < length answers → f (call_at calls j) ≡ true → IsSeen count mark (call_at calls j, Some (answer_at answers j))
-
-pub all_seen : (count mark : ℕ) (f : Entry → Bool) (calls : List Entry) (answers : List Answer) → Each count mark f calls answers → AllByRecursion (IsSeen count mark) (chosen f calls answers)
-all_seen count mark f [] answers each = tt
-all_seen count mark f (e ∷ calls) [] each = keeps count mark (e, None) (chosen f calls []) (f e) (λ is. tt) (all_seen count mark f calls [] (λ j less none is. absurd (omega (arith, none))))
-all_seen count mark f (e ∷ calls) (a ∷ answers) each =
-    keeps count mark (e, Some a) (chosen f calls answers) (f e) (λ is. each 0 (omega arith) (omega arith) is) (all_seen count mark f calls answers (λ j less inside is. each (suc j) (omega (arith, less)) (omega (arith, inside)) is))
 
 -- an answer to a take is always seen
 take_seen : (count mark g : ℕ) (e : Entry) (a : Answer) → IsAnswer Served.List (Chain.Take g) a → IsSeen count mark (e, Some a)
-take_seen count mark g e (Answer.Take told) is = tt
-take_seen count mark g e (Answer.Send told) is = absurd is
-take_seen count mark g e (Answer.Close told) is = absurd is
-
--- ---- a pass out of its chain: each of its answered calls is marked
-
-module _ (c : Setting) (x : Chain) (s : State) (w : Holds c x s) (n : ℕ) (out : (post_at x (s.stand (pass_on c x n))).rank ≤ 2) where
-  abbrev is_its : Entry → Bool
-  is_its e = is_pass (named c x n) e.pass
-
-  marked : (j : ℕ) → j < length (calls_on x s.history) → is_its (call_at (calls_on x s.history) j) ≡ true → j < w.ghost.marked
-  marked j less is = elim (cases_lt j w.ghost.marked) [
-    | inl before ↦ before
-    | inr late ↦
-        let below : j < w.ghost.calls = omega (arith, less, w.ties.calls_are) in
-        let rank : 3 ≤ (post_at x (s.stand (pass_on c x (w.ghost.pass_of j)))).rank = w.inv.calls.open_low j (omega (arith, late)) below in
-        let theirs : is_its (call_at (calls_on x s.history) j) ≡ is_pass (named c x n) (named c x (w.ghost.pass_of j)) = ap (is_pass (named c x n)) ((w.ties.entered j below).pass_is ∙ name_is c x (w.ghost.pass_of j) (w.ties.pass_in j below)) in
-        absurd (elim (cases_eq (w.ghost.pass_of j) n) [
-          | inl same ↦ let low : 3 ≤ (post_at x (s.stand (pass_on c x n))).rank = subst (λ (q : ℕ). 3 ≤ (post_at x (s.stand (pass_on c x q))).rank) same rank in omega (arith, low, out)
-          | inr ne ↦ true≢false (sym is ∙ theirs ∙ other_name c x n (w.ghost.pass_of j) ne)
-        ])
-  ]
+take_seen count mark g e a is = grind arith
 
 -- ---- the senders' chain: what is marked is counted
 
@@ -83,10 +112,7 @@ module _ (c : Config) (s : State) (chains : Chains (lists c) s) (whole : Whole c
   get_answer j less = slice_get-get_or answers j no_answer less
 
   not_idle : (p : ℕ) (job : Job) (service : Sending) → (s.stand p).phase ≡ Phase.Sending job service → p < passes (lists c)
-  not_idle p job service stands = elim (cases_lt p (passes (lists c))) [
-    | inl l ↦ l
-    | inr l ↦ absurd (subst (λ (z : Phase). IsIdle z) stands (whole.posts.outside p l))
-  ]
+  not_idle p job service stands = grind (arith, whole.posts.outside p)
 
   -- the answer of the call that a service with a decided answer serves
   module _ (job : Job) (service : Sending) (stands : (s.stand k.duty.e_pass).phase ≡ Phase.Sending job service) (two : (own : ℕ) → (post_of Chain.Send own (Phase.Sending job service)).stage ≡ 2) where
@@ -150,8 +176,7 @@ module _ (c : Config) (s : State) (chains : Chains (lists c) s) (whole : Whole c
   any_shut (a ∷ l) (suc j) total is = later (shuts a) (any_shut l j total is)
     where
       later : (b : Bool) → list_any shuts l ≡ true → (b || list_any shuts l) ≡ true
-      later true so = refl
-      later false so = so
+      later b so = grind arith
 
   mark_seen : (j total : ℕ) → j < w.ghost.marked → slice_get answers j ≡ Some (Answer.Close (CloseAnswer.Shut total)) → mark_of s ≡ 1
   mark_seen j total before is = elim (cases_lt (stage c s k) 16) [
@@ -162,11 +187,7 @@ module _ (c : Config) (s : State) (chains : Chains (lists c) s) (whole : Whole c
   one_seen : (j : ℕ) (e : Entry) (a : Answer) → j < w.ghost.marked → slice_get answers j ≡ Some a → IsSeen (counted s) (mark_of s) (e, Some a)
   one_seen j e (Answer.Send (SendAnswer.Accepted place)) before is = count_seen j place before is
   one_seen j e (Answer.Close (CloseAnswer.Shut total)) before is = mark_seen j total before is
-  one_seen j e (Answer.Send SendAnswer.Full) before is = tt
-  one_seen j e (Answer.Send SendAnswer.Closed) before is = tt
-  one_seen j e (Answer.Send SendAnswer.Spent) before is = tt
-  one_seen j e (Answer.Close (CloseAnswer.Already total)) before is = tt
-  one_seen j e (Answer.Take told) before is = tt
+  one_seen j e a before is = grind arith
 
   -- each answered call of a sender that is out of the chain
   seen_send : (n : ℕ) → (post_at Chain.Send (s.stand (pass_on (lists c) Chain.Send n))).rank ≤ 2 → Each (counted s) (mark_of s) (λ (e : Entry). is_pass (named (lists c) Chain.Send n) e.pass) (calls_on Chain.Send s.history) (answers_on Chain.Send s.history)
@@ -191,5 +212,5 @@ ended c some moves run whole p less out =
     ap (λ (z : Pass). calls_of z (reached (lists c) moves).history) (ap (pass_at c) on.pass_is ∙ name_is (lists c) (chain_of c p) on.number on.inside)
     ∙ calls_one (lists c) (chain_of c p) (reached (lists c) moves).history on.number on.inside (not_other (lists c) some moves run (chain_of c p)) in
     subst (AllByRecursion (IsSeen (counted (reached (lists c) moves)) (mark_of (reached (lists c) moves)))) (sym are)
-    (all_seen (counted (reached (lists c) moves)) (mark_of (reached (lists c) moves)) (λ (e : Entry). is_pass (named (lists c) (chain_of c p) on.number) e.pass) (calls_on (chain_of c p) (reached (lists c) moves).history)
-    (answers_on (chain_of c p) (reached (lists c) moves).history) (seen_on c (reached (lists c) moves) chains whole (chain_of c p) hold on.number low))
+    (all_chosen (IsSeen (counted (reached (lists c) moves)) (mark_of (reached (lists c) moves))) (λ (e : Entry). is_pass (named (lists c) (chain_of c p) on.number) e.pass) (calls_on (chain_of c p) (reached (lists c) moves).history)
+    (answers_on (chain_of c p) (reached (lists c) moves).history) (seen_on c (reached (lists c) moves) chains whole (chain_of c p) hold on.number low) (λ j less none its. tt))

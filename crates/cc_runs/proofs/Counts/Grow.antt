@@ -1,6 +1,5 @@
 -- No step makes a count less.
-use Rattle.std.proofs.Common.{◌≡◌, ◌≢◌, ℕ, ◌+◌, ◌*◌, ◌<◌, ◌≤◌, List, [], ◌∷◌, ◌++◌, inl, inr, refl, sym, ap, subst, arith}
-use Rattle.std.proofs.lemmas.Bool.{cases_eq}
+use Rattle.std.proofs.Common.{◌≡◌, ◌≢◌, ℕ, ◌+◌, ◌*◌, ◌<◌, ◌≤◌, List, [], ◌∷◌, ◌++◌, refl, sym, ap, subst, arith}
 use Rattle.cc_runs.specs.Names.{Config, Chain, Object as Obj, Word, Phase, Sending, Taking, Job, Parcel, Move}
 use Rattle.cc_runs.specs.Words.{groups, put, object_number}
 use Rattle.cc_runs.specs.State.{State, chain_of, stored}
@@ -25,9 +24,6 @@ pub record NoLess (n : ℕ) (mem later : Word → ℕ) : Type 0 where
   pub count : mem (Word.Object Obj.Count) ≤ later (Word.Object Obj.Count)
   pub taken : (g : ℕ) → g < n → mem (Word.Object (Obj.Taken g)) ≤ later (Word.Object (Obj.Taken g))
   pub mark : mem (Word.Object Obj.Shut) ≤ later (Word.Object Obj.Shut)
-
-no_less : (n : ℕ) (mem : Word → ℕ) → NoLess n mem mem
-no_less n mem = record { count = omega arith; taken = λ g inside. omega arith; mark = omega arith }
 
 -- a store to another word of the list
 other_object : (n : ℕ) (mem : Word → ℕ) (o : Obj) (value : ℕ) → object_number o ≢ 2 → object_number o ≢ 1 → ((g : ℕ) → object_number o ≢ 5 + 2 * g) → NoLess n mem (put mem (Word.Object o) value)
@@ -87,10 +83,7 @@ module _ (c : Config) (fits : InRange c) (moves : List Move) (run : IsRun (lists
   write_taken : (p y own : ℕ) (job : Job) (dummy : ℕ) (parcel : Parcel) → s.mem (Word.Object (Obj.Taken y)) ≤ parcel.place + 1 → After (Chain.Take y) own (Phase.Taking job (Taking.WriteTaken dummy parcel))
   write_taken p y own job dummy parcel up = record {
     count = omega (arith, object_other s.mem (Obj.Taken y) Obj.Count (parcel.place + 1) (λ e. omega (arith, e)));
-    taken = λ g inside. elim (cases_eq y g) [
-      | inl same ↦ subst (λ (z : ℕ). s.mem (Word.Object (Obj.Taken z)) ≤ put s.mem (Word.Object (Obj.Taken y)) (parcel.place + 1) (Word.Object (Obj.Taken z))) same (omega (arith, up, object_here s.mem (Obj.Taken y) (parcel.place + 1)))
-      | inr ne ↦ omega (arith, object_other s.mem (Obj.Taken y) (Obj.Taken g) (parcel.place + 1) (λ e. ne (omega (arith, e))))
-    ];
+    taken = λ g inside. grind (arith, object_here, object_other);
     mark = omega (arith, object_other s.mem (Obj.Taken y) Obj.Shut (parcel.place + 1) (λ e. omega (arith, e)));
   }
 
@@ -113,9 +106,9 @@ module _ (c : Config) (fits : InRange c) (moves : List Move) (run : IsRun (lists
 -- after more moves
 pub grow : (c : Config) (fits : InRange c) (later seen : List Move) → IsRun (lists c) (later ++ seen) → CountsNoLess (lists c) (reached (lists c) seen) (reached (lists c) (later ++ seen))
 grow c fits [] seen run = record { count = omega arith; taken = λ g inside. omega arith; mark = omega arith }
-grow c fits (Move.Begin p call known ∷ later) seen run = let b = grow c fits later seen run.0 in record { count = b.count; taken = b.taken; mark = b.mark }
-grow c fits (Move.Take p ∷ later) seen run = let b = grow c fits later seen run.0 in record { count = b.count; taken = b.taken; mark = b.mark }
 grow c fits (Move.Step p ∷ later) seen run =
     let b = grow c fits later seen run.0 in
     let up : NoLess (groups c) (reached (lists c) (later ++ seen)).mem (reached (lists c) (Move.Step p ∷ (later ++ seen))).mem = step_up c fits (later ++ seen) run.0 p run.1.0 in
     record { count = omega (arith, b.count, up.count); taken = λ g inside. omega (arith, b.taken g inside, up.taken g inside); mark = omega (arith, b.mark, up.mark) }
+grow c fits (_ ∷ later) seen run =
+    let b = grow c fits later seen run.0 in record { count = b.count; taken = b.taken; mark = b.mark }

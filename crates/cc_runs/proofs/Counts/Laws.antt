@@ -1,10 +1,9 @@
 -- The laws of the counts.
-use Rattle.std.proofs.Common.{◌≡◌, ◌≢◌, ℕ, ◌+◌, ◌<◌, ◌≤◌, List, [], ◌∷◌, ◌++◌, length, Option, Some, None, Ok, inl, inr, sym, subst, arith}
-use Rattle.std.proofs.lemmas.Bool.{cases_eq}
+use Rattle.std.proofs.Common.{◌≡◌, ◌≢◌, ℕ, ◌+◌, ◌<◌, ◌≤◌, List, [], ◌∷◌, ◌++◌, length, Option, Ok, arith}
 use Rattle.std.specs.List.{AllByRecursion}
 use Rattle.cc_model.specs.Config.{config_fault}
 use Rattle.cc_model.specs.Items.{accepted, handed, handed_to_all, calls_of}
-use Rattle.cc_runs.specs.Names.{Config, Entry, Answer, SendAnswer, CloseAnswer, Setting, Move}
+use Rattle.cc_runs.specs.Names.{Config, Entry, Answer, Setting, Move}
 use Rattle.cc_runs.specs.Words.{groups}
 use Rattle.cc_runs.specs.State.{pass_at}
 use Rattle.cc_runs.specs.Run.{IsRun, passes, reached, history_of}
@@ -51,14 +50,7 @@ counts_grow = on_lists (λ c later seen. CountsNoLess c (reached c seen) (reache
 
 -- what is seen of fewer items is seen of more
 more_seen : (count mark more marks : ℕ) (z : Entry × Option Answer) → count ≤ more → mark ≤ marks → marks ≤ 1 → IsSeen count mark z → IsSeen more marks z
-more_seen count mark more marks (e, Some (Answer.Send (SendAnswer.Accepted place))) up by most seen = omega (arith, up, seen)
-more_seen count mark more marks (e, Some (Answer.Close (CloseAnswer.Shut total))) up by most seen = omega (arith, by, most, seen)
-more_seen count mark more marks (e, Some (Answer.Send SendAnswer.Full)) up by most seen = tt
-more_seen count mark more marks (e, Some (Answer.Send SendAnswer.Closed)) up by most seen = tt
-more_seen count mark more marks (e, Some (Answer.Send SendAnswer.Spent)) up by most seen = tt
-more_seen count mark more marks (e, Some (Answer.Close (CloseAnswer.Already total))) up by most seen = tt
-more_seen count mark more marks (e, Some (Answer.Take told)) up by most seen = tt
-more_seen count mark more marks (e, None) up by most seen = tt
+more_seen count mark more marks z up by most seen = grind arith
 
 all_more : (count mark more marks : ℕ) (l : List (Entry × Option Answer)) → count ≤ more → mark ≤ marks → marks ≤ 1 → AllByRecursion (IsSeen count mark) l → AllByRecursion (IsSeen more marks) l
 all_more count mark more marks [] up by most all = tt
@@ -120,10 +112,7 @@ none c fits later seen run g inside no_more no_other =
       sent = λ p less out.
           all_more (counted (reached (lists c) seen)) (mark_of (reached (lists c) seen)) (counted_for (reached (lists c) seen) g) (mark_of (reached (lists c) seen)) (calls_of (pass_at c p) (history_of (lists c) seen)) (omega (arith, no_more, up.count))
           (omega arith) few (now.ended p less out);
-      others = λ k there. elim (cases_eq k g) [
-        | inl same ↦ subst (λ (z : ℕ). length (handed (history_of (lists c) seen) z) ≤ counted_for (reached (lists c) seen) g) (sym same) (now.taken_least g inside)
-        | inr ne ↦ omega (arith, now.taken_least k there, up.taken k there, no_other k there ne)
-      ];
+      others = λ k there. grind (arith, now.taken_least g inside, now.taken_least k there, up.taken k there, no_other k there);
       pending = now.taken_pending g inside;
     }
 

@@ -46,8 +46,7 @@ closing_at e from _ low = absurd (omega (arith, low))
 
 -- a group's service that has begun
 takes_at : (at : Phase) → 1 ≤ (regs_at at).stage → IsTaking at
-takes_at (Phase.Taking job service) low = tt
-takes_at _ low = absurd (omega (arith, low))
+takes_at at low = grind arith
 
 -- ---- the counts
 
@@ -70,13 +69,7 @@ module _ (c : Config) (s : State) (k : Parts c s) where
   count_late low high = omega (arith, i.words.count_late low high, k.ties.accepted_is)
 
   pub either_count : ((stage ≤ 10) ⊎ (13 ≤ stage)) ⊎ ((11 ≤ stage) × (stage ≤ 12))
-  either_count = elim (cases_lt stage 11) [
-    | inl less ↦ inl (inl (omega (arith, less)))
-    | inr more ↦ elim (cases_lt stage 13) [
-      | inl less ↦ inr (omega (arith, more), omega (arith, less))
-      | inr far ↦ inl (inr (omega (arith, far)))
-    ]
-  ]
+  either_count = grind arith
 
   pub most : counted s ≤ length (accepted s.history)
   most = elim either_count [ inl now ↦ omega (arith, count_now now) | inr late ↦ omega (arith, count_late late.0 late.1) ]
@@ -85,16 +78,10 @@ module _ (c : Config) (s : State) (k : Parts c s) where
   near = elim either_count [ inl now ↦ omega (arith, count_now now) | inr late ↦ omega (arith, count_late late.0 late.1) ]
 
   pub mark_few : mark_of s ≤ 1
-  mark_few = elim (cases_lt stage 16) [
-    | inl less ↦ omega (arith, i.words.shut_is (omega (arith, less)), i.branch.shut_most)
-    | inr more ↦ omega (arith, i.words.shut_late (omega (arith, more)))
-  ]
+  mark_few = grind (arith, i.words.shut_is, i.branch.shut_most, i.words.shut_late)
 
   pub shut : mark_of s ≡ 1 → is_shut s.history ≡ true
-  shut is = elim (cases_lt stage 16) [
-    | inl less ↦ shut_true (is_shut s.history) (omega (arith, is, i.words.shut_is (omega (arith, less)), k.ties.shut_is))
-    | inr more ↦ absurd (omega (arith, is, i.words.shut_late (omega (arith, more))))
-  ]
+  shut is = grind (arith, shut_true (is_shut s.history), i.words.shut_is, k.ties.shut_is, i.words.shut_late)
 
   -- a history that is shut has the mark, but between the link of the mark and its word
   pub shut_now : stage ≤ 15 → is_shut s.history ≡ true → mark_of s ≡ 1
@@ -108,22 +95,13 @@ module _ (c : Config) (s : State) (k : Parts c s) where
     taking = (regs_of s.stand k.duty y).stage
 
     pub taken_least : length (handed s.history y) ≤ counted_for s y
-    taken_least = elim (cases_lt taking 7) [
-      | inl less ↦ omega (arith, i.heads.taken_is y below (omega (arith, less)), k.ties.handed_is y)
-      | inr more ↦ omega (arith, i.heads.taken_late y below (omega (arith, more)), k.ties.handed_is y)
-    ]
+    taken_least = grind (arith, i.heads.taken_is y below, k.ties.handed_is y, i.heads.taken_late y below)
 
     pub taken_near : counted_for s y ≤ length (handed s.history y) + 1
-    taken_near = elim (cases_lt taking 7) [
-      | inl less ↦ omega (arith, i.heads.taken_is y below (omega (arith, less)), k.ties.handed_is y)
-      | inr more ↦ omega (arith, i.heads.taken_late y below (omega (arith, more)), k.ties.handed_is y)
-    ]
+    taken_near = grind (arith, i.heads.taken_is y below, k.ties.handed_is y, i.heads.taken_late y below)
 
     pub taken_most : counted_for s y ≤ length (accepted s.history)
-    taken_most = elim (cases_lt taking 7) [
-      | inl less ↦ omega (arith, i.heads.taken_is y below (omega (arith, less)), i.hands.order y below, k.ties.accepted_is)
-      | inr more ↦ omega (arith, i.heads.taken_late y below (omega (arith, more)), i.takes.some_left y below (omega (arith, more)), k.ties.accepted_is)
-    ]
+    taken_most = grind (arith, i.heads.taken_is y below, i.hands.order y below, k.ties.accepted_is, i.heads.taken_late y below, i.takes.some_left y below)
 
     pub taken_open : length (handed s.history y) < counted_for s y → HasOpenCall s.history (Chain.Take y)
     taken_open ahead = elim (cases_lt taking 7) [

@@ -1,6 +1,5 @@
 -- A sequential queue keeps its bounds, so that it always has exactly one answer to each call.
-use Rattle.std.proofs.Common.{◌≡◌, ℕ, ◌+◌, ◌<◌, ◌≤◌, Bool, List, [], ◌∷◌, ◌++◌, length, Some, inl, inr, sym, ap, ◌∙◌, subst, arith, length-append}
-use Rattle.std.proofs.lemmas.Bool.{cases_eq}
+use Rattle.std.proofs.Common.{◌≡◌, ℕ, ◌+◌, ◌<◌, ◌≤◌, Bool, List, [], ◌∷◌, ◌++◌, length, Some, sym, ap, ◌∙◌, subst, arith, length-append}
 use Rattle.std.proofs.lemmas.Option.{slice_get_within}
 use Rattle.std.specs.List.{slice_get}
 use Rattle.cc_model.specs.Record.{Side, Record, of_group}
@@ -23,33 +22,19 @@ abbrev IsBounded : Config → Record → Type 0
 IsBounded c h = (length (accepted h) ≤ handed_to_all h + c.capacity) × ((g : ℕ) → length (handed h g) ≤ length (accepted h))
 
 sent_few : (pass : Pass) (k : Call) (number place : ℕ) → length (sent_item pass k number place) ≤ 1
-sent_few (Pass.Sender s) (Call.Send body) number place = omega arith
-sent_few (Pass.Sender s) Call.Close number place = omega arith
-sent_few (Pass.Sender s) Call.Take number place = omega arith
-sent_few (Pass.Receiver r) k number place = omega arith
+sent_few pass k number place = grind arith
 
 module _ (c : Config) (items : List Item) (shut : Bool) (out to_all : ℕ) where
   room_for : (k : Call) (place : ℕ) → Exactly c items shut out to_all k (Answer.Send (SendAnswer.Accepted place)) → length items < to_all + c.capacity
-  room_for (Call.Send body) place h = h.2
-  room_for Call.Close place h = absurd h
-  room_for Call.Take place h = absurd h
+  room_for k place h = grind arith
 
   accepts_within : (e : Entry) (a : Answer) → Exactly c items shut out to_all e.call a → length items ≤ to_all + c.capacity → length items + length (accepted_item e a) ≤ to_all + c.capacity
   accepts_within e (Answer.Send (SendAnswer.Accepted place)) h within = omega (arith, room_for e.call place h, sent_few e.pass e.call e.number place)
-  accepts_within e (Answer.Send SendAnswer.Full) h within = omega (arith, within)
-  accepts_within e (Answer.Send SendAnswer.Closed) h within = omega (arith, within)
-  accepts_within e (Answer.Send SendAnswer.Spent) h within = omega (arith, within)
-  accepts_within e (Answer.Close told) h within = omega (arith, within)
-  accepts_within e (Answer.Take told) h within = omega (arith, within)
+  accepts_within e a h within = grind arith
 
   hands_within : (k : Call) (a : Answer) → Exactly c items shut out to_all k a → out ≤ length items → out + length (handed_item a) ≤ length items
   hands_within Call.Take (Answer.Take (TakeAnswer.Got item)) h within = omega (arith, slice_get_within items out item h)
-  hands_within (Call.Send body) (Answer.Take (TakeAnswer.Got item)) h within = absurd h
-  hands_within Call.Close (Answer.Take (TakeAnswer.Got item)) h within = absurd h
-  hands_within k (Answer.Take TakeAnswer.Empty) h within = omega (arith, within)
-  hands_within k (Answer.Take (TakeAnswer.Ended total)) h within = omega (arith, within)
-  hands_within k (Answer.Send told) h within = omega (arith, within)
-  hands_within k (Answer.Close told) h within = omega (arith, within)
+  hands_within k a h within = grind arith
 
 one_more : (c : Config) (h : Record) (x : Chain) (e : Entry) (a : Answer) → length h.takes ≡ c.groups → length h.sends.calls ≡ length h.sends.answers → IsThere c x → AnswersAfter c h x e.call a → IsBounded c h
     → IsBounded c (noted x h (Some e) (Some a))
@@ -75,11 +60,7 @@ one_more c h (Chain.Take y) e a many even there fits w =
     )
 
     each : (g : ℕ) → length (handed (noted (Chain.Take y) h (Some e) (Some a)) g) ≤ length (accepted h)
-    each g = elim (cases_eq g y) [
-      | inl is ↦ subst (λ (k : ℕ). length (handed (noted (Chain.Take y) h (Some e) (Some a)) k) ≤ length (accepted h)) (sym is)
-          (subst (λ (s : Side). length (handed_by s.answers) ≤ length (accepted h)) (sym (group_mine h y _ inside)) mine)
-      | inr ne ↦ subst (λ (s : Side). length (handed_by s.answers) ≤ length (accepted h)) (sym (group_other h y g _ ne)) (w.1 g)
-    ]
+    each g = grind (arith, group_mine h y, inside, mine, group_other h y g, w.1 g)
 
 bounded : (c : Config) (order : List Effect) → IsExact c order → IsBounded c (replay c.groups order)
 bounded c [] exact = (omega arith, λ g. subst (λ (s : Side). length (handed_by s.answers) ≤ 0) (sym (no_calls c.groups (Chain.Take g))) (omega arith))
@@ -94,5 +75,4 @@ exact_orders_go_on c order exact x call =
     (has.0, has.1, λ b told. no_two_answers c (accepted h) (is_shut h) (handed_on x h) (handed_to_all h) call b has.0 told has.1)
   where
     few : (y : Chain) (h : Record) → IsBounded c h → handed_on y h ≤ length (accepted h)
-    few Chain.Send h w = omega arith
-    few (Chain.Take g) h w = w.1 g
+    few y h w = grind arith

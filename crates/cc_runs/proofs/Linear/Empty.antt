@@ -1,6 +1,5 @@
 -- A take that finds nothing: its group was handed all that was accepted, and the queue isn't shut.
 use Rattle.std.proofs.Common.{◌≡◌, ℕ, ◌+◌, ◌<◌, false, List, length, Ok, sym, ap, ◌∙◌, arith}
-use Rattle.std.proofs.lemmas.Bool.{cases_eq, cases_lt}
 use Rattle.cc_model.specs.Config.{config_fault}
 use Rattle.cc_model.specs.Items.{accepted, handed, is_shut}
 use Rattle.cc_runs.specs.Names.{Config, Chain, ItemField, Word, Job, Phase, Taking, Move}
@@ -8,8 +7,6 @@ use Rattle.cc_runs.specs.Words.{groups}
 use Rattle.cc_runs.specs.State.{State, chain_of}
 use Rattle.cc_runs.specs.Run.{IsRun, reached, history_of}
 use Rattle.cc_runs.proofs.Ranges.{in_range}
-use Rattle.cc_runs.proofs.LinkedList.Queue.{Queue, Ghosts}
-use Rattle.cc_runs.proofs.LinkedList.Invariant.{LInv}
 use Rattle.cc_runs.proofs.ListRuns.View.{Regs, regs_in, regs_of, queue_of}
 use Rattle.cc_runs.proofs.ListRuns.Ties.{further, shut_false}
 use Rattle.cc_runs.proofs.ListRuns.Facts.{lists}
@@ -17,16 +14,7 @@ use Rattle.cc_runs.proofs.ListRuns.Invariant.{Parts}
 use Rattle.cc_runs.proofs.ListRuns.Runs.{AfterRun}
 use Rattle.cc_runs.proofs.ListRuns.Safe.{take_regs}
 use Rattle.cc_runs.proofs.ListRuns.FromChains.{after_runs}
-
-module _ (c life n : ℕ) (v : Queue) (g : Ghosts) (i : LInv c life n v g) (s : ℕ) (inside : s < n) (from : (v.side s).stage ≡ 3) (null : v.next (v.side s).dummy ≡ 0) where
-  dummy : (v.side s).dummy ≡ g.node (g.handed s)
-  dummy = grind (arith, i.heads.dummy_is s)
-
-  no_more : g.handed s ≡ g.accepted
-  no_more = grind (arith, cases_lt (g.handed s) g.accepted, dummy, i.hands.least_is s, i.hands.order s, i.links.links (g.handed s))
-
-  unshut : g.shut ≡ 0
-  unshut = grind (arith, cases_eq g.shut 0, cases_eq g.shut 1, dummy, no_more, i.links.end_shut, i.branch.shut_most)
+use Rattle.cc_runs.proofs.LinkedList.Decide.{no_more, unshut}
 
 pub empty : (c : Config) → config_fault c ≡ Ok tt → (moves : List Move) → IsRun (lists c) moves → (p y : ℕ) → chain_of c p ≡ Chain.Take y → y < groups c → (job : Job) (dummy taken : ℕ)
     → ((reached (lists c) moves).stand p).phase ≡ Phase.Taking job (Taking.ReadDummyNext dummy taken) → (reached (lists c) moves).mem (Word.Item dummy ItemField.Next) ≡ 0

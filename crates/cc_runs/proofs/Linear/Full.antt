@@ -1,6 +1,5 @@
 -- A send that is Full had a moment in its call at which as many items waited as the queue holds.
-use Rattle.std.proofs.Common.{◌≡◌, ◌≢◌, ℕ, ◌+◌, ◌-◌, ◌<◌, ◌≤◌, List, ◌∷◌, length, get_or, Some, Ok, inl, inr, sym, ap, ◌∙◌, subst, arith}
-use Rattle.std.proofs.lemmas.Bool.{cases_eq}
+use Rattle.std.proofs.Common.{◌≡◌, ◌≢◌, ℕ, ◌+◌, ◌-◌, ◌<◌, ◌≤◌, List, ◌∷◌, length, get_or, Some, Ok, ap, ◌∙◌, arith}
 use Rattle.std.proofs.lemmas.Option.{slice_get_within, slice_get-get_or}
 use Rattle.std.specs.List.{slice_get}
 use Rattle.cc_model.specs.Config.{config_fault}
@@ -21,7 +20,7 @@ use Rattle.cc_runs.proofs.ListRuns.Ties.{further}
 use Rattle.cc_runs.proofs.ListRuns.Facts.{lists}
 use Rattle.cc_runs.proofs.ListRuns.Runs.{AfterRun, parts_least, legal}
 use Rattle.cc_runs.proofs.ListRuns.FromChains.{after_runs}
-use Rattle.cc_runs.proofs.Linear.Scan.{IsRead, read_all, Waits, start, Scan, scanned, busy_place, busy_low, busy_is, begun, handed_less, scan_is}
+use Rattle.cc_runs.proofs.Linear.Scan.{read_all, Waits, start, Scan, scanned, busy_place, busy_low, busy_is, begun, handed_less, scan_is}
 
 -- a list of numbers that has each of the first `n` at a place from `low` on
 places : (nodes : List ℕ) (n low : ℕ) (place : ℕ → ℕ) → ((x : ℕ) → x < n → (low ≤ place x) × (slice_get nodes (place x) ≡ Some x)) → low ≤ length nodes → low + n ≤ length nodes
@@ -82,10 +81,14 @@ module _ (c : Config) (checked : config_fault c ≡ Ok tt) (moves : List Move) (
 
   placed : (x : ℕ) → x < c.capacity + 1 → Placed x (changed scan.place at here x)
   unfolding since
-  placed x l = elim (cases_eq x at) [
-    | inl is ↦ subst (λ (k : ℕ). Placed x k) (sym (changed_here scan.place at here x is)) (subst (λ (z : ℕ). Placed z here) (sym is) here_placed)
-    | inr away ↦ subst (λ (k : ℕ). Placed x k) (sym (changed_away scan.place at here x away)) (scan.placed x (subst (λ (n : ℕ). IsRead c at n x) (omega (arith, all)) (read_all c at x within (omega (arith, l)) away)))
-  ]
+  placed x l = grind (
+    arith,
+    changed_here scan.place at here x,
+    here_placed,
+    changed_away scan.place at here x,
+    scan.placed x,
+    read_all c at x within,
+  )
 
   many : length (linked_nodes (lists c) moves) ≡ length (accepted (history_of (lists c) moves)) + 1
   many = omega (arith, a.linked.many, a.whole.parts.ties.accepted_is)

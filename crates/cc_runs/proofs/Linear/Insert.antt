@@ -27,7 +27,7 @@ sends_up : (n : ℕ) (now old : List Effect) → length (replay n old).sends.ans
 sends_up n [] old = omega arith
 sends_up n (t ∷ now) old = omega (arith, sends_up n now old, one_up t.chain (replay n (now ++ old)) t.entry t.answer)
 
-exact_before : (c : Config) (now old : List Effect) → IsExact c (now ++ old) → IsExact c old
+pub exact_before : (c : Config) (now old : List Effect) → IsExact c (now ++ old) → IsExact c old
 exact_before c [] old e = e
 exact_before c (t ∷ now) old e = exact_before c now old e.0
 

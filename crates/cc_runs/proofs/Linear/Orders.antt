@@ -1,6 +1,5 @@
 -- Every run of a machine whose chains serve the list is linearizable.
 use Rattle.std.proofs.Common.{◌≡◌, ◌≢◌, ◌⊎◌, ℕ, ◌+◌, ◌-◌, ◌/◌, ◌<◌, ◌≤◌, Bool, false, List, [], ◌∷◌, ◌++◌, length, Option, Some, None, Ok, inl, inr, refl, sym, ap, ◌∙◌, subst, arith, append-nil, append_assoc, zero-add, length-append}
-use Rattle.std.proofs.lemmas.Bool.{cases_eq}
 use Rattle.std.proofs.lemmas.Option.{slice_get-get_or}
 use Rattle.std.specs.List.{AllByRecursion, slice_get, list_any}
 use Rattle.cc_model.specs.Config.{config_fault}
@@ -8,6 +7,7 @@ use Rattle.cc_model.specs.Record.{Side, Record, of_group}
 use Rattle.cc_model.specs.Items.{IsPrefix, Begins, accepted, accepted_item, is_shut, shuts, handed, handed_to_all}
 use Rattle.cc_model.specs.Legal.{Legal, SendSideAnswer, TakeSideAnswer, TakeSideAnswers, IsSenders, IsReceivers}
 use Rattle.cc_model.proofs.Grows.{get_front, accepted_more}
+use Rattle.cc_model.proofs.Fresh.{all_at}
 use Rattle.cc_runs.specs.Names.{Config, Call, Pass, Entry, Item, Answer, SendAnswer, TakeAnswer, Setting, Chain, ItemField, Word, Phase, Move}
 use Rattle.cc_runs.specs.Words.{groups}
 use Rattle.cc_runs.specs.State.{State, chain_of, pass_at, noted, word_of}
@@ -22,7 +22,7 @@ use Rattle.cc_runs.proofs.LinkedList.Busy as busy
 use Rattle.cc_runs.proofs.ListRuns.View.{queue_of}
 use Rattle.cc_runs.proofs.ListRuns.Ties.{further}
 use Rattle.cc_runs.proofs.ListRuns.Facts.{lists}
-use Rattle.cc_runs.proofs.ListRuns.Posts.{Well, of_side, OfSend, OfTake, group_in, all_get}
+use Rattle.cc_runs.proofs.ListRuns.Posts.{Well, of_side, OfSend, OfTake, group_in}
 use Rattle.cc_runs.proofs.ListRuns.Runs.{AfterRun, parts_least, legal}
 use Rattle.cc_runs.proofs.ListRuns.Decided.{group_mine, group_other}
 use Rattle.cc_runs.proofs.ListRuns.FromChains.{after_runs, of_setting}
@@ -45,33 +45,20 @@ pub record Lin (c : Config) (moves : List Move) : Type 0 where
   pub whole : length (replay c.groups (in_order effects)).sends.answers ≤ length (history_of (lists c) moves).sends.answers
 
 is_full : (a : Answer) → (a ≡ full) ⊎ (a ≡ full → ⊥)
-is_full (Answer.Send SendAnswer.Full) = inl refl
-is_full (Answer.Send (SendAnswer.Accepted place)) = inr (λ e. cc)
-is_full (Answer.Send SendAnswer.Closed) = inr (λ e. cc)
-is_full (Answer.Send SendAnswer.Spent) = inr (λ e. cc)
-is_full (Answer.Close a) = inr (λ e. cc)
-is_full (Answer.Take a) = inr (λ e. cc)
+is_full a = grind arith
 
 send_place : (h : Record) (pass : Pass) (begun : ℕ) (place : Phase) → Well h Chain.Send pass begun place → IsSendPlace place
-send_place h pass begun (Phase.Taking job service) w = w
-send_place h pass begun (Phase.Counting job service) w = w
-send_place h pass begun _ w = tt
+send_place h pass begun place w = grind arith
 
 take_place : (h : Record) (y : ℕ) (pass : Pass) (begun : ℕ) (place : Phase) → Well h (Chain.Take y) pass begun place → IsTakePlace place
-take_place h y pass begun (Phase.Sending job service) w = absurd (cc)
-take_place h y pass begun (Phase.Counting job service) w = w
-take_place h y pass begun _ w = tt
+take_place h y pass begun place w = grind arith
 
 is_take : (c : Config) (y : ℕ) (pass : Pass) (k : Call) → IsReceivers c y pass k → k ≡ Call.Take
-is_take c y (Pass.Receiver r) Call.Take is = refl
-is_take _ _ _ _ is = absurd is
+is_take c y pass k is = grind arith
 
 -- a step that decides nothing leaves the answers of each group
 take_none : (h : Record) (y g : ℕ) (call : Option Entry) → y < length h.takes → (of_group (noted (Chain.Take y) h call None) g).answers ≡ (of_group h g).answers
-take_none h y g call inside = elim (cases_eq g y) [
-  | inl is ↦ subst (λ (k : ℕ). (of_group (noted (Chain.Take y) h call None) k).answers ≡ (of_group h k).answers) (sym is) (ap (λ (s : Side). s.answers) (group_mine h y _ inside))
-  | inr ne ↦ ap (λ (s : Side). s.answers) (group_other h y g _ ne)
-]
+take_none h y g call inside = grind (arith, group_mine h y, inside, group_other h y g)
 
 module _ (c : Config) (checked : config_fault c ≡ Ok tt) where
   abbrev m : ℕ
@@ -82,9 +69,6 @@ module _ (c : Config) (checked : config_fault c ≡ Ok tt) where
 
   many : (moves : List Move) → IsRun (lists c) moves → length (history_of (lists c) moves).takes ≡ m + 1
   many moves run = (after_runs c (in_range c checked) moves run).whole.parts.ties.many ∙ some
-
-  rs : (moves : List Move) → Lin c moves → Record
-  rs moves k = replay c.groups (in_order k.effects)
 
   -- a run with one move more has such an order too, of which the order before is a part
   abbrev Grows : (mv : Move) (earlier : List Move) → Lin c earlier → Type 0
@@ -157,7 +141,7 @@ module _ (c : Config) (checked : config_fault c ≡ Ok tt) where
         law = subst (λ (z : Record). Legal c z) later_is (legal c (reached (lists c) (Move.Step p ∷ earlier)) (after_runs c (in_range c checked) (Move.Step p ∷ earlier) run).whole)
 
         is_senders : IsSenders c entry.pass entry.call
-        is_senders = all_get (λ (z : Entry). IsSenders c z.pass z.call) h.sends.calls (length h.sends.answers) entry law.senders next
+        is_senders = all_at (λ (z : Entry). IsSenders c z.pass z.call) h.sends.calls (length h.sends.answers) entry law.senders next
 
         told : SendSideAnswer c (length (accepted h)) (is_shut h) entry.known entry.call a
         told = subst (λ (n : ℕ). SendSideAnswer c n (is_shut h) entry.known entry.call a) (zero-add _) (e_last c 0 false h.sends.calls h.sends.answers entry a law.answers next)
@@ -298,7 +282,7 @@ module _ (c : Config) (checked : config_fault c ≡ Ok tt) where
             (d_last (accepted h) (is_shut h) 0 (of_group h y).calls (of_group h y).answers entry a (subst (λ (z : Side). TakeSideAnswers (accepted h) (is_shut h) 0 z.calls z.answers) (group_mine h y mine side_in) (take_law.takes y inside).answers) take_next)
 
         is_receivers : IsReceivers c y entry.pass entry.call
-        is_receivers = all_get (λ (z : Entry). IsReceivers c y z.pass z.call) (of_group h y).calls (length (of_group h y).answers) entry
+        is_receivers = all_at (λ (z : Entry). IsReceivers c y z.pass z.call) (of_group h y).calls (length (of_group h y).answers) entry
             (subst (λ (z : Side). AllByRecursion (λ (q : Entry). IsReceivers c y q.pass q.call) z.calls) (group_mine h y mine side_in) (take_law.takes y inside).receivers) take_next
 
         call_is : entry.call ≡ Call.Take
@@ -336,11 +320,17 @@ module _ (c : Config) (checked : config_fault c ≡ Ok tt) where
           )
 
           each : (g : ℕ) → Group g (of_group after_take g) (of_group r' g)
-          each g = elim (cases_eq g y) [
-            | inl is ↦ subst (λ (j : ℕ). Group j (of_group after_take j) (of_group r' j)) (sym is)
-                (subst (λ (z : Side). Group y z (of_group r' y)) (sym (group_mine h y mine side_in)) (subst (λ (z : Side). Group y mine z) (sym (group_mine r y _ r_in)) here))
-            | inr ne ↦ subst (λ (z : Side). Group g z (of_group r' g)) (sym (group_other h y g mine ne)) (subst (λ (z : Side). Group g (of_group h g) z) (sym (group_other r y g _ ne)) (k.last.take_calls g, k.last.take_answers g))
-          ]
+          each g = grind (
+            arith,
+            group_mine h y mine side_in,
+            group_mine r y,
+            r_in,
+            here,
+            group_other h y g mine,
+            group_other r y g,
+            k.last.take_calls g,
+            k.last.take_answers g,
+          )
 
           take_timed : Timed later r'
           take_timed = subst (λ (z : Record). Timed z r') (sym take_later) (record { send_calls = k.last.send_calls; send_answers = k.last.send_answers; take_calls = λ g. (each g).0; take_answers = λ g. (each g).1 })
@@ -379,9 +369,8 @@ module _ (c : Config) (checked : config_fault c ≡ Ok tt) where
         by_decided (Some a) e = decided a e k
 
   grows : (mv : Move) (earlier : List Move) → IsRun (lists c) (mv ∷ earlier) → (k : Lin c earlier) → Grows mv earlier k
-  grows (Move.Begin p call known) earlier run k = still (Move.Begin p call known) earlier run refl (λ g. refl) k
-  grows (Move.Take p) earlier run k = still (Move.Take p) earlier run refl (λ g. refl) k
   grows (Move.Step p) earlier run k = stepped earlier p run k
+  grows e earlier run k = still e earlier run refl (λ g. refl) k
 
   pub lin : (moves : List Move) → IsRun (lists c) moves → Lin c moves
   lin [] run = record {
@@ -415,10 +404,8 @@ on_time h r t = record { calls = calls; answers = answers }
     answers (Chain.Take g) = ([], t.take_answers g ∙ sym (append-nil (of_group h g).answers))
 
 timely : (c : Setting) (moves : List Move) (effects : List (List Effect)) → AreTimed c moves effects → IsTimely c moves effects
-timely c [] [] t = tt
-timely c [] (now ∷ old) t = absurd t
-timely c (m ∷ earlier) [] t = absurd t
 timely c (m ∷ earlier) (now ∷ old) t = (timely c earlier old t.0, on_time (history_of c (m ∷ earlier)) (replay c.config.groups (now ++ in_order old)) t.1)
+timely c moves effects t = grind arith
 
 whole_of : (h r : Record) → Timed h r → length r.sends.answers ≤ length h.sends.answers → (x : Chain) → answers_on x r ≡ answers_on x h
 whole_of h r t less Chain.Send = front_same h.sends.answers r.sends.answers t.send_answers less
@@ -444,14 +431,12 @@ orders_agree c serves checked =
 silent_on_time : (h : Record) → IsOnTime h h
 silent_on_time h = record { calls = λ x. prefix_self (calls_on x h); answers = λ x. prefix_self (answers_on x h) }
 
-cut_at : (c : Setting) (seen : List Move) (effects : List (List Effect)) → IsTimely c seen effects → Cut c seen (in_order effects)
-cut_at c [] [] t = record { after = []; before = []; split = refl; on_time = silent_on_time (history_of c []) }
-cut_at c [] (now ∷ old) t = absurd t
-cut_at c (m ∷ earlier) [] t = absurd t
-cut_at c (m ∷ earlier) (now ∷ old) t = record { after = []; before = now ++ in_order old; split = refl; on_time = t.1 }
+pub timely_now : (c : Setting) (moves : List Move) (effects : List (List Effect)) → IsTimely c moves effects → IsOnTime (history_of c moves) (replay c.config.groups (in_order effects))
+timely_now c [] [] t = silent_on_time (history_of c [])
+timely_now c moves effects t = grind arith
 
 cut_in : (c : Setting) (newer seen : List Move) (effects : List (List Effect)) → IsTimely c (newer ++ seen) effects → Cut c seen (in_order effects)
-cut_in c [] seen effects t = cut_at c seen effects t
+cut_in c [] seen effects t = record { after = []; before = in_order effects; split = refl; on_time = timely_now c seen effects t }
 cut_in c (m ∷ newer) seen [] t = absurd t
 cut_in c (m ∷ newer) seen (now ∷ old) t =
     let k : Cut c seen (in_order old) = cut_in c newer seen old t.0 in

@@ -1,5 +1,5 @@
 -- Lists that are other lists without some of their elements.
-use Rattle.std.proofs.Common.{List, [], ◌∷◌, ◌++◌, inl, inr, refl, ◌∙◌}
+use Rattle.std.proofs.Common.{List, [], ◌∷◌, ◌++◌, inl, inr, refl, ◌∙◌, arith}
 use Rattle.cc_runs.specs.Linearizable.{IsPart}
 
 pub part_self : {X : Type 0} (xs : List X) → IsPart xs xs
@@ -15,9 +15,6 @@ part_behind [] xs ys p = p
 part_behind (x ∷ front) xs ys p = inl (refl, part_behind front xs ys p)
 
 pub part_of_part : {X : Type 0} (xs ys zs : List X) → IsPart xs ys → IsPart ys zs → IsPart xs zs
-part_of_part [] ys zs p q = tt
-part_of_part (x ∷ xs) [] zs p q = absurd p
-part_of_part (x ∷ xs) (y ∷ ys) [] p q = absurd q
 part_of_part {X} (x ∷ xs) (y ∷ ys) (z ∷ zs) p q = elim q [
   | inl here ↦ elim p [
     | inl there ↦ inl (there.0 ∙ here.0, part_of_part xs ys zs there.1 here.1)
@@ -25,3 +22,4 @@ part_of_part {X} (x ∷ xs) (y ∷ ys) (z ∷ zs) p q = elim q [
   ]
   | inr past ↦ inr (part_of_part (x ∷ xs) (y ∷ ys) zs p past)
 ]
+part_of_part {X} ys zs p q q2 = grind arith

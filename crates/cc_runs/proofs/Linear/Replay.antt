@@ -1,6 +1,5 @@
 -- The history of calls that take effect one after another.
-use Rattle.std.proofs.Common.{◌≡◌, ℕ, ◌+◌, ◌<◌, ◌≤◌, Bool, true, false, ◌||◌, List, [], ◌∷◌, ◌++◌, length, Some, inl, inr, refl, sym, ap, ◌∙◌, subst, arith, append-nil, length-append}
-use Rattle.std.proofs.lemmas.Bool.{cases_eq}
+use Rattle.std.proofs.Common.{◌≡◌, ℕ, ◌+◌, ◌<◌, ◌≤◌, Bool, false, ◌||◌, List, [], ◌∷◌, ◌++◌, length, Some, refl, sym, ap, ◌∙◌, subst, arith, append-nil, length-append}
 use Rattle.std.proofs.lemmas.List.{length-set, length-replicate}
 use Rattle.std.specs.List.{slice_get, list_any}
 use Rattle.cc_model.specs.Record.{Side, Record, empty, of_group}
@@ -61,11 +60,7 @@ noted_even (Chain.Take x) h e a z = (
   z.0,
   λ g l.
       let inside : g < length h.takes = omega (arith, l, length-set h.takes x (record { calls = (of_group h x).calls ++ e ∷ []; answers = (of_group h x).answers ++ a ∷ [] })) in
-      elim (cases_eq g x) [
-        | inl is ↦ subst (λ (k : ℕ). length (of_group (noted (Chain.Take x) h (Some e) (Some a)) k).calls ≡ length (of_group (noted (Chain.Take x) h (Some e) (Some a)) k).answers) (sym is)
-            (subst (λ (s : Side). length s.calls ≡ length s.answers) (sym (group_mine h x _ (omega (arith, inside, is)))) (one_more (of_group h x).calls (of_group h x).answers e a (z.1 x (omega (arith, inside, is)))))
-        | inr ne ↦ subst (λ (s : Side). length s.calls ≡ length s.answers) (sym (group_other h x g _ ne)) (z.1 g inside)
-      ],
+      grind (arith, group_mine, one_more, z.1 x, group_other, z.1 g inside),
 )
 
 empty_even : (n : ℕ) → Even (empty n)
@@ -148,8 +143,7 @@ full_alike r m e even rn = record {
 }
   where
     or_false : (b : Bool) → b || (false || false) ≡ b
-    or_false true = refl
-    or_false false = refl
+    or_false b = grind arith
 
     by_answers : (answers : List Answer) (calls : List Entry) (e : Entry) → length calls ≡ length answers → accepted_by (calls ++ e ∷ []) (answers ++ full ∷ []) ≡ accepted_by calls answers
     by_answers [] [] e is = refl

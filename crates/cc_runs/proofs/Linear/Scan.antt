@@ -1,6 +1,6 @@
 -- A scan that finds no free node: every ordinary node was busy when it began.
-use Rattle.std.proofs.Common.{◌≡◌, ◌≢◌, ◌⊎◌, ℕ, zero, suc, ◌+◌, ◌-◌, ◌%◌, ◌<◌, ◌≤◌, ◌==◌, nat_lt, List, [], ◌∷◌, ◌++◌, length, Bool, true, false, if◌then◌else◌, Option, Some, None, Ok, inl, inr, refl, sym, ap, ◌∙◌, subst, arith, append-nil}
-use Rattle.std.proofs.lemmas.Bool.{cases_eq, cases_lt, ne_eqb, eqb-false}
+use Rattle.std.proofs.Common.{◌≡◌, ◌≢◌, ◌⊎◌, ℕ, suc, ◌+◌, ◌-◌, ◌<◌, ◌≤◌, ◌==◌, nat_lt, List, [], ◌∷◌, ◌++◌, length, Bool, true, false, if◌then◌else◌, Option, Some, None, Ok, inl, inr, refl, sym, ap, ◌∙◌, subst, arith, append-nil}
+use Rattle.std.proofs.lemmas.Bool.{cases_eq, ne_eqb, eqb-false}
 use Rattle.std.proofs.Math.Nat.{mod-eq_of_lt, mod_self}
 use Rattle.std.specs.List.{slice_get}
 use Rattle.cc_model.specs.Config.{config_fault}
@@ -13,7 +13,7 @@ use Rattle.cc_runs.specs.Lines.{goes, enters, decides, operation, after_next}
 use Rattle.cc_runs.specs.CountLines as count_side
 use Rattle.cc_runs.specs.TakeLines as take_side
 use Rattle.cc_runs.specs.SendLines as send_side
-use Rattle.cc_runs.specs.SendLines.{after, by_shut, by_count, by_passed}
+use Rattle.cc_runs.specs.SendLines.{after}
 use Rattle.cc_runs.specs.ServiceLine.{Next, On, Decides, phase_of, answer_of}
 use Rattle.cc_runs.specs.Codes.{further_words}
 use Rattle.cc_runs.specs.Run.{IsRun, reached, passes, nowhere, history_of}
@@ -45,21 +45,11 @@ IsRead c at done x = (x ≤ c.capacity) × (((x < at) × (at ≤ x + done)) ⊎ 
 
 -- one node more
 pub read_more : (c : Config) (at done x : ℕ) → at ≤ c.capacity → IsRead c (after c at) (done + 1) x → x ≢ at → IsRead c at done x
-read_more c at done x within r ne = elim (cases_eq at c.capacity) [
-  | inl last ↦
-      let to : after c at ≡ 0 = ap (λ (k : ℕ). (k + 1) % (c.capacity + 1)) last ∙ mod_self (c.capacity + 1) in
-      (r.0, elim r.1 [ inl l ↦ absurd (omega (arith, l.0, to)) | inr l ↦ inl (omega (arith, r.0, ne, last), omega (arith, l.1, to, last)) ])
-  | inr more ↦
-      let to : after c at ≡ at + 1 = mod-eq_of_lt (omega (arith, more, within)) in
-      (r.0, elim r.1 [ inl l ↦ inl (omega (arith, l.0, to, ne), omega (arith, l.1, to)) | inr l ↦ inr (omega (arith, l.0, to), omega (arith, l.1, to)) ])
-]
+read_more c at done x within r ne = grind (arith, mod_self (c.capacity + 1), r.0, r.1, ne, mod-eq_of_lt, within)
 
 -- all others, if there were as many
 pub read_all : (c : Config) (at x : ℕ) → at ≤ c.capacity → x ≤ c.capacity → x ≢ at → IsRead c at c.capacity x
-read_all c at x within low ne = elim (cases_lt x at) [
-  | inl l ↦ (low, inl (l, omega (arith, within)))
-  | inr l ↦ (low, inr (omega (arith, l, ne), omega (arith, l, ne)))
-]
+read_all c at x within low ne = grind (arith, low, within, ne)
 
 -- ---- the scan in a run
 
@@ -119,10 +109,7 @@ module _ (c : Config) (moves : List Move) (a : AfterRun c moves) (p : ℕ) (job 
         (scanned.within, scanned.past, λ l. scanned.round l) (λ e. ne (omega (arith, e, k.ties.some)))
 
     low : k.told.least ≤ k.told.pos at
-    low = elim (cases_lt (k.told.pos at) k.told.least) [
-      | inl l ↦ absurd (ne (omega (arith, i.nodes.passed_is at scanned.within role, i.hands.by_all (k.told.pos at) l, k.ties.some)))
-      | inr l ↦ l
-    ]
+    low = grind (arith, ne, i.nodes.passed_is at scanned.within role, i.hands.by_all (k.told.pos at), k.ties.some)
 
     pub busy_place : ℕ
     busy_place = k.told.pos at
@@ -161,38 +148,30 @@ abbrev From : Config → Phase → (found at reads : ℕ) → Type 0
 From c place found at reads = (reads ≡ 1) ⊎ Before c place found at reads
 
 in_either : (b : Bool) (first second : Sending) (at reads : ℕ) → (InRead first at reads → ⊥) → (InRead second at reads → ⊥) → InRead (if b then first else second) at reads → ⊥
-in_either true first second at reads x y = x
-in_either false first second at reads x y = y
+in_either b first second at reads x y = grind arith
 
 next_either : (job : Job) (b : Bool) (first second : Next Sending) (at reads : ℕ) → (AtRead (phase_of send_side.in_service job first) at reads → ⊥) → (AtRead (phase_of send_side.in_service job second) at reads → ⊥) → AtRead (phase_of send_side.in_service job (if b then first else second)) at reads → ⊥
-next_either job true first second at reads x y = x
-next_either job false first second at reads x y = y
+next_either job b first second at reads x y = grind arith
 
 passed_from : (c : Config) (job : Job) (parcel : Parcel) (last fewer found at reads : ℕ) (free all : Bool) → (found == groups c) ≡ free → (fewer == c.capacity + 1) ≡ all
     → AtRead (phase_of send_side.in_service job (if free then On (Sending.ResetPassed parcel last) else if all then Decides (Answer.Send SendAnswer.Full) else On (Sending.ReadPassed parcel (after c last) (fewer + 1)))) at reads
     → Before c (Phase.Sending job (Sending.ReadPassed parcel last fewer)) found at reads
-passed_from c job parcel last fewer found at reads true all e f h = absurd h
-passed_from c job parcel last fewer found at reads false true e f h = absurd h
 passed_from c job parcel last fewer found at reads false false e f h = record { job = job; parcel = parcel; last = last; fewer = fewer; place_is = refl; busy = eqb-false found (groups c) e; others = eqb-false fewer (c.capacity + 1) f; at_is = sym h.0; reads_is = sym h.1 }
+passed_from c job parcel last fewer found at reads _ _ e f h = absurd h
 
 service_from : (c : Config) (job : Job) (service : Sending) (found at reads : ℕ) → AtRead (send_side.goes c job service found) at reads → From c (Phase.Sending job service) found at reads
 service_from c job (Sending.ReadBody request i) found at reads h = absurd (in_either (nat_lt i (further_words request.tag)) _ _ at reads (λ z. z) (λ z. z) h)
-service_from c job (Sending.ReadShut request) zero at reads h = absurd h
 service_from c job (Sending.ReadShut request) (suc found) at reads h = absurd (next_either job (request.tag == 0) _ _ at reads (λ z. z) (λ z. z) h)
 service_from c job (Sending.ReadCount request) found at reads h = absurd (next_either job (request.tag == 0) _ _ at reads (λ z. z) (next_either job (found == c.life) _ _ at reads (λ z. z) (λ z. z)) h)
-service_from c job (Sending.ReadCursor parcel) found at reads h = inl (sym h.1)
 service_from c job (Sending.ReadPassed parcel last fewer) found at reads h = inr (passed_from c job parcel last fewer found at reads (found == groups c) (fewer == c.capacity + 1) refl refl h)
 service_from c job (Sending.WriteItemBody parcel x i) found at reads h = absurd (in_either (nat_lt i (further_words parcel.tag)) _ _ at reads (λ z. z) (λ z. z) h)
-service_from c job _ found at reads h = absurd h
+service_from c job service found at reads h = grind arith
 
 none_read : (at reads : ℕ) (place : Phase) → IsAfter ⊥ place → AtRead place at reads → ⊥
-none_read at reads (Phase.Sending job service) never h = never
-none_read at reads _ u h = h
+none_read at reads place never h = grind arith
 
 next_none : (c : Config) (x : Chain) (round : Round) (found at reads : ℕ) → AtRead (after_next Served.List x round found) at reads → ⊥
-next_none c x round zero at reads h = h
-next_none c Chain.Send round (suc next) at reads h = h
-next_none c (Chain.Take g) round (suc next) at reads h = h
+next_none c x round found at reads h = grind arith
 
 place_from : (c : Config) (x : Chain) (own : ℕ) (place : Phase) (found at reads : ℕ) → AtRead (goes (lists c) x own place found) at reads → From c place found at reads
 place_from c x own (Phase.Sending job service) found at reads h = service_from c job service found at reads h
@@ -206,14 +185,10 @@ place_from c x own place found at reads h = absurd (goes_after ⊥ (λ (z : Phas
 -- ---- a step that isn't one of the senders' service decides no send, and links no node
 
 links_none : (place : Phase) → (IsSending place → ⊥) → links_at place ≡ []
-links_none (Phase.Sending job service) off = absurd (off tt)
-links_none _ off = refl
+links_none place off = grind arith
 
 send_none : (c : Config) (h : Record) (pass : Pass) (begun : ℕ) (place : Phase) (found : ℕ) → Well h Chain.Send pass begun place → (IsSending place → ⊥) → decides (lists c) place found ≡ None
-send_none c h pass begun (Phase.Sending job service) found well off = absurd (off tt)
-send_none c h pass begun (Phase.Counting job service) found well off = absurd well
-send_none c h pass begun (Phase.Taking job service) found well off = absurd well
-send_none c h pass begun _ found well off = refl
+send_none c h pass begun place found well off = grind arith
 
 module _ (c : Config) (h : Record) (p : ℕ) (place : Phase) (found : ℕ) where
   abbrev told : Record
@@ -234,8 +209,7 @@ module _ (c : Config) (h : Record) (p : ℕ) (place : Phase) (found : ℕ) where
 -- ---- every scan in every run
 
 opening_idle : (c : Config) (p : ℕ) (b : Bool) → (if b then record { begun = 0; node = first_node c p; phase = Phase.Idle } else nowhere).phase ≡ Phase.Idle
-opening_idle c p true = refl
-opening_idle c p false = refl
+opening_idle c p b = grind arith
 
 held : (stands : ℕ → Stand) (q p : ℕ) (now : Stand) (to : Phase) → ((now.phase ≡ to) → ⊥) → (hold stands q now p).phase ≡ to → (stands p).phase ≡ to
 held stands q p now to never e = by_case (q == p) refl e
@@ -325,11 +299,17 @@ module _ (c : Config) (checked : config_fault c ≡ Ok tt) where
       Placed x k = (handed_to_all (start c earlier scan.waits) ≤ k) × (slice_get (linked_nodes (lists c) earlier) k ≡ Some x)
 
       placed : (x : ℕ) → IsRead c at (reads - 1) x → Placed x (place x)
-      placed x r = elim (cases_eq x b.last) [
-        | inl is ↦ subst (λ (k : ℕ). Placed x k) (sym (changed_here scan.place b.last here x is)) (subst (λ (z : ℕ). Placed z here) (sym is) here_placed)
-        | inr away ↦ subst (λ (k : ℕ). Placed x k) (sym (changed_away scan.place b.last here x away)) (scan.placed x (read_more c b.last (b.fewer - 1) x within
-            (subst (λ (z : ℕ). IsRead c z (b.fewer - 1 + 1) x) b.at_is (subst (λ (z : ℕ). IsRead c at z x) (omega (arith, b.reads_is, some)) r)) away))
-      ]
+      placed x r = grind (
+        arith,
+        changed_here scan.place b.last here x,
+        here_placed,
+        changed_away scan.place b.last here x,
+        scan.placed x,
+        read_more c b.last (b.fewer - 1) x within,
+        b.at_is,
+        b.reads_is,
+        some,
+      )
 
       nodes : linked_nodes (lists c) (Move.Step p ∷ earlier) ≡ linked_nodes (lists c) earlier
       nodes = ap (λ (z : Phase). linked_nodes (lists c) earlier ++ links_at z) b.place_is ∙ append-nil (linked_nodes (lists c) earlier)
@@ -354,10 +334,6 @@ module _ (c : Config) (checked : config_fault c ≡ Ok tt) where
     where
       off : IsSending ((reached (lists c) earlier).stand q).phase → ⊥
       off u = ne ((chain_facts c (in_range c checked) earlier run).one_sending q p q_less less u (subst (λ (z : Phase). IsSending z) (sym stands) tt))
-
-  begins_other : (call : Phase) (q p : ℕ) (stands : ℕ → Stand) (now : Stand) (job : Job) (parcel : Parcel) (at reads : ℕ) → now.phase ≡ call → (call ≡ Phase.Sending job (Sending.ReadPassed parcel at reads) → ⊥)
-      → (hold stands q now p).phase ≡ Phase.Sending job (Sending.ReadPassed parcel at reads) → (stands p).phase ≡ Phase.Sending job (Sending.ReadPassed parcel at reads)
-  begins_other call q p stands now job parcel at reads is never e = held stands q p now _ (λ z. never (sym is ∙ z)) e
 
   pub scan_is : (moves : List Move) → IsRun (lists c) moves → (p : ℕ) → p < passes (lists c) → (job : Job) (parcel : Parcel) (at reads : ℕ)
       → ((reached (lists c) moves).stand p).phase ≡ Phase.Sending job (Sending.ReadPassed parcel at reads) → Scan c moves at reads

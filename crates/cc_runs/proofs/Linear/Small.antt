@@ -1,16 +1,8 @@
 -- Small orders of calls: a sequential queue gives the answers of two, and not those of the others.
-use Rattle.std.proofs.Common.{◌≡◌, true, false, Some, None, refl, arith}
-use Rattle.cc_runs.specs.Names.{Item}
+use Rattle.std.proofs.Common.{refl, arith}
+use Rattle.std.proofs.lemmas.Option.{none-some}
+use Rattle.std.proofs.lemmas.Bool.{false≢true, true≢false}
 use Rattle.cc_runs.specs.SmallOrders.{SmallOrders}
-
-off : false ≡ true → ⊥
-off e = absurd (cc)
-
-on : true ≡ false → ⊥
-on e = absurd (cc)
-
-nothing : (x : Item) → None ≡ Some x → ⊥
-nothing x e = absurd (cc)
 
 pub small_orders : SmallOrders
 small_orders = record {
@@ -19,9 +11,9 @@ small_orders = record {
   full_too_early = λ h. omega (arith, h.0.3.2);
   full_too_late = λ h. omega (arith, h.3.2);
   empty_with_an_item = λ h. omega (arith, h.3.1);
-  empty_after_shut = λ h. on h.3.0;
+  empty_after_shut = λ h. true≢false h.3.0;
   accepted_when_full = λ h. omega (arith, h.3.2);
-  accepted_after_shut = λ h. on h.3.0;
-  got_twice = λ h. nothing _ h.3;
-  ended_unshut = λ h. off h.3.0;
+  accepted_after_shut = λ h. true≢false h.3.0;
+  got_twice = λ h. none-some _ h.3;
+  ended_unshut = λ h. false≢true h.3.0;
 }

@@ -95,15 +95,7 @@ module _ (c life n : ℕ) (v : Queue) (g : Ghosts) (i : LInv c life n v g) where
     found_busy = grind (arith, i.hands.some)
 
     busy_place : (x : ℕ) → x < c + 1 → v.passed x < n → (at' x < g.accepted + 2 - g.least) × (node' (at' x) ≡ x)
-    busy_place x l b = elim (cases_eq (g.role x) 1) [
-      | inl one ↦ (omega (arith, at_last x one, i.hands.least_in), grind (arith, at_last x one, node_last (at' x), i.nodes.prep_is x))
-      | inr ne ↦
-          let two : g.role x ≡ 2 = busy_is x l b ne in
-          let low : g.least ≤ g.pos x = busy_low x l b two in
-          let high : g.pos x ≤ g.accepted = i.nodes.pos_high x (omega arith) two in
-          let same : g.least + (g.pos x - g.least) ≡ g.pos x = omega arith in
-          (omega (arith, at_early x ne), grind (arith, at_early x ne, node_early (at' x) (λ e. omega (arith, e, at_early x ne)), same, two, i.nodes.pos_is x))
-    ]
+    busy_place x l b = grind (arith, at_last x, i.hands.least_in, node_last (at' x), i.nodes.prep_is x, busy_is x l b, busy_low x l b, i.nodes.pos_high x, at_early x, node_early (at' x), i.nodes.pos_is x)
 
     same_pos : (j : ℕ) → node' j ≡ g.node (g.least + j) → g.least + j ≤ g.accepted → g.pos (node' j) ≡ g.least + j
     same_pos j same high = grind (arith, same, i.live.live_pos (g.least + j))

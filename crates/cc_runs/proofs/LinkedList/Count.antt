@@ -1,5 +1,5 @@
 -- Sums over the first numbers; a covering needs as many; how many nodes are busy.
-use Rattle.std.proofs.Common.{◌≡◌, ℕ, zero, suc, ◌+◌, ◌<◌, ◌≤◌, ◌≢◌, arith, refl, inl, inr, sym, ap, cond, ltb}
+use Rattle.std.proofs.Common.{◌≡◌, ℕ, zero, suc, ◌+◌, ◌<◌, ◌≤◌, ◌≢◌, arith, refl, inl, inr, sym, cond, ltb}
 use Rattle.std.proofs.lemmas.Bool.{cases_eq, cases_lt, cond-true, cond-false, lt-ltb, le-ltb}
 
 pub total : ℕ → (ℕ → ℕ) → ℕ
@@ -28,13 +28,7 @@ pub total_bump : (n : ℕ) (f g : ℕ → ℕ) (k : ℕ) → k < n → g k ≡ f
 unfolding total
 total_bump zero f g k l here others = absurd (omega arith)
 total_bump (suc n) f g k l here others =
-    elim (cases_eq k n) [
-      | inl same ↦
-          let last : g n ≡ g k = ap g (sym same) in
-          let first : f n ≡ f k = ap f (sym same) in
-          omega (arith, total_same n f g (λ j l. others j (λ e. omega arith)))
-      | inr other ↦ omega (arith, others n (λ e. other (sym e)), total_bump n f g k (omega arith) here others)
-    ]
+    grind (arith, total_same n f g, others n, total_bump n f g k)
 
 pub total_less : (n : ℕ) (f g : ℕ → ℕ) → ((j : ℕ) → j < n → f j ≤ g j) → total n f ≤ total n g
 unfolding total
@@ -45,13 +39,7 @@ pub total_more : (n : ℕ) (f g : ℕ → ℕ) (k : ℕ) → k < n → f k < g k
 unfolding total
 total_more zero f g k l here less = absurd (omega arith)
 total_more (suc n) f g k l here less =
-    elim (cases_eq k n) [
-      | inl same ↦
-          let last : g n ≡ g k = ap g (sym same) in
-          let first : f n ≡ f k = ap f (sym same) in
-          omega (arith, total_less n f g (λ j l. less j (omega arith)))
-      | inr other ↦ omega (arith, less n (omega arith), total_more n f g k (omega arith) here (λ j l. less j (omega arith)))
-    ]
+    grind (arith, total_less n f g, less n, total_more n f g k)
 
 pub total_ones : (n : ℕ) → total n (λ (s : ℕ). 1) ≡ n
 unfolding total

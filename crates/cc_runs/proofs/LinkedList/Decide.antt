@@ -32,10 +32,10 @@ module _ (c life n : ℕ) (v : Queue) (g : Ghosts) (i : LInv c life n v g) where
     dummy : (v.side s).dummy ≡ g.node (g.handed s)
     dummy = grind (arith, i.heads.dummy_is s)
 
-    no_more : g.handed s ≡ g.accepted
+    pub no_more : g.handed s ≡ g.accepted
     no_more = grind (arith, cases_lt (g.handed s) g.accepted, dummy, i.hands.least_is s, i.hands.order s, i.links.links (g.handed s))
 
-    unshut : g.shut ≡ 0
+    pub unshut : g.shut ≡ 0
     unshut = grind (arith, cases_eq g.shut 0, cases_eq g.shut 1, dummy, no_more, i.links.end_shut, i.branch.shut_most)
 
     pub empty : (v.side s).known ≤ g.handed s

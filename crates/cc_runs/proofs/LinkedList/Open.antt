@@ -57,9 +57,7 @@ unfolding opening
 zeros tells = record { accepted = refl; handed = λ s. refl; shut = refl; node = λ k. refl; pos = λ k. refl; least = refl; by = λ k. refl }
 
 pub opens : (c life n : ℕ) (v : Queue) (tells : ℕ → ℕ) → Opens c n v → LInv c life n v (opening tells)
-opens c life n v tells o =
-    let z : Zero (opening tells) = zeros tells in
-    grind (arith, cases_eq, z, o, role_first tells, role_others tells)
+opens c life n v tells o = let z = zeros tells in grind (arith, cases_eq, z, o, role_first tells, role_others tells)
 
 pub opening_tells : (tells : ℕ → ℕ) → (opening tells).tells ≡ tells
 unfolding opening

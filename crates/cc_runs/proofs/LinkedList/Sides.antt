@@ -1,5 +1,5 @@
 -- The least of the sides' numbers, and how many are above a number: why Gives holds of any number of sides.
-use Rattle.std.proofs.Common.{◌≡◌, ℕ, zero, suc, ◌+◌, ◌<◌, ◌≤◌, ◌≢◌, arith, refl, inl, inr, sym, cond, ltb, min}
+use Rattle.std.proofs.Common.{◌≡◌, ℕ, zero, suc, ◌+◌, ◌<◌, ◌≤◌, ◌≢◌, arith, refl, cond, ltb, min, inl, inr, sym}
 use Rattle.std.proofs.lemmas.Bool.{cases_eq, cases_lt, cond-true, cond-false, lt-ltb, le-ltb}
 use Rattle.cc_runs.proofs.LinkedList.Count.{total, total_most, total_same, total_bump, total_more, total_none, total_ones, below, below_yes, below_no, below_most}
 
@@ -10,10 +10,7 @@ smallest (suc m) h = cond (ltb (h (suc m)) (smallest m h)) (h (suc m)) (smallest
 
 smallest_step : (m : ℕ) (h : ℕ → ℕ) → (smallest (suc m) h ≤ h (suc m)) × (smallest (suc m) h ≤ smallest m h)
 unfolding smallest
-smallest_step m h = elim (cases_lt (h (suc m)) (smallest m h)) [
-  | inl l ↦ let e : cond (ltb (h (suc m)) (smallest m h)) (h (suc m)) (smallest m h) ≡ h (suc m) = cond-true _ _ _ (lt-ltb _ _ l) in (omega arith, omega arith)
-  | inr l ↦ let e : cond (ltb (h (suc m)) (smallest m h)) (h (suc m)) (smallest m h) ≡ smallest m h = cond-false _ _ _ (le-ltb _ _ l) in (omega arith, omega arith)
-]
+smallest_step m h = grind arith
 
 pub smallest_one : (h : ℕ → ℕ) → smallest 0 h ≡ h 0
 unfolding smallest
@@ -21,10 +18,7 @@ smallest_one h = refl
 
 pub smallest_min : (m : ℕ) (h : ℕ → ℕ) → smallest (suc m) h ≡ min (smallest m h) (h (suc m))
 unfolding smallest
-smallest_min m h = elim (cases_lt (h (suc m)) (smallest m h)) [
-  | inl l ↦ let e : cond (ltb (h (suc m)) (smallest m h)) (h (suc m)) (smallest m h) ≡ h (suc m) = cond-true _ _ _ (lt-ltb _ _ l) in omega (arith, e, l)
-  | inr l ↦ let e : cond (ltb (h (suc m)) (smallest m h)) (h (suc m)) (smallest m h) ≡ smallest m h = cond-false _ _ _ (le-ltb _ _ l) in omega (arith, e, l)
-]
+smallest_min m h = grind arith
 
 pub smallest_least : (m : ℕ) (h : ℕ → ℕ) (s : ℕ) → s ≤ m → smallest m h ≤ h s
 unfolding smallest

@@ -1,12 +1,11 @@
 -- A history with one more answer.
-use Rattle.std.proofs.Common.{◌≡◌, ◌≢◌, ◌<◌, subst, sym, inl, inr, ℕ, List, [], ◌∷◌, ◌++◌, length, Bool, true, false, ◌||◌, Some, refl, ap, ◌∙◌, append-nil, zero-add}
-use Rattle.std.proofs.lemmas.Bool.{cases_eq}
+use Rattle.std.proofs.Common.{◌≡◌, ◌≢◌, ◌<◌, ℕ, List, [], ◌∷◌, ◌++◌, length, Bool, true, false, ◌||◌, Some, ap, ◌∙◌, append-nil, zero-add, arith}
 use Rattle.std.proofs.lemmas.List.{get_or-set_same, get_or-set_other}
 use Rattle.std.specs.List.{slice_get}
 use Rattle.cc_model.specs.Record.{Side, Record, silent, of_group, with_answer, with_sends, with_takes}
 use Rattle.cc_model.specs.Items.{accepted, accepted_item, is_shut, shuts, handed, handed_by, handed_item}
 use Rattle.cc_model.specs.Legal.{SendSideAnswer, SendSideAnswers, TakeSideAnswer, TakeSideAnswers}
-use Rattle.cc_runs.specs.Names.{Config, Call, Entry, Item, Answer, SendAnswer, CloseAnswer}
+use Rattle.cc_runs.specs.Names.{Config, Call, Entry, Item, Answer}
 use Rattle.cc_model.proofs.Grows.{any-append, accepted_more, e_answer_more, d_answer_more, d_items_more, handed_by-append}
 
 -- the answers of all sides are legal
@@ -16,9 +15,7 @@ pub record LegalSoFar (c : Config) (h : Record) : Type 0 where
 
 -- once shut, no answer accepts
 closed_item : (c : Config) (n known : ℕ) (k : Call) (e : Entry) (a : Answer) → SendSideAnswer c n true known k a → accepted_item e a ≡ []
-closed_item c n known (Call.Send body) e (Answer.Send SendAnswer.Closed) h = refl
-closed_item c n known Call.Close e (Answer.Close (CloseAnswer.Already total)) h = refl
-closed_item _ _ _ _ _ _ h = absurd h
+closed_item c n known k e a h = grind arith
 
 closed_none : (c : Config) (n known : ℕ) (k : Call) (e : Entry) (a : Answer) (shut : Bool) → SendSideAnswer c n shut known k a → shut ≡ true → accepted_item e a ≡ []
 closed_none c n known k e a true h is = closed_item c n known k e a h
@@ -71,10 +68,7 @@ module _ (c : Config) (h : Record) (legal : LegalSoFar c h) (y : ℕ) (inside : 
   pub d_decided : TakeSideAnswer (accepted h) (is_shut h) (length (handed h y)) e.known a → LegalSoFar c (told_take h y a)
   d_decided fits = record {
     sends = legal.sends;
-    takes = λ x. elim (cases_eq x y) [
-      | inl same ↦ subst (λ (z : ℕ). Takes z (of_group (told_take h y a) z)) (sym same) (subst (λ (s : Side). Takes y s) (sym (group_mine h y (with_answer (of_group h y) a) inside)) mine)
-      | inr ne ↦ subst (λ (s : Side). Takes x s) (sym (group_other h y x (with_answer (of_group h y) a) ne)) (legal.takes x)
-    ];
+    takes = λ x. grind (arith, group_mine, mine, group_other, legal.takes x);
   }
     where
       Takes : ℕ → Side → Type 0

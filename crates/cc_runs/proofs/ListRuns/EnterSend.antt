@@ -1,6 +1,5 @@
 -- A service begins: the last word of a sender's request is loaded.
-use Rattle.std.proofs.Common.{◌≡◌, ◌≢◌, ℕ, ◌+◌, ◌<◌, ◌≤◌, inl, inr, refl, sym, ap, ◌∙◌, subst, arith}
-use Rattle.std.proofs.lemmas.Bool.{cases_eq, cases_lt}
+use Rattle.std.proofs.Common.{◌≡◌, ◌≢◌, ℕ, ◌+◌, ◌<◌, ◌≤◌, refl, sym, ap, ◌∙◌, subst, arith}
 use Rattle.cc_model.specs.Items.{handed_to_all}
 use Rattle.cc_runs.specs.Names.{Config, Entry, Chain, NodeField, Word, Job, Phase, Sending, Stand, Request}
 use Rattle.cc_runs.specs.State.{State, chain_of, hold}
@@ -23,21 +22,17 @@ use Rattle.cc_runs.proofs.ListRuns.Least.{least_is}
 
 -- if nothing is served the stage is 0
 begun_or_none : (e : Entry) (from : ℕ) (service : Sending) → (IsBegun service → ⊥) → (enq_in e from service).stage ≡ 0
-begun_or_none e from Sending.ReadTag not = refl
-begun_or_none e from (Sending.ReadBody request i) not = refl
-begun_or_none e from _ not = absurd (not tt)
+begun_or_none e from service not = grind arith
 
 stage_none : (e : Entry) (from : ℕ) (at : Phase) → (IsServing at → ⊥) → (enq_at e from at).stage ≡ 0
 stage_none e from (Phase.Sending job service) not = begun_or_none e from service not
 stage_none e from _ not = refl
 
 serving_sends : (at : Phase) → IsServing at → IsSending at
-serving_sends (Phase.Sending job service) u = tt
-serving_sends _ u = absurd u
+serving_sends at u = grind arith
 
 idle_serves : (at : Phase) → IsIdle at → IsServing at → ⊥
-idle_serves Phase.Idle idle u = u
-idle_serves _ idle u = idle
+idle_serves at idle u = grind arith
 
 module _ (c : Config) (s : State) (p begun own : ℕ) (job : Job) (request : Request) (i : ℕ) (last : further_words request.tag ≤ i) (stands : (s.stand p).phase ≡ Phase.Sending job (Sending.ReadBody request i)) (within : p < passes (lists c)) (facts : ChainFacts (lists c) s)
     (outside : (q : ℕ) → passes (lists c) ≤ q → IsIdle (s.stand q).phase) (callers : (e : Entry) → IsNextSend s.history e → Caller c e × (e.known ≤ handed_to_all s.history)) (k : Parts c s) where
@@ -70,16 +65,10 @@ module _ (c : Config) (s : State) (p begun own : ℕ) (job : Job) (request : Req
 
   -- no other pass serves
   alone : (q : ℕ) → p ≢ q → IsServing (s.stand q).phase → ⊥
-  alone q ne u = elim (cases_lt q (passes (lists c))) [
-    | inl l ↦ ne (facts.one_sending p q within l (subst (λ (z : Phase). IsSending z) (sym stands) tt) (serving_sends (s.stand q).phase u))
-    | inr l ↦ idle_serves (s.stand q).phase (outside q l) u
-  ]
+  alone q ne u = grind (arith, facts.one_sending p q within, serving_sends, idle_serves, outside q)
 
   rests : IsServing (s.stand d.e_pass).phase → ⊥
-  rests u = elim (cases_eq p d.e_pass) [
-    | inl same ↦ subst (λ (z : Phase). IsServing z) (ap (λ (q : ℕ). (s.stand q).phase) (sym same) ∙ stands) u
-    | inr ne ↦ alone d.e_pass ne u
-  ]
+  rests u = grind (arith, alone d.e_pass)
 
   abbrev regs : ℕ → Regs
   regs = regs_of s.stand d

@@ -1,6 +1,6 @@
 -- A service begins: the combiner of a group's takes finds the link to the node after the one that it serves.
-use Rattle.std.proofs.Common.{◌≡◌, ◌≢◌, ℕ, ◌+◌, ◌<◌, ◌≤◌, inl, inr, refl, sym, ap, ◌∙◌, subst, arith}
-use Rattle.std.proofs.lemmas.Bool.{cases_eq, cases_lt}
+use Rattle.std.proofs.lemmas.Bool.{cases_eq}
+use Rattle.std.proofs.Common.{◌≡◌, ◌≢◌, ℕ, ◌+◌, ◌<◌, ◌≤◌, refl, sym, ap, ◌∙◌, subst, arith, inl, inr}
 use Rattle.cc_model.specs.Items.{entries}
 use Rattle.cc_runs.specs.Names.{Config, Entry, Job, Round, Phase, Taking, Stand, Chain}
 use Rattle.cc_runs.specs.State.{State, chain_of, hold}
@@ -19,13 +19,11 @@ use Rattle.cc_runs.proofs.ListRuns.Facts.{lists, ChainFacts}
 use Rattle.cc_runs.proofs.ListRuns.Invariant.{Parts, Onward}
 
 idle_takes : (at : Phase) → IsIdle at → IsTaking at → ⊥
-idle_takes Phase.Idle idle u = u
-idle_takes _ idle u = idle
+idle_takes at idle u = grind arith
 
 -- if no take is served the stage is 0
 take_regs_none : (at : Phase) → (IsTaking at → ⊥) → (regs_at at).stage ≡ 0
-take_regs_none (Phase.Taking job service) not = absurd (not tt)
-take_regs_none _ not = refl
+take_regs_none at not = grind arith
 
 module _ (c : Config) (s : State) (p begun own y : ℕ) (chain : chain_of c p ≡ Chain.Take y) (inside : y < groups c) (round : Round) (next : ℕ) (stands : (s.stand p).phase ≡ Phase.ReadNext round) (within : p < passes (lists c))
     (outside : (q : ℕ) → passes (lists c) ≤ q → IsIdle (s.stand q).phase) (callers : (e : Entry) → IsNextTake s.history y e → e.known ≤ entries s.history) (k : Parts c s) where
@@ -56,16 +54,10 @@ module _ (c : Config) (s : State) (p begun own y : ℕ) (chain : chain_of c p �
 
     -- no other pass of the group takes
     alone : (q : ℕ) → chain_of c q ≡ Chain.Take y → p ≢ q → IsTaking (s.stand q).phase → ⊥
-    alone q on ne u = elim (cases_lt q (passes (lists c))) [
-      | inl l ↦ ne (facts.one_taking p q within l (chain ∙ sym on) (subst (λ (z : Phase). IsTaking z) (sym here) tt) (subst (λ (z : Stand). IsTaking z.phase) (sym (hold_other s.stand p q now ne)) u))
-      | inr l ↦ idle_takes (s.stand q).phase (outside q l) u
-    ]
+    alone q on ne u = grind (arith, facts.one_taking p q within, here, hold_other, idle_takes, outside q)
 
     rests : IsTaking (s.stand (d.d_pass y)).phase → ⊥
-    rests u = elim (cases_eq p (d.d_pass y)) [
-      | inl same ↦ subst (λ (z : Phase). IsTaking z) (ap (λ (q : ℕ). (s.stand q).phase) (sym same) ∙ stands) u
-      | inr ne ↦ alone (d.d_pass y) (k.serving.d_mine y) ne u
-    ]
+    rests u = grind (arith, alone (d.d_pass y) (k.serving.d_mine y))
 
     abbrev enq : Enq
     enq = enq_at d.e_call d.from (s.stand d.e_pass).phase
@@ -107,10 +99,7 @@ module _ (c : Config) (s : State) (p begun own y : ℕ) (chain : chain_of c p �
     only : (x q : ℕ) → chain_of c q ≡ Chain.Take x → q ≢ changed d.d_pass y p x → IsTaking (t.stand q).phase → ⊥
     only x = hold_all (λ (q : ℕ) (z : Stand). chain_of c q ≡ Chain.Take x → q ≢ changed d.d_pass y p x → IsTaking z.phase → ⊥) s.stand p now
         (λ e ne u. ne (sym mine ∙ ap (changed d.d_pass y p) (ap group_of (sym chain ∙ e))))
-        (λ q off e. elim (cases_eq x y) [
-          | inl same ↦ λ ne u. alone q (e ∙ ap Chain.Take same) off u
-          | inr other ↦ λ ne u. k.serving.d_only x q e (λ z. ne (z ∙ sym (changed_away d.d_pass y p x other))) u
-        ])
+        (λ q off e. grind (arith, alone q, k.serving.d_only x q e, changed_away d.d_pass y p x))
 
     pub take_enters : Onward c s k t
     take_enters = record {

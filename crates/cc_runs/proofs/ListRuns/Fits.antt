@@ -23,9 +23,7 @@ sent_tag : (s number : ℕ) (b : Body) → 1 ≤ s → s < 2 ^ 16 → packed s n
 sent_tag s number b low few z = omega (arith, low, few, z)
 
 pub closed_fits : (c : Config) (n known : ℕ) (p : Pass) (k : Call) (number : ℕ) → IsSenders c p k → (request_of p k number).tag ≢ 0 → SendSideAnswer c n true known k (Answer.Send SendAnswer.Closed)
-closed_fits c n known (Pass.Sender s) (Call.Send body) number is ne = tt
-closed_fits c n known (Pass.Sender s) Call.Close number is ne = absurd (ne refl)
-closed_fits _ _ _ _ _ _ is ne = absurd is
+closed_fits c n known p k number is ne = grind arith
 
 pub already_fits : (c : Config) (n known : ℕ) (p : Pass) (k : Call) (number total : ℕ) → IsSenders c p k → sender_number p < 2 ^ 16 → (request_of p k number).tag ≡ 0 → total ≡ n → SendSideAnswer c n true known k (Answer.Close (CloseAnswer.Already total))
 already_fits c n known (Pass.Sender s) (Call.Send body) number total is few z same = absurd (sent_tag s number body is.0 few z)
@@ -38,19 +36,13 @@ shut_fits c n known (Pass.Sender s) Call.Close number total is few z same = same
 shut_fits _ _ _ _ _ _ _ is few z same = absurd is
 
 pub spent_fits : (c : Config) (n known : ℕ) (p : Pass) (k : Call) (number : ℕ) → IsSenders c p k → (request_of p k number).tag ≢ 0 → n ≡ c.life → SendSideAnswer c n false known k (Answer.Send SendAnswer.Spent)
-spent_fits c n known (Pass.Sender s) (Call.Send body) number is ne same = same
-spent_fits c n known (Pass.Sender s) Call.Close number is ne same = absurd (ne refl)
-spent_fits _ _ _ _ _ _ is ne same = absurd is
+spent_fits c n known p k number is ne same = grind arith
 
 pub full_fits : (c : Config) (n known : ℕ) (p : Pass) (k : Call) (number : ℕ) → IsSenders c p k → (request_of p k number).tag ≢ 0 → n ≢ c.life → known + c.capacity ≤ n → SendSideAnswer c n false known k (Answer.Send SendAnswer.Full)
-full_fits c n known (Pass.Sender s) (Call.Send body) number is ne room full = (room, full)
-full_fits c n known (Pass.Sender s) Call.Close number is ne room full = absurd (ne refl)
-full_fits _ _ _ _ _ _ is ne room full = absurd is
+full_fits c n known p k number is ne room full = grind arith
 
 pub accepted_fits : (c : Config) (n known : ℕ) (p : Pass) (k : Call) (number place : ℕ) → IsSenders c p k → (request_of p k number).tag ≢ 0 → n ≢ c.life → place ≡ n → SendSideAnswer c n false known k (Answer.Send (SendAnswer.Accepted place))
-accepted_fits c n known (Pass.Sender s) (Call.Send body) number place is ne room same = (room, same)
-accepted_fits c n known (Pass.Sender s) Call.Close number place is ne room same = absurd (ne refl)
-accepted_fits _ _ _ _ _ _ _ is ne room same = absurd is
+accepted_fits c n known p k number place is ne room same = grind arith
 
 -- the item of an accepted send is that of its request's words
 pub item_sent : (c : Config) (e : Entry) (place : ℕ) → IsSenders c e.pass e.call → FitsTag e → (request_in e).tag ≢ 0 → sent_item e.pass e.call e.number place ≡ item_of place (request_in e).tag (request_in e).body ∷ []

@@ -1,6 +1,6 @@
 -- The laws of every run of a machine whose chains serve the list.
-use Rattle.std.proofs.Common.{◌≡◌, ◌≢◌, ℕ, zero, suc, ◌+◌, ◌-◌, ◌/◌, ◌<◌, ◌≤◌, ◌==◌, List, length, Bool, true, false, if◌then◌else◌, Some, Ok, inl, inr, refl, sym, ap, ◌∙◌, subst, arith}
-use Rattle.std.proofs.lemmas.Bool.{cases_lt, eqb-true, eqb-false}
+use Rattle.std.proofs.Common.{◌≡◌, ◌≢◌, ℕ, zero, suc, ◌+◌, ◌-◌, ◌/◌, ◌<◌, ◌≤◌, ◌==◌, List, length, Bool, true, false, Some, Ok, inl, inr, refl, sym, ap, ◌∙◌, subst, arith, if◌then◌else◌}
+use Rattle.std.proofs.lemmas.Bool.{eqb-true, eqb-false, cases_lt}
 use Rattle.std.proofs.lemmas.Option.{slice_get_within}
 use Rattle.std.specs.List.{slice_get}
 use Rattle.cc_model.specs.Config.{config_fault}
@@ -12,7 +12,7 @@ use Rattle.cc_runs.specs.Words.{groups}
 use Rattle.cc_runs.specs.State.{State, chain_of, pass_at}
 use Rattle.cc_runs.specs.Lines.{group_of}
 use Rattle.cc_runs.proofs.ListRuns.Posts.{IsTakes, Well, of_side, group_in}
-use Rattle.cc_runs.specs.Run.{passes, reached, history_of, IsRun, IsIdle}
+use Rattle.cc_runs.specs.Run.{passes, reached, history_of, IsRun}
 use Rattle.cc_runs.specs.MachineLaws.{HistoryIsLegal, HistoryIsFifo, is_busy, busy_below, IsPreparing, Prepares, BusyNodesAreItems, PreparedNodeIsBusy, linked_nodes, Resets, ResetAfterTheTake, Holds, HoldsAt, PreparedAlone, NamesNode, FindsNode, LinksNameNodes, scan_reads, ScansAreShort}
 use Rattle.cc_runs.proofs.Ranges.{in_range}
 use Rattle.cc_runs.proofs.LinkedList.Queue.{Ghosts}
@@ -67,12 +67,7 @@ preparing_is e from (Sending.LinkItem count at last) x h = record { begun = tt; 
 preparing_is e from _ x h = absurd h
 
 preparing_in : (e : Entry) (from : ℕ) (service : Sending) → 7 ≤ (enq_in e from service).stage → (enq_in e from service).stage ≤ 10 → IsPreparing service (enq_in e from service).found
-preparing_in e from (Sending.ResetItemNext parcel at) low high = refl
-preparing_in e from (Sending.WriteItemTag parcel at) low high = refl
-preparing_in e from (Sending.WriteItemBody parcel at i) low high = refl
-preparing_in e from (Sending.ReadLast count at) low high = refl
-preparing_in e from (Sending.LinkItem count at last) low high = refl
-preparing_in e from _ low high = absurd (omega (arith, low, high))
+preparing_in e from service low high = grind arith
 
 preparing_at : (e : Entry) (from : ℕ) (at : Phase) → 7 ≤ (enq_at e from at).stage → (enq_at e from at).stage ≤ 10 → Prepares at (enq_at e from at).found
 preparing_at e from (Phase.Sending job service) low high = preparing_in e from service low high
@@ -139,10 +134,7 @@ module _ (c : Config) (moves : List Move) (a : AfterRun c moves) where
     reset_past n is =
         let within : n ≤ g.accepted = omega (arith, slice_get_within (linked_nodes (lists c) moves) n x is, a.linked.many) in
         let same : g.node n ≡ x = cc (a.linked.each n within, is) in
-        elim (cases_lt n g.least) [
-          | inl l ↦ omega (arith, l, handed_least)
-          | inr l ↦ absurd (live n within l same)
-        ]
+        grind (arith, handed_least, live n within)
       where
         live : (n : ℕ) → n ≤ g.accepted → g.least ≤ n → g.node n ≡ x → ⊥
         live n high low same = grind (arith, same, free, j.live.live_in n, j.live.live_role n, j.live.live_pos n, j.nodes.passed_is x, j.hands.by_some n)
@@ -153,17 +145,10 @@ module _ (c : Config) (moves : List Move) (a : AfterRun c moves) where
       let role : g.role x ≡ 1 = (prepared p job (Sending.ResetItemNext parcel x) x stands refl).1 in
       let within : n ≤ g.accepted = omega (arith, slice_get_within (linked_nodes (lists c) moves) n x is, a.linked.many) in
       let same : g.node n ≡ x = cc (a.linked.each n within, is) in
-      elim (cases_lt n g.least) [
-        | inl l ↦ omega (arith, l, handed_least)
-        | inr l ↦ let two : g.role (g.node n) ≡ 2 = i.live.live_role n l within in absurd (omega (arith, two, role, ap g.role same))
-      ]
+      grind (arith, handed_least, i.live.live_role n)
 
   resets : (at : Phase) (p x n : ℕ) → (s.stand p).phase ≡ at → slice_get (linked_nodes (lists c) moves) n ≡ Some x → Resets at x → n < handed_to_all s.history
-  resets (Phase.Sending job (Sending.ResetPassed parcel at)) p x n stands is same = reset_past p job parcel x (stands ∙ ap (λ (y : ℕ). Phase.Sending job (Sending.ResetPassed parcel y)) same) n is
-  resets (Phase.Sending job (Sending.ResetItemNext parcel at)) p x n stands is same =
-      prepared_past job p x n parcel (stands ∙ ap (λ (y : ℕ). Phase.Sending job (Sending.ResetItemNext parcel y)) same) is
-  resets (Phase.Sending job _) p x n stands is same = absurd same
-  resets _ p x n stands is same = absurd same
+  resets at p x n stands is same = grind (arith, reset_past p, prepared_past)
 
   -- ---- what a take holds isn't in preparation
 
@@ -174,10 +159,7 @@ module _ (c : Config) (moves : List Move) (a : AfterRun c moves) where
     pub inside : group < groups c
 
   not_idle : (p : ℕ) (job : Job) (service : Taking) → (s.stand p).phase ≡ Phase.Taking job service → p < passes (lists c)
-  not_idle p job service stands = elim (cases_lt p (passes (lists c))) [
-    | inl l ↦ l
-    | inr l ↦ absurd (subst (λ (z : Phase). IsIdle z) stands (a.whole.posts.outside p l))
-  ]
+  not_idle p job service stands = grind (arith, a.whole.posts.outside p)
 
   pub taker : (p : ℕ) (job : Job) (service : Taking) → (s.stand p).phase ≡ Phase.Taking job service → Taker p
   taker p job service stands = elim (of_side c p) [
@@ -243,8 +225,7 @@ module _ (c : Config) (moves : List Move) (a : AfterRun c moves) where
   alone : (p q x : ℕ) → Prepares (s.stand p).phase x → HoldsAt (s.stand q).phase x → ⊥
   alone p q x prepares holds =
       let one : (x ≤ c.capacity) × (g.role x ≡ 1) = prepared_at (s.stand p).phase p x refl prepares in
-      let two : g.role x ≡ 2 = held_at (s.stand q).phase q x refl one.0 holds in
-      omega (arith, one, two)
+      let two = held_at (s.stand q).phase q x refl one.0 holds in omega (arith, one, two)
 
   -- ---- links and scans
 
@@ -272,7 +253,6 @@ module _ (c : Config) (moves : List Move) (a : AfterRun c moves) where
   scans : (at : Phase) (p : ℕ) → (s.stand p).phase ≡ at → scan_reads at ≤ c.capacity + 1
   scans (Phase.Sending job (Sending.ReadPassed parcel at reads)) p stands =
       let scanned : Scanned c k.duty.from at reads = (send_reads c s p job (Sending.ReadPassed parcel at reads) stands tt k).1 in scanned.most
-  scans (Phase.Sending job _) p stands = omega arith
   scans _ p stands = omega arith
 
 -- ---- the laws

@@ -1,6 +1,6 @@
 -- The least number handed out is that of the history: the least over the groups.
-use Rattle.std.proofs.Common.{◌≡◌, ℕ, zero, suc, ◌+◌, ◌≤◌, List, [], ◌∷◌, length, map, get_or, refl, sym, ap, ◌∙◌, inl, inr, arith}
 use Rattle.std.proofs.lemmas.Bool.{cases_lt}
+use Rattle.std.proofs.Common.{◌≡◌, ℕ, zero, suc, ◌+◌, ◌≤◌, List, [], ◌∷◌, length, map, get_or, refl, sym, ap, ◌∙◌, arith, inl, inr}
 use Rattle.std.proofs.lemmas.List.{length-map}
 use Rattle.cc_model.specs.Record.{Side, Record, silent}
 use Rattle.cc_model.specs.Items.{handed, handed_by, handed_to_all, least}
@@ -31,9 +31,8 @@ least_smallest x xs h same =
     omega (arith, a.2, same a.0 a.1, smallest_least (length xs) h a.0 a.1, b.2, same b.0 b.1, least_low x xs b.0 b.1)
 
 pub counts_get : (sides : List Side) (k : ℕ) → get_or (map (λ side. length (handed_by side.answers)) sides) k 0 ≡ length (handed_by (get_or sides k silent).answers)
-counts_get [] k = refl
-counts_get (s ∷ sides) zero = refl
 counts_get (s ∷ sides) (suc k) = counts_get sides k
+counts_get _ _ = refl
 
 -- of a history with this number of groups, the items handed to all are as many as the smallest number handed to one
 pub least_of_groups : (h : Record) (m : ℕ) (each : ℕ → ℕ) → length h.takes ≡ m + 1 → ((y : ℕ) → each y ≡ length (handed h y)) → smallest m each ≡ handed_to_all h

@@ -1,5 +1,5 @@
 -- Each move keeps what holds of the passes and of the calls.
-use Rattle.std.proofs.Common.{◌≡◌, ◌≢◌, ℕ, zero, suc, ◌+◌, ◌*◌, ◌<◌, ◌≤◌, ◌^◌, ◌==◌, List, [], ◌∷◌, ◌++◌, length, Bool, true, false, if◌then◌else◌, inl, inr, refl, sym, ap, ◌∙◌, subst, arith, length-append, append-nil}
+use Rattle.std.proofs.Common.{◌≡◌, ◌≢◌, ℕ, zero, suc, ◌+◌, ◌*◌, ◌<◌, ◌≤◌, ◌^◌, ◌==◌, List, [], ◌∷◌, ◌++◌, length, Bool, true, false, inl, inr, refl, sym, ap, ◌∙◌, subst, arith, length-append, append-nil, if◌then◌else◌}
 use Rattle.std.proofs.lemmas.Bool.{cases_eq, eq-eqb, eqb-true}
 use Rattle.cc_model.specs.Record.{Record, of_group}
 use Rattle.cc_model.specs.Items.{known_at, handed_to_all, entries}
@@ -117,8 +117,7 @@ calls_on c h later e d up_e up_d k = record {
 -- its numbers, by whose they are
 own_numbers : (s : ℕ) (k : Call) (number : ℕ) → length (send_number s (Pass.Sender s) k number) ≡ is_send k
 own_numbers s (Call.Send body) number = ap (λ (b : Bool). length (if b then number ∷ [] else [])) (eq-eqb s s refl)
-own_numbers s Call.Close number = refl
-own_numbers s Call.Take number = refl
+own_numbers s _ number = refl
 
 other_numbers : (s q : ℕ) (k : Call) (number : ℕ) → s ≢ q → send_number q (Pass.Sender s) k number ≡ []
 other_numbers s q (Call.Send body) number ne = by_case (s == q) refl
@@ -126,8 +125,7 @@ other_numbers s q (Call.Send body) number ne = by_case (s == q) refl
     by_case : (b : Bool) → (s == q) ≡ b → (if b then number ∷ [] else []) ≡ []
     by_case true e = absurd (ne (eqb-true s q e))
     by_case false e = refl
-other_numbers s q Call.Close number ne = refl
-other_numbers s q Call.Take number ne = refl
+other_numbers s q _ number ne = refl
 
 counts_on : (s : ℕ) (k : Call) (number begun : ℕ) (xs : List ℕ) → CountsFrom 1 xs → HasNumber k number begun → length xs + is_send k ≡ begun → CountsFrom 1 (xs ++ send_number s (Pass.Sender s) k number)
 counts_on s (Call.Send body) number begun xs all is long = by_case (s == s) (eq-eqb s s refl)
@@ -135,28 +133,19 @@ counts_on s (Call.Send body) number begun xs all is long = by_case (s == s) (eq-
     by_case : (b : Bool) → b ≡ true → CountsFrom 1 (xs ++ (if b then number ∷ [] else []))
     by_case true e = counts_more 1 xs number all (omega (arith, is, long))
     by_case false e = cc
-counts_on s Call.Close number begun xs all is long = rw append-nil all
-counts_on s Call.Take number begun xs all is long = rw append-nil all
+counts_on s _ number begun xs all is long = rw append-nil all
 
 small_number : (k : Call) (number begun : ℕ) → HasNumber k number begun → begun < 2 ^ 32 → number < 2 ^ 32
-small_number (Call.Send body) number begun is l = omega (arith, is, l)
-small_number Call.Close number begun is l = omega (arith, is)
-small_number Call.Take number begun is l = omega (arith, is)
+small_number k number begun is l = grind arith
 
 sends_a_body : (k : Call) → IsOn Served.List Chain.Send k → HasBody k
-sends_a_body (Call.Send body) on = on
-sends_a_body Call.Close on = tt
-sends_a_body Call.Take on = absurd on
+sends_a_body k on = grind arith
 
 sender_makes : (c : Config) (s : ℕ) (k : Call) → 1 ≤ s → s ≤ c.senders → IsOn Served.List Chain.Send k → IsSenders c (Pass.Sender s) k
-sender_makes c s (Call.Send body) low high on = (low, high)
-sender_makes c s Call.Close low high on = (low, high)
-sender_makes c s Call.Take low high on = absurd on
+sender_makes c s k low high on = grind arith
 
 receiver_makes : (c : Config) (y r : ℕ) (k : Call) → 1 ≤ r → r ≤ groups c * c.receivers → group_of c r ≡ y → IsOn Served.List (Chain.Take y) k → IsReceivers c y (Pass.Receiver r) k
-receiver_makes c y r Call.Take low high is on = (low, high, is)
-receiver_makes c y r (Call.Send body) low high is on = absurd on
-receiver_makes c y r Call.Close low high is on = absurd on
+receiver_makes c y r k low high is on = grind arith
 
 module _ (c : Config) (h later : Record) (p begun : ℕ) (e : Entry) (is : later.sends.calls ≡ h.sends.calls ++ e ∷ []) (same : (y : ℕ) → (of_group later y).calls ≡ (of_group h y).calls) (e_up : handed_to_all h ≤ handed_to_all later) (d_up : entries h ≤ entries later)
     (within : p < c.senders) (b : Begun h Chain.Send (Pass.Sender (p + 1)) begun e) (most : begun ≤ c.per_sender) (fits : c.per_sender < 2 ^ 32) (few : c.senders < 2 ^ 16) (sent : length (send_numbers (p + 1) h.sends.calls) + is_send e.call ≡ begun) (k : Calls c h) where
@@ -206,17 +195,9 @@ module _ (c : Config) (h later : Record) (y r begun : ℕ) (e : Entry) (same : l
   pub d_calls_on : Calls c later
   d_calls_on = record {
     senders = rw same k.senders;
-    receivers = λ x. elim (cases_eq x y) [
-      | inl at ↦ subst (λ (z : ℕ). AllByRecursion (λ (e : Entry). IsReceivers c z e.pass e.call) (of_group later z).calls) (sym at)
-          (rw is (all-append (λ (z : Entry). IsReceivers c y z.pass z.call) (of_group h y).calls e (k.receivers y) (rw b.pass_is (receiver_makes c y r e.call low high of b.on))))
-      | inr ne ↦ rw (others x ne) (k.receivers x)
-    ];
+    receivers = λ x. grind (arith, all-append, (of_group h y).calls, k.receivers y, b.pass_is, receiver_makes c y r e.call low high of b.on, others x, k.receivers x);
     numbers = λ s. rw same (k.numbers s);
     small = rw same k.small;
     e_known = rw same (all_map (λ (x : Entry). x.known ≤ handed_to_all h) (λ (x : Entry). x.known ≤ handed_to_all later) h.sends.calls (λ x l. omega (arith, l, e_up)) k.e_known);
-    d_known = λ x. elim (cases_eq x y) [
-      | inl at ↦ subst (λ (z : ℕ). AllByRecursion (λ (e : Entry). e.known ≤ entries later) (of_group later z).calls) (sym at)
-          (rw is (all-append (λ (z : Entry). z.known ≤ entries later) (of_group h y).calls e (known_more y) (omega (arith, b.known_in, d_up))))
-      | inr ne ↦ rw (others x ne) (known_more x)
-    ];
+    d_known = λ x. grind (arith, all-append, (of_group h y).calls, known_more y, b.known_in, others x, known_more x);
   }

@@ -1,8 +1,8 @@
 -- The facts of each pass and of each call, whatever the chains do: a begun call is one that its pass can make, with the next
 -- number of a send; and the calls in the history are such calls.
-use Rattle.std.proofs.Common.{◌≡◌, ℕ, zero, suc, ◌+◌, ◌-◌, ◌/◌, ◌<◌, ◌≤◌, nat_lt, List, [], ◌∷◌, length, Bool, true, false, cond, ◌⊎◌, inl, inr, Some, ap, subst, arith}
+use Rattle.std.proofs.Common.{◌≡◌, ℕ, ◌+◌, ◌-◌, ◌/◌, ◌<◌, ◌≤◌, nat_lt, List, [], ◌∷◌, length, Bool, true, false, cond, ◌⊎◌, inl, inr, ap, arith}
 use Rattle.std.proofs.lemmas.Bool.{cases_lt, lt-ltb, le-ltb}
-use Rattle.std.specs.List.{AllByRecursion, slice_get}
+use Rattle.std.specs.List.{AllByRecursion}
 use Rattle.cc_model.specs.Record.{Record, of_group}
 use Rattle.cc_model.specs.Items.{known_at, handed_to_all, entries}
 use Rattle.cc_model.specs.Legal.{IsSenders, IsReceivers, CountsFrom, send_numbers}
@@ -97,11 +97,6 @@ of_side c p = elim (cases_lt p c.senders) [
 pub group_in : (c : Config) (p : ℕ) → p < passes (lists c) → OfTake c p → (p - c.senders) / c.receivers < groups c
 group_in c p less of = taken_chain Served.List c p less of.low
 
-pub all_get : {X : Type 0} (P : X → Type 0) (xs : List X) (k : ℕ) (x : X) → AllByRecursion P xs → slice_get xs k ≡ Some x → P x
-all_get P [] k x all is = cc
-all_get P (y ∷ xs) zero x all is = let same : y ≡ x = cc in subst P same all.0
-all_get P (y ∷ xs) (suc k) x all is = all_get P xs k x all.1 is
-
 pub all_map : {X : Type 0} (P Q : X → Type 0) (xs : List X) → ((x : X) → P x → Q x) → AllByRecursion P xs → AllByRecursion Q xs
 all_map P Q [] to all = tt
 all_map P Q (y ∷ xs) to all = (to y all.0, all_map P Q xs to all.1)
@@ -112,11 +107,7 @@ begun_grows : (h later : Record) (x : Chain) (pass : Pass) (begun : ℕ) (e : En
 begun_grows h later x pass begun e up b = record { pass_is = b.pass_is; on = b.on; number_is = b.number_is; known_in = omega (arith, b.known_in, up) }
 
 pub well_grows : (h later : Record) (x : Chain) (pass : Pass) (begun : ℕ) (at : Phase) → known_at pass h ≤ known_at pass later → Well h x pass begun at → Well later x pass begun at
-well_grows h later x pass begun (Phase.ResetNext e) up w = begun_grows h later x pass begun e up w
-well_grows h later x pass begun (Phase.ResetState e) up w = begun_grows h later x pass begun e up w
-well_grows h later x pass begun (Phase.Exchange e) up w = begun_grows h later x pass begun e up w
-well_grows h later x pass begun _ up w = w
+well_grows h later x pass begun at up w = grind (arith, begun_grows h later x pass begun)
 
 pub known_grows : (h later : Record) (pass : Pass) → handed_to_all h ≤ handed_to_all later → entries h ≤ entries later → known_at pass h ≤ known_at pass later
-known_grows h later (Pass.Sender s) a b = a
-known_grows h later (Pass.Receiver r) a b = b
+known_grows h later pass a b = grind arith

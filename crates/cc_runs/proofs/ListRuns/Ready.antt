@@ -3,7 +3,8 @@ use Rattle.std.proofs.Common.{◌≡◌, ℕ, ◌^◌, ◌<◌, ◌≤◌, List,
 use Rattle.std.proofs.lemmas.Option.{slice_get-get_or}
 use Rattle.cc_model.specs.Config.{config_fault}
 use Rattle.cc_model.specs.Record.{Record}
-use Rattle.cc_runs.specs.Names.{Config, Answer, SendAnswer, CloseAnswer, TakeAnswer, Setting, Served, Chain, NodeField, Job, Phase, Sending, Move}
+use Rattle.cc_model.proofs.Fresh.{all_at}
+use Rattle.cc_runs.specs.Names.{Config, Answer, Setting, Served, Chain, NodeField, Job, Phase, Sending, Move}
 use Rattle.cc_runs.specs.State.{State, chain_of, pass_at}
 use Rattle.cc_runs.specs.Ready.{IsSafe, IsReady}
 use Rattle.cc_runs.specs.Run.{passes, reached, IsRun}
@@ -19,7 +20,7 @@ use Rattle.cc_runs.proofs.Chains.Decoded.{Fits, word_fits}
 use Rattle.cc_runs.proofs.Chains.Safe.{IsService}
 use Rattle.cc_runs.proofs.ChainRuns.{ready, last_answer}
 use Rattle.cc_runs.proofs.ListRuns.Facts.{lists}
-use Rattle.cc_runs.proofs.ListRuns.Posts.{Well, all_get}
+use Rattle.cc_runs.proofs.ListRuns.Posts.{Well}
 use Rattle.cc_runs.proofs.ListRuns.Runs.{AfterRun}
 use Rattle.cc_runs.proofs.ListRuns.Safe.{send_safe, take_safe}
 use Rattle.cc_runs.proofs.ListRuns.Within.{within}
@@ -27,19 +28,11 @@ use Rattle.cc_runs.proofs.ListRuns.Laws.{taker}
 use Rattle.cc_runs.proofs.ListRuns.FromChains.{after_runs, chain_facts, of_setting}
 
 answer_fits : (most : ℕ) (a : Answer) → most < 2 ^ 56 → AnswerWithin most a → Fits a
-answer_fits most (Answer.Send (SendAnswer.Accepted at)) l w = omega (arith, l, w)
-answer_fits most (Answer.Close (CloseAnswer.Shut total)) l w = omega (arith, l, w)
-answer_fits most (Answer.Close (CloseAnswer.Already total)) l w = omega (arith, l, w)
-answer_fits most (Answer.Take (TakeAnswer.Got item)) l w = (omega (arith, l, w.0), w.1)
-answer_fits most (Answer.Take (TakeAnswer.Ended total)) l w = omega (arith, l, w)
-answer_fits most (Answer.Take TakeAnswer.Empty) l w = tt
-answer_fits most (Answer.Send SendAnswer.Full) l w = tt
-answer_fits most (Answer.Send SendAnswer.Closed) l w = tt
-answer_fits most (Answer.Send SendAnswer.Spent) l w = tt
+answer_fits most a l w = grind arith
 
 -- every answer of a history fits its words
 pub answers_fit : (c : Config) → InRange c → (h : Record) → IsWithin c h → (x : Chain) (n : ℕ) → n < length (answers_on x h) → Fits (answer_at (answers_on x h) n)
-answers_fit c fits h w x n l = answer_fits c.life _ (omega (arith, fits.life)) (all_get (AnswerWithin c.life) (answers_on x h) n (answer_at (answers_on x h) n) (w.answers x) (slice_get-get_or (answers_on x h) n no_answer l))
+answers_fit c fits h w x n l = answer_fits c.life _ (omega (arith, fits.life)) (all_at (AnswerWithin c.life) (answers_on x h) n (answer_at (answers_on x h) n) (w.answers x) (slice_get-get_or (answers_on x h) n no_answer l))
 
 -- ---- the steps of the services
 

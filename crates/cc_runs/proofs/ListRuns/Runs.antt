@@ -1,6 +1,6 @@
 -- The list's invariant after every run.
-use Rattle.std.proofs.Common.{◌≡◌, ◌≢◌, ℕ, ◌+◌, ◌-◌, ◌*◌, ◌/◌, ◌^◌, ◌<◌, ◌≤◌, ◌==◌, nat_lt, List, [], ◌∷◌, ◌++◌, length, Bool, true, false, if◌then◌else◌, Some, None, Option, inl, inr, refl, sym, ap, ◌∙◌, subst, arith, append-nil, length-append}
-use Rattle.std.proofs.lemmas.Bool.{cases_eq, cases_lt, lt-ltb, eqb-true}
+use Rattle.std.proofs.Common.{◌≡◌, ◌≢◌, ℕ, ◌+◌, ◌-◌, ◌*◌, ◌/◌, ◌^◌, ◌<◌, ◌≤◌, ◌==◌, nat_lt, List, [], ◌∷◌, ◌++◌, length, Bool, true, false, if◌then◌else◌, Some, None, inl, inr, refl, sym, ap, ◌∙◌, subst, arith, append-nil, length-append}
+use Rattle.std.proofs.lemmas.Bool.{lt-ltb, eqb-true}
 use Rattle.std.specs.List.{AllByRecursion, slice_get}
 use Rattle.std.proofs.lemmas.List.{length-replicate}
 use Rattle.cc_model.specs.Record.{Side, Record, silent, of_group}
@@ -55,10 +55,7 @@ linked_on nodes [] g g' a l = record {
 }
 linked_on nodes (x ∷ rest) g g' a l = record {
   many = omega (arith, length-append nodes (x ∷ rest), ap length l.0, a.many, l.1);
-  each = λ k low. elim (cases_lt g.accepted k) [
-    | inl more ↦ rw l.0 (last k (omega (arith, low, more, l.1)))
-    | inr less ↦ get_front nodes (x ∷ rest) k (g'.node k) (a.each k less ∙ ap (λ (y : ℕ). Some y) (sym (l.3 k less)))
-  ];
+  each = λ k low. grind (arith, l.0, last k, l.1, get_front nodes (x ∷ rest) k (g'.node k), a.each k, l.3 k);
 }
   where
     last : (k : ℕ) → k ≡ g.accepted + 1 → slice_get (nodes ++ x ∷ []) k ≡ Some (g'.node k)
@@ -167,10 +164,7 @@ module _ (c : Config) (fits : InRange c) (s : State) (p begun own : ℕ) (within
     same_calls at none x =
         let found : ℕ = finds (Chain.Take y) at in
         let now : Side = record { calls = appended (of_group h y).calls (enters at); answers = appended (of_group h y).answers (decides (lists c) at found) } in
-        elim (cases_eq x y) [
-          | inl is ↦ subst (λ (z : ℕ). (of_group (to (Chain.Take y) at).history z).calls ≡ (of_group h z).calls) (sym is) (ap (λ (z : Side). z.calls) (group_mine h y now side_in) ∙ ap (λ (e : Option Entry). appended (of_group h y).calls e) none)
-          | inr ne ↦ ap (λ (z : Side). z.calls) (group_other h y x now ne)
-        ]
+        grind (arith, group_mine h y now side_in, none, group_other h y x now)
 
     take_still : (at : Phase) → enters at ≡ None → s.stand p ≡ stand_at at → OnwardBy c s w.parts (to (Chain.Take y) at) (links_at at) → Posts c (to (Chain.Take y) at) × Calls c (to (Chain.Take y) at).history
     take_still at none stands on =
@@ -219,22 +213,16 @@ finished_still (Phase.Finished told) u = (still_send (Phase.Finished told) tt, s
 finished_still _ u = absurd u
 
 idle_waits : (at : Phase) → IsIdle at → waits at ≡ 0
-idle_waits Phase.Idle u = refl
-idle_waits _ u = absurd u
+idle_waits at u = grind arith
 
 finished_waits : (at : Phase) → IsFinished at → waits at ≡ 0
-finished_waits (Phase.Finished told) u = refl
-finished_waits _ u = absurd u
+finished_waits at u = grind arith
 
 numbered : (k : Call) (begun : ℕ) → HasNumber k (number_of k begun) (begun_after k begun)
-numbered (Call.Send body) begun = refl
-numbered Call.Close begun = refl
-numbered Call.Take begun = refl
+numbered k begun = grind arith
 
 one_more : (k : Call) (begun : ℕ) → begun_after k begun ≡ begun + is_send k
-one_more (Call.Send body) begun = refl
-one_more Call.Close begun = omega arith
-one_more Call.Take begun = omega arith
+one_more k begun = grind arith
 
 begin_on : (c : Config) (s : State) (p : ℕ) (k : Call) (known : ℕ) → May (lists c) s (Move.Begin p k known) → (w : Whole c s) → Goes c s w (moved (lists c) s (Move.Begin p k known)) []
 begin_on c s p k known may w =
@@ -286,15 +274,13 @@ module _ (c : Config) (fits : InRange c) where
   idle0 p = by_case (nat_lt p (passes (lists c)))
     where
       by_case : (b : Bool) → (if b then record { begun = 0; node = first_node c p; phase = Phase.Idle } else nowhere).phase ≡ Phase.Idle
-      by_case true = refl
-      by_case false = refl
+      by_case b = grind arith
 
   begun0 : (p : ℕ) → (s0.stand p).begun ≡ 0
   begun0 p = by_case (nat_lt p (passes (lists c)))
     where
       by_case : (b : Bool) → (if b then record { begun = 0; node = first_node c p; phase = Phase.Idle } else nowhere).begun ≡ 0
-      by_case true = refl
-      by_case false = refl
+      by_case b = grind arith
 
   abbrev queue0 : Queue
   queue0 = queue_from (first_word c) duty0 (resting duty0.e_call duty0.from) (λ y. none)

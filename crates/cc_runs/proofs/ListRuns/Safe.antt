@@ -60,10 +60,7 @@ module _ (c : Config) (mem : Word → ℕ) (d : Duty) (e : Enq) (r : ℕ → Reg
   dummy_in y l low = omega (arith, i.heads.dummy_is y l low, i.live.live_in (g.handed y) (i.hands.least_is y l) (i.hands.order y l))
 
   after_in : (y : ℕ) → y < further c + 1 → 4 ≤ (r y).stage → (r y).stage ≤ 5 → (r y).after ≤ c.capacity + 2
-  after_in y l low high = elim (cases_lt (g.handed y) g.accepted) [
-    | inl more ↦ omega (arith, i.takes.after_is y l low high more, i.live.live_in (g.handed y + 1) (omega (arith, i.hands.least_is y l)) (omega (arith, more)))
-    | inr less ↦ omega (arith, i.takes.after_mark y l low (omega (arith, less, i.hands.order y l)))
-  ]
+  after_in y l low high = grind (arith, i.takes.after_is y l low high, i.live.live_in (g.handed y + 1), i.hands.least_is y l, i.takes.after_mark y l low, i.hands.order y l)
 
 -- ---- each step of the two services, but for the loads of a request
 
@@ -74,35 +71,26 @@ module _ (c : Config) (r : InRange c) (s : State) (p : ℕ) (k : Parts c s) wher
   send_safe own job (Sending.ReadLastToClose total) e on = record { word = refl; numbers = (limits.lastc_link c.capacity c.life (further c + 1) _ k.told (send_holds c s p job (Sending.ReadLastToClose total) e tt k) refl).0 }
   send_safe own job (Sending.ReadLast count at) e on = record { word = refl; numbers = (limits.last_link c.capacity c.life (further c + 1) _ k.told (send_holds c s p job (Sending.ReadLast count at) e tt k) refl).0 }
   send_safe own job (Sending.LinkMark total last) e on =
-      let i : LInv c.capacity c.life (further c + 1) (send_queue c s p job (Sending.LinkMark total last) e tt k) k.told = send_holds c s p job (Sending.LinkMark total last) e tt k in
-      record { word = item_exists c last ItemField.Next refl (omega (arith, i.prepared.last_mark refl, least_last c s.mem k.duty _ _ k.told i)); numbers = tt }
+      let i = send_holds c s p job (Sending.LinkMark total last) e tt k in record { word = item_exists c last ItemField.Next refl (omega (arith, i.prepared.last_mark refl, least_last c s.mem k.duty _ _ k.told i)); numbers = tt }
   send_safe own job (Sending.ReadPassed parcel at reads) e on =
       let scanned : Scanned c k.duty.from at reads = (send_reads c s p job (Sending.ReadPassed parcel at reads) e tt k).1 in
       record { word = item_exists c at ItemField.Passed refl (omega (arith, scanned.within)); numbers = omega (arith, scanned.most, r.capacity) }
   send_safe own job (Sending.ResetPassed parcel at) e on =
-      let i : LInv c.capacity c.life (further c + 1) (send_queue c s p job (Sending.ResetPassed parcel at) e tt k) k.told = send_holds c s p job (Sending.ResetPassed parcel at) e tt k in
-      record { word = item_exists c at ItemField.Passed refl (omega (arith, i.found.found_in (omega arith) (omega arith))); numbers = tt }
+      let i = send_holds c s p job (Sending.ResetPassed parcel at) e tt k in record { word = item_exists c at ItemField.Passed refl (omega (arith, i.found.found_in (omega arith) (omega arith))); numbers = tt }
   send_safe own job (Sending.ResetItemNext parcel at) e on =
-      let i : LInv c.capacity c.life (further c + 1) (send_queue c s p job (Sending.ResetItemNext parcel at) e tt k) k.told = send_holds c s p job (Sending.ResetItemNext parcel at) e tt k in
-      record { word = item_exists c at ItemField.Next refl (omega (arith, i.found.found_in (omega arith) (omega arith))); numbers = tt }
+      let i = send_holds c s p job (Sending.ResetItemNext parcel at) e tt k in record { word = item_exists c at ItemField.Next refl (omega (arith, i.found.found_in (omega arith) (omega arith))); numbers = tt }
   send_safe own job (Sending.WriteItemTag parcel at) e on =
-      let i : LInv c.capacity c.life (further c + 1) (send_queue c s p job (Sending.WriteItemTag parcel at) e tt k) k.told = send_holds c s p job (Sending.WriteItemTag parcel at) e tt k in
-      record { word = item_exists c at ItemField.Tag refl (omega (arith, i.found.found_in (omega arith) (omega arith))); numbers = tt }
+      let i = send_holds c s p job (Sending.WriteItemTag parcel at) e tt k in record { word = item_exists c at ItemField.Tag refl (omega (arith, i.found.found_in (omega arith) (omega arith))); numbers = tt }
   send_safe own job (Sending.WriteItemBody parcel at i) e on =
-      let v : LInv c.capacity c.life (further c + 1) (send_queue c s p job (Sending.WriteItemBody parcel at i) e tt k) k.told = send_holds c s p job (Sending.WriteItemBody parcel at i) e tt k in
-      record { word = item_exists c at (ItemField.Body i) (four_words i parcel.tag (send_reads c s p job (Sending.WriteItemBody parcel at i) e tt k).1) (omega (arith, v.found.found_in (omega arith) (omega arith))); numbers = tt }
+      let v = send_holds c s p job (Sending.WriteItemBody parcel at i) e tt k in record { word = item_exists c at (ItemField.Body i) (four_words i parcel.tag (send_reads c s p job (Sending.WriteItemBody parcel at i) e tt k).1) (omega (arith, v.found.found_in (omega arith) (omega arith))); numbers = tt }
   send_safe own job (Sending.LinkItem count at last) e on =
-      let i : LInv c.capacity c.life (further c + 1) (send_queue c s p job (Sending.LinkItem count at last) e tt k) k.told = send_holds c s p job (Sending.LinkItem count at last) e tt k in
-      record { word = item_exists c last ItemField.Next refl (omega (arith, i.prepared.last_item refl, least_last c s.mem k.duty _ _ k.told i)); numbers = omega (arith, i.found.found_in (omega arith) (omega arith), r.capacity) }
+      let i = send_holds c s p job (Sending.LinkItem count at last) e tt k in record { word = item_exists c last ItemField.Next refl (omega (arith, i.prepared.last_item refl, least_last c s.mem k.duty _ _ k.told i)); numbers = omega (arith, i.found.found_in (omega arith) (omega arith), r.capacity) }
   send_safe own job (Sending.WriteLast count at) e on =
-      let i : LInv c.capacity c.life (further c + 1) (send_queue c s p job (Sending.WriteLast count at) e tt k) k.told = send_holds c s p job (Sending.WriteLast count at) e tt k in
-      record { word = refl; numbers = omega (arith, i.found.found_in (omega arith) (omega arith), r.capacity) }
+      let i = send_holds c s p job (Sending.WriteLast count at) e tt k in record { word = refl; numbers = omega (arith, i.found.found_in (omega arith) (omega arith), r.capacity) }
   send_safe own job (Sending.WriteCount count at) e on =
-      let i : LInv c.capacity c.life (further c + 1) (send_queue c s p job (Sending.WriteCount count at) e tt k) k.told = send_holds c s p job (Sending.WriteCount count at) e tt k in
-      record { word = refl; numbers = omega (arith, limits.count_fits c.capacity c.life (further c + 1) _ k.told i refl, r.life) }
+      let i = send_holds c s p job (Sending.WriteCount count at) e tt k in record { word = refl; numbers = omega (arith, limits.count_fits c.capacity c.life (further c + 1) _ k.told i refl, r.life) }
   send_safe own job (Sending.WriteCursor count at) e on =
-      let i : LInv c.capacity c.life (further c + 1) (send_queue c s p job (Sending.WriteCursor count at) e tt k) k.told = send_holds c s p job (Sending.WriteCursor count at) e tt k in
-      record { word = refl; numbers = omega (arith, i.found.found_in (omega arith) (omega arith), r.capacity) }
+      let i = send_holds c s p job (Sending.WriteCursor count at) e tt k in record { word = refl; numbers = omega (arith, i.found.found_in (omega arith) (omega arith), r.capacity) }
   send_safe own job service e on = record { word = refl; numbers = tt }
 
   module _ (y : ℕ) (chain : chain_of c p ≡ Chain.Take y) (inside : y < groups c) where

@@ -1,5 +1,5 @@
 -- A step of the service of a send or a close keeps the list's invariant, and decides a legal answer.
-use Rattle.std.proofs.Common.{◌≡◌, ◌≢◌, ℕ, zero, suc, ◌+◌, ◌-◌, ◌%◌, ◌<◌, ◌≤◌, ◌==◌, List, [], ◌∷◌, ◌++◌, length, Bool, true, false, ◌||◌, cond, if◌then◌else◌, Some, None, refl, sym, ap, ◌∙◌, subst, arith, inl, inr, append-nil, length-append}
+use Rattle.std.proofs.Common.{◌≡◌, ◌≢◌, ℕ, zero, suc, ◌+◌, ◌-◌, ◌%◌, ◌<◌, ◌≤◌, ◌==◌, List, [], ◌∷◌, ◌++◌, length, Bool, true, false, ◌||◌, cond, Some, None, refl, sym, ap, ◌∙◌, subst, arith, inl, inr, append-nil, length-append, if◌then◌else◌}
 use Rattle.std.proofs.lemmas.Bool.{cases_eq, cases_lt, eqb-true, eqb-false}
 use Rattle.std.proofs.Math.Nat.{mod-eq_of_lt, mod_self}
 use Rattle.std.specs.List.{slice_get}
@@ -52,34 +52,22 @@ pub record Caller (c : Config) (e : Entry) : Type 0 where
 -- the scan goes on to the node after, round the end
 scan_on : (c : Config) (from at reads : ℕ) → Scanned c from at reads → reads ≢ c.capacity + 1 → from ≤ c.capacity → Scanned c from (after c at) (reads + 1)
 scan_on c from at reads s more from_in =
-    let some : 1 ≤ reads = s.some in
-    let within : at ≤ c.capacity = s.within in
-    elim (cases_lt c.capacity (from + (reads - 1))) [
-      | inl far ↦
-          let here : at + c.capacity + 1 ≡ from + (reads - 1) = s.round far in
-          elim (cases_eq at c.capacity) [
-            | inl last ↦ absurd (omega (arith, s.most, more, from_in, here, last))
-            | inr ne ↦ let to : after c at ≡ at + 1 = mod-eq_of_lt (omega (arith, ne, within)) in
-                record { some = omega arith; most = omega (arith, s.most, more); within = omega (arith, to, ne, within); past = λ l. absurd (omega (arith, l, far, some)); round = λ l. omega (arith, to, here, some) }
-          ]
-      | inr near ↦
-          let here : at ≡ from + (reads - 1) = s.past near in
-          elim (cases_eq at c.capacity) [
-            | inl last ↦
-                let to : after c at ≡ 0 = ap (λ (k : ℕ). (k + 1) % (c.capacity + 1)) last ∙ mod_self (c.capacity + 1) in
-                record { some = omega arith; most = omega (arith, s.most, more); within = omega (arith, to); past = λ l. absurd (omega (arith, l, here, last, some)); round = λ l. omega (arith, to, here, last, some) }
-            | inr ne ↦ let to : after c at ≡ at + 1 = mod-eq_of_lt (omega (arith, ne, within)) in
-                record { some = omega arith; most = omega (arith, s.most, more); within = omega (arith, to, ne, within); past = λ l. omega (arith, to, here, some); round = λ l. absurd (omega (arith, l, here, ne, within, some)) }
-          ]
-    ]
+    let onward : at ≢ c.capacity → after c at ≡ at + 1 = (λ ne. mod-eq_of_lt (omega (arith, ne, s.within))) in
+    let around : at ≡ c.capacity → after c at ≡ 0 = (λ last. ap (λ (k : ℕ). (k + 1) % (c.capacity + 1)) last ∙ mod_self (c.capacity + 1)) in
+    let by_end = cases_eq at c.capacity in
+    let by_round = cases_lt c.capacity (from + (reads - 1)) in record {
+      some = omega arith;
+      most = omega (arith, s.most, more);
+      within = grind (arith, by_end, onward, around, s.within);
+      past = λ l. grind (arith, by_end, by_round, onward, around, s.past, s.round, s.some, s.within, l, from_in);
+      round = λ l. grind (arith, by_end, by_round, onward, around, s.past, s.round, s.some, s.within, s.most, more, l, from_in);
+    }
 
 or_false : (b : Bool) → b || (false || false) ≡ b
-or_false true = refl
-or_false false = refl
+or_false b = grind arith
 
 or_true : (b : Bool) → b || (true || false) ≡ true
-or_true true = refl
-or_true false = refl
+or_true b = grind arith
 
 module _ (c : Config) (mem : Word → ℕ) (d : Duty) (r : ℕ → Regs) (h : Record) (g : Ghosts) (ties : Ties c h g) (caller : Caller c d.e_call) (job : Job) where
   abbrev AtStep : (Word → ℕ) → Sending → Queue
@@ -91,9 +79,10 @@ module _ (c : Config) (mem : Word → ℕ) (d : Duty) (r : ℕ → Regs) (h : Re
   abbrev Has : Queue → Ghosts → Type 0
   Has v told = ListHolds c.capacity c.life (further c) v told
 
-  -- on in the service, with no ghost moved
-  on : (m : Word → ℕ) (there : Sending) → grow.Counted (further c) g → LInv c.capacity c.life (further c + 1) (AtStep m there) g → Reads c d.e_call d.from there → (IsUndecided there → IsNextSend h d.e_call) → Turn c m d r h g (Phase.Sending job there)
-  on m there counted inv reads asked = record {
+  -- no ghost moves
+  still : (m : Word → ℕ) (now : Record) (at : Phase) → grow.Counted (further c) g → LInv c.capacity c.life (further c + 1) (queue_from m d (enq_at d.e_call d.from at) r) g
+      → ReadsAt c d.e_call d.from at → (IsUndecidedAt at → IsNextSend now d.e_call) → Ties c now g → Turn c m d r now g at
+  still m now at counted inv reads asked same = record {
     from = d.from;
     told = g;
     list = record { inv = inv; counted = counted };
@@ -101,42 +90,28 @@ module _ (c : Config) (mem : Word → ℕ) (d : Duty) (r : ℕ → Regs) (h : Re
     entries_up = omega arith;
     reads = reads;
     next_call = asked;
-    ties = ties;
+    ties = same;
     linked = (refl, λ j l. refl);
   }
 
-  -- to the end of the service, with no ghost moved
+  -- on in the service
+  on : (m : Word → ℕ) (there : Sending) → grow.Counted (further c) g → LInv c.capacity c.life (further c + 1) (AtStep m there) g → Reads c d.e_call d.from there → (IsUndecided there → IsNextSend h d.e_call) → Turn c m d r h g (Phase.Sending job there)
+  on m there counted inv reads asked = still m h (Phase.Sending job there) counted inv reads asked ties
+
+  -- to the end of the service
   over : (m : Word → ℕ) (told : Answer) → grow.Counted (further c) g → LInv c.capacity c.life (further c + 1) (AtRest m) g → Turn c m d r h g (Phase.WriteAnswer job told)
-  over m told counted inv = record {
-    from = d.from;
-    told = g;
-    list = record { inv = inv; counted = counted };
-    least_up = omega arith;
-    entries_up = omega arith;
-    reads = tt;
-    next_call = λ no. absurd no;
-    ties = ties;
-    linked = (refl, λ j l. refl);
-  }
+  over m told counted inv = still m h (Phase.WriteAnswer job told) counted inv tt (λ no. absurd no) ties
 
   -- an answer that accepts nothing and doesn't shut
   answered : (m : Word → ℕ) (told : Answer) → grow.Counted (further c) g → LInv c.capacity c.life (further c + 1) (AtRest m) g
       → IsNextSend h d.e_call → accepted_item d.e_call told ≡ [] → shuts told ≡ false → SendSideAnswer c (length (accepted h)) (is_shut h) d.e_call.known d.e_call.call told → Turn c m d r (told_send h told) g (Phase.WriteAnswer job told)
-  answered m told counted inv asked none open_ fits = record {
-    from = d.from;
-    told = g;
-    list = record { inv = inv; counted = counted };
-    least_up = omega arith;
-    entries_up = omega arith;
-    reads = tt;
-    next_call = λ no. absurd no;
-    ties = ties_same c h (told_send h told) g ties refl
-        (e_accepted c h ties.legal d.e_call told asked ∙ ap (λ (l : List Item). accepted h ++ l) none ∙ append-nil (accepted h))
-        (e_shut c h ties.legal d.e_call told asked ∙ ap (λ (b : Bool). is_shut h || (b || false)) open_ ∙ or_false (is_shut h))
-        (λ y. refl)
-        (e_decided c h ties.legal d.e_call told asked fits);
-    linked = (refl, λ j l. refl);
-  }
+  answered m told counted inv asked none open_ fits =
+      still m (told_send h told) (Phase.WriteAnswer job told) counted inv tt (λ no. absurd no)
+      (ties_same c h (told_send h told) g ties refl
+      (e_accepted c h ties.legal d.e_call told asked ∙ ap (λ (l : List Item). accepted h ++ l) none ∙ append-nil (accepted h))
+      (e_shut c h ties.legal d.e_call told asked ∙ ap (λ (b : Bool). is_shut h || (b || false)) open_ ∙ or_false (is_shut h))
+      (λ y. refl)
+      (e_decided c h ties.legal d.e_call told asked fits))
 
   -- the answer's place in the history is open or shut as the list is
   fits_shut : (told : Answer) → g.shut ≡ 1 → SendSideAnswer c (length (accepted h)) true d.e_call.known d.e_call.call told → SendSideAnswer c (length (accepted h)) (is_shut h) d.e_call.known d.e_call.call told
@@ -400,8 +375,6 @@ module _ (c : Config) (mem : Word → ℕ) (d : Duty) (r : ℕ → Regs) (h : Re
 
   pub send_turn : (service : Sending) (found : ℕ) → IsBegun service → mem (word_of (operation c job.round.at service)) ≡ found → Needs service
       → TurnBy c (stored mem (operation c job.round.at service)) d r (noted Chain.Send h None (decides c service found)) g (goes c job service found) (links service)
-  send_turn Sending.ReadTag found low e n = absurd low
-  send_turn (Sending.ReadBody request i) found low e n = absurd low
   send_turn (Sending.ReadShut q) found low e n = read_shut q found e n.0 n.1 (n.2 tt)
   send_turn Sending.ReadTotal found low e n = subst (λ (k : ℕ). Turn c mem d r (told_send h (Answer.Close (CloseAnswer.Already k))) g (Phase.WriteAnswer job (Answer.Close (CloseAnswer.Already k)))) e (read_total n.0 (n.2 tt))
   send_turn (Sending.ReadCount q) found low e n =
@@ -427,3 +400,4 @@ module _ (c : Config) (mem : Word → ℕ) (d : Duty) (r : ℕ → Regs) (h : Re
   send_turn (Sending.WriteLast count at) found low e n = on _ (Sending.WriteCount count at) n.0.counted (keeps.write_last mem d r c (further c + 1) g count at n.0.inv) tt (λ no. absurd no)
   send_turn (Sending.WriteCount count at) found low e n = on _ (Sending.WriteCursor count at) n.0.counted (keeps.write_count mem d r c (further c + 1) g count at n.0.inv) tt (λ no. absurd no)
   send_turn (Sending.WriteCursor count at) found low e n = over _ (Answer.Send (SendAnswer.Accepted count)) n.0.counted (keeps.write_cursor mem d r c (further c + 1) g count at n.0.inv)
+  send_turn _ found low e n = absurd low

@@ -1,8 +1,7 @@
 -- Each step of the machine keeps the list's invariant, the passes' and the calls'.
-use Rattle.std.proofs.Common.{◌≡◌, ◌≢◌, ◌∙◌, inl, inr, None, arith, ℕ, zero, suc, ◌+◌, ◌<◌, ◌≤◌, List, [], ◌∷◌, ◌++◌, length, false, Some, refl, sym, ap, subst}
+use Rattle.std.proofs.Common.{◌≡◌, ◌≢◌, inl, inr, None, arith, ℕ, zero, suc, ◌+◌, ◌<◌, ◌≤◌, [], ◌∷◌, ◌++◌, length, false, refl, sym, ap, subst}
 use Rattle.std.proofs.lemmas.Bool.{cases_eq}
 use Rattle.std.proofs.lemmas.List.{length-set}
-use Rattle.std.specs.List.{slice_get}
 use Rattle.cc_model.specs.Legal.{TakeSideAnswers}
 use Rattle.cc_runs.specs.Words.{groups}
 use Rattle.cc_runs.proofs.Chains.Facts.{noted_none}
@@ -11,6 +10,7 @@ use Rattle.cc_model.specs.Record.{Side, Record, of_group, with_call, with_sends,
 use Rattle.cc_model.specs.Items.{accepted, handed_by, handed_to_all, is_shut, entries}
 use Rattle.cc_runs.specs.Names.{Config, Pass, Entry, Served, Chain, Word, Job, Round, Request, Phase, Sending, Stand}
 use Rattle.cc_model.proofs.Grows.{get_front, e_calls_more, accepted_calls_more, d_calls_more}
+use Rattle.cc_model.proofs.Fresh.{all_at}
 use Rattle.cc_runs.specs.Codes.{further_words}
 use Rattle.cc_runs.specs.State.{State, chain_of, pass_at, hold, noted, word_of}
 use Rattle.cc_runs.specs.Lines.{operation, after_next}
@@ -23,7 +23,7 @@ use Rattle.cc_runs.proofs.ListRuns.View.{Duty, Regs, queue_from}
 use Rattle.cc_runs.proofs.ListRuns.Ties.{Ties, IsNextSend, IsNextTake, ties_same}
 use Rattle.cc_runs.proofs.ListRuns.SendTurn.{Caller}
 use Rattle.cc_runs.proofs.ListRuns.Facts.{lists, ChainFacts}
-use Rattle.cc_runs.proofs.ListRuns.Posts.{Well, Posts, Calls, all_get}
+use Rattle.cc_runs.proofs.ListRuns.Posts.{Well, Posts, Calls}
 use Rattle.cc_runs.proofs.ListRuns.Untouched.{StillSend, StillTake, still_send, still_take, in_send, plain_goes}
 use Rattle.cc_runs.proofs.ListRuns.Invariant.{Parts, OnwardBy, Onward, quiet}
 use Rattle.cc_runs.proofs.ListRuns.ServeSend.{send_serves}
@@ -49,9 +49,6 @@ next_take_still round (suc n) = in_send _ _
 
 -- ---- an exchange puts a call into the history
 
-get_more : {X : Type 0} (xs : List X) (x : X) (k : ℕ) (y : X) → slice_get xs k ≡ Some y → slice_get (xs ++ x ∷ []) k ≡ Some y
-get_more xs x k y is = get_front xs (x ∷ []) k y is
-
 e_call_ties : (c : Config) (h : Record) (e : Entry) (g : Ghosts) → Ties c h g → Ties c (with_sends h (with_call h.sends e)) g
 e_call_ties c h e g t =
     let same : accepted (with_sends h (with_call h.sends e)) ≡ accepted h = accepted_calls_more c 0 false h.sends.calls h.sends.answers (e ∷ []) t.legal.sends in
@@ -67,10 +64,8 @@ called h y e = with_takes h y (with_call (of_group h y) e)
 module _ (c : Config) (h : Record) (y : ℕ) (e : Entry) (inside : y < length h.takes) where
   -- what the calls of a side don't change
   pub called_side : {X : Type 0} (look : Side → X) → look (with_call (of_group h y) e) ≡ look (of_group h y) → (x : ℕ) → look (of_group (called h y e) x) ≡ look (of_group h x)
-  called_side look same x = elim (cases_eq x y) [
-    | inl at ↦ subst (λ (z : ℕ). look (of_group (called h y e) z) ≡ look (of_group h z)) (sym at) (ap look (group_mine h y (with_call (of_group h y) e) inside) ∙ same)
-    | inr ne ↦ ap look (group_other h y x (with_call (of_group h y) e) ne)
-  ]
+  called_side look same x =
+      grind (arith, group_mine h y (with_call (of_group h y) e) inside, group_other h y x (with_call (of_group h y) e))
 
   pub called_mine : (of_group (called h y e) y).calls ≡ (of_group h y).calls ++ e ∷ []
   called_mine = ap (λ (s : Side). s.calls) (group_mine h y (with_call (of_group h y) e) inside)
@@ -79,11 +74,7 @@ module _ (c : Config) (h : Record) (y : ℕ) (e : Entry) (inside : y < length h.
   called_others x ne = ap (λ (s : Side). s.calls) (group_other h y x (with_call (of_group h y) e) ne)
 
   pub called_next : (x : ℕ) (a : Entry) → IsNextTake h x a → IsNextTake (called h y e) x a
-  called_next x a n = elim (cases_eq x y) [
-    | inl at ↦ subst (λ (z : ℕ). IsNextTake (called h y e) z a) (sym at)
-        (subst (λ (s : Side). slice_get s.calls (length s.answers) ≡ Some a) (sym (group_mine h y (with_call (of_group h y) e) inside)) (get_more (of_group h y).calls e (length (of_group h y).answers) a (subst (λ (z : ℕ). IsNextTake h z a) at n)))
-    | inr ne ↦ subst (λ (s : Side). slice_get s.calls (length s.answers) ≡ Some a) (sym (group_other h y x (with_call (of_group h y) e) ne)) n
-  ]
+  called_next x a n = grind (arith, group_mine, get_front, group_other)
 
   pub d_call_ties : (g : Ghosts) → Ties c h g → Ties c (called h y e) g
   d_call_ties g t = ties_same c h (called h y e) g t (length-set h.takes y _) refl refl (called_side (λ (s : Side). length (handed_by s.answers)) refl) (record {
@@ -99,10 +90,10 @@ module _ (c : Config) (h : Record) (y : ℕ) (e : Entry) (inside : y < length h.
 
 module _ (c : Config) (s : State) (p begun own : ℕ) (within : p < passes (lists c)) (k : Parts c s) (posts : Posts c s) (calls : Calls c s.history) where
   e_callers : (e : Entry) → IsNextSend s.history e → Caller c e × (e.known ≤ handed_to_all s.history)
-  e_callers e is = (record { senders = all_get _ s.history.sends.calls (length s.history.sends.answers) e calls.senders is; small = all_get _ s.history.sends.calls (length s.history.sends.answers) e calls.small is }, all_get _ s.history.sends.calls (length s.history.sends.answers) e calls.e_known is)
+  e_callers e is = (record { senders = all_at _ s.history.sends.calls (length s.history.sends.answers) e calls.senders is; small = all_at _ s.history.sends.calls (length s.history.sends.answers) e calls.small is }, all_at _ s.history.sends.calls (length s.history.sends.answers) e calls.e_known is)
 
   d_callers : (y : ℕ) (e : Entry) → IsNextTake s.history y e → e.known ≤ entries s.history
-  d_callers y e is = all_get _ (of_group s.history y).calls (length (of_group s.history y).answers) e (calls.d_known y) is
+  d_callers y e is = all_at _ (of_group s.history y).calls (length (of_group s.history y).answers) e (calls.d_known y) is
 
   abbrev stand_at : Phase → Stand
   stand_at at = record { begun = begun; node = own; phase = at }
@@ -137,7 +128,7 @@ module _ (c : Config) (s : State) (p begun own : ℕ) (within : p < passes (list
       let same : Phase.Exchange e ≡ (s.stand p).phase = ap (λ (z : Stand). z.phase) (sym stands) in
       quiet c s p _ _ (with_sends s.history (with_call s.history.sends e)) k (subst StillSend same (still_send (Phase.Exchange e) tt)) (subst StillTake same (still_take (Phase.Exchange e) tt))
       (still_send (Phase.WriteTag own _) tt) (still_take (Phase.WriteTag own _) tt) (λ d e r. refl)
-      (λ a n. get_more s.history.sends.calls e (length s.history.sends.answers) a n) (λ y a n. n) (e_call_ties c s.history e k.told)
+      (get_front s.history.sends.calls (e ∷ []) (length s.history.sends.answers)) (λ y a n. n) (e_call_ties c s.history e k.told)
   send_step (Phase.ResetNext e) stands w facts = chain_step Chain.Send _ stands _ _ (still_send (Phase.ResetNext e) tt) (still_take (Phase.ResetNext e) tt) (still_send (Phase.ResetState e) tt) (still_take (Phase.ResetState e) tt) (λ d e r. refl)
   send_step (Phase.ResetState e) stands w facts = chain_step Chain.Send _ stands _ _ (still_send (Phase.ResetState e) tt) (still_take (Phase.ResetState e) tt) (still_send (Phase.Exchange e) tt) (still_take (Phase.Exchange e) tt) (λ d e r. refl)
   send_step Phase.Idle stands w facts = chain_step Chain.Send _ stands _ _ (still_send Phase.Idle tt) (still_take Phase.Idle tt) (still_send Phase.Idle tt) (still_take Phase.Idle tt) (λ d e r. refl)

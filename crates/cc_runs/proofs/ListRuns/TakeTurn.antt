@@ -1,6 +1,5 @@
 -- A step of the service of a take of a group keeps the list's invariant, and decides a legal answer.
-use Rattle.std.proofs.Common.{◌≡◌, ◌≢◌, inl, inr, ℕ, zero, suc, ◌+◌, ◌-◌, ◌<◌, ◌≤◌, [], ◌∷◌, length, Some, None, refl, sym, ap, ◌∙◌, subst, arith, length-append}
-use Rattle.std.proofs.lemmas.Bool.{cases_eq}
+use Rattle.std.proofs.Common.{◌≡◌, ◌≢◌, ℕ, zero, suc, ◌+◌, ◌-◌, ◌<◌, ◌≤◌, [], ◌∷◌, length, Some, None, refl, sym, ap, ◌∙◌, subst, arith, length-append}
 use Rattle.std.proofs.lemmas.List.{length-set}
 use Rattle.std.specs.List.{slice_get}
 use Rattle.cc_model.specs.Record.{Record}
@@ -95,10 +94,7 @@ module _ (c : Config) (mem : Word → ℕ) (d : Duty) (e : Enq) (h : Record) (g 
       mine = ap length (d_handed c h ties.legal y side_in (d.d_call y) told next) ∙ length-append (handed h y) (handed_item told) ∙ no_more (ap length none_handed)
 
       all_same : (x : ℕ) → length (handed (told_take h y told) x) ≡ length (handed h x)
-      all_same x = elim (cases_eq x y) [
-        | inl is ↦ subst (λ (z : ℕ). length (handed (told_take h y told) z) ≡ length (handed h z)) (sym is) mine
-        | inr ne ↦ ap length (d_others c h ties.legal y side_in (d.d_call y) told next x ne)
-      ]
+      all_same x = grind (arith, mine, d_others c h ties.legal y side_in (d.d_call y) told next x)
 
   read_head : From Taking.ReadHead → To (Taking.ReadTaken (mem (Word.Object (Object.Head y)) - 1)) → Turn c mem d e y r' (noted (Chain.Take y) h None None) g (Phase.Taking job (Taking.ReadTaken (mem (Word.Object (Object.Head y)) - 1)))
   read_head a b =
@@ -162,10 +158,8 @@ module _ (c : Config) (mem : Word → ℕ) (d : Duty) (e : Enq) (h : Record) (g 
     mine = omega (arith, u.handed_now, ties.handed_is y, ap length (d_handed c h ties.legal y side_in (d.d_call y) a next), length-append (handed h y) (item_in parcel ∷ []))
 
     all_handed : (x : ℕ) → told.handed x ≡ length (handed (told_take h y a) x)
-    all_handed x = elim (cases_eq x y) [
-      | inl is ↦ subst (λ (z : ℕ). told.handed z ≡ length (handed (told_take h y a) z)) (sym is) mine
-      | inr ne ↦ u.handed x ne ∙ ties.handed_is x ∙ sym (ap length (d_others c h ties.legal y side_in (d.d_call y) a next x ne))
-    ]
+    all_handed x =
+        grind (arith, mine, u.handed x, ties.handed_is x, d_others c h ties.legal y side_in (d.d_call y) a next x)
 
     add_passed : Turn c (put mem (Word.Item dummy ItemField.Passed) (mem (Word.Item dummy ItemField.Passed) + 1)) d e y r' (told_take h y a) g (Phase.WriteAnswer job a)
     add_passed = record {

@@ -1,5 +1,5 @@
 -- How the list's ghosts, and what the services have read, are tied to the history.
-use Rattle.std.proofs.Common.{◌≡◌, ℕ, suc, ◌+◌, ◌-◌, ◌<◌, ◌≤◌, List, [], ◌∷◌, length, Bool, true, false, if◌then◌else◌, Some, refl, sym, ap, ◌∙◌, arith}
+use Rattle.std.proofs.Common.{◌≡◌, ℕ, suc, ◌+◌, ◌-◌, ◌<◌, ◌≤◌, List, [], ◌∷◌, length, Bool, true, false, if◌then◌else◌, Some, sym, ap, ◌∙◌, arith}
 use Rattle.std.specs.List.{slice_get}
 use Rattle.cc_model.specs.Record.{Record, of_group}
 use Rattle.cc_model.specs.Items.{accepted, is_shut, handed}
@@ -25,8 +25,7 @@ body_at words = record { first = words 1; second = words 2; third = words 3; fou
 
 -- which are those words
 pub word_at : (words : ℕ → ℕ) (i : ℕ) → i ≤ 3 → word (body_at words) i ≡ words (suc i)
-word_at words (suc (suc (suc (suc i)))) most = absurd (omega arith)
-word_at words _ most = refl
+word_at words i most = grind arith
 
 pub item_same : (k : ℕ) (f g : ℕ → ℕ) → ((j : ℕ) → f j ≡ g j) → item_of k (f 0) (body_at f) ≡ item_of k (g 0) (body_at g)
 item_same k f g same = λ i. item_of k (same 0 i) (body_at (λ j. same j i))
@@ -124,9 +123,7 @@ ties_same c h later g t n a s d legal = record {
 }
 
 pub shut_true : (b : Bool) → shut_number b ≡ 1 → b ≡ true
-shut_true true e = refl
-shut_true false e = absurd (omega (arith, e))
+shut_true b e = grind arith
 
 pub shut_false : (b : Bool) → shut_number b ≡ 0 → b ≡ false
-shut_false true e = absurd (omega (arith, e))
-shut_false false e = refl
+shut_false b e = grind arith

@@ -1,11 +1,11 @@
 -- No number of an answer is greater than the number of items that may ever be accepted.
-use Rattle.std.proofs.Common.{◌≡◌, ℕ, ◌+◌, ◌<◌, ◌≤◌, List, [], ◌∷◌, length, Bool, true, false, ◌||◌, Some, Ok, sym, ap, subst, ◌∙◌, arith, length-append}
+use Rattle.std.proofs.Common.{◌≡◌, ℕ, ◌+◌, ◌<◌, ◌≤◌, List, [], ◌∷◌, length, Bool, false, ◌||◌, Some, Ok, sym, ap, subst, ◌∙◌, arith, length-append}
 use Rattle.std.proofs.lemmas.Option.{slice_get_within}
 use Rattle.std.specs.List.{AllByRecursion, slice_get}
 use Rattle.cc_model.specs.Config.{config_fault}
 use Rattle.cc_model.specs.Items.{accepted, accepted_by, accepted_item, shuts, is_shut, handed_item}
 use Rattle.cc_model.specs.Legal.{SendSideAnswer, SendSideAnswers, TakeSideAnswer, TakeSideAnswers}
-use Rattle.cc_runs.specs.Names.{Config, Call, Entry, Item, Answer, SendAnswer, CloseAnswer, TakeAnswer, Setting, Chain}
+use Rattle.cc_runs.specs.Names.{Config, Call, Entry, Item, Answer, Setting, Chain}
 use Rattle.cc_runs.specs.Codes.{item_of}
 use Rattle.cc_model.specs.Record.{of_group}
 use Rattle.cc_runs.specs.OnChain.{IsTellable, answers_on}
@@ -23,13 +23,7 @@ use Rattle.cc_runs.proofs.ListRuns.Runs.{Whole}
 use Rattle.cc_runs.proofs.ListRuns.FromChains.{after_runs, of_setting}
 
 e_within : (c : Config) (n : ℕ) (shut : Bool) (known : ℕ) (k : Call) (a : Answer) → SendSideAnswer c n shut known k a → n ≤ c.life → AnswerWithin c.life a
-e_within c n true known (Call.Send body) (Answer.Send SendAnswer.Closed) h l = tt
-e_within c n true known Call.Close (Answer.Close (CloseAnswer.Already total)) h l = omega (arith, h, l)
-e_within c n false known Call.Close (Answer.Close (CloseAnswer.Shut total)) h l = omega (arith, h, l)
-e_within c n false known (Call.Send body) (Answer.Send SendAnswer.Spent) h l = tt
-e_within c n false known (Call.Send body) (Answer.Send (SendAnswer.Accepted place)) h l = omega (arith, h.0, h.1, l)
-e_within c n false known (Call.Send body) (Answer.Send SendAnswer.Full) h l = tt
-e_within _ _ _ _ _ _ h l = absurd h
+e_within c n shut known k a h l = grind arith
 
 all_e_within : (c : Config) (n : ℕ) (shut : Bool) (calls : List Entry) (answers : List Answer) → SendSideAnswers c n shut calls answers → n + length (accepted_by calls answers) ≤ c.life → AllByRecursion (AnswerWithin c.life) answers
 all_e_within c n shut calls [] h l = tt
@@ -44,10 +38,7 @@ abbrev Small : List Item → Type 0
 Small items = (i : ℕ) (x : Item) → slice_get items i ≡ Some x → IsTellable x
 
 d_within : (items : List Item) (shut : Bool) (n known : ℕ) (a : Answer) (most : ℕ) → TakeSideAnswer items shut n known a → Small items → length items ≤ most → AnswerWithin most a
-d_within items shut n known (Answer.Take (TakeAnswer.Got item)) most h small l = (omega (arith, h.1, slice_get_within items n item h.0, l), small n item h.0)
-d_within items shut n known (Answer.Take TakeAnswer.Empty) most h small l = tt
-d_within items shut n known (Answer.Take (TakeAnswer.Ended total)) most h small l = omega (arith, h.1, h.2, l)
-d_within _ _ _ _ _ _ h small l = absurd h
+d_within items shut n known a most h small l = grind (arith, slice_get_within)
 
 all_d_within : (items : List Item) (shut : Bool) (n : ℕ) (calls : List Entry) (answers : List Answer) (most : ℕ) → TakeSideAnswers items shut n calls answers → Small items → length items ≤ most → AllByRecursion (AnswerWithin most) answers
 all_d_within items shut n calls [] most h small l = tt

@@ -1,7 +1,7 @@
 -- Which passes are in one of the first calls of their chain, as the abstract chain sees it.
-use Rattle.std.proofs.Common.{◌≡◌, ◌≢◌, ℕ, zero, suc, ◌+◌, ◌-◌, ◌<◌, ◌≤◌, Bool, true, false, not, ◌||◌, IsTrue, List, [], ◌∷◌, length, drop, get_or, refl, ap, sym, ◌∙◌, arith, inl, inr}
+use Rattle.std.proofs.Common.{◌≡◌, ◌≢◌, ℕ, zero, suc, ◌-◌, ◌<◌, ◌≤◌, Bool, true, false, not, ◌||◌, IsTrue, List, [], ◌∷◌, length, drop, refl, ap, ◌∙◌, arith}
 use Rattle.std.specs.List.{list_any}
-use Rattle.std.proofs.lemmas.Bool.{cases_lt, true≢false, not-true, not_from_false, eq-eqb}
+use Rattle.std.proofs.lemmas.Bool.{not-true, not_from_false}
 use Rattle.std.proofs.lemmas.List.{get_or-drop, length-drop}
 use Rattle.std.proofs.lemmas.List.Folds.{list_any_at}
 use Rattle.cc_model.specs.Items.{is_pass}
@@ -13,10 +13,7 @@ use Rattle.cc_runs.proofs.Chains.Registers.{calls_on, call_at, no_call}
 use Rattle.cc_runs.proofs.Chains.Ties.{Holds}
 use Rattle.cc_runs.proofs.Chains.ReadAnswers.{named, name_is, other_name}
 use Rattle.cc_runs.proofs.Progress.Shares.{both_true, true_both}
-
-pub pass_self : (who : Pass) → is_pass who who ≡ true
-pass_self (Pass.Sender s) = eq-eqb s s refl
-pass_self (Pass.Receiver r) = eq-eqb r r refl
+use Rattle.cc_runs.proofs.CallsMade.{pass_self}
 
 -- no element from the k-th on passes the test
 none_from : (f : Entry → Bool) (calls : List Entry) (k : ℕ) → ((j : ℕ) → k ≤ j → j < length calls → f (call_at calls j) ≡ false) → list_any f (drop k calls) ≡ false
@@ -27,30 +24,18 @@ none_from f (e ∷ calls) (suc k) none = none_from f calls k (λ j low less. non
 
 -- if none does, the j-th is before
 before : (f : Entry → Bool) (calls : List Entry) (k j : ℕ) → list_any f (drop k calls) ≡ false → j < length calls → f (call_at calls j) ≡ true → j < k
-before f calls k j none less is = elim (cases_lt j k) [
-  | inl early ↦ early
-  | inr far ↦
-      let at : k + (j - k) ≡ j = omega (arith, far) in
-      let here : f (get_or (drop k calls) (j - k) no_call) ≡ true = ap f (get_or-drop k calls (j - k) no_call) ∙ ap (λ (z : ℕ). f (call_at calls z)) at ∙ is in
-      let in_rest : j - k < length (drop k calls) = omega (arith, less, far, length-drop k calls) in
-      absurd (true≢false (sym (list_any_at f (drop k calls) (j - k) no_call in_rest here) ∙ none))
-]
+before f calls k j none less is = grind (
+  arith,
+  get_or-drop k calls (j - k) no_call,
+  length-drop k calls,
+  list_any_at f (drop k calls) (j - k) no_call,
+)
 
 pub in_rank : (x : Chain) (own : ℕ) (at : Phase) → is_in at ≡ true → 3 ≤ (post_of x own at).rank
-in_rank x own Phase.Idle is = absurd (true≢false (sym is))
-in_rank x own (Phase.ResetNext call) is = absurd (true≢false (sym is))
-in_rank x own (Phase.ResetState call) is = absurd (true≢false (sym is))
-in_rank x own (Phase.Exchange call) is = absurd (true≢false (sym is))
-in_rank x own (Phase.Finished told) is = absurd (true≢false (sym is))
-in_rank x own _ is = omega arith
+in_rank x own at is = grind arith
 
 pub rank_in : (x : Chain) (own : ℕ) (at : Phase) → 3 ≤ (post_of x own at).rank → is_in at ≡ true
-rank_in x own Phase.Idle high = absurd (omega (arith, high))
-rank_in x own (Phase.ResetNext call) high = absurd (omega (arith, high))
-rank_in x own (Phase.ResetState call) high = absurd (omega (arith, high))
-rank_in x own (Phase.Exchange call) high = absurd (omega (arith, high))
-rank_in x own (Phase.Finished told) high = absurd (omega (arith, high))
-rank_in x own _ high = refl
+rank_in x own at high = grind arith
 
 module _ (c : Setting) (x : Chain) (s : State) (w : Holds c x s) (k : ℕ) where
   abbrev its : ℕ → Entry → Bool

@@ -43,88 +43,41 @@ module _ (c : Setting) (x : Chain) where
 -- ---- phases
 
 pub five_combining : (x : Chain) (own : ℕ) (at : Phase) → (post_of x own at).rank ≡ 5 → is_combining at ≡ true
-five_combining x own (Phase.ReadNext round) is = refl
-five_combining x own (Phase.Counting job at) is = refl
-five_combining x own (Phase.Sending job at) is = refl
-five_combining x own (Phase.Taking job at) is = refl
-five_combining x own (Phase.WriteAnswer job told) is = refl
-five_combining x own (Phase.WriteAnswerTag job item) is = refl
-five_combining x own (Phase.WriteAnswerBody job item i) is = refl
-five_combining x own (Phase.MarkDone job) is = refl
-five_combining x own (Phase.HandOver at) is = refl
-five_combining x own _ is = absurd (omega (arith, is))
+five_combining x own at is = grind arith
 
 -- the stage of a service whose answer is decided
 decided_send : (service : Sending) → (post_of Chain.Send 0 (Phase.Sending record { round = record { at = 0; served = 0 }; next = 0 } service)).stage ≡ 1 + decided (Phase.Sending record { round = record { at = 0; served = 0 }; next = 0 } service)
-decided_send (Sending.WriteLastMark total) = refl
-decided_send (Sending.WriteShut total) = refl
-decided_send (Sending.WriteLast place at) = refl
-decided_send (Sending.WriteCount place at) = refl
-decided_send (Sending.WriteCursor place at) = refl
-decided_send _ = refl
+decided_send service = grind arith
 
 pub two_decided : (x : Chain) (own : ℕ) (at : Phase) → (post_of x own at).stage ≡ 2 → decided at ≡ 1
 two_decided x own (Phase.Sending job service) two = omega (arith, two, decided_send service)
-two_decided x own (Phase.WriteAnswer job told) two = refl
-two_decided x own (Phase.WriteAnswerTag job item) two = refl
-two_decided x own (Phase.WriteAnswerBody job item i) two = refl
-two_decided x own (Phase.MarkDone job) two = refl
-two_decided x own _ two = absurd (omega (arith, two))
+two_decided x own at two = grind arith
 
 -- and of one whose answer isn't
 pub not_two_decided : (x : Chain) (own : ℕ) (at : Phase) → (post_of x own at).stage ≢ 2 → decided at ≡ 0
-not_two_decided x own (Phase.Sending job (Sending.WriteLastMark total)) ne = absurd (ne refl)
-not_two_decided x own (Phase.Sending job (Sending.WriteShut total)) ne = absurd (ne refl)
-not_two_decided x own (Phase.Sending job (Sending.WriteLast place at)) ne = absurd (ne refl)
-not_two_decided x own (Phase.Sending job (Sending.WriteCount place at)) ne = absurd (ne refl)
-not_two_decided x own (Phase.Sending job (Sending.WriteCursor place at)) ne = absurd (ne refl)
-not_two_decided x own (Phase.Sending job service) ne = refl
-not_two_decided x own (Phase.WriteAnswer job told) ne = absurd (ne refl)
-not_two_decided x own (Phase.WriteAnswerTag job item) ne = absurd (ne refl)
-not_two_decided x own (Phase.WriteAnswerBody job item i) ne = absurd (ne refl)
-not_two_decided x own (Phase.MarkDone job) ne = absurd (ne refl)
-not_two_decided x own _ ne = refl
+not_two_decided x own at ne = grind arith
 
 pub not_decided : (c : Setting) (at : Phase) (found : ℕ) → is_combining at ≡ false → decides c at found ≡ None
-not_decided c (Phase.ReadNext round) found is = absurd (true≢false is)
-not_decided c (Phase.Counting job at) found is = absurd (true≢false is)
-not_decided c (Phase.Sending job at) found is = absurd (true≢false is)
-not_decided c (Phase.Taking job at) found is = absurd (true≢false is)
-not_decided c Phase.Idle found is = refl
-not_decided c _ found is = refl
+not_decided c at found is = grind arith
 
 -- only the read of a state makes a pass combine
 exchange_out : (x : Chain) (own : ℕ) (call : Entry) → is_combining (after_exchange x own call) ≡ false
-exchange_out Chain.Send own call = refl
-exchange_out (Chain.Take g) own call = refl
+exchange_out x own call = grind arith
 
 taken_out : (ret : ℕ) (one two : Bool) → is_combining (cond one (Phase.ReadAnswerTag (value_of ret)) (cond two (Phase.Finished (Answer.Take TakeAnswer.Empty)) (Phase.Finished (Answer.Take (TakeAnswer.Ended (value_of ret)))))) ≡ false
-taken_out ret true two = refl
-taken_out ret false true = refl
-taken_out ret false false = refl
+taken_out ret one two = grind arith
 
 ret_out : (what : Served) (x : Chain) (ret : ℕ) → is_combining (after_ret what x ret) ≡ false
 ret_out what Chain.Send ret = refl
 ret_out what (Chain.Take g) ret = taken_out ret (code_of ret == 1) (code_of ret == 2)
 
 pub stays_out : (c : Setting) (x : Chain) (own : ℕ) (at : Phase) (found : ℕ) → is_combining at ≡ false → (at ≡ Phase.ReadState → found ≢ 0) → is_combining (goes c x own at found) ≡ false
-stays_out c x own (Phase.ReadNext round) found is state = absurd (true≢false is)
-stays_out c x own (Phase.Counting job at) found is state = absurd (true≢false is)
-stays_out c x own (Phase.Sending job at) found is state = absurd (true≢false is)
-stays_out c x own (Phase.Taking job at) found is state = absurd (true≢false is)
-stays_out c x own (Phase.WriteAnswer job told) found is state = absurd (true≢false is)
-stays_out c x own (Phase.WriteAnswerTag job item) found is state = absurd (true≢false is)
-stays_out c x own (Phase.WriteAnswerBody job item i) found is state = absurd (true≢false is)
-stays_out c x own (Phase.MarkDone job) found is state = absurd (true≢false is)
-stays_out c x own (Phase.HandOver at) found is state = absurd (true≢false is)
 stays_out c x own (Phase.Exchange call) found is state = exchange_out x own call
 stays_out c x own (Phase.WriteBody put request i) found is state = behind_word (λ (z : Phase). is_combining z ≡ false) (further_words request.tag) i _ _ (λ more. refl) (λ last. refl)
 stays_out c x own Phase.ReadState found is state = read found (state refl)
   where
     read : (n : ℕ) → n ≢ 0 → is_combining (after_state own n) ≡ false
-    read zero ne = absurd (ne refl)
-    read (suc zero) ne = refl
-    read (suc (suc n)) ne = refl
+    read n ne = grind arith
 stays_out c x own Phase.ReadAnswer found is state = ret_out c.served x found
 stays_out c x own (Phase.ReadAnswerBody p i) found is state = behind_word (λ (z : Phase). is_combining z ≡ false) (further_words p.tag) i _ _ (λ more. refl) (λ last. refl)
-stays_out c x own _ found is state = refl
+stays_out c x own at found is state = grind arith

@@ -1,7 +1,7 @@
 -- From the begin of a call to its end: three steps to its exchange, and then the rounds of the calls of its chain.
-use Rattle.std.proofs.Common.{◌≡◌, ◌≢◌, ◌⊎◌, ℕ, zero, suc, ◌+◌, ◌-◌, ◌*◌, ◌<◌, ◌≤◌, Bool, true, false, not, ◌==◌, cond, List, [], ◌∷◌, ◌++◌, length, Ok, refl, ap, sym, ◌∙◌, subst, arith, append_assoc, inl, inr}
+use Rattle.std.proofs.lemmas.Bool.{cases_eq}
+use Rattle.std.proofs.Common.{◌≡◌, ◌≢◌, ◌⊎◌, ℕ, suc, ◌+◌, ◌-◌, ◌*◌, ◌<◌, ◌≤◌, Bool, true, not, ◌==◌, cond, List, [], ◌∷◌, ◌++◌, length, Ok, refl, ap, sym, ◌∙◌, subst, arith, append_assoc, inl, inr}
 use Rattle.std.specs.List.{AllByRecursion, list_any}
-use Rattle.std.proofs.lemmas.Bool.{cases_eq, true≢false}
 use Rattle.std.proofs.Math.Nat.{mul-le-mul_right}
 use Rattle.std.proofs.Math.Seq.{drop-length}
 use Rattle.cc_model.specs.Config.{config_fault}
@@ -10,7 +10,7 @@ use Rattle.cc_runs.specs.Names.{Answer, TakeAnswer, Setting, Served, Entry, Chai
 use Rattle.cc_runs.specs.Codes.{code_of, value_of, further_words, tag_of}
 use Rattle.cc_runs.specs.State.{State, chain_of, pass_at, word_of}
 use Rattle.cc_runs.specs.Lines.{event_at, operation, goes, after_exchange, after_state, after_next, after_answer, after_ret}
-use Rattle.cc_runs.specs.ServiceLine.{Next, On, Decides, DecidesAndOn, Tells, phase_of}
+use Rattle.cc_runs.specs.ServiceLine.{Next, phase_of}
 use Rattle.cc_runs.specs.CountLines as count_side
 use Rattle.cc_runs.specs.SendLines as send_side
 use Rattle.cc_runs.specs.TakeLines as take_side
@@ -27,7 +27,7 @@ use Rattle.cc_runs.proofs.Chains.Registers.{IsChain, calls_on}
 use Rattle.cc_runs.proofs.Chains.Frame.{hold_here}
 use Rattle.cc_runs.proofs.Progress.Shares.{both_true, true_both}
 use Rattle.cc_runs.proofs.Progress.Combiner.{phase_at}
-use Rattle.cc_runs.proofs.Progress.Falls.{finished_event, in_event, Lessens, falls_in}
+use Rattle.cc_runs.proofs.Progress.Falls.{in_event, Lessens, falls_in, finished_event}
 use Rattle.cc_runs.proofs.Progress.Laws.{open_calls_are_few}
 use Rattle.cc_runs.proofs.Progress.Rounds.{own, total, own_some, lower, round_falls, total_most, few_later, among_back}
 
@@ -45,42 +45,26 @@ abbrev Exchanged : Phase → Type 0
 Exchanged at = (is_in at ≡ true) ⊎ IsFinished at
 
 after_service : {S : Type 0} (in_service : Job → S → Phase) → ((job : Job) (at : S) → is_in (in_service job at) ≡ true) → (job : Job) (next : Next S) → is_in (phase_of in_service job next) ≡ true
-after_service in_service is job (On at) = is job at
-after_service in_service is job (Decides told) = refl
-after_service in_service is job (DecidesAndOn told at) = is job at
-after_service in_service is job (Tells told) = refl
+after_service in_service is job next = grind arith
 
 module _ (c : Setting) (x : Chain) (own found : ℕ) where
   exchanges : (y : Chain) (call : Entry) → is_in (after_exchange y own call) ≡ true
-  exchanges Chain.Send call = refl
-  exchanges (Chain.Take g) call = refl
+  exchanges y call = grind arith
 
   state_read : (n : ℕ) → is_in (after_state own n) ≡ true
-  state_read zero = refl
-  state_read (suc zero) = refl
-  state_read (suc (suc n)) = refl
+  state_read n = grind arith
 
   next_read : (what : Served) (y : Chain) (round : Round) (n : ℕ) → is_in (after_next what y round n) ≡ true
-  next_read what y round zero = refl
-  next_read Served.Counter y round (suc n) = refl
-  next_read Served.List Chain.Send round (suc n) = refl
-  next_read Served.List (Chain.Take g) round (suc n) = refl
+  next_read what y round n = grind arith
 
   answer_written : (job : Job) (told : Answer) → is_in (after_answer job told) ≡ true
-  answer_written job (Answer.Take (TakeAnswer.Got item)) = refl
-  answer_written job (Answer.Take TakeAnswer.Empty) = refl
-  answer_written job (Answer.Take (TakeAnswer.Ended total)) = refl
-  answer_written job (Answer.Send told) = refl
-  answer_written job (Answer.Close told) = refl
+  answer_written job told = grind arith
 
   done : (job : Job) (b : Bool) → is_in (cond b (Phase.HandOver job.next) (Phase.ReadNext record { at = job.next; served = job.round.served + 1 })) ≡ true
-  done job true = refl
-  done job false = refl
+  done job b = grind arith
 
   taken_read : (ret : ℕ) (one two : Bool) → Exchanged (cond one (Phase.ReadAnswerTag (value_of ret)) (cond two (Phase.Finished (Answer.Take TakeAnswer.Empty)) (Phase.Finished (Answer.Take (TakeAnswer.Ended (value_of ret))))))
-  taken_read ret true two = inl refl
-  taken_read ret false true = inr tt
-  taken_read ret false false = inr tt
+  taken_read ret one two = grind arith
 
   ret_read : (what : Served) (y : Chain) (ret : ℕ) → Exchanged (after_ret what y ret)
   ret_read what Chain.Send ret = inr tt
@@ -88,11 +72,6 @@ module _ (c : Setting) (x : Chain) (own found : ℕ) where
 
   -- a step of a pass in its call leads on in it, or to its end
   in_goes : (at : Phase) → is_in at ≡ true → Exchanged (goes c x own at found)
-  in_goes Phase.Idle inside = absurd (true≢false (sym inside))
-  in_goes (Phase.ResetNext call) inside = absurd (true≢false (sym inside))
-  in_goes (Phase.ResetState call) inside = absurd (true≢false (sym inside))
-  in_goes (Phase.Exchange call) inside = absurd (true≢false (sym inside))
-  in_goes (Phase.Finished told) inside = absurd (true≢false (sym inside))
   in_goes (Phase.WriteBody put request i) inside = behind_word Exchanged (further_words request.tag) i _ _ (λ more. inl refl) (λ last. inl refl)
   in_goes Phase.ReadState inside = inl (state_read found)
   in_goes (Phase.ReadNext round) inside = inl (next_read c.served x round found)
@@ -104,41 +83,22 @@ module _ (c : Setting) (x : Chain) (own found : ℕ) where
   in_goes (Phase.MarkDone job) inside = inl (done job (job.round.served + 1 == c.config.bound))
   in_goes Phase.ReadAnswer inside = ret_read c.served x found
   in_goes (Phase.ReadAnswerBody p i) inside = behind_word Exchanged (further_words p.tag) i _ _ (λ more. inl refl) (λ last. inr tt)
-  in_goes _ inside = inl refl
+  in_goes at inside = grind arith
 
 exchanged_busy : (at : Phase) → Exchanged at → at ≢ Phase.Idle
-exchanged_busy Phase.Idle (inl inside) = absurd (true≢false (sym inside))
-exchanged_busy Phase.Idle (inr is) = absurd is
-exchanged_busy _ h = λ e. absurd (cc)
+exchanged_busy at h = grind arith
 
 exchanged_none : (at : Phase) → Exchanged at → before_left at ≡ 0
-exchanged_none (Phase.ResetNext call) (inl inside) = absurd (true≢false (sym inside))
-exchanged_none (Phase.ResetNext call) (inr is) = absurd is
-exchanged_none (Phase.ResetState call) (inl inside) = absurd (true≢false (sym inside))
-exchanged_none (Phase.ResetState call) (inr is) = absurd is
-exchanged_none (Phase.Exchange call) (inl inside) = absurd (true≢false (sym inside))
-exchanged_none (Phase.Exchange call) (inr is) = absurd is
-exchanged_none _ h = refl
+exchanged_none at h = grind arith
 
 none_exchanged : (at : Phase) → at ≢ Phase.Idle → before_left at ≡ 0 → Exchanged at
-none_exchanged Phase.Idle busy none = absurd (busy refl)
-none_exchanged (Phase.ResetNext call) busy none = absurd (omega (arith, none))
-none_exchanged (Phase.ResetState call) busy none = absurd (omega (arith, none))
-none_exchanged (Phase.Exchange call) busy none = absurd (omega (arith, none))
-none_exchanged (Phase.Finished told) busy none = inr tt
-none_exchanged _ busy none = inl refl
+none_exchanged at busy none = grind arith
 
 before_few : (at : Phase) → before_left at ≤ 3
-before_few (Phase.ResetNext call) = omega arith
-before_few (Phase.ResetState call) = omega arith
-before_few (Phase.Exchange call) = omega arith
-before_few _ = omega arith
+before_few at = grind arith
 
 before_event : (at : Phase) → 0 < before_left at → event_at at ≢ Event.Idle
-before_event (Phase.ResetNext call) some = λ e. cc
-before_event (Phase.ResetState call) some = λ e. cc
-before_event (Phase.Exchange call) some = λ e. cc
-before_event _ some = absurd (omega (arith, some))
+before_event at some = grind arith
 
 -- a step of a pass in its call, or on the way to it
 record Leads (from to : Phase) : Type 0 where
@@ -166,8 +126,7 @@ both_parts p [] ys all = (tt, all)
 both_parts p (m ∷ xs) ys all = let rest = both_parts p xs ys all.1 in ((all.0, rest.0), rest.1)
 
 idle_is : (at : Phase) → IsIdle at → at ≡ Phase.Idle
-idle_is Phase.Idle is = refl
-idle_is _ is = absurd is
+idle_is at is = grind arith
 
 module _ (c : Setting) (checked : config_fault c.config ≡ Ok tt) (x : Chain) (ok : IsChain c x) (n : ℕ) (inside : n < members c x) where
   abbrev P : ℕ
@@ -191,12 +150,7 @@ module _ (c : Setting) (checked : config_fault c.config ≡ Ok tt) (x : Chain) (
 
   -- so it stays in its call, or on the way to it
   move_leads : (s : State) (m : Move) → May c s m → m ≢ Move.Take P → at s ≢ Phase.Idle → (at (moved c s m) ≢ Phase.Idle) × (before_left (at (moved c s m)) ≤ before_left (at s))
-  move_leads s m may ne busy = elim (cases_eq (pass_of m) P) [
-    | inl mine ↦ let l : Leads (at s) (at (moved c s m)) = its_step_leads s m may (its_own s m may mine ne busy) in (l.busy, l.le)
-    | inr other ↦
-        let same : (moved c s m).stand P ≡ s.stand P = moved_apart c s m P other in
-        ((λ e. busy (ap (λ (z : Stand). z.phase) (sym same) ∙ e)), omega (arith, ap (λ (z : Stand). before_left z.phase) same))
-  ]
+  move_leads s m may ne busy = grind (arith, its_step_leads s m may, its_own s m may, busy, moved_apart c s m P)
 
   module _ (seen : List Move) where
     record Good (now : List Move) : Type 0 where
@@ -316,10 +270,7 @@ module _ (c : Setting) (checked : config_fault c.config ≡ Ok tt) (x : Chain) (
         sum_up a b r all less le = omega (arith, less, le)
 
   comes : (seen : List Move) (rounds : List (List Move)) → IsRun c (moves_in rounds ++ seen) → HasStep c x (reached c seen) n → AreRounds (HasStep c x) c x seen rounds → AllByRecursion (λ m. m ≢ Move.Take (pass_on c x n)) (moves_in rounds) → Comes (moves_in rounds ++ seen) (length rounds)
-  comes seen [] run has fair keeps = elim (cases_eq (before_left (at (reached c seen))) 0) [
-    | inl none ↦ inr (exchanged_now seen 0 run (λ e. has (ap event_at e)) none (omega arith))
-    | inr left ↦ inl (omega (arith, left), omega (arith, before_few (at (reached c seen))))
-  ]
+  comes seen [] run has fair keeps = grind (arith, exchanged_now seen 0 run, before_few (at (reached c seen)))
   comes seen (now ∷ earlier) run has fair keeps =
       let joined : (now ++ moves_in earlier) ++ seen ≡ now ++ (moves_in earlier ++ seen) = append_assoc now (moves_in earlier) seen in
       let run2 : IsRun c (now ++ (moves_in earlier ++ seen)) = subst (IsRun c) joined run in

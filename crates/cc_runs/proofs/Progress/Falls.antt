@@ -1,6 +1,6 @@
 -- Numbers that fall: in a round, with the first step of a pass that must move; and over rounds.
 use Rattle.std.proofs.Common.{◌≡◌, ◌≢◌, ◌⊎◌, ℕ, suc, ◌+◌, ◌<◌, ◌≤◌, true, List, [], ◌∷◌, ◌++◌, length, refl, ap, sym, ◌∙◌, subst, arith, append_assoc, inl, inr}
-use Rattle.std.proofs.lemmas.Bool.{cases_eq, true≢false}
+use Rattle.std.proofs.lemmas.Bool.{cases_eq}
 use Rattle.cc_runs.specs.Names.{Setting, Chain, Event, Phase, Move}
 use Rattle.cc_runs.specs.State.{State}
 use Rattle.cc_runs.specs.Lines.{event_at}
@@ -12,18 +12,14 @@ use Rattle.cc_runs.proofs.RunPrefixes.{prefixes_begin}
 use Rattle.cc_runs.proofs.Passes.{by-other}
 
 idle_event : (at : Phase) → IsIdle at → event_at at ≡ Event.Idle
-idle_event Phase.Idle is = refl
-idle_event _ is = absurd is
+idle_event at is = grind arith
 
 pub finished_event : (at : Phase) → IsFinished at → event_at at ≡ Event.Idle
-finished_event (Phase.Finished told) is = refl
-finished_event _ is = absurd is
+finished_event at is = grind arith
 
 -- a pass in its call has a step
 pub in_event : (at : Phase) → is_in at ≡ true → event_at at ≢ Event.Idle
-in_event Phase.Idle inside = absurd (true≢false (sym inside))
-in_event (Phase.Finished told) inside = absurd (true≢false (sym inside))
-in_event _ inside = λ e. cc
+in_event at inside = grind arith
 
 -- a number that no move makes more, and that the step of pass q makes less while this holds, which other passes leave so
 pub record Lessens (c : Setting) (q : ℕ) (f : State → ℕ) (P : State → Type 0) (s : State) (m : Move) : Type 0 where

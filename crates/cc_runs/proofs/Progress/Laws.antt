@@ -1,6 +1,5 @@
 -- The laws of progress that speak of single moves: no deadlock, whose turn it is, and what is ahead.
 use Rattle.std.proofs.Common.{◌≡◌, ◌≢◌, ◌⊎◌, ℕ, zero, suc, ◌+◌, ◌-◌, ◌*◌, ◌<◌, ◌≤◌, Bool, true, false, ◌==◌, cond, nat_lt, List, [], ◌∷◌, ◌++◌, length, Ok, refl, ap, sym, ◌∙◌, subst, arith, inl, inr}
-use Rattle.std.proofs.lemmas.Bool.{cases_eq}
 use Rattle.std.proofs.Math.Nat.{mul-le-mul_right}
 use Rattle.cc_model.specs.Config.{config_fault}
 use Rattle.cc_runs.specs.Names.{Config, Setting, Chain, NodeField, Word, Round, Job, Stand, Sending, Phase, Move}
@@ -22,7 +21,7 @@ use Rattle.cc_runs.proofs.Progress.Left.{service_low, counting_few, taking_few, 
 use Rattle.cc_runs.proofs.Progress.Shares.{part_most, shares_most}
 use Rattle.cc_runs.proofs.Progress.Moves.{GoesOn}
 use Rattle.cc_runs.proofs.Progress.Runs.{sending_on, scans_short, calls_stay}
-use Rattle.cc_runs.proofs.Progress.Open.{few_open}
+use Rattle.cc_runs.proofs.LinkedList.Count.{covered}
 use Rattle.cc_runs.proofs.Progress.Served.{add_le}
 use Rattle.cc_runs.proofs.Progress.Combiner.{phase_at}
 use Rattle.cc_runs.proofs.Progress.Turns.{open_turn, some_turn, enters_most}
@@ -53,10 +52,7 @@ keeps_answers c moves checked run x ok k few m may n inside ne turn none =
 
 -- a pass waits, or goes on
 pub waits_or : (s : State) (x : Chain) (at : Stand) → Waits s x at ⊎ GoesOn s x at
-waits_or s x at = elim (cases_eq (s.mem (Word.Node x at.node NodeField.State)) 1) [
-  | inr ne ↦ inr (λ e. ne)
-  | inl one ↦ elim (is_read at.phase) [ inl reads ↦ inl (reads, one) | inr ne ↦ inr (λ e. absurd (ne e)) ]
-]
+waits_or s x at = grind (arith, is_read at.phase)
 
 pub someones_turn : SomeonesTurn
 someones_turn c moves checked run x ok k few =
@@ -79,8 +75,7 @@ serving_few : (c : Config) (x : Chain) (at : Phase) → ((job : Job) (service : 
 serving_few c x (Phase.ReadNext round) where_ = by_case (round.served == 0)
   where
     by_case : (b : Bool) → cond b (service c x + 2) 2 ≤ service c x + 2
-    by_case true = omega arith
-    by_case false = omega arith
+    by_case b = grind arith
 serving_few c x (Phase.Counting job at) where_ = omega (arith, counting_few at, service_low c x)
 serving_few c x (Phase.Sending job at) where_ = let is : c.capacity + 24 ≡ service c x = ap (service c) (sym (where_ job at refl)) in omega (arith, sending_few c at, is)
 serving_few c x (Phase.Taking job at) where_ = omega (arith, taking_few at, service_low c x)
@@ -103,8 +98,7 @@ module _ (c : Setting) (x : Chain) (k : ℕ) (s : State) (w : Holds c x s) where
       by_case false is rest = subst (λ (z : Phase). serving_left c.config x z ≤ service c.config x + 2) (sym (ap (λ (b : Bool). cond b (phase_at c x s n) (combiner_among c x s n)) is)) rest
 
   when_few : (b : Bool) (m most : ℕ) → m ≤ most → cond b m 0 ≤ most
-  when_few true m most few = few
-  when_few false m most few = omega arith
+  when_few b m most few = grind arith
 
   part_few : (a taken cost v most : ℕ) → v ≤ most → (k - (a + taken)) * cost + v ≤ (k - a) * cost + most
   part_few a taken cost v most few = let rest : (k - (a + taken)) * cost ≤ (k - a) * cost = mul-le-mul_right cost (omega arith) in add_le ((k - a) * cost) ((k - (a + taken)) * cost) most v rest few
@@ -118,6 +112,14 @@ module _ (c : Setting) (x : Chain) (k : ℕ) (s : State) (w : Holds c x s) where
 
 pub ahead_is_bounded : AheadIsBounded
 ahead_is_bounded c moves checked run x ok k = ahead_most c x k (reached c moves) (holds_after c checked x ok moves run)
+
+-- each call without an answer is of another pass
+few_open : (c : Setting) (x : Chain) (s : State) → Holds c x s → length (calls_on x s.history) ≤ length (answers_on x s.history) + members c x
+few_open c x s w =
+    let few : w.ghost.calls - w.ghost.marked ≤ members c x = covered (members c x) (w.ghost.calls - w.ghost.marked) (λ p. w.ghost.at p - w.ghost.marked) (λ n. w.ghost.pass_of (w.ghost.marked + n))
+        (λ n less. w.inv.calls.open_pass (w.ghost.marked + n) (omega arith) (omega (arith, less)))
+        (λ n less. omega (arith, w.inv.calls.open_at (w.ghost.marked + n) (omega arith) (omega (arith, less)))) in
+    omega (arith, few, w.ties.calls_are, w.ties.answers_are, w.inv.calls.in_order)
 
 pub open_calls_are_few : OpenCallsAreFew
 open_calls_are_few c moves checked run x ok = few_open c x (reached c moves) (holds_after c checked x ok moves run)

@@ -1,5 +1,5 @@
 -- Each step of a pass that is in its call leaves it fewer steps, but for the read of a state that is still 1.
-use Rattle.std.proofs.Common.{◌≡◌, ◌≢◌, ◌⊎◌, inl, inr, ℕ, zero, suc, ◌+◌, ◌-◌, ◌*◌, ◌<◌, ◌≤◌, Bool, true, false, ◌==◌, cond, refl, ap, sym, ◌∙◌, arith}
+use Rattle.std.proofs.Common.{◌≡◌, ◌≢◌, ◌⊎◌, ℕ, suc, ◌+◌, ◌-◌, ◌*◌, ◌<◌, ◌≤◌, Bool, true, false, ◌==◌, cond, refl, ap, sym, ◌∙◌, arith}
 use Rattle.std.proofs.lemmas.Bool.{eqb-false}
 use Rattle.std.proofs.Math.Nat.{mul-le-mul_right}
 use Rattle.cc_runs.specs.Names.{Config, Answer, SendAnswer, TakeAnswer, Setting, Served, Chain, Round, Job, Request, Parcel, Counting, Sending, Taking, Phase}
@@ -60,128 +60,76 @@ module _ (c : Setting) (x : Chain) where
   Leaves from to = steps_left c.config x to < steps_left c.config x from
 
   shut_read : (job : Job) (request : Request) (b : Bool) → Leaves (Phase.Sending job (Sending.ReadShut request)) (phase_of send_side.in_service job (cond b (On Sending.ReadTotal) (Decides (Answer.Send SendAnswer.Closed))))
-  shut_read job request true = omega arith
-  shut_read job request false = omega arith
+  shut_read job request b = grind arith
 
   count_read : (job : Job) (request : Request) (count : ℕ) (b life : Bool) →
       Leaves (Phase.Sending job (Sending.ReadCount request)) (phase_of send_side.in_service job (cond b (On (Sending.ReadLastToClose count)) (cond life (Decides (Answer.Send SendAnswer.Spent)) (On (Sending.ReadCursor record { place = count; tag = request.tag; body = request.body })))))
-  count_read job request count true life = omega arith
-  count_read job request count false true = omega arith
-  count_read job request count false false = omega arith
+  count_read job request count b life = grind arith
 
   passed_read : (job : Job) (parcel : Parcel) (at reads : ℕ) (b last : Bool) → reads ≤ c.config.capacity + 1 → (reads == c.config.capacity + 1) ≡ last →
       Leaves (Phase.Sending job (Sending.ReadPassed parcel at reads)) (phase_of send_side.in_service job (cond b (On (Sending.ResetPassed parcel at)) (cond last (Decides (Answer.Send SendAnswer.Full)) (On (Sending.ReadPassed parcel (after c.config at) (reads + 1))))))
-  passed_read job parcel at reads true last most is = omega arith
-  passed_read job parcel at reads false true most is = omega arith
   passed_read job parcel at reads false false most is = omega (arith, most, eqb-false reads (c.config.capacity + 1) is)
+  passed_read job parcel at reads _ _ most is = omega arith
 
   sends : (job : Job) (at : Sending) (found : ℕ) → scan_reads (Phase.Sending job at) ≤ c.config.capacity + 1 → Leaves (Phase.Sending job at) (send_side.goes c.config job at found)
-  sends job Sending.ReadTag found short = omega arith
   sends job (Sending.ReadBody request i) found short =
       behind_word (λ (z : Sending). Leaves (Phase.Sending job (Sending.ReadBody request i)) (Phase.Sending job z)) (further_words request.tag) i _ _ (λ more. omega (arith, more, few_further request.tag)) (λ last. omega arith)
-  sends job (Sending.ReadShut request) zero short = omega arith
   sends job (Sending.ReadShut request) (suc found) short = shut_read job request (request.tag == 0)
-  sends job Sending.ReadTotal found short = omega arith
   sends job (Sending.ReadCount request) found short = count_read job request found (request.tag == 0) (found == c.config.life)
-  sends job (Sending.ReadLastToClose total) found short = omega arith
-  sends job (Sending.LinkMark total last) found short = omega arith
-  sends job (Sending.WriteLastMark total) found short = omega arith
-  sends job (Sending.WriteShut total) found short = omega arith
-  sends job (Sending.ReadCursor parcel) found short = omega arith
   sends job (Sending.ReadPassed parcel at reads) found short = passed_read job parcel at reads (found == groups c.config) (reads == c.config.capacity + 1) short refl
-  sends job (Sending.ResetPassed parcel at) found short = omega arith
-  sends job (Sending.ResetItemNext parcel at) found short = omega arith
-  sends job (Sending.WriteItemTag parcel at) found short = omega arith
   sends job (Sending.WriteItemBody parcel at i) found short =
       behind_word (λ (z : Sending). Leaves (Phase.Sending job (Sending.WriteItemBody parcel at i)) (Phase.Sending job z)) (further_words parcel.tag) i _ _ (λ more. omega (arith, more, few_further parcel.tag)) (λ last. omega arith)
-  sends job (Sending.ReadLast place at) found short = omega arith
-  sends job (Sending.LinkItem place at last) found short = omega arith
-  sends job (Sending.WriteLast place at) found short = omega arith
-  sends job (Sending.WriteCount place at) found short = omega arith
-  sends job (Sending.WriteCursor place at) found short = omega arith
+  sends job at found short = grind arith
 
   takes : (job : Job) (at : Taking) (found : ℕ) → Leaves (Phase.Taking job at) (take_side.goes job at found)
-  takes job Taking.ReadHead found = omega arith
-  takes job (Taking.ReadTaken dummy) found = omega arith
-  takes job (Taking.ReadDummyNext dummy taken) zero = omega arith
-  takes job (Taking.ReadDummyNext dummy taken) (suc at) = omega arith
-  takes job (Taking.ReadItemTag dummy taken at) zero = omega arith
-  takes job (Taking.ReadItemTag dummy taken at) (suc tag) = omega arith
   takes job (Taking.ReadItemBody dummy at p i) found =
       behind_word (λ (z : Taking). Leaves (Phase.Taking job (Taking.ReadItemBody dummy at p i)) (Phase.Taking job z)) (further_words p.tag) i _ _ (λ more. omega (arith, more, few_further p.tag)) (λ last. omega arith)
-  takes job (Taking.WriteHead dummy at parcel) found = omega arith
-  takes job (Taking.WriteTaken dummy parcel) found = omega arith
-  takes job (Taking.AddPassed dummy parcel) found = omega arith
+  takes job at found = grind arith
 
   counts : (job : Job) (at : Counting) (found : ℕ) → Leaves (Phase.Counting job at) (count_side.goes job at found)
-  counts job Counting.ReadTag found = omega arith
   counts job (Counting.ReadBody tag i) found =
       behind_word (λ (z : Counting). Leaves (Phase.Counting job (Counting.ReadBody tag i)) (Phase.Counting job z)) (further_words tag) i _ _ (λ more. omega (arith, more, few_further tag)) (λ last. omega arith)
-  counts job Counting.ReadCount found = omega arith
-  counts job (Counting.WriteCount count) found = omega arith
+  counts job at found = grind arith
 
   state_read : (own found : ℕ) → found ≢ 1 → Leaves Phase.ReadState (after_state own found)
-  state_read own zero ne = omega arith
-  state_read own (suc zero) ne = absurd (ne refl)
-  state_read own (suc (suc found)) ne = omega arith
+  state_read own found ne = grind arith
 
   next_read : (round : Round) (found : ℕ) (what : Served) (y : Chain) → round.served < c.config.bound → steps_left c.config y (after_next what y round found) < steps_left c.config y (Phase.ReadNext round)
-  next_read round zero what y less = omega arith
-  next_read round (suc next) Served.Counter Chain.Send less = omega (arith, one_less c.config Chain.Send round.served less)
-  next_read round (suc next) Served.Counter (Chain.Take g) less = omega (arith, one_less c.config (Chain.Take g) round.served less)
-  next_read round (suc next) Served.List Chain.Send less = omega (arith, one_less c.config Chain.Send round.served less)
-  next_read round (suc next) Served.List (Chain.Take g) less = omega (arith, one_less c.config (Chain.Take g) round.served less)
+  next_read round found what y less =
+      grind (arith, one_less c.config Chain.Send round.served less, one_less c.config, round.served)
 
   answer_written : (job : Job) (told : Answer) → Leaves (Phase.WriteAnswer job told) (after_answer job told)
-  answer_written job (Answer.Take (TakeAnswer.Got item)) = omega arith
-  answer_written job (Answer.Take TakeAnswer.Empty) = omega arith
-  answer_written job (Answer.Take (TakeAnswer.Ended total)) = omega arith
-  answer_written job (Answer.Send told) = omega arith
-  answer_written job (Answer.Close told) = omega arith
+  answer_written job told = grind arith
 
   done : (job : Job) (b : Bool) → Leaves (Phase.MarkDone job) (cond b (Phase.HandOver job.next) (Phase.ReadNext record { at = job.next; served = job.round.served + 1 }))
-  done job true = omega arith
-  done job false = omega arith
+  done job b = grind arith
 
   taken_read : (ret : ℕ) (one two : Bool) → Leaves Phase.ReadAnswer (cond one (Phase.ReadAnswerTag (value_of ret)) (cond two (Phase.Finished (Answer.Take TakeAnswer.Empty)) (Phase.Finished (Answer.Take (TakeAnswer.Ended (value_of ret))))))
-  taken_read ret true two = omega arith
-  taken_read ret false true = omega arith
-  taken_read ret false false = omega arith
+  taken_read ret one two = grind arith
 
   ret_read : (what : Served) (y : Chain) (ret : ℕ) → Leaves Phase.ReadAnswer (after_ret what y ret)
   ret_read what Chain.Send ret = omega arith
   ret_read what (Chain.Take g) ret = taken_read ret (code_of ret == 1) (code_of ret == 2)
 
   pub leaves : (own : ℕ) (at : Phase) (found : ℕ) → is_in at ≡ true → served_by at < c.config.bound → scan_reads at ≤ c.config.capacity + 1 → (at ≡ Phase.ReadState → found ≢ 1) → Leaves at (goes c x own at found)
-  leaves own Phase.Idle found inside less short goes_on = absurd (cc)
-  leaves own (Phase.ResetNext call) found inside less short goes_on = absurd (cc)
-  leaves own (Phase.ResetState call) found inside less short goes_on = absurd (cc)
-  leaves own (Phase.Exchange call) found inside less short goes_on = absurd (cc)
-  leaves own (Phase.Finished told) found inside less short goes_on = absurd (cc)
-  leaves own (Phase.WriteTag put request) found inside less short goes_on = omega arith
   leaves own (Phase.WriteBody put request i) found inside less short goes_on =
       behind_word (λ (z : Phase). Leaves (Phase.WriteBody put request i) z) (further_words request.tag) i _ _ (λ more. omega (arith, more, few_further request.tag)) (λ last. omega arith)
-  leaves own (Phase.Link put) found inside less short goes_on = omega arith
   leaves own Phase.ReadState found inside less short goes_on = state_read own found (goes_on refl)
   leaves own (Phase.ReadNext round) found inside less short goes_on = next_read round found c.served x less
   leaves own (Phase.Counting job at) found inside less short goes_on = counts job at found
   leaves own (Phase.Sending job at) found inside less short goes_on = sends job at found short
   leaves own (Phase.Taking job at) found inside less short goes_on = takes job at found
   leaves own (Phase.WriteAnswer job told) found inside less short goes_on = answer_written job told
-  leaves own (Phase.WriteAnswerTag job item) found inside less short goes_on = omega arith
   leaves own (Phase.WriteAnswerBody job item i) found inside less short goes_on =
       behind_word (λ (z : Phase). Leaves (Phase.WriteAnswerBody job item i) z) (further_words (tag_of item)) i _ _ (λ more. omega (arith, more, few_further (tag_of item))) (λ last. omega arith)
   leaves own (Phase.MarkDone job) found inside less short goes_on = done job (job.round.served + 1 == c.config.bound)
-  leaves own (Phase.HandOver at) found inside less short goes_on = omega arith
   leaves own Phase.ReadAnswer found inside less short goes_on = ret_read c.served x found
-  leaves own (Phase.ReadAnswerTag at) found inside less short goes_on = omega arith
   leaves own (Phase.ReadAnswerBody p i) found inside less short goes_on =
       behind_word (λ (z : Phase). Leaves (Phase.ReadAnswerBody p i) z) (further_words p.tag) i _ _ (λ more. omega (arith, more, few_further p.tag)) (λ last. omega arith)
+  leaves own at found inside less short goes_on = grind arith
 
   state_le : (own found : ℕ) → steps_left c.config x (after_state own found) ≤ steps_left c.config x Phase.ReadState
-  state_le own zero = omega arith
-  state_le own (suc zero) = omega arith
-  state_le own (suc (suc found)) = omega arith
+  state_le own found = grind arith
 
   -- and that read leaves it no more
   pub leaves_no_more : (own : ℕ) (at : Phase) (found : ℕ) → is_in at ≡ true → served_by at < c.config.bound → scan_reads at ≤ c.config.capacity + 1 → steps_left c.config x (goes c x own at found) ≤ steps_left c.config x at
@@ -191,8 +139,7 @@ module _ (c : Setting) (x : Chain) where
 -- ---- at most so many
 
 pub service_low : (c : Config) (x : Chain) → 19 ≤ service c x
-service_low c Chain.Send = omega arith
-service_low c (Chain.Take g) = omega arith
+service_low c x = grind arith
 
 serves_most : (c : Config) (x : Chain) (served : ℕ) → to_serve c x served ≤ c.bound * service c x
 serves_most c x served = mul-le-mul_right (service c x) (omega arith)
@@ -203,27 +150,16 @@ serves_one c x served some =
     omega (arith, low, once_more (c.bound - (served + 1)) (service c x))
 
 pub writing_few : (told : Answer) → writing_left told ≤ 7
-writing_few (Answer.Take (TakeAnswer.Got item)) = omega arith
-writing_few (Answer.Take TakeAnswer.Empty) = omega arith
-writing_few (Answer.Take (TakeAnswer.Ended total)) = omega arith
-writing_few (Answer.Send told) = omega arith
-writing_few (Answer.Close told) = omega arith
+writing_few told = grind arith
 
 pub counting_few : (at : Counting) → counting_left at ≤ 7
-counting_few Counting.ReadTag = omega arith
-counting_few (Counting.ReadBody tag i) = omega arith
-counting_few Counting.ReadCount = omega arith
-counting_few (Counting.WriteCount count) = omega arith
+counting_few at = grind arith
 
 pub taking_few : (at : Taking) → taking_left at ≤ 11
-taking_few (Taking.ReadItemBody dummy at p i) = omega arith
-taking_few _ = omega arith
+taking_few at = grind arith
 
 pub sending_few : (c : Config) (at : Sending) → sending_left c at ≤ c.capacity + 21
-sending_few c (Sending.ReadBody request i) = omega arith
-sending_few c (Sending.ReadPassed parcel at reads) = omega arith
-sending_few c (Sending.WriteItemBody parcel at i) = omega arith
-sending_few c _ = omega arith
+sending_few c at = grind arith
 
 module _ (c : Config) (x : Chain) (some : 0 < c.bound) where
   abbrev most : ℕ
@@ -231,37 +167,20 @@ module _ (c : Config) (x : Chain) (some : 0 < c.bound) where
 
   -- where only the senders' combiner serves a send
   pub steps_most : (at : Phase) → is_in at ≡ true → ((job : Job) (service : Sending) → at ≡ Phase.Sending job service → x ≡ Chain.Send) → steps_left c x at ≤ c.bound * service c x + 15
-  steps_most Phase.Idle inside where_ = absurd (cc)
-  steps_most (Phase.ResetNext call) inside where_ = absurd (cc)
-  steps_most (Phase.ResetState call) inside where_ = absurd (cc)
-  steps_most (Phase.Exchange call) inside where_ = absurd (cc)
-  steps_most (Phase.Finished told) inside where_ = absurd (cc)
-  steps_most (Phase.WriteTag put request) inside where_ = omega (arith, serves_most c x 0)
-  steps_most (Phase.WriteBody put request i) inside where_ = omega (arith, serves_most c x 0)
-  steps_most (Phase.Link put) inside where_ = omega (arith, serves_most c x 0)
-  steps_most Phase.ReadState inside where_ = omega (arith, serves_most c x 0)
-  steps_most (Phase.ReadNext round) inside where_ = omega (arith, serves_most c x round.served)
-  steps_most (Phase.Counting job at) inside where_ = omega (arith, serves_one c x job.round.served some, counting_few at, service_low c x)
-  steps_most (Phase.Sending job at) inside where_ =
-      let is : c.capacity + 24 ≡ service c x = ap (service c) (sym (where_ job at refl)) in
-      omega (arith, serves_one c x job.round.served some, sending_few c at, is)
-  steps_most (Phase.Taking job at) inside where_ = omega (arith, serves_one c x job.round.served some, taking_few at, service_low c x)
-  steps_most (Phase.WriteAnswer job told) inside where_ = omega (arith, serves_most c x (job.round.served + 1), writing_few told)
-  steps_most (Phase.WriteAnswerTag job item) inside where_ = omega (arith, serves_most c x (job.round.served + 1))
-  steps_most (Phase.WriteAnswerBody job item i) inside where_ = omega (arith, serves_most c x (job.round.served + 1))
-  steps_most (Phase.MarkDone job) inside where_ = omega (arith, serves_most c x (job.round.served + 1))
-  steps_most (Phase.HandOver at) inside where_ = omega arith
-  steps_most Phase.ReadAnswer inside where_ = omega arith
-  steps_most (Phase.ReadAnswerTag at) inside where_ = omega arith
-  steps_most (Phase.ReadAnswerBody p i) inside where_ = omega arith
+  steps_most at inside where_ = grind (
+    arith,
+    serves_most c x 0,
+    serves_most c x,
+    serves_one c x,
+    counting_few,
+    service_low c x,
+    sending_few c,
+    taking_few,
+    writing_few,
+  )
 
 pub steps_some : (c : Config) (x : Chain) (at : Phase) → is_in at ≡ true → 0 < steps_left c x at
-steps_some c x Phase.Idle inside = absurd (cc)
-steps_some c x (Phase.ResetNext call) inside = absurd (cc)
-steps_some c x (Phase.ResetState call) inside = absurd (cc)
-steps_some c x (Phase.Exchange call) inside = absurd (cc)
-steps_some c x (Phase.Finished told) inside = absurd (cc)
-steps_some c x _ inside = omega arith
+steps_some c x at inside = grind arith
 
 -- ---- a call that waits has done no more than enter
 
@@ -273,15 +192,6 @@ serves_all c x = let e : c.bound ≡ c.bound - 0 = omega arith in ap (λ (z : �
 
 -- it waits for the state, enters, or has fewer steps left
 pub still_waits : (c : Config) (x : Chain) → 0 < c.bound → (at : Phase) → is_in at ≡ true → ((job : Job) (service : Sending) → at ≡ Phase.Sending job service → x ≡ Chain.Send) → steps_left c x Phase.ReadState ≤ steps_left c x at → (at ≡ Phase.ReadState) ⊎ (0 < entering_left at)
-still_waits c x some Phase.ReadState inside where_ low = inl refl
-still_waits c x some (Phase.WriteTag put request) inside where_ low = inr (omega arith)
-still_waits c x some (Phase.WriteBody put request i) inside where_ low = inr (omega arith)
-still_waits c x some (Phase.Link put) inside where_ low = inr (omega arith)
-still_waits c x some Phase.Idle inside where_ low = absurd (cc)
-still_waits c x some (Phase.ResetNext call) inside where_ low = absurd (cc)
-still_waits c x some (Phase.ResetState call) inside where_ low = absurd (cc)
-still_waits c x some (Phase.Exchange call) inside where_ low = absurd (cc)
-still_waits c x some (Phase.Finished told) inside where_ low = absurd (cc)
 still_waits c x some (Phase.ReadNext round) inside where_ low = absurd (omega (arith, low, serves_low c x round.served))
 still_waits c x some (Phase.Counting job at) inside where_ low = absurd (omega (arith, low, serves_one c x job.round.served some, serves_all c x, counting_few at, service_low c x))
 still_waits c x some (Phase.Sending job at) inside where_ low =
@@ -292,4 +202,4 @@ still_waits c x some (Phase.WriteAnswer job told) inside where_ low = absurd (om
 still_waits c x some (Phase.WriteAnswerTag job item) inside where_ low = absurd (omega (arith, low, serves_one c x job.round.served some, serves_all c x, service_low c x))
 still_waits c x some (Phase.WriteAnswerBody job item i) inside where_ low = absurd (omega (arith, low, serves_one c x job.round.served some, serves_all c x, service_low c x))
 still_waits c x some (Phase.MarkDone job) inside where_ low = absurd (omega (arith, low, serves_one c x job.round.served some, serves_all c x, service_low c x))
-still_waits c x some _ inside where_ low = absurd (omega (arith, low))
+still_waits c x some at inside where_ low = grind arith

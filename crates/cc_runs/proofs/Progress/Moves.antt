@@ -2,14 +2,14 @@
 use Rattle.std.proofs.Common.{◌≡◌, ◌≢◌, ◌⊎◌, ℕ, ◌+◌, ◌<◌, ◌≤◌, Bool, true, false, not, ◌&&◌, ◌||◌, ◌==◌, cond, IsTrue, Option, None, List, [], ◌∷◌, ◌++◌, length, drop, refl, ap, sym, ◌∙◌, subst, arith, inl, inr}
 use Rattle.std.specs.List.{list_any}
 use Rattle.std.proofs.Math.Bool.{and-false, or-false, or-true}
-use Rattle.std.proofs.lemmas.Bool.{cases_eq, ne_eqb}
+use Rattle.std.proofs.lemmas.Bool.{ne_eqb, cases_eq}
 use Rattle.std.proofs.lemmas.List.{drop-append-le}
 use Rattle.std.proofs.lemmas.List.Folds.{list_any-append}
 use Rattle.cc_model.specs.Record.{Side}
 use Rattle.cc_model.specs.Items.{is_pass}
 use Rattle.cc_runs.specs.Names.{Setting, Pass, Entry, Chain, NodeField, Word, Event, Stand, Phase, Move}
 use Rattle.cc_runs.specs.Words.{same_chain}
-use Rattle.cc_runs.specs.State.{State, chain_of, pass_at, hold, appended, stored, word_of}
+use Rattle.cc_runs.specs.State.{State, chain_of, pass_at, appended, stored, word_of}
 use Rattle.cc_runs.specs.Lines.{operation, goes, event_at, enters, after_exchange, group_of}
 use Rattle.cc_runs.specs.Step.{stepped_from, stepped, advanced}
 use Rattle.cc_runs.specs.Run.{passes, May, IsIdle, IsFinished, begins, rests, moved}
@@ -29,7 +29,7 @@ use Rattle.cc_runs.proofs.Chains.Others.{IsOther, IsOn, IsOff, which, side_other
 use Rattle.cc_runs.proofs.Chains.ReadAnswers.{name_is, other_name}
 use Rattle.cc_runs.proofs.Progress.Left.{leaves, leaves_no_more}
 use Rattle.cc_runs.proofs.Progress.Shares.{part, part_le, part_lt, part_out, part_later, both_true, true_both}
-use Rattle.cc_runs.proofs.Progress.Among.{pass_self}
+use Rattle.cc_runs.proofs.CallsMade.{pass_self}
 
 -- ---- the calls of a chain after a step
 
@@ -62,22 +62,18 @@ module _ (k : ℕ) (calls : List Entry) (few : k ≤ length calls) (who : Pass) 
     -- and less, if it leaves it fewer in one of the first calls
     pub own_lt : (at : Phase) → IsTrue (is_in at && not (has_later who k calls)) → left (goes c x own at found) < left at →
         part (is_in (goes c x own at found)) (has_later who k (appended calls (enters at))) (left (goes c x own at found)) < part (is_in at) (has_later who k calls) (left at)
-    own_lt Phase.Idle among less = absurd (cc)
-    own_lt (Phase.Finished told) among less = absurd (cc)
-    own_lt (Phase.ResetNext call) among less = absurd (cc)
-    own_lt (Phase.ResetState call) among less = absurd (cc)
-    own_lt (Phase.Exchange call) among less = absurd (cc)
-    own_lt at among less = part_lt (is_in at) (is_in (goes c x own at found)) (has_later who k calls) (left at) (left (goes c x own at found)) among less
+    own_lt at among less = grind (
+      arith,
+      part_lt (is_in at) (is_in (goes c x own at found)) (has_later who k calls) (left at) (left (goes c x own at found)) among less,
+    )
 
 in_enters : (at : Phase) → is_in at ≡ true → enters at ≡ None
-in_enters (Phase.Exchange call) inside = absurd (cc)
-in_enters _ inside = refl
+in_enters at inside = grind arith
 
 -- ---- the state of a node
 
 either_word : (b : Bool) (value old : ℕ) → value ≢ 1 → old ≢ 1 → cond b value old ≢ 1
-either_word true value old a z = a
-either_word false value old a z = z
+either_word b value old a z = grind arith
 
 -- a state that isn't 1 stays so, but for the reset of the own node
 pub kept : (c : Setting) (mem : Word → ℕ) (x y : Chain) (i own : ℕ) (at : Phase) → (same_chain y x && (own == i)) ≡ false → mem (Word.Node x i NodeField.State) ≢ 1 → stored mem (operation c y own at) (Word.Node x i NodeField.State) ≢ 1
@@ -90,18 +86,13 @@ kept c mem x y i own (Phase.Taking job at) apart ne = λ is. ne (sym (take_words
 kept c mem x y i own _ apart ne = ne
 
 pub other_off : (x y : Chain) → IsOther x y → same_chain y x ≡ false
-other_off Chain.Send (Chain.Take g) o = refl
-other_off (Chain.Take g) Chain.Send o = refl
-other_off Chain.Send Chain.Send o = absurd o
-other_off (Chain.Take g) (Chain.Take h) o = ne_eqb h g (λ e. o (sym e))
+other_off x y o = grind arith
 
 pub idle_out : (at : Phase) → IsIdle at → is_in at ≡ false
-idle_out Phase.Idle is = refl
-idle_out _ is = absurd is
+idle_out at is = grind arith
 
 pub finished_out : (at : Phase) → IsFinished at → is_in at ≡ false
-finished_out (Phase.Finished told) is = refl
-finished_out _ is = absurd is
+finished_out at is = grind arith
 
 -- ---- a move
 
@@ -228,13 +219,7 @@ module _ (c : Setting) (x : Chain) (ok : IsChain c x) (k : ℕ) (s : State) (w :
     put_stays n ne = stays_there (put_there s p there) n (hold_apart s.stand p (pass_on c x n) there ne) refl
 
     put_each : (n : ℕ) → n < members c x → share left c x k (put_there s p there) n ≤ share left c x k s n
-    put_each n less = elim (cases_eq (pass_on c x n) p) [
-      | inl same ↦
-          let here : (put_there s p there).stand (pass_on c x n) ≡ there = ap (hold s.stand p there) same ∙ hold_here s.stand p there in
-          let none : share left c x k (put_there s p there) n ≡ 0 = ap (λ (z : Stand). there_part z (calls_on x s.history) n) here ∙ part_out (is_in there.phase) (has_later (name n) k (calls_on x s.history)) (left there.phase) is_out in
-          omega (arith, none)
-      | inr ne ↦ omega (arith, (put_stays n ne).0)
-    ]
+    put_each n less = grind (arith, hold_here, part_out, put_stays n)
 
     put_goes_on : (n : ℕ) → pass_on c x n ≢ p → GoesOn s x (s.stand (pass_on c x n)) → GoesOn (put_there s p there) x ((put_there s p there).stand (pass_on c x n))
     put_goes_on n ne goes_on = subst (λ (z : Stand). GoesOn (put_there s p there) x z) (sym (hold_apart s.stand p (pass_on c x n) there ne)) goes_on

@@ -1,11 +1,11 @@
 -- What a move does to what is ahead of a call.
-use Rattle.std.proofs.Common.{◌≡◌, ◌≢◌, ◌⊎◌, ℕ, zero, suc, ◌+◌, ◌<◌, ◌≤◌, Bool, true, false, ◌&&◌, ◌==◌, cond, IsTrue, Option, Some, None, List, length, refl, ap, sym, ◌∙◌, subst, arith, inl, inr}
+use Rattle.std.proofs.Common.{◌≡◌, ◌≢◌, ◌⊎◌, ℕ, ◌+◌, ◌<◌, ◌≤◌, Bool, true, false, ◌&&◌, ◌==◌, cond, IsTrue, Option, Some, None, List, length, refl, ap, sym, ◌∙◌, subst, arith, inl, inr}
 use Rattle.std.proofs.lemmas.Bool.{cases_eq, true≢false}
 use Rattle.std.proofs.lemmas.List.{length_push}
 use Rattle.cc_model.specs.Record.{Side}
 use Rattle.cc_runs.specs.Names.{Setting, Answer, Chain, NodeField, Word, Round, Stand, Phase, Move}
 use Rattle.cc_runs.specs.Words.{same_chain}
-use Rattle.cc_runs.specs.State.{State, chain_of, hold, appended, stored, word_of}
+use Rattle.cc_runs.specs.State.{State, chain_of, appended, stored, word_of, hold}
 use Rattle.cc_runs.specs.Lines.{operation, goes, enters, decides, after_state, group_of}
 use Rattle.cc_runs.specs.Step.{stepped_from, stepped, advanced}
 use Rattle.cc_runs.specs.Run.{passes, May, begins, rests, moved}
@@ -38,21 +38,13 @@ length_more l None = omega arith
 length_more l (Some told) = length_push l told
 
 false_by : (b : Bool) → (b ≡ true → ⊥) → b ≡ false
-false_by true never = absurd (never refl)
-false_by false never = refl
+false_by b never = grind arith
 
 -- a step that isn't a combiner's of this chain leaves the state of each node but its own
 state_kept : (c : Setting) (mem : Word → ℕ) (x y : Chain) (i own : ℕ) (at : Phase) → (same_chain y x && (own == i)) ≡ false → (is_combining at ≡ false) ⊎ (same_chain y x ≡ false) →
     stored mem (operation c y own at) (Word.Node x i NodeField.State) ≡ mem (Word.Node x i NodeField.State)
-state_kept c mem x y i own (Phase.ResetState call) apart out = ap (λ (b : Bool). cond b 1 (mem (Word.Node x i NodeField.State))) apart
-state_kept c mem x y i own (Phase.MarkDone job) apart (inl out) = absurd (true≢false out)
-state_kept c mem x y i own (Phase.MarkDone job) apart (inr far) = ap (λ (b : Bool). cond (b && (job.round.at == i)) 2 (mem (Word.Node x i NodeField.State))) far
-state_kept c mem x y i own (Phase.HandOver at) apart (inl out) = absurd (true≢false out)
-state_kept c mem x y i own (Phase.HandOver at) apart (inr far) = ap (λ (b : Bool). cond (b && (at == i)) 0 (mem (Word.Node x i NodeField.State))) far
-state_kept c mem x y i own (Phase.Counting job at) apart out = count_words c mem x job.round.at i NodeField.State at
-state_kept c mem x y i own (Phase.Sending job at) apart out = send_words c mem x job.round.at i NodeField.State at
-state_kept c mem x y i own (Phase.Taking job at) apart out = take_words c mem x (group_of y) i NodeField.State at
-state_kept c mem x y i own _ apart out = refl
+state_kept c mem x y i own at apart out =
+    grind (arith, count_words c mem x, send_words c mem x, take_words c mem x (group_of y) i NodeField.State)
 
 -- ---- the kinds of turns
 
@@ -74,33 +66,19 @@ module _ (c : Setting) (x : Chain) (k : ℕ) (s : State) (n : ℕ) where
   kinds_of _ turn = serves_it turn.0 turn.1
 
   pub enters_back : (at : Phase) → 0 < entering_left at → IsTrue (is_among c x k s n) → IsTurnAt c x k s n at
-  enters_back (Phase.WriteTag put request) some among = among
-  enters_back (Phase.WriteBody put request i) some among = among
-  enters_back (Phase.Link put) some among = among
-  enters_back _ some among = absurd (omega (arith, some))
+  enters_back at some among = grind arith
 
   serves_back : (at : Phase) → is_combining at ≡ true → length (answers_on x s.history) < k + decided at → IsTurnAt c x k s n at
-  serves_back (Phase.WriteTag put request) is less = absurd (true≢false (sym is))
-  serves_back (Phase.WriteBody put request i) is less = absurd (true≢false (sym is))
-  serves_back (Phase.Link put) is less = absurd (true≢false (sym is))
-  serves_back Phase.ReadState is less = absurd (true≢false (sym is))
-  serves_back _ is less = (is, less)
+  serves_back at is less = grind arith
 
 not_read : (at : Phase) → 0 < entering_left at → at ≢ Phase.ReadState
-not_read (Phase.WriteTag put request) some e = cc
-not_read (Phase.WriteBody put request i) some e = cc
-not_read (Phase.Link put) some e = cc
-not_read _ some e = absurd (omega (arith, some))
+not_read at some e = grind arith
 
 enters_in : (at : Phase) → 0 < entering_left at → is_combining at ≡ false
-enters_in (Phase.WriteTag put request) some = refl
-enters_in (Phase.WriteBody put request i) some = refl
-enters_in (Phase.Link put) some = refl
-enters_in _ some = absurd (omega (arith, some))
+enters_in at some = grind arith
 
 pub is_read : (at : Phase) → (at ≡ Phase.ReadState) ⊎ (at ≢ Phase.ReadState)
-is_read Phase.ReadState = inl refl
-is_read _ = inr (λ e. absurd (cc))
+is_read at = grind arith
 
 -- a pass whose turn it is, is in one of the first calls
 pub turn_among : (c : Setting) (x : Chain) (k : ℕ) (s : State) (w : Holds c x s) (n : ℕ) → n < members c x → IsTurn c x k s n → IsTrue (is_among c x k s n)
@@ -312,8 +290,7 @@ module _ (c : Setting) (x : Chain) (ok : IsChain c x) (k : ℕ) (s : State) (w :
         none_in is2 = none_by (entering_left at) (λ some. true≢false (sym is2 ∙ enters_in at some))
           where
             none_by : (n : ℕ) → (0 < n → ⊥) → n ≡ 0
-            none_by zero never = refl
-            none_by (suc n) never = absurd (never (omega arith))
+            none_by n never = grind arith
 
         no_more_entries : shares entering_left c x k next (members c x) ≤ shares entering_left c x k s (members c x)
         no_more_entries = subst (λ (t : State). shares entering_left c x k t (members c x) ≤ shares entering_left c x k s (members c x)) is (shares_le entering_left c x k s (moved c s m) (members c x) (entries m may).each)
@@ -415,12 +392,7 @@ module _ (c : Setting) (x : Chain) (ok : IsChain c x) (k : ℕ) (s : State) (w :
   far_part p off = same_part (stepped c s p) (ap (λ (z : Side). z.answers) (side_other x (chain_of c.config p) s.history _ off.other)) (λ r rn. inl (ap (λ (z : Stand). z.phase) (hold_apart s.stand p (pass_on c x r) _ (off.away r rn))))
 
   out_combining : (at2 : Phase) → is_in at2 ≡ false → is_combining at2 ≡ false
-  out_combining Phase.Idle out = refl
-  out_combining (Phase.ResetNext call) out = refl
-  out_combining (Phase.ResetState call) out = refl
-  out_combining (Phase.Exchange call) out = refl
-  out_combining (Phase.Finished told) out = refl
-  out_combining _ out = absurd (true≢false out)
+  out_combining at2 out = grind arith
 
   step_le : (p : ℕ) → (may : May c s (Move.Step p)) → IsOn c x p ⊎ IsOff c x p → ahead c x k (stepped c s p) ≤ ahead c x k s
   step_le p may (inl on) =

@@ -1,6 +1,6 @@
 -- Rounds: what is ahead of a call gets less in each, or the steps of its own pass do.
-use Rattle.std.proofs.Common.{◌≡◌, ℕ, ◌+◌, ◌-◌, ◌*◌, ◌<◌, ◌≤◌, Bool, true, false, cond, List, [], ◌∷◌, ◌++◌, length, Ok, refl, ap, sym, ◌∙◌, subst, arith, inl, inr}
-use Rattle.std.proofs.lemmas.Bool.{cases_lt, true≢false}
+use Rattle.std.proofs.Common.{◌≡◌, ℕ, ◌+◌, ◌-◌, ◌*◌, ◌<◌, ◌≤◌, Bool, true, cond, List, [], ◌∷◌, ◌++◌, length, Ok, ap, ◌∙◌, subst, arith, inl, inr}
+use Rattle.std.proofs.lemmas.Bool.{cases_lt}
 use Rattle.std.proofs.Math.Nat.{mul-le-mul_right}
 use Rattle.cc_model.specs.Config.{config_fault}
 use Rattle.cc_runs.specs.Names.{Setting, Chain, Phase, Move}
@@ -28,16 +28,10 @@ use Rattle.cc_runs.proofs.Progress.Falls.{Lessens, falls_in_run, FallsInRounds, 
 use Rattle.cc_runs.proofs.Progress.Laws.{holds_after, moves_bring_nearer, waits_or, ahead_is_bounded, open_calls_are_few}
 
 turn_in : (c : Setting) (x : Chain) (k : ℕ) (s : State) (n : ℕ) (at : Phase) → IsTurnAt c x k s n at → is_in at ≡ true
-turn_in c x k s n Phase.Idle turn = absurd (true≢false (sym turn.0))
-turn_in c x k s n (Phase.ResetNext call) turn = absurd (true≢false (sym turn.0))
-turn_in c x k s n (Phase.ResetState call) turn = absurd (true≢false (sym turn.0))
-turn_in c x k s n (Phase.Exchange call) turn = absurd (true≢false (sym turn.0))
-turn_in c x k s n (Phase.Finished told) turn = absurd (true≢false (sym turn.0))
-turn_in c x k s n _ turn = refl
+turn_in c x k s n at turn = grind arith
 
 some_among : (b : Bool) (m : ℕ) → 0 < cond b m 0 → b ≡ true
-some_among true m some = refl
-some_among false m some = absurd (omega (arith, some))
+some_among b m some = grind arith
 
 -- ---- what is ahead of the first k calls
 

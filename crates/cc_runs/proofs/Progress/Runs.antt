@@ -1,6 +1,5 @@
 -- Facts of every run that the laws of progress need.
-use Rattle.std.proofs.Common.{◌≡◌, ℕ, ◌+◌, ◌<◌, ◌≤◌, ◌++◌, List, length, Ok, refl, ap, subst, arith, length-append, inl, inr}
-use Rattle.std.proofs.lemmas.Bool.{cases_lt}
+use Rattle.std.proofs.Common.{◌≡◌, ℕ, ◌+◌, ◌<◌, ◌≤◌, ◌++◌, List, length, Ok, ap, subst, arith, length-append}
 use Rattle.cc_model.specs.Config.{config_fault}
 use Rattle.cc_model.specs.Items.{SideBegins}
 use Rattle.cc_runs.specs.Names.{Setting, Chain, Job, Sending, Phase, Move}
@@ -31,8 +30,7 @@ pub scans_short : (c : Setting) → config_fault c.config ≡ Ok tt → (moves :
 scans_short c checked moves run p inside = by_phase ((reached c moves).stand p).phase (λ job service e. scans_are_short c moves (sending_where c (reached c moves) (chains_hold c (in_range c.config checked).bound.0 moves run) p job service inside e).0 checked run p)
   where
     by_phase : (at : Phase) → ((job : Job) (service : Sending) → at ≡ Phase.Sending job service → scan_reads at ≤ c.config.capacity + 1) → scan_reads at ≤ c.config.capacity + 1
-    by_phase (Phase.Sending job service) if_sends = if_sends job service refl
-    by_phase _ if_sends = omega arith
+    by_phase at if_sends = grind arith
 
 -- calls that have exchanged stay, and so do answers
 side_grows : (c : Setting) (x : Chain) (later seen : List Move) → IsRun c (later ++ seen) → SideBegins (side x (history_of c seen)) (side x (history_of c (later ++ seen)))
@@ -47,10 +45,4 @@ answers_stay c x later seen run = let more = (side_grows c x later seen run).ans
 
 -- the pass of a call without an answer is in it
 pub all_answered : (c : Setting) (x : Chain) (s : State) → Holds c x s → (k : ℕ) → k ≤ length (calls_on x s.history) → ((n : ℕ) → n < members c x → IsAmong c x k s n → ⊥) → k ≤ length (answers_on x s.history)
-all_answered c x s w k few nobody = elim (cases_lt (length (answers_on x s.history)) k) [
-  | inr enough ↦ enough
-  | inl less ↦
-      let low : w.ghost.marked < k = omega (arith, less, w.ties.answers_are, w.inv.calls.in_order) in
-      let high : w.ghost.marked < w.ghost.calls = omega (arith, low, w.ties.calls_are, few) in
-      absurd (nobody (w.ghost.pass_of w.ghost.marked) (w.inv.calls.open_pass w.ghost.marked (omega arith) high) (open_among c x s w k w.ghost.marked (omega arith) high low))
-]
+all_answered c x s w k few nobody = grind (arith, w.ties.answers_are, w.inv.calls.in_order, w.ties.calls_are, nobody (w.ghost.pass_of w.ghost.marked), w.inv.calls.open_pass w.ghost.marked, open_among c x s w k w.ghost.marked)

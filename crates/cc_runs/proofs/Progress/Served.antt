@@ -1,11 +1,11 @@
 -- Each step of a combiner brings the calls that wait nearer to their answers.
-use Rattle.std.proofs.Common.{◌≡◌, ◌≢◌, ℕ, zero, suc, ◌+◌, ◌-◌, ◌*◌, ◌<◌, ◌≤◌, Bool, true, false, ◌==◌, nat_lt, cond, Option, Some, None, refl, ap, sym, ◌∙◌, subst, arith, inl, inr}
-use Rattle.std.proofs.lemmas.Bool.{cases_lt, lt-ltb, le-ltb, ne_eqb, eqb-false, eqb-true}
+use Rattle.std.proofs.Common.{◌≡◌, ◌≢◌, ℕ, zero, suc, ◌+◌, ◌-◌, ◌*◌, ◌<◌, ◌≤◌, Bool, true, false, ◌==◌, nat_lt, cond, Option, Some, None, refl, ap, sym, ◌∙◌, subst, arith}
+use Rattle.std.proofs.lemmas.Bool.{lt-ltb, le-ltb, ne_eqb, eqb-false, eqb-true}
 use Rattle.cc_runs.specs.Names.{Answer, SendAnswer, CloseAnswer, TakeAnswer, Setting, Served, Chain, Round, Job, Request, Parcel, Counting, Sending, Taking, Phase}
-use Rattle.cc_runs.specs.Codes.{item_in, further_words, tag_of, no_words, parcel, with_read, with_asked}
+use Rattle.cc_runs.specs.Codes.{further_words, tag_of, no_words, parcel, with_asked}
 use Rattle.cc_runs.specs.Words.{groups}
 use Rattle.cc_runs.specs.Lines.{goes, decides, after_next, after_answer}
-use Rattle.cc_runs.specs.ServiceLine.{Next, On, Decides, DecidesAndOn, Tells, phase_of, answer_of}
+use Rattle.cc_runs.specs.ServiceLine.{Next, On, Decides, DecidesAndOn, phase_of, answer_of}
 use Rattle.cc_runs.specs.CountLines as count_side
 use Rattle.cc_runs.specs.SendLines as send_side
 use Rattle.cc_runs.specs.SendLines.{after}
@@ -55,16 +55,11 @@ module _ (cost k : ℕ) where
   not_counted a d e far = ap (λ (b : Bool). cond b e 0) (le-ltb a (k + d) far)
 
   less_counted : (a d e a' d' e' : ℕ) → a + d' ≤ a' + d → e' < e → a < k + d → cond (nat_lt a' (k + d')) e' 0 < cond (nat_lt a (k + d)) e 0
-  less_counted a d e a' d' e' low less early = elim (cases_lt a' (k + d')) [
-    | inl near ↦ omega (arith, counted a d e early, counted a' d' e' near, less)
-    | inr far ↦ omega (arith, counted a d e early, not_counted a' d' e' far, less)
-  ]
+  less_counted a d e a' d' e' low less early =
+      grind (arith, counted a d e early, counted a' d' e', not_counted a' d' e')
 
   no_more_counted : (a d e a' d' e' : ℕ) → a + d' ≤ a' + d → e' < e → cond (nat_lt a' (k + d')) e' 0 ≤ cond (nat_lt a (k + d)) e 0
-  no_more_counted a d e a' d' e' low less = elim (cases_lt a (k + d)) [
-    | inl near ↦ omega (arith, less_counted a d e a' d' e' low less near)
-    | inr far ↦ omega (arith, not_counted a' d' e' (omega (arith, low, far)))
-  ]
+  no_more_counted a d e a' d' e' low less = grind (arith, less_counted a d e a' d' e' low less, not_counted a' d' e')
 
   -- a service goes on
   pub go_on : (a t d e a' t' d' e' : ℕ) → a' + t' ≡ a + t → a + d' ≤ a' + d → e' < e → Falls4 a t d e a' t' d' e'
@@ -77,10 +72,7 @@ module _ (cost k : ℕ) where
   -- a call is taken on
   pub take_on : (a e e' : ℕ) → e' < cost + e → Falls4 a 0 0 e a 1 0 e'
   take_on a e e' less = (
-    elim (cases_lt a (k + 0)) [
-      | inl near ↦ weak (lower near)
-      | inr far ↦ none_le _ _ _ _ (ap (λ (z : ℕ). z * cost) (all far) ∙ zero_times) (not_counted a 0 e' far)
-    ],
+    grind (arith, weak, lower, none_le, all, zero_times, not_counted a 0 e'),
     λ early. lower early,
   )
     where
@@ -178,18 +170,15 @@ module _ (c : Setting) (x : Chain) (k a : ℕ) where
   takes_on job from to less = on (Phase.Taking job from) (Phase.Taking job to) 0 (omega arith) (omega arith) less
 
   takes : (job : Job) (at : Taking) (found : ℕ) → Takes job at (take_side.line 0 at found).next
-  takes job Taking.ReadHead found = takes_on job Taking.ReadHead (Taking.ReadTaken (found - 1)) (omega arith)
-  takes job (Taking.ReadTaken dummy) found = takes_on job (Taking.ReadTaken dummy) (Taking.ReadDummyNext dummy found) (omega arith)
-  takes job (Taking.ReadDummyNext dummy taken) zero = on (Phase.Taking job (Taking.ReadDummyNext dummy taken)) (Phase.WriteAnswer job (Answer.Take TakeAnswer.Empty)) 1 (omega arith) (omega arith) (omega arith)
-  takes job (Taking.ReadDummyNext dummy taken) (suc at) = takes_on job (Taking.ReadDummyNext dummy taken) (Taking.ReadItemTag dummy taken at) (omega arith)
-  takes job (Taking.ReadItemTag dummy taken at) zero = on (Phase.Taking job (Taking.ReadItemTag dummy taken at)) (Phase.WriteAnswer job (Answer.Take (TakeAnswer.Ended taken))) 1 (omega arith) (omega arith) (omega arith)
-  takes job (Taking.ReadItemTag dummy taken at) (suc tag) = takes_on job (Taking.ReadItemTag dummy taken at) (Taking.ReadItemBody dummy at (parcel taken (suc tag) no_words) 0) (omega arith)
-  takes job (Taking.ReadItemBody dummy at p i) found =
-      behind_word (λ (z : Taking). Falls (Phase.Taking job (Taking.ReadItemBody dummy at p i)) (Phase.Taking job z) 0) (further_words p.tag) i _ _
-      (λ more_. takes_on job (Taking.ReadItemBody dummy at p i) (Taking.ReadItemBody dummy at (with_read p i found) (i + 1)) (omega (arith, more_, few_further p.tag))) (λ last. takes_on job (Taking.ReadItemBody dummy at p i) (Taking.WriteHead dummy at (with_read p i found)) (omega arith))
-  takes job (Taking.WriteHead dummy at parcel) found = takes_on job (Taking.WriteHead dummy at parcel) (Taking.WriteTaken dummy parcel) (omega arith)
-  takes job (Taking.WriteTaken dummy parcel) found = takes_on job (Taking.WriteTaken dummy parcel) (Taking.AddPassed dummy parcel) (omega arith)
-  takes job (Taking.AddPassed dummy parcel) found = on (Phase.Taking job (Taking.AddPassed dummy parcel)) (Phase.WriteAnswer job (Answer.Take (TakeAnswer.Got (item_in parcel)))) 1 (omega arith) (omega arith) (omega arith)
+  takes job at found = grind (
+    arith,
+    takes_on job Taking.ReadHead (Taking.ReadTaken (found - 1)),
+    takes_on job,
+    on,
+    behind_word,
+    further_words,
+    few_further,
+  )
 
   abbrev Counts : Job → Counting → Next Counting → Type 0
   Counts job at next = Falls (Phase.Counting job at) (phase_of count_side.in_service job next) (more (answer_of next))
@@ -234,10 +223,7 @@ module _ (c : Setting) (x : Chain) (k a : ℕ) where
 
   answer_written : (job : Job) (told : Answer) → Falls (Phase.WriteAnswer job told) (after_answer job told) 0
   answer_written job (Answer.Take (TakeAnswer.Got item)) = on (Phase.WriteAnswer job (Answer.Take (TakeAnswer.Got item))) (Phase.WriteAnswerTag job item) 0 (omega arith) (omega arith) (omega arith)
-  answer_written job (Answer.Take TakeAnswer.Empty) = on (Phase.WriteAnswer job (Answer.Take TakeAnswer.Empty)) (Phase.MarkDone job) 0 (omega arith) (omega arith) (omega arith)
-  answer_written job (Answer.Take (TakeAnswer.Ended total)) = on (Phase.WriteAnswer job (Answer.Take (TakeAnswer.Ended total))) (Phase.MarkDone job) 0 (omega arith) (omega arith) (omega arith)
-  answer_written job (Answer.Send told) = on (Phase.WriteAnswer job (Answer.Send told)) (Phase.MarkDone job) 0 (omega arith) (omega arith) (omega arith)
-  answer_written job (Answer.Close told) = on (Phase.WriteAnswer job (Answer.Close told)) (Phase.MarkDone job) 0 (omega arith) (omega arith) (omega arith)
+  answer_written job e = on (Phase.WriteAnswer job e) (Phase.MarkDone job) 0 (omega arith) (omega arith) (omega arith)
 
   done : (job : Job) (b : Bool) → Falls (Phase.MarkDone job) (cond b (Phase.HandOver job.next) (Phase.ReadNext record { at = job.next; served = job.round.served + 1 })) 0
   done job true = on (Phase.MarkDone job) (Phase.HandOver job.next) 0 (omega arith) (omega arith) (omega arith)
@@ -251,28 +237,20 @@ module _ (c : Setting) (x : Chain) (k a : ℕ) where
 
   stays_in : {S : Type 0} (in_service : Job → S → Phase) → ((job : Job) (at : S) → is_combining (in_service job at) ≡ true) → (job : Job) (next : Next S) → as_combiner (phase_of in_service job next) ≡ phase_of in_service job next
   stays_in in_service is job (On at) = ap (λ (b : Bool). cond b (in_service job at) Phase.Idle) (is job at)
-  stays_in in_service is job (Decides told) = refl
   stays_in in_service is job (DecidesAndOn told at) = ap (λ (b : Bool). cond b (in_service job at) Phase.Idle) (is job at)
-  stays_in in_service is job (Tells told) = refl
+  stays_in in_service is job _ = refl
 
   as_is : (from to : Phase) (m : ℕ) → as_combiner to ≡ to → Falls from to m → Falls from (as_combiner to) m
   as_is from to m e h = subst (λ (z : Phase). Falls from z m) (sym e) h
 
   answer_stays : (job : Job) (told : Answer) → as_combiner (after_answer job told) ≡ after_answer job told
-  answer_stays job (Answer.Take (TakeAnswer.Got item)) = refl
-  answer_stays job (Answer.Take TakeAnswer.Empty) = refl
-  answer_stays job (Answer.Take (TakeAnswer.Ended total)) = refl
-  answer_stays job (Answer.Send told) = refl
-  answer_stays job (Answer.Close told) = refl
+  answer_stays job told = grind arith
 
   done_stays : (job : Job) (b : Bool) → as_combiner (cond b (Phase.HandOver job.next) (Phase.ReadNext record { at = job.next; served = job.round.served + 1 })) ≡ cond b (Phase.HandOver job.next) (Phase.ReadNext record { at = job.next; served = job.round.served + 1 })
-  done_stays job true = refl
-  done_stays job false = refl
+  done_stays job b = grind arith
 
   next_stays : (what : Served) (y : Chain) (round : Round) (next : ℕ) → as_combiner (after_next what y round (suc next)) ≡ after_next what y round (suc next)
-  next_stays Served.Counter y round next = refl
-  next_stays Served.List Chain.Send round next = refl
-  next_stays Served.List (Chain.Take g) round next = refl
+  next_stays what y round next = grind arith
 
   next_read : (round : Round) (found : ℕ) → (round.served ≡ 0 → found ≢ 0) → Falls (Phase.ReadNext round) (as_combiner (after_next c.served x round found)) 0
   next_read round zero linked = hands (round.served == 0) round.at (λ e. linked (eqb-true round.served 0 e) refl)

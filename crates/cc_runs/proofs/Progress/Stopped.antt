@@ -1,5 +1,5 @@
 -- Passes that stop in their calls: they stop no call before these, and from their turn on those behind.
-use Rattle.std.proofs.Common.{◌≡◌, ◌≢◌, ℕ, zero, suc, ◌+◌, ◌<◌, ◌≤◌, Bool, true, false, List, [], ◌∷◌, ◌++◌, length, Ok, refl, ap, sym, ◌∙◌, subst, arith, append_assoc, inl, inr}
+use Rattle.std.proofs.Common.{◌≡◌, ◌≢◌, ℕ, ◌+◌, ◌<◌, ◌≤◌, Bool, true, false, List, [], ◌∷◌, ◌++◌, length, Ok, refl, ap, subst, arith, append_assoc, inl, inr, zero, suc, sym, ◌∙◌}
 use Rattle.std.proofs.lemmas.Bool.{cases_eq, eqb-false}
 use Rattle.cc_model.specs.Config.{config_fault}
 use Rattle.cc_runs.specs.Names.{Setting, Chain, Stand, Phase, Move}
@@ -40,10 +40,7 @@ none_before_stops c seen rounds checked run x ok stopped k few none fair many = 
 -- ---- those behind
 
 enters_rank : (x : Chain) (own : ℕ) (at : Phase) → 0 < entering_left at → (post_of x own at).rank ≡ 3
-enters_rank x own (Phase.WriteTag put request) some = refl
-enters_rank x own (Phase.WriteBody put request i) some = refl
-enters_rank x own (Phase.Link put) some = refl
-enters_rank x own _ some = absurd (omega (arith, some))
+enters_rank x own at some = grind arith
 
 -- a call that isn't linked has no answer
 unlinked : (c : Setting) (x : Chain) (s : State) (w : Holds c x s) (k n : ℕ) → n < members c x → 0 < entering_left (phase_at c x s n) → IsAmong c x k s n → length (answers_on x s.history) < k
@@ -51,10 +48,7 @@ unlinked c x s w k n inside some among =
     let three : (post_at x (s.stand (pass_on c x n))).rank ≡ 3 = enters_rank x (s.stand (pass_on c x n)).node (phase_at c x s n) some in
     let at = among_at c x s w k n inside among in
     let low : w.ghost.marked ≤ w.ghost.at n = w.inv.passes.early n inside three in
-    elim (cases_eq w.ghost.server 0) [
-      | inl free ↦ omega (arith, at.1, low, w.ties.answers_are, w.inv.serving.free_answers free)
-      | inr busy ↦ served (pred w.ghost.server) (is_pred w.ghost.server busy) three at.1 low
-    ]
+    grind (arith, at.1, w.ties.answers_are, w.inv.serving.free_answers, served (pred w.ghost.server), is_pred w.ghost.server)
   where
     pred : ℕ → ℕ
     pred zero = 0

@@ -1,11 +1,11 @@
 -- The steps with which calls enter, and whose turn it is.
-use Rattle.std.proofs.Common.{◌≡◌, ◌≢◌, ℕ, zero, suc, ◌+◌, ◌<◌, ◌≤◌, Bool, true, false, ◌==◌, cond, IsTrue, refl, ap, sym, ◌∙◌, arith, inl, inr, length}
-use Rattle.std.proofs.lemmas.Bool.{cases_eq, cases_lt, true≢false}
+use Rattle.std.proofs.Common.{◌≡◌, ◌≢◌, ℕ, zero, suc, ◌+◌, ◌<◌, ◌≤◌, Bool, true, ◌==◌, cond, IsTrue, refl, ap, sym, ◌∙◌, arith, inl, inr, length}
+use Rattle.std.proofs.lemmas.Bool.{cases_eq}
 use Rattle.cc_runs.specs.Names.{Answer, TakeAnswer, Setting, Served, Chain, NodeField, Word, Round, Job, Phase}
 use Rattle.cc_runs.specs.Codes.{code_of, value_of, further_words, tag_of}
 use Rattle.cc_runs.specs.State.{State}
 use Rattle.cc_runs.specs.Lines.{goes, after_state, after_next, after_answer, after_ret}
-use Rattle.cc_runs.specs.ServiceLine.{Next, On, Decides, DecidesAndOn, Tells, phase_of}
+use Rattle.cc_runs.specs.ServiceLine.{Next, phase_of}
 use Rattle.cc_runs.specs.CountLines as count_side
 use Rattle.cc_runs.specs.SendLines as send_side
 use Rattle.cc_runs.specs.TakeLines as take_side
@@ -24,80 +24,51 @@ use Rattle.cc_runs.proofs.Progress.Combiner.{five_combining, two_decided}
 -- ---- the steps of an entry
 
 after_service : {S : Type 0} (in_service : Job → S → Phase) → ((job : Job) (at : S) → entering_left (in_service job at) ≡ 0) → (job : Job) (next : Next S) → entering_left (phase_of in_service job next) ≡ 0
-after_service in_service none job (On at) = none job at
-after_service in_service none job (Decides told) = refl
-after_service in_service none job (DecidesAndOn told at) = none job at
-after_service in_service none job (Tells told) = refl
+after_service in_service none job next = grind arith
 
 module _ (c : Setting) (x : Chain) (own : ℕ) where
   abbrev Enters : Phase → Phase → Type 0
   Enters from to = entering_left to ≤ entering_left from
 
   state_read : (n : ℕ) → Enters Phase.ReadState (after_state own n)
-  state_read zero = omega arith
-  state_read (suc zero) = omega arith
-  state_read (suc (suc n)) = omega arith
+  state_read n = grind arith
 
   next_read : (what : Served) (y : Chain) (round : Round) (n : ℕ) → Enters (Phase.ReadNext round) (after_next what y round n)
-  next_read what y round zero = omega arith
-  next_read Served.Counter y round (suc n) = omega arith
-  next_read Served.List Chain.Send round (suc n) = omega arith
-  next_read Served.List (Chain.Take g) round (suc n) = omega arith
+  next_read what y round n = grind arith
 
   answer_written : (job : Job) (told : Answer) → Enters (Phase.WriteAnswer job told) (after_answer job told)
-  answer_written job (Answer.Take (TakeAnswer.Got item)) = omega arith
-  answer_written job (Answer.Take TakeAnswer.Empty) = omega arith
-  answer_written job (Answer.Take (TakeAnswer.Ended total)) = omega arith
-  answer_written job (Answer.Send told) = omega arith
-  answer_written job (Answer.Close told) = omega arith
+  answer_written job told = grind arith
 
   taken_read : (ret : ℕ) (one two : Bool) → Enters Phase.ReadAnswer (cond one (Phase.ReadAnswerTag (value_of ret)) (cond two (Phase.Finished (Answer.Take TakeAnswer.Empty)) (Phase.Finished (Answer.Take (TakeAnswer.Ended (value_of ret))))))
-  taken_read ret true two = omega arith
-  taken_read ret false true = omega arith
-  taken_read ret false false = omega arith
+  taken_read ret one two = grind arith
 
   done : (job : Job) (b : Bool) → Enters (Phase.MarkDone job) (cond b (Phase.HandOver job.next) (Phase.ReadNext record { at = job.next; served = job.round.served + 1 }))
-  done job true = omega arith
-  done job false = omega arith
+  done job b = grind arith
 
   ret_read : (what : Served) (y : Chain) (ret : ℕ) → Enters Phase.ReadAnswer (after_ret what y ret)
   ret_read what Chain.Send ret = omega arith
   ret_read what (Chain.Take g) ret = taken_read ret (code_of ret == 1) (code_of ret == 2)
 
   pub enters_le : (at : Phase) (found : ℕ) → is_in at ≡ true → entering_left (goes c x own at found) ≤ entering_left at
-  enters_le Phase.Idle found inside = absurd (cc)
-  enters_le (Phase.ResetNext call) found inside = absurd (cc)
-  enters_le (Phase.ResetState call) found inside = absurd (cc)
-  enters_le (Phase.Exchange call) found inside = absurd (cc)
-  enters_le (Phase.Finished told) found inside = absurd (cc)
-  enters_le (Phase.WriteTag put request) found inside = omega arith
   enters_le (Phase.WriteBody put request i) found inside = behind_word (Enters (Phase.WriteBody put request i)) (further_words request.tag) i _ _ (λ more. omega (arith, more)) (λ last. omega arith)
-  enters_le (Phase.Link put) found inside = omega arith
   enters_le Phase.ReadState found inside = state_read found
   enters_le (Phase.ReadNext round) found inside = next_read c.served x round found
   enters_le (Phase.Counting job at) found inside = omega (arith, after_service count_side.in_service (λ j z. refl) job (count_side.line 0 at found).next)
   enters_le (Phase.Sending job at) found inside = omega (arith, after_service send_side.in_service (λ j z. refl) job (send_side.line c.config 0 at found).next)
   enters_le (Phase.Taking job at) found inside = omega (arith, after_service take_side.in_service (λ j z. refl) job (take_side.line 0 at found).next)
   enters_le (Phase.WriteAnswer job told) found inside = answer_written job told
-  enters_le (Phase.WriteAnswerTag job item) found inside = omega arith
   enters_le (Phase.WriteAnswerBody job item i) found inside = behind_word (Enters (Phase.WriteAnswerBody job item i)) (further_words (tag_of item)) i _ _ (λ more. omega arith) (λ last. omega arith)
   enters_le (Phase.MarkDone job) found inside = done job (job.round.served + 1 == c.config.bound)
-  enters_le (Phase.HandOver at) found inside = omega arith
   enters_le Phase.ReadAnswer found inside = ret_read c.served x found
-  enters_le (Phase.ReadAnswerTag at) found inside = omega arith
   enters_le (Phase.ReadAnswerBody p i) found inside = behind_word (Enters (Phase.ReadAnswerBody p i)) (further_words p.tag) i _ _ (λ more. omega arith) (λ last. omega arith)
+  enters_le at found inside = grind arith
 
   pub enters_lt : (at : Phase) (found : ℕ) → 0 < entering_left at → entering_left (goes c x own at found) < entering_left at
-  enters_lt (Phase.WriteTag put request) found some = omega arith
   enters_lt (Phase.WriteBody put request i) found some = behind_word (λ (z : Phase). entering_left z < entering_left (Phase.WriteBody put request i)) (further_words request.tag) i _ _ (λ more. omega (arith, more, few_further request.tag)) (λ last. omega arith)
-  enters_lt (Phase.Link put) found some = omega arith
-  enters_lt _ found some = absurd (omega (arith, some))
+  enters_lt at found some = grind arith
 
 pub enters_most : (at : Phase) → entering_left at ≤ 6
-enters_most (Phase.WriteBody put request i) = omega arith
-enters_most (Phase.WriteTag put request) = omega arith
-enters_most (Phase.Link put) = omega arith
-enters_most _ = omega arith
+enters_most at = grind arith
 
 -- ---- whose turn it is
 
@@ -106,8 +77,7 @@ pred_of zero = 0
 pred_of (suc n) = n
 
 is_pred : (n : ℕ) → n ≢ 0 → n ≡ pred_of n + 1
-is_pred zero ne = absurd (ne refl)
-is_pred (suc n) ne = omega arith
+is_pred n ne = grind arith
 
 module _ (c : Setting) (x : Chain) (s : State) (w : Holds c x s) (k : ℕ) where
   abbrev answers : ℕ
@@ -115,38 +85,19 @@ module _ (c : Setting) (x : Chain) (s : State) (w : Holds c x s) (k : ℕ) where
 
   -- an entering pass
   enters_turn : (q own : ℕ) (at : Phase) → (post_of x own at).rank ≡ 3 → IsTrue (is_among c x k s q) → IsTurnAt c x k s q at
-  enters_turn q own (Phase.WriteTag put request) rank among = among
-  enters_turn q own (Phase.WriteBody put request i) rank among = among
-  enters_turn q own (Phase.Link put) rank among = among
-  enters_turn q own _ rank among = absurd (omega (arith, rank))
+  enters_turn q own at rank among = grind arith
 
   -- one that reads state 0
   reads_turn : (q own : ℕ) (at : Phase) → (post_of x own at).rank ≡ 4 → s.mem (Word.Node x (s.stand (pass_on c x q)).node NodeField.State) ≡ 0 → length (answers_on x s.history) < k → IsTurnAt c x k s q at
-  reads_turn q own Phase.ReadState rank state less = (state, less)
-  reads_turn q own _ rank state less = absurd (omega (arith, rank))
+  reads_turn q own at rank state less = grind arith
 
   -- the combiner
   serves_turn : (q : ℕ) (at : Phase) → is_combining at ≡ true → length (answers_on x s.history) < k + decided at → IsTurnAt c x k s q at
-  serves_turn q (Phase.ReadNext round) is less = (is, less)
-  serves_turn q (Phase.Counting job at) is less = (is, less)
-  serves_turn q (Phase.Sending job at) is less = (is, less)
-  serves_turn q (Phase.Taking job at) is less = (is, less)
-  serves_turn q (Phase.WriteAnswer job told) is less = (is, less)
-  serves_turn q (Phase.WriteAnswerTag job item) is less = (is, less)
-  serves_turn q (Phase.WriteAnswerBody job item i) is less = (is, less)
-  serves_turn q (Phase.MarkDone job) is less = (is, less)
-  serves_turn q (Phase.HandOver at) is less = (is, less)
-  serves_turn q _ is less = absurd (true≢false (sym is))
+  serves_turn q at is less = grind arith
 
   -- a call that waits isn't marked
   late : (n : ℕ) → n < members c x → (post_at x (s.stand (pass_on c x n))).rank ≡ 4 → s.mem (Word.Node x (s.stand (pass_on c x n)).node NodeField.State) ≡ 1 → w.ghost.marked ≤ w.ghost.at n
-  late n inside four one = elim (cases_lt (w.ghost.at n) w.ghost.marked) [
-    | inl done ↦
-        let two : s.mem (Word.Node x (post_at x (s.stand (pass_on c x n))).node NodeField.State) ≡ 2 = w.inv.states.done_state n inside four done in
-        let own : (post_at x (s.stand (pass_on c x n))).node ≡ (s.stand (pass_on c x n)).node = own_node x (s.stand (pass_on c x n)).node (s.stand (pass_on c x n)).phase in
-        absurd (omega (arith, one, two, ap (λ (z : ℕ). s.mem (Word.Node x z NodeField.State)) own))
-    | inr not_done ↦ not_done
-  ]
+  late n inside four one = grind (arith, w.inv.states.done_state n inside four, own_node)
 
   free : (n : ℕ) → n < members c x → w.ghost.at n < k → 3 ≤ (post_at x (s.stand (pass_on c x n))).rank → w.ghost.marked ≤ w.ghost.at n → w.ghost.server ≡ 0 → SomeTurn c x k s
   free n inside less entered low none =
@@ -214,7 +165,4 @@ module _ (c : Setting) (x : Chain) (s : State) (w : Holds c x s) (k : ℕ) where
       let at = among_at c x s w k n inside among in
       let four : (post_at x (s.stand (pass_on c x n))).rank ≡ 4 = ap (λ (z : Phase). (post_of x (s.stand (pass_on c x n)).node z).rank) reads in
       let low : w.ghost.marked ≤ w.ghost.at n = late n inside four one in
-      elim (cases_eq w.ghost.server 0) [
-        | inl none ↦ free n inside at.1 at.0 low none
-        | inr some ↦ busy n at.1 low (pred_of w.ghost.server) (is_pred w.ghost.server some)
-      ]
+      grind (arith, free n inside at.1 at.0 low, busy n at.1 low (pred_of w.ghost.server), is_pred w.ghost.server)

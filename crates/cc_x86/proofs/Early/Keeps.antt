@@ -1,7 +1,7 @@
 -- A look, and a write that all get at once: what is known of all posted stores then.
-use Rattle.std.proofs.Common.{◌≡◌, ◌≢◌, ◌⊎◌, inl, inr, ℕ, ◌<◌, true, false, refl, ap, sym, ◌∙◌, subst, List, [], None}
+use Rattle.std.proofs.Common.{◌≡◌, ◌≢◌, ◌⊎◌, inl, inr, ℕ, ◌<◌, true, false, refl, ap, sym, ◌∙◌, subst, List, [], None, arith}
 use Rattle.cc_x86.specs.Program as threads
-use Rattle.cc_x86.specs.Program.{hold, put, found, written}
+use Rattle.cc_x86.specs.Program.{found, written}
 use Rattle.cc_x86.specs.Sequential as atomic
 use Rattle.cc_x86.specs.Buffered.{Waiting, seen}
 use Rattle.cc_x86.specs.Posted.{IsLook, IsWrite, IsFor, has}
@@ -17,7 +17,7 @@ use Rattle.cc_x86.proofs.Early.Known.{Moment, Ends, chain, Facts, state, Marked,
 use Rattle.cc_x86.proofs.Early.Turns.{acting, either, T, does_a, own_then, others_then, loads_then, Quietly, idle_then, finished_then, then_m, busy_lent, quiet_lent}
 use Rattle.cc_x86.proofs.Early.Others.{known_stays}
 use Rattle.cc_runs.specs.Words.{same}
-use Rattle.cc_runs.specs.State.{Operation, Load, Store, Swap, Add, word_of}
+use Rattle.cc_runs.specs.State.{Operation, word_of}
 use Rattle.cc_runs.specs.Lines.{operation}
 use Rattle.cc_runs.specs.Step.{advanced}
 use Rattle.cc_runs.specs.Run.{passes, IsIdle, IsFinished}
@@ -26,22 +26,13 @@ use Rattle.cc_runs.specs.ChainLaws.{IsCombining}
 -- ---- what looks and what writes acts
 
 pub look_acts : (p : ℕ) (own : Stand) (words : Word → ℕ) (posted : List (Waiting Word)) (settled : Word → ℕ) (does : threads.Operation Word) → IsLook same waiting p own words posted settled does → atomic.Acts does
-look_acts p own words posted settled (threads.Load w) l = tt
-look_acts p own words posted settled (threads.Outside v) l = tt
-look_acts p own words posted settled (threads.Store w v) l = tt
-look_acts p own words posted settled (threads.Locked w f) l = tt
-look_acts p own words posted settled threads.Stop l = absurd l
+look_acts p own words posted settled does l = grind arith
 
 pub write_acts : (does : threads.Operation Word) → IsWrite does → atomic.Acts does
-write_acts (threads.Store w v) a = tt
-write_acts (threads.Locked w f) a = tt
-write_acts (threads.Load w) a = tt
-write_acts (threads.Outside v) a = tt
-write_acts threads.Stop a = absurd a
+write_acts does a = grind arith
 
 hand_no_load : (c : Setting) (x : Chain) (own : ℕ) (at : Phase) → IsHand at → IsLoad (operation c x own at) → ⊥
-hand_no_load c x own (Phase.HandOver i) a l = l
-hand_no_load c x own _ a l = a
+hand_no_load c x own at a l = grind arith
 
 module _ (c : Setting) (asks : ℕ → Ask) (m : Moment) (f : Facts c m.r) (j : Invariant c m) (p : ℕ) (its : IsFor m.busy p) where
   -- ---- a look
@@ -100,10 +91,7 @@ module _ (c : Setting) (asks : ℕ → Ask) (m : Moment) (f : Facts c m.r) (j : 
       by_op : (o : Operation) → IsLook same waiting p (m.r.own p) m.r.words (m.posted p) m.settled (as_thread o)
           → IsLoad o × (found m.r.words (as_thread o) told ≡ m.r.words (word_of o)) × (m.r.words (word_of o) ≡ seen same (m.posted p) (word_of o) (m.settled (word_of o)))
           × (waits_at at (seen same (m.posted p) (word_of o) (m.settled (word_of o))) ≡ false)
-      by_op (Load w) l = (tt, refl, l.1, l.0)
-      by_op (Store w v) l = absurd l
-      by_op (Swap w v) l = absurd l
-      by_op (Add w v) l = absurd l
+      by_op o l = grind arith
 
       loads : Loads
       loads = let t = by_op op (subst (λ (o : threads.Operation Word). IsLook same waiting p (m.r.own p) m.r.words (m.posted p) m.settled o) (sym op_is) look) in
@@ -207,10 +195,7 @@ module _ (c : Setting) (asks : ℕ → Ask) (m : Moment) (f : Facts c m.r) (j : 
     write_is = sym (busy_next c (chain c p) (m.r.own p).node (m.r.own p).phase (write_busy (stands_so (m.r.own p).phase))) ∙ write_turns.1
 
     no_write : (o : Operation) → IsWrite (as_thread o) → IsLoad o → ⊥
-    no_write (Load w) a l = a
-    no_write (Store w v) a l = l
-    no_write (Swap w v) a l = l
-    no_write (Add w v) a l = l
+    no_write o a l = grind arith
 
     no_load : IsLoad write_op → ⊥
     no_load l = no_write write_op (subst (λ (o : threads.Operation Word). IsWrite o) (sym write_is) write) l

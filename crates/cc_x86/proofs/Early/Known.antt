@@ -1,5 +1,5 @@
 -- What is known of the stores that passes have posted, and that so no other pass touches their words, but by a load that waits.
-use Rattle.std.proofs.Common.{◌≡◌, ◌≢◌, ◌⊎◌, inl, inr, ℕ, ◌<◌, Bool, true, false, cond, refl, ap, sym, ◌∙◌, subst, ⊎_elim, List, [], ◌∷◌, ◌++◌, Option, Some, None}
+use Rattle.std.proofs.Common.{◌≡◌, ◌≢◌, ◌⊎◌, inl, inr, ℕ, ◌<◌, Bool, true, false, cond, refl, ap, sym, ◌∙◌, subst, ⊎_elim, List, [], ◌∷◌, ◌++◌, Option, Some, None, arith}
 use Rattle.std.specs.Prelude.{nat_lt}
 use Rattle.std.proofs.lemmas.Bool.{ltb-true}
 use Rattle.cc_x86.specs.Program as threads
@@ -14,7 +14,7 @@ use Rattle.cc_x86.proofs.Early.Phases.{IsLoad, OfReceivers, IsPast, open_combine
 use Rattle.cc_x86.proofs.Early.Steps.{touches_item, asks_state}
 use Rattle.cc_x86.proofs.Early.Words.{OwnWord, ItemWord, Before, Since}
 use Rattle.cc_runs.specs.Words.{same}
-use Rattle.cc_runs.specs.State.{Operation, Load, Store, Swap, Add, chain_of, word_of}
+use Rattle.cc_runs.specs.State.{Operation, chain_of, word_of}
 use Rattle.cc_runs.specs.Lines.{operation}
 use Rattle.cc_runs.specs.Run.{passes, IsIdle, IsFinished}
 use Rattle.cc_runs.specs.MachineLaws.{Prepares, HoldsAt}
@@ -138,36 +138,29 @@ module _ (c : Setting) where
   has_hand [] x i w it = inr (same_is (Word.Node x i NodeField.State) w (by_test (same (Word.Node x i NodeField.State) w) it))
     where
       by_test : (b : Bool) → cond b true false ≡ true → b ≡ true
-      by_test true e = refl
-      by_test false e = e
+      by_test b e = grind arith
   has_hand (e ∷ newer) x i w it = by_test (same e.word w) (has same newer w) (has_hand newer x i w) it
     where
       by_test : (a b : Bool) → (has same (newer ++ hand x i ∷ []) w ≡ true → (b ≡ true) ⊎ (Word.Node x i NodeField.State ≡ w)) → cond a true (has same (newer ++ hand x i ∷ []) w) ≡ true
           → (cond a true b ≡ true) ⊎ (Word.Node x i NodeField.State ≡ w)
-      by_test true b rest e = inl refl
-      by_test false b rest e = rest e
+      by_test a b rest e = grind arith
 
   pub hand_is : (front : List (Waiting Word)) (x : Chain) (i : ℕ) → has same (front ++ hand x i ∷ []) (Word.Node x i NodeField.State) ≡ true
   hand_is [] x i = ap (λ (b : Bool). cond b true false) (same_self (Word.Node x i NodeField.State))
   hand_is (e ∷ newer) x i = by_test (same e.word (Word.Node x i NodeField.State)) (has same (newer ++ hand x i ∷ []) (Word.Node x i NodeField.State)) (hand_is newer x i)
     where
       by_test : (a b : Bool) → b ≡ true → cond a true b ≡ true
-      by_test true b e = refl
-      by_test false b e = e
+      by_test a b e = grind arith
 
   pub front_has : (front last : List (Waiting Word)) (w : Word) → has same front w ≡ true → has same (front ++ last) w ≡ true
   front_has [] last w it = absurd (contradiction false it refl)
   front_has (e ∷ newer) last w it = by_test (same e.word w) (has same newer w) (front_has newer last w) it
     where
       by_test : (a b : Bool) → (b ≡ true → has same (newer ++ last) w ≡ true) → cond a true b ≡ true → cond a true (has same (newer ++ last) w) ≡ true
-      by_test true b rest e = refl
-      by_test false b rest e = rest e
+      by_test a b rest e = grind arith
 
   pub lends_has : (m : Moment) (p : ℕ) (h : Lends m p) → has same (m.posted p) (state m p h.i) ≡ true
   lends_has m p h = ap (λ (l : List (Waiting Word)). has same l (state m p h.i)) h.only ∙ hand_is h.front (chain p) h.i
-
-  pub lends_front : (m : Moment) (p : ℕ) (h : Lends m p) (w : Word) → has same h.front w ≡ true → has same (m.posted p) w ≡ true
-  lends_front m p h w it = ap (λ (l : List (Waiting Word)). has same l w) h.only ∙ front_has h.front (hand (chain p) h.i ∷ []) w it
 
   pub lends_only : (m : Moment) (p : ℕ) (h : Lends m p) (w : Word) → has same (m.posted p) w ≡ true → (has same h.front w ≡ true) ⊎ (state m p h.i ≡ w)
   lends_only m p h w it = has_hand h.front (chain p) h.i w (ap (λ (l : List (Waiting Word)). has same l w) (sym h.only) ∙ it)
@@ -255,10 +248,7 @@ module _ (c : Setting) where
     alone_near not w e x it_is = alone_at not x (e ∙ same_is w x it_is)
 
     step_apart : (o : Operation) → does_at ≡ o → IsApart same waiting p (m.r.own p) m.posted m.settled (as_thread o)
-    step_apart (Load w) e = λ looks. no_other w (looks_alone w (ap word_of e) looks)
-    step_apart (Store w v) e = alone_near (λ l. subst IsLoad e l) w (ap word_of e)
-    step_apart (Swap w v) e = (alone_at (λ l. subst IsLoad e l) w (ap word_of e), alone_near (λ l. subst IsLoad e l) w (ap word_of e))
-    step_apart (Add w v) e = (alone_at (λ l. subst IsLoad e l) w (ap word_of e), alone_near (λ l. subst IsLoad e l) w (ap word_of e))
+    step_apart o e = grind (arith, no_other, looks_alone, alone_near, alone_at)
 
     abbrev Apart : threads.Operation Word → Type 0
     Apart o = IsApart same waiting p (m.r.own p) m.posted m.settled o

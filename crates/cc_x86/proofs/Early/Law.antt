@@ -1,5 +1,5 @@
 -- The passes of the queue keep the finer discipline, so that each of their runs with store buffers is linearizable.
-use Rattle.std.proofs.Common.{◌≡◌, ℕ, zero, suc, ◌+◌, Bool, true, false, cond, ◌==◌, refl, ap, sym, ◌∙◌, subst, List, ◌∷◌, Option, None, Ok}
+use Rattle.std.proofs.Common.{◌≡◌, ℕ, true, false, refl, ap, sym, ◌∙◌, subst, List, ◌∷◌, Option, None, Ok, arith}
 use Rattle.std.specs.Prelude.{nat_lt}
 use Rattle.cc_model.specs.Config.{config_fault}
 use Rattle.cc_x86.specs.Program as threads
@@ -9,7 +9,7 @@ use Rattle.cc_x86.specs.Buffered as buffers
 use Rattle.cc_x86.specs.Buffered.{Waiting}
 use Rattle.cc_x86.specs.Posted.{AreWaiting, Leads, Opens, Posts, Looks, Writes, Settles, IsOrderly, IsFromStore}
 use Rattle.cc_x86.specs.Early.{early, waits_at, waiting, early_turns, early_order, LinearizableWithEarlyStores}
-use Rattle.cc_x86.specs.Names.{Setting, Served, Answer, TakeAnswer, Job, Chain, Word, Stand, Phase, Move}
+use Rattle.cc_x86.specs.Names.{Setting, Served, Answer, Chain, Word, Stand, Phase, Move}
 use Rattle.cc_x86.specs.Threads.{Ask, passes_as_threads, opened, after_at, move_at, moves_of}
 use Rattle.cc_x86.specs.OnX86.{MayBegin}
 use Rattle.cc_x86.proofs.InTime.{moves_add}
@@ -22,12 +22,10 @@ use Rattle.cc_x86.proofs.Early.Turns.{acting, op_store, store_busy, T}
 use Rattle.cc_x86.proofs.Early.Posts.{posts_keep}
 use Rattle.cc_x86.proofs.Early.Keeps.{look_acts, write_acts, looks_keep, writes_keep}
 use Rattle.cc_x86.proofs.Early.Settles.{settles_keep}
-use Rattle.cc_runs.specs.Codes.{further_words, tag_of}
 use Rattle.cc_runs.specs.SendLines as send_side
 use Rattle.cc_runs.specs.TakeLines as take_side
 use Rattle.cc_runs.specs.CountLines as count_side
-use Rattle.cc_runs.specs.ServiceLine.{Next, On, Decides, DecidesAndOn, Tells, phase_of}
-use Rattle.cc_runs.specs.Lines.{operation, after_answer}
+use Rattle.cc_runs.specs.Lines.{operation}
 use Rattle.cc_runs.specs.Step.{advanced}
 use Rattle.cc_runs.specs.Run.{passes, reached, IsRun, IsFinished}
 use Rattle.cc_runs.specs.MachineLaws.{PreparedAlone, HistoryIsLegal, AnswersAreTold}
@@ -98,45 +96,14 @@ module _ (c : Setting) (asks : ℕ → Ask) where
   -- ---- the theorem
 
   waiting_stays : (p begun own : ℕ) (here : Phase) (x : ℕ) → waits_at here x ≡ true → after_at c asks p record { begun = begun; node = own; phase = here } here x ≡ record { begun = begun; node = own; phase = here }
-  waiting_stays p begun own Phase.ReadState zero it = absurd (contradiction false it refl)
-  waiting_stays p begun own Phase.ReadState (suc zero) it = refl
-  waiting_stays p begun own Phase.ReadState (suc (suc n)) it = absurd (contradiction false it refl)
-  waiting_stays p begun own here x it = absurd (contradiction false it refl)
+  waiting_stays p begun own here x it = grind arith
 
   pub are_waiting : AreWaiting (T c asks) waiting
   are_waiting p own x it = waiting_stays p own.begun own.node own.phase x it
 
   -- no store ends a call
-  service_ends : {S : Type 0} (in_service : Job → S → Phase) (job : Job) (n : Next S) → ((s : S) → IsFinished (in_service job s) → ⊥) → IsFinished (phase_of in_service job n) → ⊥
-  service_ends in_service job (On s) none e = none s e
-  service_ends in_service job (Decides told) none e = e
-  service_ends in_service job (DecidesAndOn told s) none e = none s e
-  service_ends in_service job (Tells told) none e = e
-
-  either_ends : (b : Bool) (now then : Phase) → (IsFinished now → ⊥) → (IsFinished then → ⊥) → IsFinished (cond b now then) → ⊥
-  either_ends true now then a d e = a e
-  either_ends false now then a d e = d e
-
-  answer_ends : (job : Job) (told : Answer) → IsFinished (after_answer job told) → ⊥
-  answer_ends job (Answer.Take (TakeAnswer.Got item)) e = e
-  answer_ends job _ e = e
-
   store_ends : (x : Chain) (begun own : ℕ) (here : Phase) → IsStore (operation c x own here) → IsFinished (advanced c x record { begun = begun; node = own; phase = here } 0).phase → ⊥
-  store_ends x begun own (Phase.ResetNext call) st e = e
-  store_ends x begun own (Phase.ResetState call) st e = e
-  store_ends x begun own (Phase.WriteTag put request) st e = e
-  store_ends x begun own (Phase.WriteBody put request i) st e = either_ends (nat_lt i (further_words request.tag)) (Phase.WriteBody put request (i + 1)) (Phase.Link put) (λ a. a) (λ a. a) e
-  store_ends x begun own (Phase.Link put) st e = e
-  store_ends x begun own (Phase.Counting job service) st e = service_ends count_side.in_service job (count_side.line 0 service 0).next (λ s a. a) e
-  store_ends x begun own (Phase.Sending job service) st e = service_ends send_side.in_service job (send_side.line c.config 0 service 0).next (λ s a. a) e
-  store_ends x begun own (Phase.Taking job service) st e = service_ends take_side.in_service job (take_side.line 0 service 0).next (λ s a. a) e
-  store_ends x begun own (Phase.WriteAnswer job told) st e = answer_ends job told e
-  store_ends x begun own (Phase.WriteAnswerTag job item) st e = e
-  store_ends x begun own (Phase.WriteAnswerBody job item i) st e = either_ends (nat_lt i (further_words (tag_of item))) (Phase.WriteAnswerBody job item (i + 1)) (Phase.MarkDone job) (λ a. a) (λ a. a) e
-  store_ends x begun own (Phase.MarkDone job) st e =
-      either_ends (job.round.served + 1 == c.config.bound) (Phase.HandOver job.next) (Phase.ReadNext record { at = job.next; served = job.round.served + 1 }) (λ a. a) (λ a. a) e
-  store_ends x begun own (Phase.HandOver node) st e = e
-  store_ends x begun own here st e = absurd st
+  store_ends x begun own here st e = grind arith
 
   pub finished_looked : (p : ℕ) (own : Stand) (answer : Answer) → own.phase ≡ Phase.Finished answer → IsFromStore (T c asks) p own → ⊥
   finished_looked p own answer e (from, w, v, is, goes_so) =

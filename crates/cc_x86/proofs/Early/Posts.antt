@@ -21,7 +21,6 @@ use Rattle.cc_runs.specs.State.{Operation, word_of}
 use Rattle.cc_runs.specs.Lines.{operation, after_done}
 use Rattle.cc_runs.specs.Step.{advanced}
 use Rattle.cc_runs.specs.Run.{passes}
-use Rattle.cc_runs.specs.MachineLaws.{Prepares}
 use Rattle.cc_runs.specs.ChainLaws.{IsCombining, IsEntering}
 use Rattle.cc_runs.specs.NodeLaws.{IsAsking, IsAnswering, IsSending, HasNode, IsWaitedFor}
 use Rattle.cc_runs.proofs.Words.{same_is, same_self}
@@ -111,8 +110,7 @@ module _ (c : Setting) (asks : ℕ → Ask) (m : Moment) (f : Facts c m.r) (j : 
       last (d ∷ l) = by_test (same d.word w) (has same (l ++ record { word = w; value = v } ∷ []) w) (last l)
         where
           by_test : (a b : Bool) → b ≡ true → cond a true b ≡ true
-          by_test true b e = refl
-          by_test false b e = e
+          by_test a b e = grind arith
 
   still : (y : Word) → has same (m.posted p) y ≡ true → has same (m'.posted p) y ≡ true
   still y it = ap (λ (l : List (Waiting Word)). has same l y) posted_next ∙ front_has c (m.posted p) (e ∷ []) y it
@@ -134,8 +132,7 @@ module _ (c : Setting) (asks : ℕ → Ask) (m : Moment) (f : Facts c m.r) (j : 
         (λ (hands : at ≡ Phase.HandOver n). subst (λ (z : Phase). IsShut x z) hands shut) kind
       where
         no_hand : (z : Phase) → IsAnswering z n → IsHand z → ⊥
-        no_hand (Phase.HandOver i) a b = a
-        no_hand z a b = b
+        no_hand z a b = grind arith
 
     -- its state isn't posted yet
     fresh : OfReceivers x ⊎ IsHand at → has same (m.posted p) (state c m p n) ≡ false
@@ -181,10 +178,7 @@ module _ (c : Setting) (asks : ℕ → Ask) (m : Moment) (f : Facts c m.r) (j : 
   low enters = subst (λ (z : ℕ). z ≤ 1) (sym (word_then c asks m.r p 0 pn is_busy (state c m p own) (no_state at enters))) (f.nodes.entering p pn enters)
     where
       no_state : (z : Phase) → IsEntering z → word_of (operation c x own z) ≡ Word.Node x own NodeField.State → ⊥
-      no_state (Phase.WriteTag put request) a e = cc
-      no_state (Phase.WriteBody put request i) a e = cc
-      no_state (Phase.Link put) a e = cc
-      no_state _ a e = a
+      no_state z a e = grind arith
 
   of_senders : IsSending at → OfSenders x
   of_senders sends = subst OfSenders (sym (f.nodes.sends p pn sends)) tt
@@ -196,8 +190,7 @@ module _ (c : Setting) (asks : ℕ → Ask) (m : Moment) (f : Facts c m.r) (j : 
         (grows c (λ n. m.r.words (state c m p n)) (λ n. m'.r.words (state c m p n)) x (m.r.own p).begun own at y stores no_mark no_hand of_senders low was))
       where
         by_kind : Inner (λ n. m'.r.words (state c m p n)) x (m'.r.own p) y → Knows c m' p y
-        by_kind (inl before) = inl (refl, before)
-        by_kind (inr since) = inr since
+        by_kind h = grind arith
 
     mine : (y : Word) → has same (m.posted p) y ≡ true → Known c m p y → Known c m' p y
     mine y it (inl (inl (_, before))) = inl (grown y (inr (inl before)))
@@ -327,13 +320,7 @@ module _ (c : Setting) (asks : ℕ → Ask) (m : Moment) (f : Facts c m.r) (j : 
         no_tail e = cc
 
     before_hand : (y : Word) → Known c m p y → OwnWord x (m'.r.own p).node y ⊎ Marked c m' p y
-    before_hand y (inl (inl (_, inl shut))) = absurd (subst (λ (z : Phase). IsShut x z) hands shut)
-    before_hand y (inl (inl (_, inr (inl asks)))) = absurd (asks_not asks.0)
-    before_hand y (inl (inl (_, inr (inr a)))) = absurd (subst (λ (z : Phase). IsAnswering z a.0) hands a.2)
-    before_hand y (inl (inr (_, inl mine))) = inl (mine.0, mine.1 ∙ ap (λ (z : ℕ). Word.Node x z mine.0) (sym node_next))
-    before_hand y (inl (inr (_, inr item))) = absurd (subst (λ (z : Phase). Prepares z item.0) hands item.2)
-    before_hand y (inr (inl (both, k))) = inr (marked_stays y both k)
-    before_hand y (inr (inr h)) = absurd (subst IsPast hands h.past)
+    before_hand y h = grind (arith, asks_not, node_next, marked_stays y)
 
     hand_lends : Lends c m' p
     hand_lends =

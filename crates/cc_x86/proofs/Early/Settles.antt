@@ -1,5 +1,6 @@
 -- A posted store that all have got: what is known of those that are left.
-use Rattle.std.proofs.Common.{◌≡◌, ◌≢◌, inl, inr, ℕ, Bool, true, false, cond, refl, ap, sym, ◌∙◌, subst, ⊎_elim, List, [], ◌∷◌, ◌++◌, Some, None, arith}
+use Rattle.std.proofs.Common.{◌≡◌, ◌≢◌, inl, inr, ℕ, Bool, true, false, cond, refl, ap, sym, ◌∙◌, subst, ⊎_elim, List, [], ◌∷◌, ◌++◌, None, arith}
+use Rattle.std.proofs.lemmas.Option.{none-some}
 use Rattle.cc_x86.specs.Program.{hold, put}
 use Rattle.cc_x86.specs.Buffered.{Waiting}
 use Rattle.cc_x86.specs.Posted.{has, but_first}
@@ -16,12 +17,8 @@ module _ (c : Setting) (m : Moment) (j : Invariant c m) (p : ℕ) (e : Waiting W
   abbrev pub settled_m : Moment
   settled_m = record { r = m.r; settled = put same m.settled e.word e.value; posted = hold m.posted p newer; busy = None }
 
-  none_some : (q : ℕ) → None ≡ Some q → ⊥
-  none_some q e = cc
-
   later : (a b : Bool) → b ≡ true → cond a true b ≡ true
-  later true b it = refl
-  later false b it = it
+  later a b it = grind arith
 
   had : (q : ℕ) (y : Word) → has same (hold m.posted p newer q) y ≡ true → has same (m.posted q) y ≡ true
   had q y = at_hold' (λ (b : Bool). has same (cond b newer (m.posted q)) y ≡ true → has same (m.posted q) y ≡ true) p q
@@ -46,7 +43,7 @@ module _ (c : Setting) (m : Moment) (j : Invariant c m) (p : ℕ) (e : Waiting W
   put_other q w other posts = put_away w (λ touches. other (j.apart q p e.word (subst (λ (z : Word). has same (m.posted q) z ≡ true) (sym touches) posts) first_had))
 
   other_known : (q : ℕ) (y : Word) → q ≢ p → Known c m q y → Known c settled_m q y
-  other_known q y other (inl (inl (of_q, _))) = absurd (none_some q (sym quiet ∙ of_q))
+  other_known q y other (inl (inl (of_q, _))) = absurd (none-some q (sym quiet ∙ of_q))
   other_known q y other (inl (inr since)) = inl (inr since)
   other_known q y other (inr (inl (both, k))) = inr (inl (both, marked k))
     where
@@ -112,7 +109,7 @@ module _ (c : Setting) (m : Moment) (j : Invariant c m) (p : ℕ) (e : Waiting W
           zero_two z a b = omega (arith, a, b)
 
   left_known : (y : Word) → has same newer y ≡ true → Known c m p y → Known c settled_m p y
-  left_known y left (inl (inl (of_p, _))) = absurd (none_some p (sym quiet ∙ of_p))
+  left_known y left (inl (inl (of_p, _))) = absurd (none-some p (sym quiet ∙ of_p))
   left_known y left (inl (inr since)) = inl (inr since)
   left_known y left (inr (inl (both, k))) = inr (inl (both, left_marked y left k))
   left_known y left (inr (inr h)) = inr (inr (lends_left h h.front refl y left))

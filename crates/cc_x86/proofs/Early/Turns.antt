@@ -14,7 +14,7 @@ use Rattle.cc_x86.proofs.Early.Phases.{IsStore, IsLoad, IsSwap, IsPast, past_ask
 use Rattle.cc_x86.proofs.Early.Steps.{unwritten, asks_stays, swaps_or_keeps, comes}
 use Rattle.cc_x86.proofs.Early.Known.{Moment, chain, Facts, Lent}
 use Rattle.cc_runs.specs.Words.{same}
-use Rattle.cc_runs.specs.State.{Operation, Load, Store, Swap, Add, word_of}
+use Rattle.cc_runs.specs.State.{Operation, Swap, word_of}
 use Rattle.cc_runs.specs.Lines.{operation}
 use Rattle.cc_runs.specs.Step.{advanced}
 use Rattle.cc_runs.specs.Run.{passes, IsIdle, IsFinished, begins, rests}
@@ -37,10 +37,7 @@ acting c asks p own does e acts =
     (ltb-true p (passes c) t.0, t.1)
 
 pub op_store : (o : Operation) (w : Word) (v : ℕ) → as_thread o ≡ threads.Store w v → IsStore o × (word_of o ≡ w)
-op_store (Store u x) w v e = (tt, cc)
-op_store (Load u) w v e = absurd (cc)
-op_store (Swap u x) w v e = absurd (cc)
-op_store (Add u x) w v e = absurd (cc)
+op_store o w v e = grind arith
 
 pub store_busy : (c : Setting) (x : Chain) (own : ℕ) (at : Phase) (w : Word) (v : ℕ) → next_at c x own at ≡ threads.Store w v → IsIdle at ⊎ IsFinished at ⊎ IsBusy at → IsBusy at
 store_busy c x own at w v e (inl idle) = absurd (differ (sym (idle_next c x own at idle) ∙ e))
@@ -94,10 +91,7 @@ module _ (c : Setting) (asks : ℕ → Ask) where
     loads_then is_busy loads = words_then is_busy ∙ by_load does_a loads
       where
         by_load : (o : Operation) → IsLoad o → written same r.words (as_thread o) ≡ r.words
-        by_load (Load u) l = refl
-        by_load (Store u v) l = absurd l
-        by_load (Swap u v) l = absurd l
-        by_load (Add u v) l = absurd l
+        by_load o l = grind arith
 
     -- a begin, and a return
     pub record Quietly : Type 0 where
@@ -120,8 +114,7 @@ module _ (c : Setting) (asks : ℕ → Ask) where
         quietly (begins c.config a (asks told).call (asks told).known (r.own a)) is (own_by (threads.Outside 0) is ∙ idle_after c asks a (r.own a) (r.own a).phase told idle) refl tt (idle_past (r.own a).phase idle)
       where
         idle_past : (at : Phase) → IsIdle at → IsPast at
-        idle_past Phase.Idle idle = tt
-        idle_past _ idle = absurd idle
+        idle_past at idle = grind arith
 
     pub finished_then : IsFinished (r.own a).phase → Quietly
     finished_then finished =
@@ -129,8 +122,7 @@ module _ (c : Setting) (asks : ℕ → Ask) where
         quietly (rests (r.own a)) is (own_by (threads.Outside 0) is ∙ finished_after c asks a (r.own a) (r.own a).phase told finished) refl tt (finished_past (r.own a).phase finished)
       where
         finished_past : (at : Phase) → IsFinished at → IsPast at
-        finished_past (Phase.Finished answer) finished = tt
-        finished_past _ finished = absurd finished
+        finished_past at finished = grind arith
 
   -- ---- what is lent stays so
 
@@ -190,9 +182,7 @@ module _ (c : Setting) (asks : ℕ → Ask) where
 
         found_tail : (o : Operation) → IsSwap o → word_of o ≡ Word.Tail (chain c a) → found m.r.words (as_thread o) told ≡ m.r.words (Word.Tail (chain c a))
         found_tail (Swap w v) s e = ap m.r.words e
-        found_tail (Load w) s e = absurd s
-        found_tail (Store w v) s e = absurd s
-        found_tail (Add w v) s e = absurd s
+        found_tail o s e = grind arith
 
         -- who comes to combine has read the 0 of this node
         comes_not : chain c a ≡ x → IsCombining ((then_r m.r a told an).own a).phase → ⊥

@@ -2,7 +2,7 @@
 use Rattle.std.proofs.Common.{◌≡◌, ◌≢◌, ◌⊎◌, inl, inr, ℕ, zero, suc, ◌+◌, ◌<◌, ◌≤◌, Bool, true, false, cond, ◌==◌, refl, ap, sym, ◌∙◌, subst, ⊎_elim, arith}
 use Rattle.std.specs.Prelude.{nat_lt}
 use Rattle.std.proofs.lemmas.Bool.{cases_eq}
-use Rattle.cc_x86.specs.Names.{Setting, Served, Answer, TakeAnswer, NodeField, ItemField, Round, Job, Chain, Word, Stand, Phase, Counting, Sending, Taking}
+use Rattle.cc_x86.specs.Names.{Setting, Served, Answer, NodeField, ItemField, Round, Job, Chain, Word, Stand, Phase, Sending}
 use Rattle.cc_x86.specs.Early.{waits_at}
 use Rattle.cc_x86.proofs.Stores.{contradiction}
 use Rattle.cc_x86.proofs.Early.Phases.{IsStore, IsLoad, load_no_swap, OfSenders, OfReceivers, not_both, IsHand, IsMark, IsNext, IsPast, IsShut, IsOpen, open_combines, past_asks, past_combines, past_shut, answering_combines, asking_open, asking_shut, answering_one, answering_asks, answering_prepares, answering_shut, either_way, stand}
@@ -13,7 +13,7 @@ use Rattle.cc_runs.specs.Codes.{behind, further_words, tag_of}
 use Rattle.cc_runs.specs.SendLines as send_side
 use Rattle.cc_runs.specs.TakeLines as take_side
 use Rattle.cc_runs.specs.CountLines as count_side
-use Rattle.cc_runs.specs.ServiceLine.{Next, On, Decides, DecidesAndOn, Tells, phase_of}
+use Rattle.cc_runs.specs.ServiceLine.{Next, phase_of}
 use Rattle.cc_runs.specs.Step.{advanced}
 use Rattle.cc_runs.specs.MachineLaws.{Prepares, IsPreparing}
 use Rattle.cc_runs.specs.ChainLaws.{IsEntering}
@@ -54,14 +54,10 @@ past_inner state x own at w past (inr (is, _)) = past_combines at past (open_com
 
 -- a word that is posted at a place in a request is the pass's own
 own_asking : (state : ℕ → ℕ) (x : Chain) (own : ℕ) (at : Phase) (w : Word) → IsAsking at → Before state x own at w ⊎ Since x own at w → OwnWord x own w
-own_asking state x own at w a (inl (inl shut)) = absurd (asking_shut x at a shut)
-own_asking state x own at w a (inl (inr (inl (_, its, _)))) = its
-own_asking state x own at w a (inl (inr (inr answers))) = absurd (answering_asks at answers.0 answers.2 a)
-own_asking state x own at w a (inr (is, _)) = absurd (asking_open x at a is)
+own_asking state x own at w a h = grind (arith, asking_shut x at a, answering_asks at, asking_open x at a)
 
 prepares_on : (i : ℕ) (b : Bool) (now then : Sending) → IsPreparing now i → IsPreparing then i → IsPreparing (cond b now then) i
-prepares_on i true now then a d = a
-prepares_on i false now then a d = d
+prepares_on i b now then a d = grind arith
 
 -- the word that its next step touches, or one that it has posted
 abbrev pub Grown : Setting → (ℕ → ℕ) → Chain → Stand → Word → Type 0
@@ -86,29 +82,10 @@ module _ (c : Setting) (state after : ℕ → ℕ) (x : Chain) (begun own : ℕ)
   prepared : (job : Job) (service then : Sending) (at : ℕ) (y : Word) (f : ItemField) → ((i : ℕ) → IsPreparing service i → at ≡ i) → IsPreparing then at
       → ((i : ℕ) → at ≡ i → IsPreparing then i) → (IsShut x (Phase.Sending job service) → ⊥)
       → (y ≡ Word.Item at f) ⊎ Inner state x (stand begun own (Phase.Sending job service)) y → Inner after x (stand begun own (Phase.Sending job then)) y
-  prepared job service then at y f was now all unshut (inl is) = inr (tt, inr (at, f, now, is))
-  prepared job service then at y f was now all unshut (inr (inl (inl shut))) = absurd (unshut shut)
-  prepared job service then at y f was now all unshut (inr (inl (inr (inl e)))) = absurd e.0
-  prepared job service then at y f was now all unshut (inr (inl (inr (inr e)))) = absurd e.2
-  prepared job service then at y f was now all unshut (inr (inr (_, inl its))) = inr (tt, inl its)
-  prepared job service then at y f was now all unshut (inr (inr (_, inr item))) = inr (tt, inr (item.0, item.1, all item.0 (was item.0 item.2), item.3))
+  prepared job service then at y f was now all unshut h = grind arith
 
   sent : (job : Job) (service : Sending) (y : Word) → OfSenders x → IsStore (operation c x own (Phase.Sending job service)) → Grows (Phase.Sending job service) y
-  sent job (Sending.LinkMark total last) y sends st was = inl (inl sends)
-  sent job (Sending.WriteLastMark total) y sends st was = inl (inl sends)
-  sent job (Sending.WriteShut total) y sends st was = inl (inl sends)
-  sent job (Sending.ResetPassed parcel at) y sends st was = prepared job (Sending.ResetPassed parcel at) (Sending.ResetItemNext parcel at) at y ItemField.Passed (λ i e. absurd e) refl (λ i e. e) (λ e. e) was
-  sent job (Sending.ResetItemNext parcel at) y sends st was = prepared job (Sending.ResetItemNext parcel at) (Sending.WriteItemTag parcel at) at y ItemField.Next (λ i e. e) refl (λ i e. e) (λ e. e) was
-  sent job (Sending.WriteItemTag parcel at) y sends st was = prepared job (Sending.WriteItemTag parcel at) (Sending.WriteItemBody parcel at 0) at y ItemField.Tag (λ i e. e) refl (λ i e. e) (λ e. e) was
-  sent job (Sending.WriteItemBody parcel at j) y sends st was =
-      prepared job (Sending.WriteItemBody parcel at j) (behind (further_words parcel.tag) j (Sending.WriteItemBody parcel at (j + 1)) (Sending.ReadLast parcel.place at)) at y (ItemField.Body j) (λ i e. e)
-      (prepares_on at (nat_lt j (further_words parcel.tag)) (Sending.WriteItemBody parcel at (j + 1)) (Sending.ReadLast parcel.place at) refl refl)
-      (λ i e. prepares_on i (nat_lt j (further_words parcel.tag)) (Sending.WriteItemBody parcel at (j + 1)) (Sending.ReadLast parcel.place at) e e) (λ e. e) was
-  sent job (Sending.LinkItem place at last) y sends st was = inl (inl sends)
-  sent job (Sending.WriteLast place at) y sends st was = inl (inl sends)
-  sent job (Sending.WriteCount place at) y sends st was = inl (inl sends)
-  sent job (Sending.WriteCursor place at) y sends st was = inl (inl sends)
-  sent job service y sends st was = absurd st
+  sent job service y sends st was = grind (arith, prepared job, behind, further_words, prepares_on, nat_lt)
 
   -- a word of an answer, before the mark: on the senders' chain the mark is locked
   told : (at then : Phase) (n : ℕ) (y : Word) (f : NodeField) → IsAnswering at n → IsAnswering then n → IsOpen x then → (OfSenders x → IsShut x then) → NodeField.State ≢ f
@@ -132,24 +109,15 @@ module _ (c : Setting) (state after : ℕ → ℕ) (x : Chain) (begun own : ℕ)
       by_chain (Chain.Take g) e = let takes : OfReceivers x = subst OfReceivers (sym e) tt in ⊎_elim (newer y takes) (older y takes) was
 
   told_first : (job : Job) (answer : Answer) → IsAnswering (after_answer job answer) job.round.at × IsOpen x (after_answer job answer) × (OfSenders x → IsShut x (after_answer job answer))
-  told_first job (Answer.Take (TakeAnswer.Got item)) = (refl, tt, λ sends. sends)
-  told_first job _ = (refl, tt, λ sends. sends)
+  told_first job answer = grind arith
 
   -- a store that is posted, but for marks and hand-overs
   pub grows : (at : Phase) (y : Word) → IsStore (operation c x own at) → (IsMark at → ⊥) → (IsHand at → ⊥) → (IsSending at → OfSenders x) → (IsEntering at → after own ≤ 1) → Grows at y
-  grows (Phase.ResetNext call) y st mark hand sends low was = inl (inl tt)
-  grows (Phase.ResetState call) y st mark hand sends low was = inl (inl tt)
   grows (Phase.WriteTag put request) y st mark hand sends low was = inl (inr (inl (tt, asked (Phase.WriteTag put request) y NodeField.Tag tt was, tt)))
   grows (Phase.WriteBody put request i) y st mark hand sends low was =
       inl (asks_on y (nat_lt i (further_words request.tag)) (Phase.WriteBody put request (i + 1)) (Phase.Link put) tt tt (asked (Phase.WriteBody put request i) y (NodeField.Body i) tt was) tt tt)
   grows (Phase.Link put) y st mark hand sends low was = inl (inr (inl (tt, asked (Phase.Link put) y NodeField.Next tt was, low tt)))
-  grows (Phase.Counting job (Counting.WriteCount count)) y st mark hand sends low was = inl (inl (sends tt))
-  grows (Phase.Counting job Counting.ReadTag) y st mark hand sends low was = absurd st
-  grows (Phase.Counting job service) y st mark hand sends low was = absurd st
   grows (Phase.Sending job service) y st mark hand sends low was = sent job service y (sends tt) st was
-  grows (Phase.Taking job (Taking.WriteHead dummy node parcel)) y st mark hand sends low was = inl (inl tt)
-  grows (Phase.Taking job (Taking.WriteTaken dummy parcel)) y st mark hand sends low was = inl (inl tt)
-  grows (Phase.Taking job service) y st mark hand sends low was = absurd st
   grows (Phase.WriteAnswer job answer) y st mark hand sends low was =
       let t = told_first job answer in told (Phase.WriteAnswer job answer) (after_answer job answer) job.round.at y NodeField.Ret refl t.0 t.1 t.2 (λ e. cc) was
   grows (Phase.WriteAnswerTag job item) y st mark hand sends low was =
@@ -160,9 +128,7 @@ module _ (c : Setting) (state after : ℕ → ℕ) (x : Chain) (begun own : ℕ)
       (either_way (λ (z : Phase). IsOpen x z) (nat_lt i (further_words (tag_of item))) (Phase.WriteAnswerBody job item (i + 1)) (Phase.MarkDone job) tt tt)
       (λ a. either_way (λ (z : Phase). IsShut x z) (nat_lt i (further_words (tag_of item))) (Phase.WriteAnswerBody job item (i + 1)) (Phase.MarkDone job) a a)
       (λ e. cc) was
-  grows (Phase.MarkDone job) y st mark hand sends low was = absurd (mark tt)
-  grows (Phase.HandOver at) y st mark hand sends low was = absurd (hand tt)
-  grows at y st mark hand sends low was = absurd st
+  grows at y st mark hand sends low was = grind arith
 
   -- the mark of a take: what it has posted of another node than its own is marked now
   pub marks : (job : Job) (y : Word) → OfReceivers x → Grown c state x (stand begun own (Phase.MarkDone job)) y
@@ -178,25 +144,15 @@ module _ (c : Setting) (state after : ℕ → ℕ) (x : Chain) (begun own : ℕ)
           (λ (other : own ≡ job.round.at → ⊥). inr (other, f, is ∙ ap (λ (k : ℕ). Word.Node x k f) (sym same))) (cases_eq own job.round.at)
 
       by_kind : (y ≡ Word.Node x job.round.at NodeField.State) ⊎ Inner state x (stand begun own (Phase.MarkDone job)) y → Since x own (after_done c.config.bound job) y ⊎ ((own ≢ job.round.at) × (f : NodeField) × (y ≡ Word.Node x job.round.at f))
-      by_kind (inl is) = of_node job.round.at NodeField.State is refl
-      by_kind (inr (inl (inl sends))) = absurd (not_both x sends takes)
-      by_kind (inr (inl (inr (inl e)))) = absurd e.0
-      by_kind (inr (inl (inr (inr e)))) = of_node e.0 e.1 e.5 e.2
-      by_kind (inr (inr (_, inl its))) = inl (on, inl its)
-      by_kind (inr (inr (_, inr item))) = absurd item.2
+      by_kind h = grind (arith, of_node job.round.at NodeField.State, not_both x, of_node, on)
 
   -- ---- after a look
 
   service_on : {S : Type 0} (in_service : Job → S → Phase) (job : Job) (n : Next S) → ((s : S) → IsOpen x (in_service job s)) → IsOpen x (phase_of in_service job n)
-  service_on in_service job (On s) all = all s
-  service_on in_service job (Decides told) all = tt
-  service_on in_service job (DecidesAndOn told s) all = all s
-  service_on in_service job (Tells told) all = tt
+  service_on in_service job n all = grind arith
 
   serves_on : (what : Served) (y : Chain) (job : Job) → IsOpen x (serves what y job)
-  serves_on Served.Counter y job = tt
-  serves_on Served.List Chain.Send job = tt
-  serves_on Served.List (Chain.Take g) job = tt
+  serves_on what y job = grind arith
 
   next_on : (round : Round) (found : ℕ) → (0 < found) ⊎ OfReceivers x → IsOpen x (after_next c.served x round found)
   next_on round zero (inl linked) = absurd (omega (arith, linked))
@@ -209,59 +165,27 @@ module _ (c : Setting) (state after : ℕ → ℕ) (x : Chain) (begun own : ℕ)
   looks_on (Phase.Counting job service) found l a linked = service_on count_side.in_service job (count_side.line 0 service found).next (λ s. tt)
   looks_on (Phase.Sending job service) found l a linked = service_on send_side.in_service job (send_side.line c.config 0 service found).next (λ s. tt)
   looks_on (Phase.Taking job service) found l a linked = service_on take_side.in_service job (take_side.line 0 service found).next (λ s. tt)
-  looks_on (Phase.WriteAnswer job told) found l a linked = absurd l
-  looks_on (Phase.WriteAnswerTag job item) found l a linked = absurd l
-  looks_on (Phase.WriteAnswerBody job item i) found l a linked = absurd l
-  looks_on (Phase.MarkDone job) found l a linked = absurd l
-  looks_on (Phase.HandOver at) found l a linked = absurd l
-  looks_on _ found l a linked = absurd a
+  looks_on at found l a linked = grind arith
 
   looks_prepare : (at : Phase) (found i : ℕ) → IsLoad (operation c x own at) → Prepares at i → Prepares (advanced c x (stand begun own at) found).phase i
-  looks_prepare (Phase.Sending job (Sending.ReadLast place node)) found i l e = e
-  looks_prepare (Phase.Sending job (Sending.ResetItemNext parcel node)) found i l e = absurd l
-  looks_prepare (Phase.Sending job (Sending.WriteItemTag parcel node)) found i l e = absurd l
-  looks_prepare (Phase.Sending job (Sending.WriteItemBody parcel node j)) found i l e = absurd l
-  looks_prepare (Phase.Sending job (Sending.LinkItem place node last)) found i l e = absurd l
-  looks_prepare (Phase.Sending job service) found i l e = absurd e
-  looks_prepare _ found i l e = absurd e
+  looks_prepare at found i l e = grind arith
 
   shut_no_load : (at : Phase) → IsShut x at → IsLoad (operation c x own at) → ⊥
-  shut_no_load (Phase.ResetState call) a l = l
-  shut_no_load (Phase.Exchange call) a l = l
-  shut_no_load (Phase.Sending job (Sending.WriteLastMark total)) a l = l
-  shut_no_load (Phase.Sending job (Sending.WriteShut total)) a l = l
-  shut_no_load (Phase.Sending job (Sending.WriteLast place at)) a l = l
-  shut_no_load (Phase.Sending job (Sending.WriteCount place at)) a l = l
-  shut_no_load (Phase.Sending job (Sending.WriteCursor place at)) a l = l
-  shut_no_load (Phase.Taking job (Taking.WriteTaken dummy parcel)) a l = l
-  shut_no_load (Phase.Taking job (Taking.AddPassed dummy parcel)) a l = l
-  shut_no_load (Phase.WriteAnswer job told) a l = l
-  shut_no_load (Phase.WriteAnswerTag job item) a l = l
-  shut_no_load (Phase.WriteAnswerBody job item i) a l = l
-  shut_no_load (Phase.MarkDone job) a l = l
-  shut_no_load _ a l = absurd a
+  shut_no_load at a l = grind arith
 
   answering_no_load : (at : Phase) (n : ℕ) → IsAnswering at n → IsLoad (operation c x own at) → ⊥
-  answering_no_load (Phase.WriteAnswer job told) n a l = l
-  answering_no_load (Phase.WriteAnswerTag job item) n a l = l
-  answering_no_load (Phase.WriteAnswerBody job item i) n a l = l
-  answering_no_load (Phase.MarkDone job) n a l = l
-  answering_no_load _ n a l = a
+  answering_no_load at n a l = grind arith
 
   -- a request's last look: it doesn't wait, so it finds 0
   asks_look : (at : Phase) (found : ℕ) (y : Word) → IsAsking at → IsLoad (operation c x own at) → IsLow (state own) at → OwnWord x own y
       → (at ≡ Phase.ReadState → found ≡ state own) → waits_at at found ≡ false
       → Since x (advanced c x (stand begun own at) found).node (advanced c x (stand begun own at) found).phase y
-  asks_look (Phase.WriteTag put request) found y a l low its finds waits = absurd l
-  asks_look (Phase.WriteBody put request i) found y a l low its finds waits = absurd l
-  asks_look (Phase.Link put) found y a l low its finds waits = absurd l
-  asks_look Phase.ReadState zero y a l low its finds waits = (inl refl, inl its)
   asks_look Phase.ReadState (suc zero) y a l low its finds waits = absurd (contradiction true refl waits)
   asks_look Phase.ReadState (suc (suc n)) y a l low its finds waits = absurd (too_many n (state own) (finds refl) low)
     where
       too_many : (n z : ℕ) → suc (suc n) ≡ z → z ≤ 1 → ⊥
       too_many n z e low = omega (arith, e, low)
-  asks_look _ found y a l low its finds waits = absurd a
+  asks_look at found y a l low its finds waits = grind arith
 
   -- what a pass has posted, after its look
   pub looks : (at : Phase) (found : ℕ) (y : Word) → IsLoad (operation c x own at) → (IsOpen x at → IsNext at → (0 < found) ⊎ OfReceivers x) → (at ≡ Phase.ReadState → found ≡ state own) → waits_at at found ≡ false

@@ -1,4 +1,4 @@
-use Rattle.cc_steps.proofs.Own.{own_linked}
+use Rattle.cc_steps.proofs.ReadAnswers.{own_linked}
 use Rattle.cc_steps.proofs.steps.read_next.Goals as goal
 
 pub returns-clause-own : goal.returns-clause-own

@@ -1,4 +1,4 @@
-use Rattle.std.proofs.Common.{◌≡◌, ◌≤◌, ◌<◌, ℕ, Bool, true, false, if◌then◌else◌, length, Result, Some, Ok, Err, ap, sym, refl, ◌∙◌, arith, rules}
+use Rattle.std.proofs.Common.{◌≡◌, ◌≤◌, ◌<◌, ℕ, Bool, true, false, if◌then◌else◌, length, Result, Some, Ok, Err, ap, sym, ◌∙◌, arith, rules}
 use Rattle.cc_machine.specs.Names.{Config, Call, BeginFault, Chain, Phase, Stand, Pass, Board}
 use Rattle.cc_machine.specs.BoardSteps.{view_of, IsLaid}
 use Rattle.cc_model.specs.declared.body.Body.{Body}
@@ -36,8 +36,7 @@ right m who call p x b stand row on side is there =
     ∙ ap (λ (s : Stand). later m.setting.config call s) (sym there)
 
 busy : (at : Phase) (rest : Result (Unit {0}) BeginFault) → (at ≡ Phase.Idle → ⊥) → unless_busy at rest ≡ Err BeginFault.Busy
-busy Phase.Idle rest other = absurd (other refl)
-busy _ rest other = refl
+busy at rest other = grind arith
 
 idle : (c : Config) (call : Call) (stand : Stand) (n : ℕ) → stand.phase ≡ Phase.Idle → n ≡ begun_after call stand.begun → later c call stand ≡ unless_worn c n
 idle c call stand n at is = ap (λ (z : Phase). unless_busy z (unless_worn c (begun_after call stand.begun))) at ∙ ap (λ (k : ℕ). unless_worn c k) (sym is)
@@ -49,8 +48,7 @@ fresh : (c : Config) (n : ℕ) → n ≤ c.per_sender → unless_worn c n ≡ Ok
 fresh c n few = grind (arith, few)
 
 no_send : (call : Call) (n : ℕ) → ((body : Body) → call ≡ Call.Send body → ⊥) → n ≡ begun_after call n
-no_send (Call.Send body) n none = absurd (none body refl)
-no_send _ n none = refl
+no_send call n none = grind arith
 
 pub chain-requires-clause-pass : goal.chain-requires-clause-pass
 chain-requires-clause-pass c = placed c.args.self.now c.args.pass c.in-Some.index c.requires.valid.laid c.in-Some.ensures
