@@ -90,8 +90,8 @@ def of_the_library():
 
 
 def of_the_headers():
-    """The same of the headers; and the codes of vahepito.h by their numbers, with the names in vahepito_name, and those
-    that vahepito_text has. The functions of vahepito.h itself, which are in vahepito_queue.c, are no exports of the
+    """The same of the headers; and the codes of vahepito.h by their numbers, with the sentences that vahepito_queue.c has
+    for them. The functions of vahepito.h itself, which are in vahepito_queue.c, are no exports of the
     proved library."""
     own, handles, code = [
         re.sub(r"/\*.*?\*/", "", (TOP / "bindings/c" / name).read_text(), flags=re.S)
@@ -109,11 +109,10 @@ def of_the_headers():
     for fields, name in re.findall(r"typedef struct \{(.*?)\} (\w+);", whole, re.S):
         fields = re.sub(r"\[VAHEPITO_(\w+)\]", lambda found: f"[{defined[found[1]]}]", fields)
         structs[name] = [" ".join(field.split()) for field in fields.split(";") if field.strip()]
-    said = [re.findall(r'case VAHEPITO_(\w+): return "(.*)";', code.split(f"*vahepito_{name}(")[1].split("default:")[0])
-            for name in ("name", "text")]
+    texts = re.findall(r'^ *CODE\((\w+), "(.*)"\),$', code, re.M)
     of_calls = sorted(re.findall(r"^ *VAHEPITO_(\w+) = \d+", own, re.M), key=codes.get)
     codes = {RENAMED.get(name, name): number for name, number in codes.items()}
-    return codes, int(defined["VERSION"]), exports, {name: structs[name] for name, _, _ in STRUCTS}, of_calls, *said
+    return codes, int(defined["VERSION"]), exports, {name: structs[name] for name, _, _ in STRUCTS}, of_calls, texts
 
 
 def number_of(pattern, path):
@@ -153,13 +152,11 @@ def differences():
         "the crate": of_rust(sorted((TOP / "bindings/rust/src").rglob("*.rs")), STRUCTS),
         "the bench": of_rust([TOP / "bench/peers/src/exports.rs"], OF_THE_BENCH),
     }
-    _, _, _, _, codes_of_calls, names, texts = header
-    if names != [(name, name)
-                 for name in codes_of_calls] or set(header[0].values()) | FREE != set(
-                         range(len(header[0]) + len(FREE))):
-        yield "the names in vahepito_name aren't those of the codes of vahepito.h"
+    _, _, _, _, codes_of_calls, texts = header
+    if set(header[0].values()) | FREE != set(range(len(header[0]) + len(FREE))):
+        yield "the codes of vahepito.h aren't one number after the other"
     if [name for name, _ in texts] != codes_of_calls or len({text for _, text in texts}) != len(texts):
-        yield "vahepito_text doesn't have a sentence of its own for each code of vahepito.h"
+        yield "vahepito_queue.c doesn't have a sentence of its own for each code of vahepito.h"
     for name in OF_THE_HEADER:
         if name in library[0]:
             yield f"{name} is a code of the header alone, and the library has it too"

@@ -14,25 +14,25 @@
 //! Wakers and items have calls that the user wrote: a waker's clone, wake and drop; an item's clone and drop; the drop
 //! of a panic's payload. Each may block, call the channel, or panic. None runs while a lock or a seat is held. This table
 //! has every place at which one runs, what was done before it, and what becomes of its panic. [`Panics`] catches
-//! panics, and [`Unsent`](crate::channel::body::Unsent) keeps unwinding from an item that the queue has. `tests/channel/user_code.rs`
+//! panics, and [`send_by`](crate::channel::body::send_by) forgets an item that the queue has. `tests/channel/user_code.rs`
 //! makes each of them panic.
 //!
 //! | user code | place | done before it | its panic |
 //! |---|---|---|---|
 //! | a waker's clone | a poll, before it enters or stays in line, or is posted | the last attempt found nothing; the item is in the future | leaves the poll |
 //! | a waker's drop | a poll that replaces the waker, `Event::stay` and those of `rendezvous` | the new waker is in its place | is raised at the end of the poll, if that is pending |
-//! | | a poll that is done, `Event::leave`, `poll_posted` | the item is sent or taken, the future is out of the line, a notification that it had is passed on | ends |
+//! | | a poll that is done, `Event::leave`, `rendezvous` | the item is sent or taken, the future is out of the line, a notification that it had is passed on | ends |
 //! | | the drop of a future | as above; an item of capacity 0 went to the next take | is raised after the other drops |
-//! | a waker's wake | a send, a take, a selected operation, `Event::notify_one` | the item is sent or taken, the waker is out of the line | ends; the next waiter of the line is woken instead, and an item of capacity 0 stays in its pair |
+//! | a waker's wake | a send, a take, a selected operation, `Event::notify_one` | the item is sent or taken, the waker is out of the line | ends; the next waiter of the line is woken instead, and an item of capacity 0 stays with its take |
 //! | | a close, the drop of a last handle | the channel is closed, all wakers are out of their lines | is raised once all are woken, and what is left is dropped |
 //! | | a poll without memory for a further queue | the future is in line | is raised at the end of the poll |
 //! | an item's drop | the drop of a last handle | the item is out of the queue, the channel is closed or goes on without the group | is raised once all are dropped |
-//! | | a send that finds a lost group in the queue | a further queue is in place, the send's item is in `Unsent`, or sent | ends |
-//! | | the drop of a future or a selected operation | the future is out of the line, the pair is gone | is raised after the other drops |
+//! | | a send that finds a lost group in the queue | a further queue is in place, the send's item is put back, or sent | ends |
+//! | | the drop of a future or a selected operation | the future is out of the line, the take is given up | is raised after the other drops |
 //! | | `Item::unpack`, of the last share | the copy is made | ends |
 //! | an item's clone | `Item::unpack`, in a take of a group | the item is taken, and one that waits for room is notified | is raised once the share is given up |
-//! | items and wakers that are left | the drop of the channel, if futures or operations were forgotten | both sides are gone | is raised once all of its list are dropped |
-//! | the expression of a selected item | `select!`, while the operation is held | the room is reserved, or the pair is made | leaves the select; the operation's drop gives back the room or the pair |
+//! | items and wakers that are left | the drop of the channel, if futures that wait were forgotten | both sides are gone | is raised once all of its list are dropped |
+//! | the expression of a selected item | `select!`, while the operation is held | the room is reserved, or a take is met | leaves the select; the operation's drop gives the room back, or the take up |
 //! | a payload's drop | the end of a panic | all of the above | ends; the second payload is forgotten |
 //!
 //! An item's drop on an error that a call returned, or on what it took, is the caller's.
@@ -45,7 +45,6 @@ use crate::numbered::Numbered;
 use std::any::Any;
 use std::cell::RefCell;
 use std::mem::{forget, replace, swap};
-use std::num::NonZeroU64;
 use std::ops::Deref;
 use std::panic::{AssertUnwindSafe, catch_unwind, resume_unwind};
 use std::sync::atomic::{AtomicBool, AtomicU32, AtomicUsize, Ordering};
@@ -99,13 +98,6 @@ pub fn ignore_panics<I>(all: impl IntoIterator<Item = I>, user_code: impl FnMut(
     Panics::default().run_each(all, user_code);
 }
 
-/// Drops each of these, and then raises the first panic.
-pub fn drop_each<I>(all: impl IntoIterator<Item = I>) {
-    let mut panics = Panics::default();
-    panics.run_each(all, drop);
-    panics.raise();
-}
-
 /// The wakers of those that stand in line, by the numbers of their tickets. None until somebody stands in line.
 #[derive(Default)]
 struct Line(Option<Numbered<Waker>>);
@@ -115,7 +107,9 @@ impl Drop for Line {
     #[inline]
     fn drop(&mut self) {
         if let Some(mut wakers) = self.0.take() {
-            drop_each(wakers.take_all());
+            let mut panics = Panics::default();
+            panics.run_each(wakers.take_all(), drop);
+            panics.raise();
         }
     }
 }
@@ -136,7 +130,7 @@ impl<T> Deref for Apart<T> {
 
 /// The number of a waiter in the line of an event, until a notification takes it out.
 #[derive(Clone, Copy)]
-pub struct Ticket(NonZeroU64);
+pub struct Ticket(u64);
 
 /// The line in which a call waits until another one has served it, or handed over to it; and whether the calls of its
 /// seat contend.
@@ -171,22 +165,20 @@ impl Event {
 
     /// Stands in line. The waiter has to try after this, before it waits.
     pub fn stand(&self, waker: Waker) -> Ticket {
-        let number = self.with_line(|line| line.push(waker));
-        Ticket(NonZeroU64::new(number).expect("the first number is 1"))
+        Ticket(self.with_line(|line| line.push(waker)))
     }
 
     /// Stays in line with this waker, after a try that found nothing. Returns whether it was still
     /// there.
     pub fn stay(&self, ticket: Ticket, waker: &Waker, panics: &mut Panics) -> bool {
-        let number = ticket.0.get();
-        let is_same = |line: &mut Line| Some(line.0.as_mut()?.get_mut(number)?.will_wake(waker));
+        let is_same = |line: &mut Line| Some(line.0.as_mut()?.get_mut(ticket.0)?.will_wake(waker));
         match is_same(&mut lock(&self.line)) {
             Some(false) => {}
             there => return there.is_some(),
         }
         let mut waker = waker.clone();
         let is_there = self.with_line(|line| {
-            let noted = line.get_mut(number);
+            let noted = line.get_mut(ticket.0);
             noted.map(|noted| swap(noted, &mut waker)).is_some()
         });
         // The one that isn't in line.
@@ -196,7 +188,7 @@ impl Event {
 
     /// Leaves the line. Returns whether a notification took this one out.
     pub fn leave(&self, ticket: Ticket, panics: &mut Panics) -> bool {
-        let waker = self.with_line(|line| line.remove(ticket.0.get()));
+        let waker = self.with_line(|line| line.remove(ticket.0));
         let notified = waker.is_none();
         panics.run_each(waker, drop);
         notified
@@ -249,17 +241,11 @@ impl Event {
     }
 
     /// Wakes all that stand in line now.
-    #[inline]
     pub fn notify_all(&self, panics: &mut Panics) {
         if self.has_waiters() {
-            self.wake_all(panics);
+            let all: Vec<_> = self.with_line(|line| line.take_all().collect());
+            panics.run_each(all, Waker::wake);
         }
-    }
-
-    #[cold]
-    fn wake_all(&self, panics: &mut Panics) {
-        let all: Vec<_> = self.with_line(|line| line.take_all().collect());
-        panics.run_each(all, Waker::wake);
     }
 }
 

@@ -23,11 +23,6 @@ impl<V> Default for Numbered<V> {
 }
 
 impl<V> Numbered<V> {
-    /// The number of the value that comes next. The first one has 1.
-    pub fn next(&self) -> u64 {
-        self.last + 1
-    }
-
     pub fn push(&mut self, value: V) -> u64 {
         self.last += 1;
         self.values.push_back((self.last, Some(value)));

@@ -67,8 +67,8 @@ fn a_channel_is_cheap_in_memory() {
         let clones = (0..1000).map(|_| (sender.clone(), receiver.clone()));
         clones.collect::<Vec<_>>()
     });
-    // The handles themselves: nothing is behind them.
-    assert!(clones < 1000 * 17 + KB, "{clones}");
+    // The handles themselves, of 8 and 16 bytes: nothing is behind them.
+    assert!(clones < 1000 * 25 + KB, "{clones}");
 
     let open = nanoseconds(101, || drop(channel::<u64>(1)));
     println!("channel::<u64>(1): opened and dropped in {open} ns");

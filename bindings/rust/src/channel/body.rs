@@ -13,6 +13,7 @@ use crate::queue::handle::{Words, code};
 use std::marker::PhantomData;
 use std::mem::{ManuallyDrop, MaybeUninit, forget, size_of};
 use std::panic::{AssertUnwindSafe, catch_unwind, resume_unwind};
+use std::process::abort;
 use std::sync::atomic::{AtomicUsize, Ordering};
 use std::sync::{Arc, Mutex};
 
@@ -263,69 +264,32 @@ impl Drop for Item {
     }
 }
 
-/// An item that is to be sent, until the queue has it.
-///
-/// It stays where it is, and an attempt marks it as sent before the queue is called; only a refusal takes the mark back. So no user
-/// code runs between the queue's acceptance and the mark, and unwinding drops no item that the queue has.
-pub struct Unsent {
-    item: ManuallyDrop<Item>,
-    is_sent: bool,
-}
+/// An item that is to be sent, until it is.
+pub type Unsent = Option<Item>;
 
-impl Unsent {
-    #[inline]
-    pub fn new(item: Item) -> Unsent {
-        Unsent {
-            item: ManuallyDrop::new(item),
-            is_sent: false,
-        }
-    }
+/// Ends the program if a call of the queue panics, which may have its item by then.
+struct Unwinds;
 
-    /// Attempts to send to this number of groups, by this call of the queue, and returns its code.
-    #[inline]
-    pub fn send_by(&mut self, groups: usize, send: impl FnOnce(&Words, usize) -> u32) -> u32 {
-        assert!(!self.is_sent, "the item isn't sent yet");
-        self.is_sent = true;
-        self.item.set_shares(groups);
-        let code = send(&self.item.words, self.item.kind.words);
-        if code != code::ACCEPTED {
-            self.item.set_shares(1);
-            self.is_sent = false;
-        }
-        code
-    }
-
-    /// Takes the item out: it is sent from now on, unless it is put back.
-    pub fn take(&mut self) -> Item {
-        assert!(!self.is_sent, "the item isn't sent yet");
-        self.is_sent = true;
-        // SAFETY: by the mark nobody uses it here any more.
-        unsafe { ManuallyDrop::take(&mut self.item) }
-    }
-
-    /// The item, if it isn't sent.
-    pub fn left(&mut self) -> Option<Item> {
-        (!self.is_sent).then(|| self.take())
-    }
-
-    /// Puts an item in the place of the one that was sent.
-    pub fn put_back(&mut self, item: Item) {
-        assert!(self.is_sent, "there is room for an item");
-        *self = Unsent::new(item);
-    }
-
-    /// Ends it after the item was sent, without a look whether there is something to drop.
-    #[inline]
-    pub fn end(self) {
-        debug_assert!(self.is_sent);
-        forget(self);
-    }
-}
-
-/// Drops an item that wasn't sent. This runs user code.
-impl Drop for Unsent {
-    #[inline]
+impl Drop for Unwinds {
     fn drop(&mut self) {
-        drop(self.left());
+        abort();
     }
+}
+
+/// Sends an item to this number of groups, by this call of the queue, and returns the call's code.
+///
+/// No user code runs between the queue's acceptance and the moment at which the item isn't here any more.
+#[inline]
+pub fn send_by(item: &mut Unsent, groups: usize, send: impl FnOnce(&Words, usize) -> u32) -> u32 {
+    let sent = item.as_ref().expect("the item isn't sent yet");
+    sent.set_shares(groups);
+    let unwinds = Unwinds;
+    let code = send(&sent.words, sent.kind.words);
+    forget(unwinds);
+    if code == code::ACCEPTED {
+        forget(item.take());
+    } else {
+        sent.set_shares(1);
+    }
+    code
 }

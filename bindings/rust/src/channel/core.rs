@@ -7,22 +7,21 @@
 //! is one step. A channel without a bound, or with more places than one queue has, is a [`row`](super::row) of queues:
 //! no item is moved over there.
 //!
-//! **Order of locks**: the list of groups, all seats, the row, a line. A holder of a seat makes one call of the queue, and
+//! **Order of locks**: the groups, all seats, the row, a line. A holder of a seat makes one call of the queue, and
 //! takes no other lock; that of a row takes the row's lock. User code (an item's drop or copy, a waker) runs while none is held.
-use super::body::{Item, Kind, Unsent};
+use super::body::{Item, Kind, Unsent, send_by};
 use super::pool::{Pool, QueueHandle, SeatGuard};
 use super::rendezvous::Rendezvous;
 use super::row::{Row, Shape};
-use super::side::{Shared, Source};
 use crate::backoff::{PACE, Wait, for_others};
-use crate::event::{Again, Apart, Event, Panics, Try, ignore_panics, lock};
-use crate::queue::handle::{self, Handle, code, hands_over, has_taken, unexpected};
-use crate::queue::{self, Config, MOST_GROUPS, OpenError};
+use crate::event::{Again, Apart, Event, Panics, Try, lock};
+use crate::queue::handle::{Handle, code, hands_over, has_taken, unexpected};
+use crate::queue::{self, Config, OpenError};
 use std::iter;
 use std::mem::ManuallyDrop;
 use std::ptr;
 use std::sync::atomic::{AtomicBool, AtomicUsize, Ordering};
-use std::sync::{Arc, Mutex, OnceLock, Weak};
+use std::sync::{Arc, Mutex};
 use std::time::Duration;
 
 /// A side of the channel: its senders, or a group of receivers.
@@ -30,28 +29,41 @@ pub struct Side {
     /// The line in which its calls wait: for room, or for items.
     pub line: Apart<Event>,
     pub seats: Pool,
-    /// Whether the last try of a take found no item: then the next one looks first, since a look costs less than a take in vain.
-    found_none: AtomicBool,
+    /// How many handles there are.
+    pub handles: AtomicUsize,
+    /// Whether its last try found no item, or no room: then the next one looks first, since a look costs less than a call in vain.
+    pub found_none: AtomicBool,
     /// Whether few items passed while the last call waited that did: then a call that waits doesn't yield.
     is_slow: AtomicBool,
-    /// Whether it has lost its last handle. The list of groups is locked until the channel is closed, or goes on without it.
+    /// Whether it has lost its last handle. The groups are locked until the channel is closed, or goes on without it.
     lost: AtomicBool,
+    /// Whether the queue has this group; a row has all. It changes while the groups are locked, and all seats are held.
+    in_queue: AtomicBool,
 }
 
 impl Side {
     /// With these passes of a queue of this number of groups.
     #[inline]
-    fn new(handles: impl IntoIterator<Item = Handle>, shares: usize) -> Side {
-        let passes = handles
-            .into_iter()
-            .map(|it| QueueHandle::new(it, 0, shares));
+    fn new(handles: Vec<Handle>, shares: usize) -> Side {
+        let passes = handles.into_iter();
+        let passes = passes.map(|it| QueueHandle::new(it, 0, shares));
         Side {
             line: Apart::default(),
             seats: Pool::new(passes),
+            handles: AtomicUsize::new(1),
             found_none: AtomicBool::new(false),
             is_slow: AtomicBool::new(false),
             lost: AtomicBool::new(false),
+            in_queue: AtomicBool::new(true),
         }
+    }
+
+    pub fn is_in_queue(&self) -> bool {
+        self.in_queue.load(Ordering::Relaxed)
+    }
+
+    pub fn leave_queue(&self) {
+        self.in_queue.store(false, Ordering::Relaxed);
     }
 
     #[inline]
@@ -82,32 +94,21 @@ const ROOM_APART: usize = 64;
 /// A side of a channel of more items has all its seats from the opening on, so that no call has to move them over.
 pub const MOST_MOVED: usize = 64;
 
-/// That the last send found no room: then the next one looks first, since a look costs less than a send in vain.
-pub const WAS_FULL: usize = 1;
-/// That a place is reserved.
-pub const RESERVED: usize = 2;
-
-/// One for each group. The first one needs no box.
-pub struct PerGroup<V> {
-    first: V,
-    others: Box<[V]>,
+/// The groups of receivers. The first one needs no box.
+pub struct Groups {
+    first: Side,
+    others: Box<[Side]>,
 }
 
-impl<V> PerGroup<V> {
-    /// The others are as many as the groups but the first one.
-    fn new(first: V, others: impl Iterator<Item = V>) -> PerGroup<V> {
-        let others = others.collect();
-        PerGroup { first, others }
-    }
-
+impl Groups {
     /// How many groups there are.
     pub fn len(&self) -> usize {
         1 + self.others.len()
     }
 
-    /// That of this group, from 1.
+    /// The group of this number, from 1.
     #[inline]
-    pub fn of(&self, group: usize) -> &V {
+    pub fn of(&self, group: usize) -> &Side {
         match group {
             1 => &self.first,
             group => &self.others[group - 2],
@@ -116,11 +117,12 @@ impl<V> PerGroup<V> {
 
     /// Whether this holds for one of them. Without an iterator over two parts, which costs more.
     #[inline]
-    pub fn any(&self, holds: impl Fn(&V) -> bool) -> bool {
+    pub fn any(&self, holds: impl Fn(&Side) -> bool) -> bool {
         holds(&self.first) || self.others.iter().any(holds)
     }
 
-    pub fn iter(&self) -> impl Iterator<Item = &V> {
+    #[inline]
+    pub fn iter(&self) -> impl Iterator<Item = &Side> {
         iter::once(&self.first).chain(&self.others)
     }
 }
@@ -145,6 +147,7 @@ impl From<Again> for NotSent {
 }
 
 /// A send that is tried until it is made, or the channel is closed.
+#[inline]
 pub fn or_closed(sent: Sent) -> Try<Sent> {
     match sent {
         Err(NotSent::Full) => Err(Again::WhenNotified),
@@ -153,135 +156,92 @@ pub fn or_closed(sent: Sent) -> Try<Sent> {
     }
 }
 
-/// Why a take found no item.
-pub enum NoItem {
-    /// There may be one later.
-    Yet(Again),
-    /// The channel has ended.
-    Ended,
-}
-
-impl From<Again> for NoItem {
-    fn from(again: Again) -> NoItem {
-        NoItem::Yet(again)
-    }
-}
-
 /// A take for a group: [`Core::take`], or that of items of one word.
-pub type Take = fn(&Core, usize) -> Result<Item, u32>;
+pub type Take = fn(&Core, usize) -> Option<Item>;
 
-/// A take that is tried until it is done. It gives None at the end of the channel.
-pub fn or_end(taken: Result<Item, NoItem>) -> Try<Option<Item>> {
-    match taken {
-        Ok(item) => Ok(Some(item)),
-        Err(NoItem::Ended) => Ok(None),
-        Err(NoItem::Yet(again)) => Err(again),
-    }
+/// What is between the two sides of a channel.
+pub enum Flavor {
+    /// One queue, in the place of which another one may come.
+    Queue,
+    Row(Box<Row>),
+    /// No queue: the channel has capacity 0.
+    Rendezvous(Box<Rendezvous>),
 }
 
 pub struct Core {
+    pub flavor: Flavor,
     /// The configuration of its queue, whose sides may have more seats by now; of a row, that of the first one.
     pub config: Config,
     /// That of its items.
     pub kind: &'static Kind,
-    /// The locks that it has in place of queues, if it has capacity 0.
-    pub rendezvous: Option<Box<Rendezvous>>,
-    /// Its queues, if they are a row.
-    pub row: Option<Box<Row>>,
     pub senders: Side,
-    pub groups: PerGroup<Side>,
-    /// The part that the senders share, once there is a first one.
-    pub sender: OnceLock<Weak<Shared>>,
-    /// The part that the receivers of each group share, once it has a first one.
-    pub receivers: PerGroup<OnceLock<Weak<Source>>>,
+    pub groups: Groups,
     closed: AtomicBool,
-    /// The groups that the queue has, in its order. A further queue takes its place under this lock. Of a row all groups.
-    pub in_queue: Mutex<Vec<usize>>,
-    /// Hints that a send reads first: [`WAS_FULL`]; and [`RESERVED`], once for each place that is reserved for a selected send.
-    /// That grows under the lock of the groups. Of a row with a limit it is there for good, so that each send asks for
-    /// room: see [`limit`](super::limit).
-    pub hints: AtomicUsize,
+    /// The lock of the groups: under it a further queue takes the place of this one, and a side ends.
+    pub groups_lock: Mutex<()>,
+    /// How many places are reserved for selected sends. It grows under the lock of the groups. Of a row with a limit it is 1 for good,
+    /// so that each send asks for room: see [`limit`](super::limit).
+    pub reserved: AtomicUsize,
 }
 
 impl Core {
     /// Opens a channel. Each side has one seat at first, if there are few items to be moved over once a side gets its others.
-    pub fn open(config: Config, groups: u32, kind: &'static Kind) -> Result<Arc<Self>, OpenError> {
-        if config.capacity as usize > MOST_MOVED {
-            let sides = queue::open(&config, groups, kind.words)?;
-            return Ok(Core::with_sides(config, kind, None, sides));
+    pub fn open(
+        config: Config,
+        groups: usize,
+        kind: &'static Kind,
+    ) -> Result<Arc<Core>, OpenError> {
+        let mut first = config;
+        if config.capacity as usize <= MOST_MOVED {
+            (first.senders, first.receivers) = (1, 1);
         }
-        let (senders, receivers) = (1, 1);
-        let first = Config {
-            senders,
-            receivers,
-            ..config
-        };
-        let mut sender = [Handle::empty()];
-        let mut receivers = [const { Handle::empty() }; MOST_GROUPS];
-        // A number that is too large is refused.
-        let count = receivers.len().min(groups as usize);
-        let all = &mut receivers[..count];
-        handle::fill(&first, groups, kind.words, &mut sender, all)?;
-        let receivers = receivers.into_iter().take(count).map(iter::once);
-        Ok(Core::new(config, kind, None, None, sender, receivers))
+        let sides = queue::open(&first, groups, kind.words)?;
+        Ok(Core::new(Flavor::Queue, config, kind, sides))
     }
 
     /// Opens a channel over a row of queues of this shape. It holds this number of items at most; if there is none, any number.
     pub fn open_row(
-        shape: &Shape,
+        shape: Shape,
         limit: Option<usize>,
-        groups: u32,
+        groups: usize,
         kind: &'static Kind,
-    ) -> Result<Arc<Self>, OpenError> {
+    ) -> Result<Arc<Core>, OpenError> {
         let (row, sides) = Row::open(shape, limit, groups, kind.words)?;
-        Ok(Core::with_sides(shape.first, kind, Some(row), sides))
-    }
-
-    /// With these passes: those of the senders, and then those of each group.
-    fn with_sides(
-        config: Config,
-        kind: &'static Kind,
-        row: Option<Row>,
-        sides: Vec<Vec<Handle>>,
-    ) -> Arc<Core> {
-        let mut sides = sides.into_iter();
-        let senders = sides.next().expect("a channel has senders");
-        Core::new(config, kind, None, row.map(Box::new), senders, sides)
+        let flavor = Flavor::Row(Box::new(row));
+        Ok(Core::new(flavor, shape[0], kind, sides))
     }
 
     /// A channel of capacity 0. Its sides have no pass.
-    pub fn of_rendezvous(config: Config, kind: &'static Kind) -> Arc<Core> {
-        let rendezvous = Some(Box::new(Rendezvous::new()));
-        let none = || [Handle::empty()];
-        let groups = iter::once(none());
-        Core::new(config, kind, rendezvous, None, none(), groups)
+    pub fn of_rendezvous(kind: &'static Kind) -> Arc<Core> {
+        let flavor = Flavor::Rendezvous(Box::default());
+        let sides = [(); 2].map(|()| vec![Handle::empty()]);
+        Core::new(flavor, Config::new(1, 1, 0), kind, sides.into())
     }
 
-    /// With these passes of the senders, and those of each group.
-    fn new<I: IntoIterator<Item = Handle>>(
+    /// With these passes: those of the senders, and then those of each group.
+    fn new(
+        flavor: Flavor,
         config: Config,
         kind: &'static Kind,
-        rendezvous: Option<Box<Rendezvous>>,
-        row: Option<Box<Row>>,
-        senders: impl IntoIterator<Item = Handle>,
-        groups: impl ExactSizeIterator<Item = I>,
+        sides: Vec<Vec<Handle>>,
     ) -> Arc<Core> {
-        let shares = groups.len();
-        let mut sides = groups.map(|it| Side::new(it, shares));
-        let first = sides.next().expect("a channel has a group");
-        let has_limit = row.as_ref().is_some_and(|it| it.limit.is_some());
+        let shares = sides.len() - 1;
+        let mut sides = sides.into_iter().map(|it| Side::new(it, shares));
+        let mut side = || sides.next().expect("a channel has both sides");
+        let (senders, first) = (side(), side());
+        let has_limit = matches!(&flavor, Flavor::Row(row) if row.limit.is_some());
         Arc::new(Core {
+            flavor,
             config,
             kind,
-            rendezvous,
-            row,
-            senders: Side::new(senders, shares),
-            groups: PerGroup::new(first, sides),
-            sender: OnceLock::new(),
-            receivers: PerGroup::new(OnceLock::new(), (1..shares).map(|_| OnceLock::new())),
+            senders,
+            groups: Groups {
+                first,
+                others: sides.collect(),
+            },
             closed: AtomicBool::new(false),
-            in_queue: Mutex::new((1..=shares).collect()),
-            hints: AtomicUsize::new(if has_limit { RESERVED } else { 0 }),
+            groups_lock: Mutex::new(()),
+            reserved: AtomicUsize::new(has_limit.into()),
         })
     }
 
@@ -295,9 +255,9 @@ impl Core {
 
     /// How many items it may hold; None if any number.
     pub fn capacity(&self) -> Option<usize> {
-        match &self.row {
-            Some(row) => row.capacity(),
-            None => Some(self.config.capacity as usize),
+        match &self.flavor {
+            Flavor::Row(row) => row.capacity(),
+            _ => Some(self.config.capacity as usize),
         }
     }
 
@@ -343,7 +303,7 @@ impl Core {
     /// held, it gets its others.
     #[inline]
     fn acquire_seat<'a>(&'a self, side: &'a Side) -> SeatGuard<'a> {
-        let seat = side.seats.try_acquire_at_once();
+        let seat = side.seats.try_acquire();
         seat.unwrap_or_else(|| self.acquire_another_seat(side))
     }
 
@@ -353,7 +313,7 @@ impl Core {
         if let Some(seat) = side.seats.try_acquire_behind(|| self.distance(side)) {
             return seat;
         }
-        if side.seats.len() == 1 && self.row.is_none() {
+        if side.seats.len() == 1 && matches!(self.flavor, Flavor::Queue) {
             self.add_seats(side);
         }
         side.seats.acquire_another()
@@ -362,63 +322,54 @@ impl Core {
     /// Tries to send this item.
     #[inline]
     pub fn try_send(&self, item: &mut Unsent) -> Sent {
-        if let Some(rendezvous) = &self.rendezvous {
+        if let Flavor::Rendezvous(rendezvous) = &self.flavor {
             return rendezvous.try_send(item);
         }
-        self.look_after_full()?;
+        if self.finds_no_room() {
+            return Err(NotSent::Full);
+        }
         let mut seat = self.acquire_seat(&self.senders);
-        if self.hints.load(Ordering::SeqCst) >= RESERVED {
+        if self.reserved.load(Ordering::SeqCst) > 0 {
             return self.send_beside_reserved(item, seat);
         }
         let code = self.send_by(&mut seat, item);
-        self.end_send(item, code, seat, Core::try_send)
+        self.end_send(item, code, seat)
     }
 
-    /// Ends a send at this seat, to which the queue gave this code. If the queue refused, it tries once more, in this way.
+    /// Ends a send by this seat, to which the queue gave this code.
     #[inline]
-    pub fn end_send(
-        &self,
-        item: &mut Unsent,
-        code: u32,
-        seat: SeatGuard,
-        again: fn(&Core, &mut Unsent) -> Sent,
-    ) -> Sent {
-        match code {
-            code::ACCEPTED => drop(seat),
-            code => return self.send_refused(item, code, seat, again),
+    pub fn end_send(&self, item: &mut Unsent, code: u32, seat: SeatGuard) -> Sent {
+        if code != code::ACCEPTED {
+            return self.send_further(item, code, seat);
         }
+        drop(seat);
         self.notify_item();
         Ok(())
     }
 
+    /// After the queue of this seat refused an item with this code: tries again, if there is a further queue.
     #[cold]
     #[inline(never)]
-    fn send_refused(
-        &self,
-        item: &mut Unsent,
-        code: u32,
-        seat: SeatGuard,
-        again: fn(&Core, &mut Unsent) -> Sent,
-    ) -> Sent {
-        match &self.row {
-            Some(row) => self.send_further(row, item, code, seat),
-            None => {
-                self.replace_refusing(code, seat)?;
-                again(self, item)
-            }
+    fn send_further(&self, item: &mut Unsent, code: u32, seat: SeatGuard) -> Sent {
+        if let Flavor::Row(row) = &self.flavor {
+            return self.send_in_row(row, item, seat);
         }
+        self.replace_refusing(code, seat)?;
+        self.try_send(item)
     }
 
-    /// Sends by this seat. Returns the queue's code.
+    /// Sends by this seat. Returns the queue's code. If the item is accepted, somebody has to be notified of it.
     #[inline]
     pub fn send_by(&self, seat: &mut SeatGuard, item: &mut Unsent) -> u32 {
         let (pass, line) = seat.pass();
-        let code = item.send_by(pass.shares, |words, count| {
+        let code = send_by(item, pass.shares, |words, count| {
             hands_over(self);
             pass.handle.send(words, count, line)
         });
-        if code == code::ACCEPTED {
-            seat.count_one();
+        match code {
+            code::ACCEPTED => seat.count_one(),
+            code::FULL | code::CLOSED | code::SPENT | code::WORN => {}
+            code => unexpected(code),
         }
         code
     }
@@ -428,7 +379,7 @@ impl Core {
         self.groups.iter().for_each(|group| group.line.notify_one());
     }
 
-    /// After the queue of this seat refused an item with this code: there is another queue now, if the channel isn't closed.
+    /// After the queue of this seat refused an item with this code: there is another queue now, if it gives no error.
     pub fn replace_refusing(&self, code: u32, mut seat: SeatGuard) -> Sent {
         let &mut QueueHandle { queue, shares, .. } = seat.pass().0;
         drop(seat);
@@ -437,109 +388,96 @@ impl Core {
         match code {
             code::CLOSED => self.set_closed(),
             code::FULL if !is_stale => {
-                self.hints.fetch_or(WAS_FULL, Ordering::Relaxed);
+                self.senders.found_none.store(true, Ordering::Relaxed);
                 return Err(NotSent::Full);
             }
-            code::FULL | code::SPENT | code::WORN => {}
-            code => unexpected(code),
+            _ => {}
         }
-        let mut in_queue = lock(&self.in_queue);
+        let groups = lock(&self.groups_lock);
         if self.is_closed() {
             return Err(NotSent::Closed);
         }
         let mut left_by_lost = vec![];
         if self.senders.seats.acquire().pass().0.queue == queue {
-            let left = self.replace_queue(&mut in_queue, None);
-            left_by_lost = left.ok_or(NotSent::NoMemory)?;
+            left_by_lost = self.replace_queue(None).ok_or(NotSent::NoMemory)?;
         }
-        drop(in_queue);
-        // The item isn't sent yet, but this call may go on for others: it doesn't panic.
-        ignore_panics(left_by_lost, drop);
-        self.senders.line.notify_all(&mut Panics::default());
+        drop(groups);
+        self.end_replacing(left_by_lost);
         Ok(())
     }
 
-    /// Takes an item of the queue for a group; of a row, of the seat's queue. Gives the code if there is none, or no queue.
+    /// Tries to take an item for a group. It gives None at the end of the channel.
     #[inline]
-    pub fn take(&self, group: usize) -> Result<Item, u32> {
-        self.take_words(group, self.kind.words)
+    pub fn try_recv(&self, group: usize) -> Try<Option<Item>> {
+        if self.finds_no_item(group) {
+            return Err(Again::WhenNotified);
+        }
+        self.take_if_there(group)
+    }
+
+    /// The same, without a look that comes first.
+    #[inline]
+    pub fn take_if_there(&self, group: usize) -> Try<Option<Item>> {
+        if let Flavor::Rendezvous(rendezvous) = &self.flavor {
+            return rendezvous.try_take();
+        }
+        match self.take_words(group, self.kind.words) {
+            Ok(item) => Ok(Some(item)),
+            Err((code, seat)) => self.take_further(group, code, seat),
+        }
+    }
+
+    /// Takes an item, if there is one in the queue that a seat of the group is at.
+    #[inline]
+    pub fn take(&self, group: usize) -> Option<Item> {
+        self.take_words(group, self.kind.words).ok()
     }
 
     /// The same of items of one word: the other words aren't copied.
     #[inline]
-    pub fn take_word(&self, group: usize) -> Result<Item, u32> {
-        self.take_words(group, 1)
+    pub fn take_word(&self, group: usize) -> Option<Item> {
+        self.take_words(group, 1).ok()
     }
 
+    /// Takes by a seat of this group. If there is no item, it gives the queue's code, and the seat.
     #[inline(always)]
-    fn take_words(&self, group: usize, words: usize) -> Result<Item, u32> {
-        if self.rendezvous.is_some() {
-            return Err(code::EMPTY);
-        }
+    fn take_words(&self, group: usize, words: usize) -> Result<Item, (u32, SeatGuard<'_>)> {
         let mut seat = self.acquire_seat(self.groups.of(group));
-        // The count doesn't panic, so nothing has to drop the item: the compiler leaves it in registers.
-        let item = ManuallyDrop::new(self.take_by(&mut seat, words)?);
-        self.count_taken(seat);
-        Ok(ManuallyDrop::into_inner(item))
-    }
-
-    /// Counts an item that was taken by this seat, and notifies.
-    #[inline]
-    pub fn count_taken(&self, mut seat: SeatGuard) {
+        let item = match self.take_by(&mut seat, words) {
+            // The count doesn't panic, so nothing has to drop the item: the compiler leaves it in registers.
+            Ok(item) => ManuallyDrop::new(item),
+            Err(code) => return Err((code, seat)),
+        };
         seat.count_one();
         drop(seat);
         has_taken(self);
         self.senders.line.notify_one();
+        Ok(ManuallyDrop::into_inner(item))
     }
 
-    /// Whether the last try of this group found no item, and a look finds none now.
-    #[inline]
-    pub fn finds_none_again(&self, group: usize) -> bool {
-        let found_none = &self.groups.of(group).found_none;
-        found_none.load(Ordering::Relaxed) && {
-            let finds_none = self.look_before_take(group).is_err();
-            found_none.store(finds_none, Ordering::Relaxed);
-            finds_none
-        }
-    }
-
-    /// Tries to take an item for a group.
-    #[inline]
-    pub fn try_recv(&self, group: usize) -> Result<Item, NoItem> {
-        if self.finds_none_again(group) {
-            return Err(NoItem::Yet(Again::WhenNotified));
-        }
-        self.try_recv_by(group, Core::take)
-    }
-
-    /// The same by this call, without a look that comes first.
-    #[inline]
-    pub fn try_recv_by(&self, group: usize, take: Take) -> Result<Item, NoItem> {
-        if let Some(rendezvous) = &self.rendezvous {
-            return rendezvous.try_take();
-        }
-        take(self, group).or_else(|code| self.recv_after(group, code))
-    }
-
-    /// After a queue returned this code in place of an item: at its end tries the next queue, if they are a row.
+    /// After the queue of this seat returned this code in place of an item: at its end tries again, if there is a next queue.
     #[cold]
     #[inline(never)]
-    fn recv_after(&self, group: usize, code: u32) -> Result<Item, NoItem> {
-        match (code, &self.row) {
+    fn take_further(&self, group: usize, code: u32, seat: SeatGuard) -> Try<Option<Item>> {
+        match (code, &self.flavor) {
             (code::EMPTY, _) => {
                 self.side(group).found_none.store(true, Ordering::Relaxed);
-                return Err(NoItem::Yet(Again::WhenNotified));
+                return Err(Again::WhenNotified);
             }
-            (code::ENDED, Some(row)) => return self.take_in_row(row, group),
-            (code::ENDED, None) => self.set_closed(),
+            (code::ENDED, Flavor::Row(row)) => {
+                if self.next_for_group(row, group, seat) {
+                    return self.take_if_there(group);
+                }
+            }
+            (code::ENDED, _) => self.set_closed(),
             (code, _) => unexpected(code),
         }
-        Err(NoItem::Ended)
+        Ok(None)
     }
 
     /// Takes what is left for this group, one item after another.
     pub fn drain(&self, group: usize) -> impl Iterator<Item = Item> {
-        iter::from_fn(move || self.try_recv(group).ok())
+        iter::from_fn(move || self.try_recv(group).ok().flatten())
     }
 
     /// Takes an item by this seat, of as many words as the kind has: a caller that knows the number gets no others. Gives the queue's
@@ -567,60 +505,63 @@ impl Core {
     }
 
     fn close_queue(&self) -> bool {
-        if let Some(rendezvous) = &self.rendezvous {
-            return !rendezvous.close(&self.closed);
+        match &self.flavor {
+            Flavor::Rendezvous(rendezvous) => !rendezvous.close(&self.closed),
+            Flavor::Row(row) => self.close_row(row),
+            Flavor::Queue => {
+                let mut seat = self.senders.seats.acquire();
+                let closed = seat.close();
+                // While the seat is held, so that whoever has all seats knows it.
+                self.set_closed();
+                closed
+            }
         }
-        if let Some(row) = &self.row {
-            return self.close_row(row);
-        }
-        let mut seat = self.senders.seats.acquire();
-        let closed = seat.close();
-        // While the seat is held, so that whoever has all seats knows it.
-        self.set_closed();
-        closed
     }
 
     /// Wakes all that wait.
     fn notify_all(&self, panics: &mut Panics) {
         let sides = iter::once(&self.senders).chain(self.groups.iter());
         sides.for_each(|it| it.line.notify_all(panics));
-        if let Some(rendezvous) = &self.rendezvous {
+        if let Flavor::Rendezvous(rendezvous) = &self.flavor {
             rendezvous.wake_all(panics);
         }
     }
 
-    /// Whether there are items that this group hasn't taken, when the channel is closed and the group has lost its receivers.
+    /// Whether this group has lost its receivers, and may not have taken all items of a closed channel.
     fn has_left(&self, group: usize) -> bool {
-        // A thread that has a seat may have to count its item.
-        self.senders.seats.wait_for_holders();
-        let taken = self.side(group).seats.count();
-        self.rendezvous.is_some() || taken < self.senders.seats.count()
+        let side = self.side(group);
+        side.is_lost() && side.is_in_queue() && {
+            // A thread that has a seat may have to count its item.
+            self.senders.seats.wait_for_holders();
+            let taken = side.seats.count();
+            matches!(self.flavor, Flavor::Rendezvous(_)) || taken < self.senders.seats.count()
+        }
     }
 
     /// The last handle of this side is gone: the channel is closed, or goes on without this group. The items
     /// that the group hasn't taken are dropped.
     pub fn last_handle_dropped(&self, side: usize) {
-        let mut in_queue = lock(&self.in_queue);
+        let groups = lock(&self.groups_lock);
         self.side(side).lost.store(true, Ordering::SeqCst);
-        let left_by_lost = if side == SENDERS || self.alive().next().is_none() {
+        let mut left_by_lost = vec![];
+        if side == SENDERS || self.alive().next().is_none() {
             if !self.is_closed() {
                 self.close_queue();
             }
-            None
-        } else if let Some(row) = &self.row {
-            Some(self.go_on_without_lost(row))
+        } else if let Flavor::Row(row) = &self.flavor {
+            left_by_lost = self.go_on_without_lost(row);
         } else {
-            self.replace_queue(&mut in_queue, None) // or there is no memory: a send tries again, once it finds no room
-        };
-        let mut lost = vec![];
-        if side != SENDERS && self.is_closed() {
-            let lost_in_queue = in_queue.iter().filter(|&&it| self.side(it).is_lost());
-            lost.extend(lost_in_queue.filter(|&&it| self.has_left(it)));
+            // Or there is no memory: a send tries again, once it finds no room.
+            left_by_lost = self.replace_queue(None).unwrap_or_default();
         }
-        drop(in_queue);
+        let is_closed = side != SENDERS && self.is_closed();
+        let numbers = 1..=self.groups.len();
+        let lost = numbers.filter(|&it| is_closed && self.has_left(it));
+        let lost: Vec<_> = lost.collect();
+        drop(groups);
         let mut panics = Panics::default();
         self.notify_all(&mut panics);
-        panics.run_each(left_by_lost.into_iter().flatten(), drop);
+        panics.run_each(left_by_lost, drop);
         for group in lost {
             panics.run_each(self.drain(group), drop);
         }

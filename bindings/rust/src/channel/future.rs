@@ -7,54 +7,65 @@
 //! **Panics of wakers** that are dropped end in the poll that is done, whose result would be lost; another poll
 //! raises the first of them again at its end, and so does the drop of a future.
 use super::body::{Item, Unsent};
-use super::core::{Core, or_closed, or_end};
-use super::rendezvous::{OfferState, TakerState};
+use super::core::{Core, SENDERS, Sent, or_closed};
+use super::rendezvous::Waiter;
 use super::select::Case;
 use super::side::Source;
 use super::{Receiver, RecvError, SendError, Sender};
 use crate::event::{Again, Panics, Ticket, Try};
 use std::borrow::Cow;
 use std::pin::Pin;
+use std::sync::Arc;
 use std::task::{Context, Poll, Waker};
 
-/// Tries, and stays in line; or stands in line, and tries again if there seems to be something. A future that is still in line
-/// needs no second try: the notification that takes it out is to come.
-fn poll_in_line<R>(
-    ticket: &mut Option<Ticket>,
-    case: Case,
-    waker: &Waker,
-    panics: &mut Panics,
-    mut attempt: impl FnMut() -> Try<R>,
-) -> Poll<R> {
-    let mut tried = attempt();
-    let mut stays = |ticket| case.line().stay(ticket, waker, panics);
-    if tried.is_err() && !ticket.is_some_and(&mut stays) {
-        *ticket = Some(case.line().stand(waker.clone()));
-        tried = case.look().and_then(|()| attempt());
-    }
-    match tried {
-        Ok(done) => {
-            leave_line(ticket.take(), case, panics);
-            return Poll::Ready(done);
-        }
-        // Nobody else wakes it at that moment.
-        Err(Again::At(_)) => panics.run_each([waker], Waker::wake_by_ref),
-        Err(Again::WhenNotified) => {}
-    }
-    Poll::Pending
+/// How a task waits.
+#[derive(Default)]
+pub enum Waiting {
+    #[default]
+    No,
+    InLine(Ticket),
+    /// In a channel of capacity 0.
+    Posted(Arc<Waiter>),
 }
 
-/// Leaves the line without a further try.
-fn leave_line(ticket: Option<Ticket>, case: Case, panics: &mut Panics) {
-    if let Some(ticket) = ticket {
-        case.line().pass_on(ticket, panics);
+impl Waiting {
+    /// Tries, and stays in line; or stands in line, and tries again if there seems to be something. A future that is still in line
+    /// needs no second try: the notification that takes it out is to come.
+    fn poll_in_line<R>(
+        &mut self,
+        case: Case,
+        waker: &Waker,
+        panics: &mut Panics,
+        mut attempt: impl FnMut() -> Try<R>,
+    ) -> Poll<R> {
+        let mut tried = attempt();
+        let stays = match self {
+            Waiting::InLine(ticket) => tried.is_err() && case.line().stay(*ticket, waker, panics),
+            _ => false,
+        };
+        if tried.is_err() && !stays {
+            *self = Waiting::InLine(case.line().stand(waker.clone()));
+            tried = case.look().and_then(|()| attempt());
+        }
+        match tried {
+            Ok(done) => {
+                if let Waiting::InLine(ticket) = *self {
+                    case.line().pass_on(ticket, panics);
+                }
+                return Poll::Ready(done);
+            }
+            // Nobody else wakes it at that moment.
+            Err(Again::At(_)) => panics.run_each([waker], Waker::wake_by_ref),
+            Err(Again::WhenNotified) => {}
+        }
+        Poll::Pending
     }
 }
 
 /// One poll by this call, which keeps the panics of wakers. The state is None once the future is done.
-fn poll_state<S, R>(
-    state: &mut Option<S>,
-    call: impl FnOnce(&mut S, &mut Panics) -> Poll<R>,
+fn poll_state<R>(
+    state: &mut Option<Waiting>,
+    call: impl FnOnce(&mut Waiting, &mut Panics) -> Poll<R>,
 ) -> Poll<R> {
     let begun = state.as_mut();
     let begun = begun.expect("the future is done, and was polled again");
@@ -67,73 +78,41 @@ fn poll_state<S, R>(
     polled
 }
 
-/// How far a take is.
-enum Takes {
-    /// It waits in line, if it has a ticket.
-    InLine(Option<Ticket>),
-    /// The channel has capacity 0.
-    Meets(TakerState),
+/// One poll of a take. It gives None if the channel is closed.
+fn poll_take(state: &mut Option<Waiting>, case: Case, waker: &Waker) -> Poll<Option<Item>> {
+    poll_state(state, |waiting, panics| match case.meeting_place() {
+        Some((core, rendezvous)) => core.poll_met(rendezvous, waiting, waker, panics),
+        None => waiting.poll_in_line(case, waker, panics, || case.try_take()),
+    })
 }
 
-impl Takes {
-    fn of(source: &Source) -> Takes {
-        match Case::Take(source).meeting_place() {
-            None => Takes::InLine(None),
-            Some(_) => Takes::Meets(TakerState::Idle),
-        }
-    }
-
-    /// Gives None if the channel is closed.
-    fn poll(&mut self, source: &Source, waker: &Waker, panics: &mut Panics) -> Poll<Option<Item>> {
-        let case = Case::Take(source);
-        match (self, case.meeting_place()) {
-            (Takes::Meets(taker), Some(core)) => core.poll_met(taker, waker, panics),
-            (Takes::InLine(ticket), _) => {
-                poll_in_line(ticket, case, waker, panics, || or_end(source.try_take()))
-            }
-            (Takes::Meets(_), None) => Poll::Ready(None),
-        }
-    }
-
-    fn end(self, source: &Source, panics: &mut Panics) {
-        let case = Case::Take(source);
-        match (self, case.meeting_place()) {
-            (Takes::Meets(taker), Some(core)) => core.leave_met(taker, panics),
-            (Takes::InLine(ticket), _) => leave_line(ticket, case, panics),
-            (Takes::Meets(_), None) => {}
-        }
-    }
+/// One poll of a send. The item is put back if the channel is closed.
+fn poll_send(
+    state: &mut Option<Waiting>,
+    core: &Core,
+    item: &mut Unsent,
+    waker: &Waker,
+) -> Poll<Sent> {
+    let case = Case::Of(core, SENDERS);
+    poll_state(state, |waiting, panics| match case.meeting_place() {
+        Some((_, rendezvous)) => core.poll_posted(rendezvous, waiting, item, waker, panics),
+        None => waiting.poll_in_line(case, waker, panics, || or_closed(core.try_send(item))),
+    })
 }
 
-/// How far a send is. It has its item until that is sent, posted or handed back.
-enum Sends {
-    InLine(Unsent, Option<Ticket>),
-    Meets(OfferState),
-}
-
-impl Sends {
-    /// Gives the item back if the channel is closed.
-    fn poll(&mut self, core: &Core, waker: &Waker, panics: &mut Panics) -> Poll<Option<Item>> {
-        match self {
-            Sends::Meets(offer) => core.poll_posted(offer, waker, panics),
-            Sends::InLine(item, ticket) => {
-                let attempt = || or_closed(core.try_send(item));
-                let sent = poll_in_line(ticket, Case::Send(core), waker, panics, attempt);
-                sent.map(|sent| sent.is_err().then(|| item.take()))
-            }
+/// The task is no more, nor is the item of a send.
+fn end(waiting: Waiting, case: Case, mut item: Unsent) {
+    let mut panics = Panics::default();
+    match (waiting, case.meeting_place()) {
+        (Waiting::InLine(ticket), _) => case.line().pass_on(ticket, &mut panics),
+        (Waiting::Posted(waiter), Some((core, rendezvous))) => {
+            let posted = core.leave_list(rendezvous, case.side(), &waiter, &mut panics);
+            item = item.or(posted);
         }
+        _ => {}
     }
-
-    /// Gives the item back that isn't sent.
-    fn end(self, core: &Core, panics: &mut Panics) -> Option<Item> {
-        match self {
-            Sends::Meets(offer) => core.withdraw(offer, panics),
-            Sends::InLine(mut item, ticket) => {
-                leave_line(ticket, Case::Send(core), panics);
-                item.left()
-            }
-        }
-    }
+    panics.run_each(item, drop);
+    panics.raise();
 }
 
 /// A take: see [`recv_async`](crate::Receiver::recv_async).
@@ -145,7 +124,7 @@ impl Sends {
 pub struct RecvFuture<'a, T> {
     /// It borrows the receiver, or has it.
     receiver: Cow<'a, Receiver<T>>,
-    state: Option<Takes>,
+    state: Option<Waiting>,
 }
 
 // No item is pinned.
@@ -153,11 +132,11 @@ impl<T> Unpin for RecvFuture<'_, T> {}
 
 impl<'a, T> RecvFuture<'a, T> {
     pub(super) fn new(receiver: Cow<'a, Receiver<T>>) -> Self {
-        if let Source::Timer(timer) = &*receiver.0 {
+        if let Source::Timer(timer) = &receiver.0 {
             let has_items = timer.capacity() != 0;
             assert!(!has_items, "a timer has no future: use the runtime's");
         }
-        let state = Some(Takes::of(&receiver.0));
+        let state = Some(Waiting::No);
         RecvFuture { receiver, state }
     }
 
@@ -188,21 +167,16 @@ impl<T> Future for RecvFuture<'_, T> {
 
     fn poll(mut self: Pin<&mut Self>, context: &mut Context<'_>) -> Poll<Self::Output> {
         let RecvFuture { receiver, state } = &mut *self;
-        let taken = poll_state(state, |state, panics| {
-            state.poll(&receiver.0, context.waker(), panics)
-        });
+        let taken = poll_take(state, receiver.0.case(), context.waker());
         taken.map(|item| item.map(|item| receiver.unpack(item)).ok_or(RecvError))
     }
 }
 
 impl<T> Drop for RecvFuture<'_, T> {
     fn drop(&mut self) {
-        let Some(state) = self.state.take() else {
-            return;
-        };
-        let mut panics = Panics::default();
-        state.end(&self.receiver.0, &mut panics);
-        panics.raise();
+        if let Some(waiting) = self.state.take() {
+            end(waiting, self.receiver.0.case(), None);
+        }
     }
 }
 
@@ -217,7 +191,9 @@ fmt_by_text! { impl<T> Debug for RecvFuture<'_, T>: _ => "RecvFuture { .. }" }
 pub struct SendFuture<'a, T> {
     /// It borrows the sender, or has it.
     sender: Cow<'a, Sender<T>>,
-    state: Option<Sends>,
+    state: Option<Waiting>,
+    /// Until it is sent or posted.
+    item: Unsent,
 }
 
 // No item is pinned.
@@ -225,12 +201,12 @@ impl<T> Unpin for SendFuture<'_, T> {}
 
 impl<'a, T> SendFuture<'a, T> {
     pub(super) fn new(sender: Cow<'a, Sender<T>>, item: T) -> Self {
-        let mut item = sender.pack(item);
-        let state = Some(match sender.core().rendezvous {
-            None => Sends::InLine(item, None),
-            Some(_) => Sends::Meets(OfferState::Here(Some(item.take()))),
-        });
-        SendFuture { sender, state }
+        let (state, item) = (Some(Waiting::No), sender.pack(item));
+        SendFuture {
+            sender,
+            state,
+            item,
+        }
     }
 
     /// Whether a poll was ready, as `is_terminated` of a `FusedFuture` says.
@@ -258,23 +234,21 @@ impl<T> Future for SendFuture<'_, T> {
     type Output = Result<(), SendError<T>>;
 
     fn poll(mut self: Pin<&mut Self>, context: &mut Context<'_>) -> Poll<Self::Output> {
-        let SendFuture { sender, state } = &mut *self;
-        let left = poll_state(state, |state, panics| {
-            state.poll(sender.core(), context.waker(), panics)
-        });
-        left.map(|item| item.map_or(Ok(()), |it| Err(SendError(sender.unpack(it)))))
+        let SendFuture {
+            sender,
+            state,
+            item,
+        } = &mut *self;
+        let sent = poll_send(state, sender.core(), item, context.waker());
+        sent.map(|sent| sent.map_err(|_| SendError(sender.unpack(item.take()))))
     }
 }
 
 impl<T> Drop for SendFuture<'_, T> {
     fn drop(&mut self) {
-        let Some(state) = self.state.take() else {
-            return;
-        };
-        let mut panics = Panics::default();
-        let item = state.end(self.sender.core(), &mut panics);
-        panics.run_each(item, drop);
-        panics.raise();
+        if let Some(waiting) = self.state.take() {
+            end(waiting, self.sender.case(), self.item.take());
+        }
     }
 }
 

@@ -18,6 +18,7 @@ use crate::event::{Again, Try, lock};
 use std::sync::atomic::{AtomicU64, Ordering};
 
 /// The limit of a row, and the counts by which it is kept.
+#[derive(Default)]
 pub struct Limit {
     pub capacity: usize,
     /// How many items were given room.
@@ -32,9 +33,7 @@ impl Limit {
     pub fn new(capacity: usize) -> Limit {
         Limit {
             capacity,
-            given: AtomicU64::new(0),
-            given_back: AtomicU64::new(0),
-            taken: AtomicU64::new(0),
+            ..Limit::default()
         }
     }
 
@@ -84,7 +83,7 @@ impl Core {
         };
         if self.alive().next().is_none() {
             // The channel is closed under this lock.
-            drop(lock(&self.in_queue));
+            drop(lock(&self.groups_lock));
             return Ok(());
         }
         let given_back = limit.given_back.load(Ordering::SeqCst);
@@ -113,16 +112,12 @@ impl Core {
     ) -> Sent {
         while !self.get_room(row) {
             drop(seat);
-            self.row_seems_to_have_room(row)?;
-            if self.is_closed() {
-                return Err(NotSent::Closed);
-            }
+            self.look_again(row)?;
             seat = self.senders.seats.acquire();
         }
-        let code = self.send_by(&mut seat, item);
-        let sent = self.end_send(item, code, seat, Core::try_send);
+        let sent = self.send_in_row(row, item, seat);
         if sent.is_err() {
-            self.give_back_room();
+            row.give_back_room();
         }
         sent
     }
@@ -130,13 +125,19 @@ impl Core {
     /// Reserves room for one send.
     pub fn reserve_in_row(&self, row: &Row) -> Sent {
         while !self.get_room(row) {
-            self.row_seems_to_have_room(row)?;
-            if self.is_closed() {
-                return Err(NotSent::Closed);
-            }
+            self.look_again(row)?;
         }
         if self.is_closed() {
-            self.give_back_room();
+            row.give_back_room();
+            return Err(NotSent::Closed);
+        }
+        Ok(())
+    }
+
+    /// Whether there may be room by now.
+    fn look_again(&self, row: &Row) -> Sent {
+        self.row_seems_to_have_room(row)?;
+        if self.is_closed() {
             return Err(NotSent::Closed);
         }
         Ok(())

@@ -2,19 +2,28 @@
 //! single steps, one for each call between its two moments, gives all that was returned. The calls are
 //! sends and takes, with and without a time, closes, clones, drops, upgrades of weak handles, and selects
 //! over two channels. With capacity 0 a send and its take are one step, between the moments of both.
+//!
+//! Sends, takes and closes alone are also recorded as long logs, which `ccq judge` judges: see [`judged`](super::judged).
+use self::Outcome::*;
+use super::judged::{send, take};
 use super::rounds::rounds;
 use super::row_tests::small_shape;
-use super::select::Begun;
+use super::select::{Begun, random_below};
 use super::*;
 use std::collections::{HashSet, VecDeque};
+use std::mem::replace;
+use std::sync::Mutex;
 use std::sync::atomic::{AtomicU64, AtomicUsize, Ordering};
 use std::thread;
 use std::time::Duration;
 
 const THREADS: usize = 4;
+/// In place of a capacity: the channel is a row without a limit.
+const NO_LIMIT: usize = usize::MAX;
+const TIME: Option<Duration> = Some(Duration::from_micros(20));
 
-/// The result of a call; if that is a receiver's, with its group.
-#[derive(Clone, Copy, Debug, PartialEq, Eq)]
+/// The result of a call. A group has a number from 0; a side has one from 0, which is the senders'.
+#[derive(Clone, Copy, Debug, PartialEq)]
 enum Outcome {
     Sent(u32),
     Full,
@@ -25,196 +34,128 @@ enum Outcome {
     Closed(bool),
     IsClosed(bool),
     Len(usize),
-    SenderCloned,
-    SenderUpgraded(bool),
-    SenderDropped,
-    ReceiverCloned(usize),
-    ReceiverUpgraded(usize, bool),
-    ReceiverDropped(usize),
+    /// By a clone, or the upgrade of a weak handle.
+    Another(usize, bool),
+    Dropped(usize),
     /// A selected send has its room. Then it is sent to it, the channel is closed, or the room is given back.
     Reserved,
     SentToRoom(u32),
     RoomClosed,
     GaveBack,
     /// None of these operations of a select is ready, at one moment. The takes of the first channel are of this group.
-    NoneReady(u64, usize),
+    NoneReady(usize, usize),
 }
 
 /// The bit of an operation of a select: of the take, or the send, of this channel.
-fn bit(channel: usize, sends: bool) -> u64 {
+fn bit(channel: usize, sends: bool) -> usize {
     1 << (channel + if sends { 2 } else { 0 })
 }
 
-#[derive(Clone, Copy, Debug)]
-struct Call {
-    begin: u64,
-    end: u64,
-    /// Of the two.
-    channel: usize,
-    outcome: Outcome,
-}
+/// Its begin, its end, its channel of the two, and its result.
+type Call = (u64, u64, usize, Outcome);
 
-/// The items that a group hasn't taken, and how many receivers it has.
-#[derive(Clone, PartialEq, Eq, Hash)]
-struct GroupModel {
-    items: VecDeque<u32>,
-    receivers: usize,
-}
-
-/// The channel as it is meant. A group that has lost its receivers is there no more.
+/// The channel as it is meant.
 #[derive(Clone, PartialEq, Eq, Hash)]
 struct Model {
     capacity: usize,
-    groups: Vec<Option<GroupModel>>,
-    senders: usize,
+    /// What each group hasn't taken, if it has receivers.
+    items: Vec<VecDeque<u32>>,
+    /// How many handles each side has.
+    handles: Vec<usize>,
     reserved: usize,
     closed: bool,
 }
 
 impl Model {
-    /// With this capacity, this number of senders, and this number of receivers of each group.
-    fn start(capacity: usize, senders: usize, receivers: &[usize]) -> Model {
-        let group = |&receivers: &usize| {
-            let items = VecDeque::new();
-            Some(GroupModel { items, receivers })
-        };
+    fn start(capacity: usize, handles: Vec<usize>) -> Model {
         Model {
             capacity,
-            groups: receivers.iter().map(group).collect(),
-            senders,
+            items: vec![VecDeque::new(); handles.len() - 1],
+            handles,
             reserved: 0,
             closed: false,
         }
     }
 
     fn len(&self) -> usize {
-        let groups = self.groups.iter().flatten();
-        groups.map(|it| it.items.len()).max().unwrap_or(0)
+        self.items.iter().map(VecDeque::len).max().unwrap_or(0)
     }
 
-    /// A call of this group's receiver, which there is then.
-    fn group(&mut self, group: usize) -> &mut GroupModel {
-        self.groups[group].as_mut().expect("its receiver is there")
-    }
-
-    fn is_full(&self) -> bool {
-        self.len() + self.reserved == self.capacity
+    fn has_room(&self) -> bool {
+        !self.closed && self.len() + self.reserved < self.capacity
     }
 
     fn push(&mut self, item: u32) {
-        let groups = self.groups.iter_mut().flatten();
-        groups.for_each(|group| group.items.push_back(item));
+        let groups = self.items.iter_mut().zip(&self.handles[1..]);
+        let alive = groups.filter(|it| *it.1 > 0);
+        alive.for_each(|(items, _)| items.push_back(item));
     }
 
     /// Whether a call returns this if it is made now. Then it is made.
     fn makes(&mut self, outcome: Outcome) -> bool {
+        let (has_room, closed) = (self.has_room(), self.closed);
         match outcome {
-            Outcome::Sent(item) => {
-                let may = !self.closed && !self.is_full();
+            Sent(item) => {
                 self.push(item);
-                may
+                has_room
             }
-            Outcome::Reserved => {
-                let may = !self.closed && !self.is_full();
+            Reserved => {
                 self.reserved += 1;
-                may
+                has_room
             }
-            Outcome::SentToRoom(item) => {
+            SentToRoom(item) => {
                 self.reserved -= 1;
                 self.push(item);
-                !self.closed
+                !closed
             }
-            Outcome::RoomClosed => {
+            RoomClosed | GaveBack => {
                 self.reserved -= 1;
-                self.closed
+                closed || outcome == GaveBack
             }
-            Outcome::GaveBack => {
-                self.reserved -= 1;
-                true
+            Full => !closed && !has_room,
+            SendClosed => closed,
+            Got(group, item) => self.items[group].pop_front() == Some(item),
+            Empty(group) => !closed && self.items[group].is_empty(),
+            Ended(group) => closed && self.items[group].is_empty(),
+            Closed(first) => first != replace(&mut self.closed, true),
+            IsClosed(is) => is == closed,
+            Len(len) => self.len() == len,
+            Another(side, is_there) => {
+                let was_there = self.handles[side] > 0;
+                self.handles[side] += usize::from(is_there);
+                is_there == was_there
             }
-            Outcome::Full => !self.closed && self.is_full(),
-            Outcome::SendClosed => self.closed,
-            Outcome::Got(group, item) => self.group(group).items.pop_front() == Some(item),
-            Outcome::Empty(group) => !self.closed && self.group(group).items.is_empty(),
-            Outcome::Ended(group) => self.closed && self.group(group).items.is_empty(),
-            Outcome::NoneReady(..) => unreachable!("it is of both channels"),
-            Outcome::Closed(first) => first != std::mem::replace(&mut self.closed, true),
-            Outcome::IsClosed(closed) => closed == self.closed,
-            Outcome::Len(len) => self.len() == len,
-            Outcome::SenderCloned => {
-                self.senders += 1;
-                true
-            }
-            Outcome::SenderUpgraded(is_there) => {
-                let are_there = self.senders > 0;
-                self.senders += usize::from(is_there);
-                is_there == are_there
-            }
-            Outcome::SenderDropped => {
-                self.senders -= 1;
-                self.closed |= self.senders == 0;
-                true
-            }
-            Outcome::ReceiverCloned(group) => {
-                self.group(group).receivers += 1;
-                true
-            }
-            Outcome::ReceiverUpgraded(group, is_there) => {
-                let now = self.groups[group].as_mut();
-                is_there
-                    == now
-                        .map(|it| it.receivers += usize::from(is_there))
-                        .is_some()
-            }
-            Outcome::ReceiverDropped(group) => {
-                self.group(group).receivers -= 1;
-                if self.group(group).receivers == 0 {
-                    self.groups[group] = None;
+            Dropped(side) => {
+                self.handles[side] -= 1;
+                if side > 0 && self.handles[side] == 0 {
+                    self.items[side - 1].clear();
                 }
-                self.closed |= self.groups.iter().all(Option::is_none);
+                self.closed |= self.handles[0] == 0 || self.handles[1..].iter().all(|it| *it == 0);
                 true
             }
+            NoneReady(..) => unreachable!("it is of both channels"),
         }
     }
 }
 
-/// The calls that this one is made with, at the same moment: with capacity 0 the take of what it sends.
-fn made_with(calls: &[Call], call: usize, models: &[Model; 2]) -> Option<Vec<usize>> {
-    let Call {
-        channel, outcome, ..
-    } = calls[call];
-    let mut all = vec![call];
-    if models[channel].capacity == 0 {
-        match outcome {
-            Outcome::Got(..) => return None,
-            Outcome::Sent(item) => {
-                let takes =
-                    |it: &Call| it.channel == channel && it.outcome == Outcome::Got(0, item);
-                all.push(calls.iter().position(takes)?);
-            }
-            _ => {}
-        }
-    }
-    Some(all)
-}
-
-/// Makes these calls, at the same moment. Returns whether they return what they did.
-fn make(calls: &[Call], all: &[usize], models: &mut [Model; 2]) -> bool {
-    let [first, ..] = all else { return false };
-    let Call {
-        channel, outcome, ..
-    } = calls[*first];
-    match outcome {
-        _ if all.len() == 2 => !models[channel].closed,
-        Outcome::NoneReady(bits, group) => {
-            let has = |channel, sends| bits & bit(channel, sends) != 0;
-            (0..).zip(models).all(|(channel, it)| {
-                (!has(channel, false) || it.makes(Outcome::Empty([group, 0][channel])))
-                    && (!has(channel, true) || it.makes(Outcome::Full))
-            })
+/// Makes a call, and with it the take of what it sends, if the capacity is 0. Gives the bits of the calls that are made, if they return
+/// what they did.
+fn make(calls: &[Call], call: usize, models: &mut [Model; 2]) -> Option<u128> {
+    let (.., channel, outcome) = calls[call];
+    let is_made = match outcome {
+        NoneReady(bits, group) => (0..).zip(&mut *models).all(|(channel, it)| {
+            let has = |sends| bits & bit(channel, sends) != 0;
+            (!has(false) || it.makes(Empty([group, 0][channel]))) && (!has(true) || it.makes(Full))
+        }),
+        Got(..) if models[channel].capacity == 0 => false,
+        Sent(item) if models[channel].capacity == 0 => {
+            let is_take = |it: &Call| (it.2, it.3) == (channel, Got(0, item));
+            let take = calls.iter().position(is_take)?;
+            return (!models[channel].closed).then_some(1 << call | 1 << take);
         }
         outcome => models[channel].makes(outcome),
-    }
+    };
+    is_made.then_some(1 << call)
 }
 
 /// Whether there is such an order.
@@ -229,35 +170,50 @@ fn is_linear(calls: &[Call], start: [Model; 2]) -> bool {
             continue;
         }
         let rest = (0..calls.len()).filter(|call| made & 1 << call == 0);
-        let first_end = rest.clone().map(|call| calls[call].end).min();
-        let has_begun = |call: usize| Some(calls[call].begin) < first_end;
-        for call in rest.filter(|&call| has_begun(call)) {
-            let Some(together) = made_with(calls, call, &models) else {
-                continue;
-            };
-            let is_left = |&call: &usize| made & 1 << call == 0 && has_begun(call);
+        let first_end = rest.clone().map(|call| calls[call].1).min();
+        let ready = rest.filter(|&call| Some(calls[call].0) < first_end);
+        let may_be = ready.clone().fold(0, |all, call| all | 1 << call);
+        for call in ready {
             let mut next = models.clone();
-            if together.iter().all(is_left) && make(calls, &together, &mut next) {
-                let made = together.iter().fold(made, |made, call| made | 1 << call);
-                left.push((made, next));
-            }
+            let now = make(calls, call, &mut next).filter(|now| now & !may_be == 0);
+            left.extend(now.map(|now| (made | now, next)));
         }
     }
     false
 }
 
-struct Random(u64);
-
-impl Random {
-    fn below(&mut self, limit: u64) -> u64 {
-        self.0 ^= self.0 << 13;
-        self.0 ^= self.0 >> 7;
-        self.0 ^= self.0 << 17;
-        (self.0 >> 11) % limit
+fn sends(sender: &Sender<u32>, item: u32, time: Option<Duration>) -> Outcome {
+    match send(sender, item, time) {
+        Ok(()) => Sent(item),
+        Err(true) => Full,
+        Err(false) => SendClosed,
     }
 }
 
-/// The handles of one thread.
+fn takes(receiver: &Receiver<u32>, time: Option<Duration>) -> Outcome {
+    let group = receiver.group() - 1;
+    match take(receiver, time) {
+        Ok(item) => Got(group, item),
+        Err(true) => Empty(group),
+        Err(false) => Ended(group),
+    }
+}
+
+/// Adds a handle, and returns whether there is one.
+fn add<H>(more: Option<H>, handles: &mut Vec<H>) -> bool {
+    let before = handles.len();
+    handles.extend(more);
+    handles.len() > before
+}
+
+/// A clock, and how many threads are ready to start.
+type Clock = (AtomicU64, AtomicUsize);
+
+fn now((time, _): &Clock) -> u64 {
+    time.fetch_add(1, Ordering::SeqCst)
+}
+
+/// The handles of one thread, and its calls.
 struct Own {
     group: usize,
     senders: Vec<Sender<u32>>,
@@ -265,579 +221,356 @@ struct Own {
     weak: (WeakSender<u32>, WeakReceiver<u32>),
     /// Of the other channel, which stays open.
     other: (Sender<u32>, Receiver<u32>),
+    calls: Vec<Call>,
 }
 
-/// The steps of a select: the moments of its begin and its end, the channel, and what it returned.
-type Parts = Vec<(u64, u64, usize, Outcome)>;
-
 impl Own {
-    fn new(
-        sender: &Sender<u32>,
-        receiver: &Receiver<u32>,
-        other: &(Sender<u32>, Receiver<u32>),
-    ) -> Own {
-        Own {
-            other: other.clone(),
-            group: receiver.group() - 1,
-            weak: (sender.downgrade(), receiver.downgrade()),
-            senders: vec![sender.clone()],
-            receivers: vec![receiver.clone()],
-        }
-    }
-
-    fn sends(&self, item: u32, time: Option<Duration>) -> Option<Outcome> {
-        let sender = self.senders.last()?;
-        let sent = match time {
-            None => sender.try_send(item),
-            Some(time) => sender
-                .send_timeout(item, time)
-                .map_err(|outcome| match outcome {
-                    SendTimeoutError::Timeout(item) => TrySendError::Full(item),
-                    SendTimeoutError::Disconnected(item) => TrySendError::Disconnected(item),
-                }),
-        };
-        Some(match sent {
-            Ok(()) => Outcome::Sent(item),
-            Err(TrySendError::Full(_)) => Outcome::Full,
-            Err(TrySendError::Disconnected(_)) => Outcome::SendClosed,
-        })
-    }
-
-    fn takes(&self, time: Option<Duration>) -> Option<Outcome> {
-        let receiver = self.receivers.last()?;
-        let taken = match time {
-            None => receiver.try_recv(),
-            Some(time) => receiver
-                .recv_timeout(time)
-                .map_err(|outcome| match outcome {
-                    RecvTimeoutError::Timeout => TryRecvError::Empty,
-                    RecvTimeoutError::Disconnected => TryRecvError::Disconnected,
-                }),
-        };
-        Some(match taken {
-            Ok(item) => Outcome::Got(self.group, item),
-            Err(TryRecvError::Empty) => Outcome::Empty(self.group),
-            Err(TryRecvError::Disconnected) => Outcome::Ended(self.group),
-        })
-    }
-
-    /// A call of the other channel.
-    fn calls_other(&self, sends: bool, item: u32) -> Outcome {
-        if sends {
-            let sent = self.other.0.try_send(item);
-            sent.map_or(Outcome::Full, |()| Outcome::Sent(item))
-        } else {
-            let taken = self.other.1.try_recv();
-            taken.map_or(Outcome::Empty(0), |item| Outcome::Got(0, item))
-        }
-    }
-
     /// A select of those operations, of the takes and sends of both channels, whose bits are set, if there are
     /// handles for them; without a time, or with a short one.
-    fn selects(&self, bits: u64, gives_back: bool, item: u32, clock: &Clock) -> Parts {
-        let receivers = [self.receivers.last(), Some(&self.other.1)];
+    fn selects(&self, bits: usize, gives_back: bool, item: u32, clock: &Clock) -> Vec<Call> {
         let senders = [self.senders.last(), Some(&self.other.0)];
-        let mut select = Select::new();
-        let mut operations = vec![];
-        for channel in 0..2 {
-            if let Some(receiver) = receivers[channel].filter(|_| bits & bit(channel, false) != 0) {
-                select.recv(receiver);
-                operations.push((channel, false));
-            }
-            if let Some(sender) = senders[channel].filter(|_| bits & bit(channel, true) != 0) {
-                select.send(sender);
-                operations.push((channel, true));
-            }
+        let receivers = [self.receivers.last(), Some(&self.other.1)];
+        let (mut select, mut operations) = (Select::new(), vec![]);
+        for (channel, sends) in [(0, false), (0, true), (1, false), (1, true)] {
+            let is_wanted = bits & bit(channel, sends) != 0;
+            let at = match (senders[channel], receivers[channel]) {
+                (Some(sender), _) if is_wanted && sends => select.send(sender),
+                (_, Some(receiver)) if is_wanted && !sends => select.recv(receiver),
+                _ => continue,
+            };
+            assert_eq!(at, operations.len());
+            operations.push((channel, sends));
         }
-        let begin = clock.now();
-        let operation = match bits >> 4 & 1 {
+        let begin = now(clock);
+        let operation = match bits >> 4 {
             0 => select.try_select().ok(),
-            _ => select.select_timeout(Duration::from_micros(20)).ok(),
+            _ => select.select_timeout(TIME.unwrap()).ok(),
         };
-        let end = clock.now();
+        let end = now(clock);
+        let groups = [self.group, 0];
         let Some(operation) = operation else {
-            let meets = |&(channel, _): &(usize, bool)| {
-                let capacity = receivers[channel].map(Receiver::capacity);
-                capacity.or_else(|| senders[channel].map(Sender::capacity)) == Some(Some(0))
+            let meets = |it: &(usize, bool)| {
+                let capacity = receivers[it.0].map(Receiver::capacity);
+                capacity.or_else(|| senders[it.0].map(Sender::capacity)) == Some(Some(0))
             };
             if !operations.iter().any(meets) {
-                let bits = operations
-                    .iter()
-                    .map(|&(channel, sends)| bit(channel, sends));
-                return vec![(begin, end, 0, Outcome::NoneReady(bits.sum(), self.group))];
+                let bits = operations.iter().map(|it| bit(it.0, it.1)).sum();
+                return vec![(begin, end, 0, NoneReady(bits, self.group))];
             }
             // With capacity 0 each wasn't ready at a moment of its own.
-            let not_ready = |&(channel, sends): &(usize, bool)| {
-                let take = Outcome::Empty([self.group, 0][channel]);
-                let outcome = if sends { Outcome::Full } else { take };
+            let not_ready = |(channel, sends)| {
+                let outcome = if sends { Full } else { Empty(groups[channel]) };
                 (begin, end, channel, outcome)
             };
-            return operations.iter().map(not_ready).collect();
+            return operations.into_iter().map(not_ready).collect();
         };
         let (channel, sends) = operations[operation.index()];
+        let (sender, group) = (senders[channel].filter(|_| sends), groups[channel]);
         let has_room = matches!(operation.begun, Some(Begun::Room));
-        let group = [self.group, 0][channel];
-        match (sends, receivers[channel], senders[channel]) {
-            (false, Some(receiver), _) => {
-                let taken = operation.recv(receiver);
-                let outcome = taken.map_or(Outcome::Ended(group), |item| Outcome::Got(group, item));
-                vec![(begin, clock.now(), channel, outcome)]
-            }
-            (_, _, Some(sender)) if has_room => {
-                let start = clock.now();
-                let outcome = if gives_back {
-                    drop(operation);
-                    Outcome::GaveBack
-                } else {
-                    let sent = operation.send(sender, item);
-                    sent.map_or(Outcome::RoomClosed, |()| Outcome::SentToRoom(item))
-                };
-                let reserved = (begin, end, channel, Outcome::Reserved);
-                vec![reserved, (start, clock.now(), channel, outcome)]
-            }
-            (_, _, Some(sender)) => {
-                let outcome = match operation.send(sender, item) {
-                    Ok(()) => Outcome::Sent(item),
-                    Err(_) => Outcome::SendClosed,
-                };
-                vec![(begin, clock.now(), channel, outcome)]
-            }
-            _ => vec![],
+        let (mut calls, mut start) = (vec![], begin);
+        if has_room {
+            calls.push((begin, end, channel, Reserved));
+            start = now(clock);
         }
+        let outcome = match sender {
+            None => {
+                let taken = operation.recv(receivers[channel].unwrap());
+                taken.map_or(Ended(group), |item| Got(group, item))
+            }
+            Some(_) if has_room && gives_back => {
+                drop(operation);
+                GaveBack
+            }
+            Some(sender) => match (operation.send(sender, item), has_room) {
+                (Ok(()), true) => SentToRoom(item),
+                (Ok(()), false) => Sent(item),
+                (Err(_), true) => RoomClosed,
+                (Err(_), false) => SendClosed,
+            },
+        };
+        calls.push((start, now(clock), channel, outcome));
+        calls
     }
 
     /// One call of this kind, if there is a handle for it.
-    fn call(&mut self, kind: u64, item: u32) -> Option<Outcome> {
-        const TIME: Option<Duration> = Some(Duration::from_micros(20));
-        match kind {
-            0..7 => self.sends(item, None),
-            7..14 => self.takes(None),
-            14 => self.sends(item, TIME),
-            15 => self.takes(TIME),
-            16 => Some(Outcome::Closed(self.senders.last()?.close())),
-            17 => Some(Outcome::IsClosed(self.receivers.last()?.is_closed())),
-            18 => {
-                self.senders.push(self.senders.last()?.clone());
-                Some(Outcome::SenderCloned)
-            }
-            19 => {
-                self.receivers.push(self.receivers.last()?.clone());
-                Some(Outcome::ReceiverCloned(self.group))
-            }
-            20 => {
-                let sender = self.weak.0.upgrade();
-                let outcome = Outcome::SenderUpgraded(sender.is_some());
-                self.senders.extend(sender);
-                Some(outcome)
-            }
-            21 => {
-                let receiver = self.weak.1.upgrade();
-                let outcome = Outcome::ReceiverUpgraded(self.group, receiver.is_some());
-                self.receivers.extend(receiver);
-                Some(outcome)
-            }
-            22..26 => self.senders.pop().map(|_| Outcome::SenderDropped),
-            _ => {
-                let group = self.group;
-                self.receivers
-                    .pop()
-                    .map(|_| Outcome::ReceiverDropped(group))
-            }
-        }
+    fn call(&mut self, kind: usize, item: u32) -> Option<Outcome> {
+        let (sender, receiver) = (self.senders.last(), self.receivers.last());
+        let side = 1 + self.group;
+        Some(match kind {
+            0..7 => sends(sender?, item, None),
+            7..14 => takes(receiver?, None),
+            14 => sends(sender?, item, TIME),
+            15 => takes(receiver?, TIME),
+            16 => Closed(sender?.close()),
+            17 => IsClosed(receiver?.is_closed()),
+            18 => Another(0, add(Some(sender?.clone()), &mut self.senders)),
+            19 => Another(side, add(Some(receiver?.clone()), &mut self.receivers)),
+            20 => Another(0, add(self.weak.0.upgrade(), &mut self.senders)),
+            21 => Another(side, add(self.weak.1.upgrade(), &mut self.receivers)),
+            22..26 => self.senders.pop().map(|_| Dropped(0))?,
+            _ => self.receivers.pop().map(|_| Dropped(side))?,
+        })
     }
-}
 
-/// A clock, and a line at which four threads start at once.
-#[derive(Default)]
-struct Clock {
-    time: AtomicU64,
-    ready: AtomicUsize,
-}
-
-impl Clock {
-    fn start(&self) {
-        self.ready.fetch_add(1, Ordering::SeqCst);
-        while self.ready.load(Ordering::SeqCst) < THREADS {
+    /// Four calls at random, of this number of kinds: those from 30 on are of the other channel, those from 34 on of selects.
+    fn make_calls(&mut self, clock: &Clock, first: u32, kinds: usize) {
+        clock.1.fetch_add(1, Ordering::SeqCst);
+        while clock.1.load(Ordering::SeqCst) < THREADS {
             thread::yield_now();
         }
-    }
-
-    fn now(&self) -> u64 {
-        self.time.fetch_add(1, Ordering::SeqCst)
-    }
-}
-
-/// One thread's calls, at random, of this number of kinds: those from 30 on are of selects.
-fn calls(own: &mut Own, clock: &Clock, mut random: Random, first: u32, kinds: u64) -> Vec<Call> {
-    clock.start();
-    let mut all = vec![];
-    for item in first..first + 4 {
-        let kind = random.below(kinds);
-        let begin = clock.now();
-        let parts = match kind {
-            0..30 => {
-                let outcome = own.call(kind, item);
-                outcome
-                    .map(|outcome| (begin, clock.now(), 0, outcome))
-                    .into_iter()
-                    .collect()
+        for item in first..first + 4 {
+            let (kind, begin) = (random_below(kinds), now(clock));
+            let outcome = match kind {
+                0..30 => self.call(kind, item).map(|it| (0, it)),
+                30 | 32 => Some((1, sends(&self.other.0, item, None))),
+                31 | 33 => Some((1, takes(&self.other.1, None))),
+                _ => {
+                    let calls = self.selects(random_below(32), random_below(4) == 0, item, clock);
+                    self.calls.extend(calls);
+                    None
+                }
+            };
+            let call = outcome.map(|(channel, it)| (begin, now(clock), channel, it));
+            self.calls.extend(call);
+            if random_below(4) == 0 {
+                thread::yield_now();
             }
-            30..34 => {
-                let outcome = own.calls_other(kind % 2 == 0, item);
-                vec![(begin, clock.now(), 1, outcome)]
-            }
-            _ => own.selects(random.below(32), random.below(4) == 0, item, clock),
-        };
-        all.extend(
-            parts
-                .into_iter()
-                .map(|(begin, end, channel, outcome)| Call {
-                    begin,
-                    end,
-                    channel,
-                    outcome,
-                }),
-        );
-        if random.below(4) == 0 {
-            thread::yield_now();
         }
     }
-    all
 }
 
-/// This number of channels of this number of groups, and the record of the calls of four threads on each.
+/// Channels, and the calls of four threads on each.
+#[derive(Clone, Copy)]
 struct Runs {
     groups: usize,
-    life: u64,
-    per_sender: u32,
+    /// How many items a queue accepts, and how many sends each of its senders begins, beside those that are moved over from the
+    /// queue before.
+    wear: (u64, u32),
     /// The capacity of a run's channel.
-    capacity: fn(u64) -> usize,
+    capacity: fn(usize) -> usize,
     /// If there are selects, the capacity of the other channel.
     other: Option<usize>,
     /// If the channel is a row, how many places its first queue has, and each further one.
     row: Option<[u32; 2]>,
 }
 
-/// In place of a capacity: the channel is a row without a limit.
-const NO_LIMIT: usize = usize::MAX;
-
-/// A channel, the threads' handles, and what was recorded.
-type Run = (Clock, Vec<Own>, Vec<Call>);
+/// Over one queue that doesn't wear, of one group, without selects.
+const PLAIN: Runs = Runs {
+    groups: 1,
+    wear: (1 << 48, u32::MAX),
+    capacity: |run| 1 + run % 3,
+    other: None,
+    row: None,
+};
 
 impl Runs {
-    fn open(&self, capacity: usize) -> Run {
+    fn of(mut self, groups: usize) -> Runs {
+        self.groups = groups;
+        self
+    }
+
+    fn worn(mut self, life: u64, per_sender: u32) -> Runs {
+        self.wear = (life, per_sender);
+        self
+    }
+
+    fn selects(mut self, capacity: fn(usize) -> usize, other: usize) -> Runs {
+        (self.capacity, self.other) = (capacity, Some(other));
+        self
+    }
+
+    /// The handles of four threads of a new channel.
+    fn open(&self, capacity: usize) -> Vec<Mutex<Own>> {
         let other = channel(self.other.unwrap_or(1)).unwrap();
-        let groups = self.groups as u32;
-        let kind = match groups {
+        let kind = match self.groups {
             1 => Kind::alone::<u32>(),
             _ => Kind::of_groups::<u32>(),
         };
-        let (sender, receivers) = match (capacity, self.row) {
-            (0, _) => {
-                let (sender, receiver) = channel(0).unwrap();
-                (sender, vec![receiver])
-            }
+        let (life, per_sender) = self.wear;
+        let core = match (capacity, self.row) {
+            (0, _) => Ok(Core::of_rendezvous(kind)),
             (_, None) => {
-                // Beside those that are moved over from the queue before.
-                let config = Config {
-                    life: (self.life + capacity as u64).min(1 << 48),
-                    per_sender: self.per_sender.saturating_add(capacity as u32),
-                    ..config(capacity)
-                };
-                open(config, groups, kind).unwrap()
+                let mut config = config(capacity);
+                config.life = (life + capacity as u64).min(1 << 48);
+                config.per_sender = per_sender.saturating_add(capacity as u32);
+                Core::open(config, self.groups, kind)
             }
             (_, Some(places)) => {
-                let shape = small_shape(places, self.life, self.per_sender);
+                let shape = small_shape(places, life, per_sender);
                 let limit = (capacity != NO_LIMIT).then_some(capacity);
-                handles(Core::open_row(&shape, limit, groups, kind).unwrap())
+                Core::open_row(shape, limit, self.groups, kind)
             }
         };
+        let (sender, receivers) = handles::<u32>(core.unwrap());
+        let own = |receiver: &Receiver<u32>| Own {
+            group: receiver.group() - 1,
+            senders: vec![sender.clone()],
+            receivers: vec![receiver.clone()],
+            weak: (sender.downgrade(), receiver.downgrade()),
+            other: other.clone(),
+            calls: vec![],
+        };
         let receivers = receivers.iter().cycle().take(THREADS);
-        let handles = receivers.map(|receiver| Own::new(&sender, receiver, &other));
-        (Clock::default(), handles.collect(), vec![])
-    }
-
-    /// Lets four threads make their calls on each of these channels, one after another.
-    fn record(&self, seed: u64, runs: &mut [Run]) {
-        let mut threads: Vec<Vec<(&Clock, &mut Own)>> = (0..THREADS).map(|_| vec![]).collect();
-        for (clock, handles, _) in &mut *runs {
-            for (thread, own) in threads.iter_mut().zip(handles) {
-                thread.push((clock, own));
-            }
-        }
-        let kinds = self.other.map_or(30, |_| 60);
-        let outcome: Vec<Vec<Vec<Call>>> = thread::scope(|scope| {
-            let threads = (0_u32..).zip(threads).map(|(number, channels)| {
-                scope.spawn(move || {
-                    let calls = (seed..).zip(channels).map(|(seed, (clock, own))| {
-                        let seed = seed * THREADS as u64 + u64::from(number) + 1;
-                        let random = Random(seed.wrapping_mul(0x9e37_79b9_7f4a_7c15));
-                        calls(own, clock, random, number * 100, kinds)
-                    });
-                    calls.collect()
-                })
-            });
-            let threads: Vec<_> = threads.collect();
-            threads.into_iter().map(|it| it.join().unwrap()).collect()
-        });
-        for thread in outcome {
-            for ((_, _, all), calls) in runs.iter_mut().zip(thread) {
-                all.extend(calls);
-            }
-        }
+        receivers.map(own).map(Mutex::new).collect()
     }
 
     /// Checks what was recorded, with what is left after it.
-    fn check(&self, capacity: usize, (clock, handles, mut all): Run) {
-        let mut at_rest = |channel, outcome| {
-            let (begin, end) = (clock.now(), clock.now());
-            all.push(Call {
-                begin,
-                end,
-                channel,
-                outcome,
-            });
-        };
-        let sender = handles.iter().find_map(|own| own.senders.last());
-        sender
-            .into_iter()
-            .for_each(|it| at_rest(0, Outcome::Len(it.len())));
-        let left = handles[0].other.1.try_iter();
-        left.for_each(|item| at_rest(1, Outcome::Got(0, item)));
-        for own in &handles {
-            for receiver in &own.receivers {
-                let left = receiver
-                    .try_iter()
-                    .map(|item| Outcome::Got(own.group, item));
-                left.for_each(|outcome| at_rest(0, outcome));
-            }
+    fn check(&self, capacity: usize, clock: &Clock, threads: Vec<Mutex<Own>>) {
+        let threads = threads.into_iter().map(|it| it.into_inner().unwrap());
+        let threads: Vec<Own> = threads.collect();
+        let mut all: Vec<Call> = threads.iter().flat_map(|it| it.calls.clone()).collect();
+        let mut at_rest = |channel, outcome| all.push((now(clock), now(clock), channel, outcome));
+        if let Some(sender) = threads.iter().find_map(|it| it.senders.last()) {
+            at_rest(0, Len(sender.len()));
         }
-        all.sort_by_key(|call| call.begin);
-        let mut receivers = vec![0; self.groups];
-        (0..THREADS).for_each(|thread| receivers[thread % self.groups] += 1);
-        let other = Model::start(self.other.unwrap_or(1), THREADS, &[THREADS]);
-        let start = [Model::start(capacity, THREADS, &receivers), other];
+        let left = threads[0].other.1.try_iter();
+        left.for_each(|item| at_rest(1, Got(0, item)));
+        for own in &threads {
+            let left = own.receivers.iter().flat_map(Receiver::try_iter);
+            left.for_each(|item| at_rest(0, Got(own.group, item)));
+        }
+        all.sort_by_key(|call| call.0);
+        let mut handles = vec![THREADS];
+        handles.resize(1 + self.groups, THREADS / self.groups);
+        let other = Model::start(self.other.unwrap_or(1), vec![THREADS; 2]);
+        let start = [Model::start(capacity, handles), other];
         assert!(is_linear(&all, start), "capacity {capacity}: {all:#?}");
     }
 
+    /// Lets four threads make their calls on each of so many channels, one after another.
     fn make(self, count: u64) {
-        const BATCH: u64 = 50;
-        for batch in 0..rounds(count).div_ceil(BATCH) {
-            let capacity = |run: u64| (self.capacity)(batch + run);
-            let mut runs: Vec<Run> = (0..BATCH).map(|run| self.open(capacity(run))).collect();
-            self.record(batch * BATCH, &mut runs);
-            for (run, recorded) in (0..).zip(runs) {
-                self.check(capacity(run), recorded);
+        const BATCH: usize = 50;
+        let kinds = self.other.map_or(30, |_| 60);
+        for batch in 0..rounds(count).div_ceil(BATCH as u64) as usize {
+            let capacity = |run| (self.capacity)(batch + run);
+            let runs = (0..BATCH).map(|run| (Clock::default(), self.open(capacity(run))));
+            let runs: Vec<_> = runs.collect();
+            thread::scope(|scope| {
+                for number in 0..THREADS {
+                    let runs = &runs;
+                    scope.spawn(move || {
+                        for (clock, threads) in runs {
+                            let mut own = threads[number].lock().unwrap();
+                            own.make_calls(clock, number as u32 * 100, kinds);
+                        }
+                    });
+                }
+            });
+            for (run, (clock, threads)) in runs.into_iter().enumerate() {
+                self.check(capacity(run), &clock, threads);
             }
         }
     }
-}
 
-/// Channels whose queues accept this number of items, and whose senders begin this number of sends.
-fn runs(count: u64, groups: usize, life: u64, per_sender: u32) {
-    let runs = Runs {
-        groups,
-        life,
-        per_sender,
-        capacity: |run| 1 + run as usize % 3,
-        other: None,
-        row: None,
-    };
-    runs.make(count);
-}
-
-/// Rows of tiny queues that wear, without a limit and with one.
-fn row_runs(count: u64, groups: usize, other: Option<usize>, life: u64, per_sender: u32) {
-    for places in [[1, 1], [1, 2], [2, 3]] {
-        let runs = Runs {
-            groups,
-            life,
-            per_sender,
-            capacity: |run| [1, 2, 3, NO_LIMIT, NO_LIMIT][run as usize % 5],
-            other,
-            row: Some(places),
-        };
-        runs.make(count);
+    /// Rows of tiny queues, without a limit and with one.
+    fn make_rows(mut self, count: u64) {
+        self.capacity = |run| [1, 2, 3, NO_LIMIT, NO_LIMIT][run % 5];
+        for places in [[1, 1], [1, 2], [2, 3]] {
+            self.row = Some(places);
+            self.make(count);
+        }
     }
-}
-
-/// Selects over such a channel, of this number of groups, and another one of this capacity.
-fn select_runs(count: u64, groups: usize, capacity: fn(u64) -> usize, other: usize) {
-    let runs = Runs {
-        groups,
-        life: 1 << 48,
-        per_sender: u32::MAX,
-        capacity,
-        other: Some(other),
-        row: None,
-    };
-    runs.make(count);
 }
 
 #[test]
 fn selects_have_an_order() {
-    select_runs(20_000, 1, |run| 1 + run as usize % 2, 1);
-    select_runs(5_000, 2, |run| 1 + run as usize % 2, 2);
+    PLAIN.selects(|run| 1 + run % 2, 1).make(20_000);
+    PLAIN.of(2).selects(|run| 1 + run % 2, 2).make(5_000);
 }
 
 #[test]
 fn rendezvous_have_an_order() {
-    select_runs(10_000, 1, |_| 0, 0);
-    select_runs(10_000, 1, |run| run as usize % 2, 1);
-    select_runs(5_000, 1, |_| 2, 0);
+    PLAIN.selects(|_| 0, 0).make(10_000);
+    PLAIN.selects(|run| run % 2, 1).make(10_000);
+    PLAIN.selects(|_| 2, 0).make(5_000);
 }
 
 #[test]
-fn calls_of_four_threads_have_an_order() {
-    runs(45_000, 1, 1 << 48, u32::MAX);
-}
-
-#[test]
-fn calls_of_groups_have_an_order() {
-    runs(25_000, 2, 1 << 48, u32::MAX);
-    runs(10_000, 4, 1 << 48, u32::MAX);
+fn calls_have_an_order() {
+    PLAIN.make(45_000);
+    PLAIN.of(2).make(25_000);
+    PLAIN.of(4).make(10_000);
 }
 
 /// Queues follow one another all the time.
 #[test]
 fn calls_over_many_queues_have_an_order() {
-    runs(8_000, 1, 2, u32::MAX);
-    runs(6_000, 1, 1000, 1);
-    runs(6_000, 2, 2, 2);
+    PLAIN.worn(2, u32::MAX).make(8_000);
+    PLAIN.worn(1000, 1).make(6_000);
+    PLAIN.of(2).worn(2, 2).make(6_000);
 }
 
 #[test]
 fn calls_over_rows_have_an_order() {
-    row_runs(4_000, 1, None, 1 << 48, u32::MAX);
-    row_runs(1_500, 1, None, 2, 2);
-    row_runs(1_000, 1, None, 1000, 1);
-}
-
-#[test]
-fn calls_of_groups_over_rows_have_an_order() {
-    row_runs(2_500, 2, None, 1 << 48, u32::MAX);
-    row_runs(1_000, 4, None, 3, 3);
+    PLAIN.make_rows(4_000);
+    PLAIN.worn(2, 2).make_rows(1_500);
+    PLAIN.worn(1000, 1).make_rows(1_000);
+    PLAIN.of(2).make_rows(2_500);
+    PLAIN.of(4).worn(3, 3).make_rows(1_000);
 }
 
 #[test]
 fn selects_over_rows_have_an_order() {
-    row_runs(3_000, 1, Some(1), 1 << 48, u32::MAX);
-    row_runs(1_000, 2, Some(2), 3, 3);
+    PLAIN.selects(|_| 0, 1).make_rows(3_000);
+    PLAIN.of(2).worn(3, 3).selects(|_| 0, 2).make_rows(1_000);
+}
+
+/// A history of the first channel.
+macro_rules! calls {
+    ($($begin:literal..$end:literal $outcome:expr),+) => {
+        vec![$(($begin, $end, 0, $outcome)),+]
+    };
+}
+
+/// Whether calls on a channel of this capacity, and on another one, have an order. One sender and one receiver begin.
+fn has_order(capacity: usize, calls: &[Call]) -> bool {
+    is_linear(calls, [(); 2].map(|()| Model::start(capacity, vec![1, 1])))
 }
 
 /// The check itself: what no order gives is refused.
 #[test]
 fn what_has_no_order_is_refused() {
-    let call = |begin, end, outcome| Call {
-        begin,
-        end,
-        channel: 0,
-        outcome,
-    };
-    let start = |capacity| [0, 1].map(|_| Model::start(capacity, 1, &[1]));
-    let is_linear = |calls: &[Call]| is_linear(calls, start(1));
-    let sent = call(0, 1, Outcome::Sent(7));
-    let refused = [
-        vec![sent, call(2, 3, Outcome::Empty(0))],
-        vec![sent, call(2, 3, Outcome::Sent(8))],
-        vec![call(0, 3, Outcome::Full), call(4, 5, Outcome::Sent(7))],
-        vec![
-            sent,
-            call(2, 3, Outcome::Closed(true)),
-            call(4, 5, Outcome::Ended(0)),
-        ],
-        vec![
-            sent,
-            call(2, 5, Outcome::Got(0, 7)),
-            call(3, 4, Outcome::Got(0, 7)),
-        ],
-        vec![call(0, 1, Outcome::Got(0, 7)), call(2, 3, Outcome::Sent(7))],
-        vec![
-            call(0, 1, Outcome::Closed(true)),
-            call(2, 3, Outcome::Closed(true)),
-        ],
-        vec![
-            call(0, 1, Outcome::Closed(true)),
-            call(2, 3, Outcome::Sent(7)),
-        ],
-        vec![
-            call(0, 1, Outcome::ReceiverDropped(0)),
-            call(2, 3, Outcome::Full),
-        ],
-        vec![call(0, 1, Outcome::ReceiverDropped(0)), sent_at(2)],
-        vec![
-            call(0, 1, Outcome::SenderDropped),
-            call(2, 3, Outcome::Empty(0)),
-        ],
-        vec![
-            call(0, 1, Outcome::SenderDropped),
-            call(2, 3, Outcome::SenderUpgraded(true)),
-        ],
-        vec![
-            call(0, 1, Outcome::SenderCloned),
-            call(2, 3, Outcome::SenderDropped),
-            call(4, 5, Outcome::IsClosed(true)),
-        ],
-    ];
-    for calls in refused {
-        assert!(!is_linear(&calls), "{calls:?}");
+    for (capacity, calls) in [
+        (1, calls![0..1 Sent(7), 2..3 Empty(0)]),
+        (1, calls![0..1 Sent(7), 2..3 Sent(8)]),
+        (1, calls![0..3 Full, 4..5 Sent(7)]),
+        (1, calls![0..1 Sent(7), 2..3 Closed(true), 4..5 Ended(0)]),
+        (1, calls![0..1 Sent(7), 2..5 Got(0, 7), 3..4 Got(0, 7)]),
+        (1, calls![0..1 Got(0, 7), 2..3 Sent(7)]),
+        (1, calls![0..1 Closed(true), 2..3 Closed(true)]),
+        (1, calls![0..1 Closed(true), 2..3 Sent(7)]),
+        (1, calls![0..1 Dropped(1), 2..3 Full]),
+        (1, calls![0..1 Dropped(1), 2..3 Sent(7)]),
+        (1, calls![0..1 Dropped(0), 2..3 Empty(0)]),
+        (1, calls![0..1 Dropped(0), 2..3 Another(0, true)]),
+        (
+            1,
+            calls![0..1 Another(0, true), 2..3 Dropped(0), 4..5 IsClosed(true)],
+        ),
+        (1, calls![0..1 Reserved, 2..3 Sent(7)]),
+        (1, calls![0..1 Reserved, 2..3 Got(0, 7), 4..5 SentToRoom(7)]),
+        (1, calls![0..1 Reserved, 2..3 GaveBack, 4..5 Full]),
+        (1, calls![0..1 Sent(7), 2..3 NoneReady(1, 0)]),
+        (0, calls![0..2 Sent(7), 3..4 Got(0, 7)]),
+        (0, calls![0..2 Sent(7)]),
+    ] {
+        assert!(!has_order(capacity, &calls), "{calls:?}");
     }
-    let of_other = |call: Call| Call { channel: 1, ..call };
-    let refused = [
-        vec![call(0, 1, Outcome::Reserved), sent_at(2)],
-        vec![
-            call(0, 1, Outcome::Reserved),
-            call(2, 3, Outcome::Got(0, 7)),
-            call(4, 5, Outcome::SentToRoom(7)),
-        ],
-        vec![
-            call(0, 1, Outcome::Reserved),
-            call(2, 3, Outcome::GaveBack),
-            call(4, 5, Outcome::Full),
-        ],
-    ];
-    for calls in refused {
-        assert!(!is_linear(&calls), "{calls:?}");
+    for (capacity, calls) in [
+        (1, calls![0..1 Sent(7), 0..3 Empty(0)]),
+        (1, calls![0..9 Got(0, 7), 1..2 Sent(7)]),
+        (1, calls![0..9 Dropped(1), 2..3 Sent(7), 4..5 SendClosed]),
+        (0, calls![0..2 Sent(7), 1..3 Got(0, 7)]),
+    ] {
+        assert!(has_order(capacity, &calls), "{calls:?}");
     }
     // Two takes, each of which isn't ready at a moment of its own: then there is an order, and none if that is one moment.
     let beside = |select: &[Call]| {
-        let calls = [
-            sent,
-            of_other(call(3, 4, Outcome::Sent(8))),
-            call(5, 6, Outcome::Got(0, 7)),
-            of_other(call(10, 11, Outcome::Got(0, 8))),
-        ];
-        is_linear(&[&calls, select].concat())
+        let other = [(3, 4, 1, Sent(8)), (10, 11, 1, Got(0, 8))];
+        let one = calls![0..1 Sent(7), 5..6 Got(0, 7)];
+        has_order(1, &[&one[..], &other, select].concat())
     };
-    let empty = call(2, 9, Outcome::Empty(0));
-    assert!(beside(&[empty, of_other(empty)]));
+    assert!(beside(&[(2, 9, 0, Empty(0)), (2, 9, 1, Empty(0))]));
     let takes = bit(0, false) | bit(1, false);
-    assert!(!beside(&[call(2, 9, Outcome::NoneReady(takes, 0))]));
-    let meets = |calls: &[Call]| super::linear::is_linear(calls, start(0));
-    let rendezvous = |begin| call(begin, begin + 2, Outcome::Sent(7));
-    assert!(meets(&[rendezvous(0), call(1, 3, Outcome::Got(0, 7))]));
-    assert!(!meets(&[rendezvous(0), call(3, 4, Outcome::Got(0, 7))]));
-    assert!(!meets(&[rendezvous(0)]));
-    assert!(is_linear(&[sent, call(0, 3, Outcome::Empty(0))]));
-    assert!(is_linear(&[
-        call(0, 9, Outcome::Got(0, 7)),
-        call(1, 2, Outcome::Sent(7))
-    ]));
-    let drops = call(0, 9, Outcome::ReceiverDropped(0));
-    assert!(is_linear(&[
-        drops,
-        sent_at(2),
-        call(4, 5, Outcome::SendClosed)
-    ]));
-}
-
-fn sent_at(begin: u64) -> Call {
-    let end = begin + 1;
-    let outcome = Outcome::Sent(7);
-    Call {
-        begin,
-        end,
-        channel: 0,
-        outcome,
-    }
+    assert!(!beside(&[(2, 9, 0, NoneReady(takes, 0))]));
 }

@@ -44,7 +44,7 @@ pub use timer::{after, at, never, tick};
 use self::body::Kind;
 use self::core::{Core, MOST_MOVED};
 use self::row::Shape;
-use self::side::Shared;
+use self::side::{Source, Target};
 use crate::queue::{Config, OpenError};
 use std::marker::PhantomData;
 use std::sync::Arc;
@@ -60,18 +60,21 @@ const MOST_PLACES: usize = 4096;
 
 /// The queues of a row: the first one is small, and the others are opened in some ten microseconds.
 fn shape() -> Shape {
-    Shape {
-        first: config(64),
-        further: config(512),
-    }
+    let first = config(64);
+    let capacity = 512;
+    [first, Config { capacity, ..first }]
 }
 
 /// A channel with a queue of this capacity; or with a row of them, if one isn't enough.
-fn of_capacity(capacity: usize, groups: u32, kind: &'static Kind) -> Result<Arc<Core>, OpenError> {
+fn of_capacity(
+    capacity: usize,
+    groups: usize,
+    kind: &'static Kind,
+) -> Result<Arc<Core>, OpenError> {
     if capacity > MOST_PLACES {
-        return Core::open_row(&shape(), Some(capacity), groups, kind);
+        return Core::open_row(shape(), Some(capacity), groups, kind);
     }
-    // Once a side needs more than one seat, it asks how many.
+    // Once a side of few items needs more than one seat, it asks how many.
     let config = if capacity > MOST_MOVED {
         config(capacity)
     } else {
@@ -82,15 +85,15 @@ fn of_capacity(capacity: usize, groups: u32, kind: &'static Kind) -> Result<Arc<
 
 /// The first handles of a channel, which was opened with a kind of this type.
 fn pair<T>(core: Arc<Core>) -> (Sender<T>, Receiver<T>) {
-    let receiver = Receiver(Shared::of_group(&core, 1), PhantomData);
-    (Sender(Shared::of_senders(core), PhantomData), receiver)
+    let receiver = Receiver(Source::Channel(core.clone(), 1), PhantomData);
+    (Sender(Target(core), PhantomData), receiver)
 }
 
 /// The same, with a receiver of each group.
 fn handles<T>(core: Arc<Core>) -> (Sender<T>, Vec<Receiver<T>>) {
-    let receiver = |group| Receiver(Shared::of_group(&core, group), PhantomData);
-    let receivers = (1..=core.groups.len()).map(receiver).collect();
-    (Sender(Shared::of_senders(core), PhantomData), receivers)
+    let receiver = |group| Receiver(Source::Channel(core.clone(), group), PhantomData);
+    let receivers = (1..=core.groups.len() as u32).map(receiver).collect();
+    (Sender(Target(core), PhantomData), receivers)
 }
 
 /// Opens a channel of items of one type, and gives its first sender and its first receiver.
@@ -131,7 +134,7 @@ fn handles<T>(core: Arc<Core>) -> (Sender<T>, Vec<Receiver<T>>) {
 pub fn channel<T>(capacity: usize) -> Result<(Sender<T>, Receiver<T>), OpenError> {
     let kind = Kind::alone::<T>();
     Ok(pair(match capacity {
-        0 => Core::of_rendezvous(Config::new(1, 1, 0), kind),
+        0 => Core::of_rendezvous(kind),
         _ => of_capacity(capacity, 1, kind)?,
     }))
 }
@@ -180,7 +183,7 @@ pub fn bounded<T>(capacity: usize) -> Result<(Sender<T>, Receiver<T>), OpenError
 ///
 /// As of [`channel`].
 pub fn unbounded<T>() -> Result<(Sender<T>, Receiver<T>), OpenError> {
-    Ok(pair(Core::open_row(&shape(), None, 1, Kind::alone::<T>())?))
+    Ok(pair(Core::open_row(shape(), None, 1, Kind::alone::<T>())?))
 }
 
 /// Opens a channel each of whose groups gets every item, and gives its first sender, and the first
@@ -212,13 +215,8 @@ pub fn groups<T: Clone + Sync>(
     capacity: usize,
     groups: usize,
 ) -> Result<(Sender<T>, Vec<Receiver<T>>), OpenError> {
-    // Numbers that are too large are refused as such.
-    let groups = groups.try_into().unwrap_or(u32::MAX);
-    Ok(handles(of_capacity(
-        capacity,
-        groups,
-        Kind::of_groups::<T>(),
-    )?))
+    let core = of_capacity(capacity, groups, Kind::of_groups::<T>())?;
+    Ok(handles(core))
 }
 
 /// Opens a channel of [`groups`] that holds any number of items, as [`unbounded`] does.
@@ -239,8 +237,7 @@ pub fn groups<T: Clone + Sync>(
 pub fn unbounded_groups<T: Clone + Sync>(
     groups: usize,
 ) -> Result<(Sender<T>, Vec<Receiver<T>>), OpenError> {
-    let groups = groups.try_into().unwrap_or(u32::MAX);
-    let core = Core::open_row(&shape(), None, groups, Kind::of_groups::<T>())?;
+    let core = Core::open_row(shape(), None, groups, Kind::of_groups::<T>())?;
     Ok(handles(core))
 }
 
@@ -248,7 +245,7 @@ pub fn unbounded_groups<T: Clone + Sync>(
 #[cfg(test)]
 fn open<T>(
     config: Config,
-    groups: u32,
+    groups: usize,
     kind: &'static Kind,
 ) -> Result<(Sender<T>, Vec<Receiver<T>>), OpenError> {
     Ok(handles(Core::open(config, groups, kind)?))

@@ -10,12 +10,11 @@
 
 use crate::backoff::{Contention, FOR_A_LOOK, FOR_OWN_SIDE};
 use crate::event::{Apart, Event, Panics, Served, lock, wait_without_end};
-use crate::queue::handle::Handle;
+use crate::queue::handle::{Handle, hands_over, has_taken};
 use std::cell::{Cell, UnsafeCell};
 use std::iter;
-use std::ptr::null_mut;
-use std::sync::Mutex;
-use std::sync::atomic::{AtomicBool, AtomicPtr, AtomicU16, AtomicU64, AtomicUsize, Ordering};
+use std::sync::atomic::{AtomicBool, AtomicU16, AtomicU64, AtomicUsize, Ordering};
+use std::sync::{Mutex, OnceLock};
 use std::thread::available_parallelism;
 use std::time::{Duration, Instant};
 
@@ -87,51 +86,10 @@ unsafe impl Sync for Seat where QueueHandle: Send {}
 #[repr(align(128))]
 struct Other(Seat);
 
-/// Seats that are added once, and are there until the drop. It is std's `OnceLock` of one writer, for which a thread sanitizer knows
-/// the order of the write and the reads.
-struct Added(AtomicPtr<Box<[Other]>>);
-
-impl Added {
-    fn new(seats: Option<Box<[Other]>>) -> Added {
-        let seats = seats.map(|it| Box::into_raw(Box::new(it)));
-        Added(AtomicPtr::new(seats.unwrap_or(null_mut())))
-    }
-
-    #[inline]
-    fn get(&self) -> Option<&[Other]> {
-        let seats = self.0.load(Ordering::Acquire);
-        // SAFETY: it is null, or of a box that is written before it and is freed by the drop alone. The seats are only read, and are
-        // `Sync`.
-        unsafe { seats.as_ref() }.map(|it| &**it)
-    }
-
-    /// Returns whether none were added before. If some were, these are dropped.
-    fn set(&self, seats: Box<[Other]>) -> bool {
-        let (none, seats) = (null_mut(), Box::into_raw(Box::new(seats)));
-        let order = (Ordering::Release, Ordering::Relaxed);
-        let set = self.0.compare_exchange(none, seats, order.0, order.1);
-        if set.is_err() {
-            // SAFETY: it is the box of this call, and nobody else has it.
-            drop(unsafe { Box::from_raw(seats) });
-        }
-        set.is_ok()
-    }
-}
-
-impl Drop for Added {
-    fn drop(&mut self) {
-        let seats = *self.0.get_mut();
-        if !seats.is_null() {
-            // SAFETY: it is of a box, whose seats nobody looks at any more.
-            drop(unsafe { Box::from_raw(seats) });
-        }
-    }
-}
-
 pub struct Pool {
     first: Seat,
     /// The other seats, once there are some. Their number is a power of two less one.
-    others: Added,
+    others: OnceLock<Box<[Other]>>,
     /// How many seats there are up to the last one that an item went through.
     used: AtomicUsize,
     /// The line in which callers wait for a free seat.
@@ -262,13 +220,12 @@ thread_local! {
 impl Pool {
     /// With a seat for each of these passes, whose number is a power of two.
     #[inline]
-    pub fn new(passes: impl IntoIterator<Item = QueueHandle>) -> Pool {
-        let mut passes = passes.into_iter();
+    pub fn new(mut passes: impl Iterator<Item = QueueHandle>) -> Pool {
         let first = passes.next().expect("a side has a seat");
         let others = Pool::seats_of(passes);
         Pool {
             first: Seat::new(1, first),
-            others: Added::new(others),
+            others: others.map_or_else(OnceLock::new, OnceLock::from),
             used: AtomicUsize::new(0),
             free: Apart::default(),
             served: Apart::default(),
@@ -287,15 +244,18 @@ impl Pool {
     /// that there is they are a power of two.
     pub fn add(&self, passes: impl Iterator<Item = QueueHandle>) {
         if let Some(others) = Pool::seats_of(passes) {
+            hands_over(&self.others);
             let added = self.others.set(others);
-            debug_assert!(added);
+            debug_assert!(added.is_ok());
         }
     }
 
     /// The other seats.
     #[inline]
     fn others(&self) -> &[Other] {
-        self.others.get().unwrap_or(&[])
+        let others = self.others.get();
+        has_taken(&self.others);
+        others.map_or(&[], |it| it)
     }
 
     /// How many seats there are.
@@ -319,10 +279,11 @@ impl Pool {
     /// The seat that this thread tries first.
     #[inline]
     fn seat(&self) -> &Seat {
-        match self.others.get() {
-            None => &self.first,
-            Some(others) => self.seat_at(others, HINT.get()),
-        }
+        let Some(others) = self.others.get() else {
+            return &self.first;
+        };
+        has_taken(&self.others);
+        self.seat_at(others, HINT.get())
     }
 
     /// The seat at this index, of which the lowest bits count.
@@ -348,15 +309,9 @@ impl Pool {
         (!was_held).then(|| SeatGuard { pool: self, seat })
     }
 
-    /// Acquires the seat that this thread tries first, if it is free.
+    /// Acquires the seat that this thread tries first, if it is free, and none of its calls contends.
     #[inline]
     pub fn try_acquire(&self) -> Option<SeatGuard<'_>> {
-        self.try_seat(self.seat())
-    }
-
-    /// The same of a call that goes at once: of a seat whose calls may contend, none does.
-    #[inline]
-    pub fn try_acquire_at_once(&self) -> Option<SeatGuard<'_>> {
         let seat = self.seat();
         if seat.contention.asks() {
             return None;
@@ -364,7 +319,7 @@ impl Pool {
         self.try_seat(seat)
     }
 
-    /// The same of another call, by a thread that holds no lock, once others have gone ahead.
+    /// The same if its calls may contend, by a thread that holds no lock, once others have gone ahead.
     pub fn try_acquire_behind(&self, distance: impl Fn() -> u64) -> Option<SeatGuard<'_>> {
         let seat = self.seat();
         if !seat.contention.asks() {
@@ -375,9 +330,9 @@ impl Pool {
     }
 
     /// Acquires a free seat, and waits for one.
-    #[inline]
     pub fn acquire(&self) -> SeatGuard<'_> {
-        self.try_acquire().unwrap_or_else(|| self.acquire_another())
+        let seat = self.try_seat(self.seat());
+        seat.unwrap_or_else(|| self.acquire_another())
     }
 
     /// Waits in line for a free seat. The holder's look at the line may come before this thread sees the store that frees the seat.
@@ -413,12 +368,9 @@ impl Pool {
     ///
     /// It looks for the other seats after it saw the first one free. A thread that adds seats has the first one meanwhile. So a seat that
     /// isn't looked at was added later, and what went through it came later.
-    #[inline]
-    pub fn wait_for_holders(&self) {
-        self.sees_each_free(|seat| {
-            self.wait_for(seat);
-            true
-        });
+    #[inline(never)]
+    pub fn wait_for_holders(&self) -> bool {
+        self.sees_each_free(|seat| self.wait_for(seat))
     }
 
     /// Whether each seat was free once, now or after some pauses. A holder that doesn't run isn't waited for.
@@ -444,8 +396,8 @@ impl Pool {
 
     /// Waits until this seat was free once, in line.
     #[cold]
-    fn wait_for(&self, seat: &Seat) {
-        self.wait_for_free(|| (!seat.is_held()).then_some(()));
+    fn wait_for(&self, seat: &Seat) -> bool {
+        self.wait_for_free(|| (!seat.is_held()).then_some(true))
     }
 
     #[cold]

@@ -1,14 +1,17 @@
 //! The receivers of a channel.
 use super::body::{Item, Kind, Of};
-use super::core::{Core, NoItem, Take, or_end};
+use super::core::{Core, Flavor, SENDERS, Take};
 use super::future::RecvFuture;
-use super::side::{Shared, Source};
+use super::select::Case;
+use super::side::Source;
+use super::timer::Timer;
 use super::{RecvError, RecvTimeoutError, TryRecvError};
 use crate::backoff::FOR_OTHERS;
-use crate::event::{Event, wait};
+use crate::event::wait;
 use std::borrow::Cow;
 use std::iter::FusedIterator;
 use std::marker::PhantomData;
+use std::ptr;
 use std::sync::{Arc, Weak};
 use std::time::{Duration, Instant};
 use std::vec;
@@ -31,37 +34,20 @@ use std::vec;
 /// assert_eq!((receiver.recv(), other.recv()), (Ok(1), Ok(2))); // each item goes to one of them
 /// # Ok::<(), vahepito::OpenError>(())
 /// ```
-pub struct Receiver<T>(pub(super) Arc<Source>, pub(super) Of<T>);
+pub struct Receiver<T>(pub(super) Source, pub(super) Of<T>);
 
 impl Source {
-    /// The line in which its calls wait.
-    pub fn line(&self) -> &Event {
-        match self {
-            Source::Channel(shared) => shared.line(),
-            Source::Timer(timer) => &timer.line,
-        }
-    }
-
-    /// Tries to take an item.
-    #[inline]
-    pub fn try_take(&self) -> Result<Item, NoItem> {
-        match self {
-            Source::Channel(Shared { core, side }) => core.try_recv(*side),
-            Source::Timer(timer) => timer.try_take(),
-        }
-    }
-
     /// Takes an item, and waits for one until this moment.
     #[cold]
     #[inline(never)]
     fn wait_for_item(&self, until: Option<Instant>) -> Result<Item, RecvTimeoutError> {
-        let attempt = || or_end(self.try_take());
-        let taken = match self {
-            Source::Channel(Shared { core, .. }) if core.rendezvous.is_some() => {
-                core.meet_to_take(until)
-            }
-            Source::Channel(shared) => shared.wait(until, attempt),
-            Source::Timer(timer) => wait(&timer.line, &FOR_OTHERS, until, attempt),
+        let attempt = || self.case().try_take();
+        let taken = match self.case() {
+            Case::Of(core, group) => match &core.flavor {
+                Flavor::Rendezvous(rendezvous) => core.meet_to_take(rendezvous, until),
+                _ => core.wait(group, until, attempt),
+            },
+            Case::Timer(timer) => wait(&timer.line, &FOR_OTHERS, until, attempt),
         };
         let taken = taken.ok_or(RecvTimeoutError::Timeout)?;
         taken.ok_or(RecvTimeoutError::Disconnected)
@@ -104,8 +90,8 @@ impl<T> Receiver<T> {
     /// ```
     #[inline]
     pub fn try_recv(&self) -> Result<T, TryRecvError> {
-        if let Source::Channel(Shared { core, side }) = &*self.0 {
-            if core.finds_none_again(*side) {
+        if let Source::Channel(core, group) = &self.0 {
+            if core.finds_no_item(*group as usize) {
                 return Err(TryRecvError::Empty);
             }
         }
@@ -115,22 +101,26 @@ impl<T> Receiver<T> {
     /// Without the look that comes first.
     #[inline(never)]
     fn take_if_there(&self) -> Result<T, TryRecvError> {
-        let taken = match &*self.0 {
-            Source::Channel(Shared { core, side }) => core.try_recv_by(*side, Self::TAKE),
-            Source::Timer(timer) => timer.try_take(),
+        let taken = match self.0.case() {
+            Case::Of(core, group) => core.take_if_there(group),
+            Case::Timer(timer) => timer.try_take(),
         };
         match taken {
-            Ok(item) => Ok(self.unpack(item)),
-            Err(NoItem::Yet(_)) => Err(TryRecvError::Empty),
-            Err(NoItem::Ended) => Err(TryRecvError::Disconnected),
+            Ok(Some(item)) => Ok(self.unpack(item)),
+            Ok(None) => Err(TryRecvError::Disconnected),
+            Err(_) => Err(TryRecvError::Empty),
         }
     }
 
     /// Takes an item, and waits for one until this moment.
     #[inline]
     fn recv_until(&self, until: Option<Instant>) -> Result<T, RecvTimeoutError> {
-        if let Source::Channel(Shared { core, side }) = &*self.0 {
-            if let Ok(item) = Self::TAKE(core, *side) {
+        if let Source::Channel(core, group) = &self.0 {
+            let has_queue = !matches!(core.flavor, Flavor::Rendezvous(_));
+            if let Some(item) = has_queue
+                .then(|| Self::TAKE(core, *group as usize))
+                .flatten()
+            {
                 return Ok(self.unpack(item));
             }
         }
@@ -312,9 +302,9 @@ impl<T> Receiver<T> {
     /// # Ok::<(), vahepito::OpenError>(())
     /// ```
     pub fn close(&self) -> bool {
-        match &*self.0 {
-            Source::Channel(shared) => shared.core.close(),
-            Source::Timer(timer) => timer.close(),
+        match self.0.case() {
+            Case::Of(core, _) => core.close(),
+            Case::Timer(timer) => timer.close(),
         }
     }
 
@@ -331,9 +321,9 @@ impl<T> Receiver<T> {
     /// ```
     #[must_use]
     pub fn is_closed(&self) -> bool {
-        match &*self.0 {
-            Source::Channel(shared) => shared.core.is_closed(),
-            Source::Timer(timer) => timer.is_closed(),
+        match self.0.case() {
+            Case::Of(core, _) => core.is_closed(),
+            Case::Timer(timer) => timer.is_closed(),
         }
     }
 
@@ -349,9 +339,9 @@ impl<T> Receiver<T> {
     /// ```
     #[must_use]
     pub fn len(&self) -> usize {
-        match &*self.0 {
-            Source::Channel(Shared { core, side }) => core.len(*side),
-            Source::Timer(timer) => timer.len(),
+        match self.0.case() {
+            Case::Of(core, group) => core.len(group),
+            Case::Timer(timer) => timer.len(),
         }
     }
 
@@ -393,9 +383,9 @@ impl<T> Receiver<T> {
     /// ```
     #[must_use]
     pub fn capacity(&self) -> Option<usize> {
-        match &*self.0 {
-            Source::Channel(shared) => shared.core.capacity(),
-            Source::Timer(timer) => Some(timer.capacity()),
+        match self.0.case() {
+            Case::Of(core, _) => core.capacity(),
+            Case::Timer(timer) => Some(timer.capacity()),
         }
     }
 
@@ -410,9 +400,10 @@ impl<T> Receiver<T> {
     /// ```
     #[must_use]
     pub fn same_channel(&self, other: &Receiver<T>) -> bool {
-        match (&*self.0, &*other.0) {
-            (Source::Channel(one), Source::Channel(other)) => Arc::ptr_eq(&one.core, &other.core),
-            _ => Arc::ptr_eq(&self.0, &other.0),
+        match (self.0.case(), other.0.case()) {
+            (Case::Of(one, _), Case::Of(other, _)) => ptr::eq(one, other),
+            (Case::Timer(one), Case::Timer(other)) => ptr::eq(one, other),
+            _ => false,
         }
     }
 
@@ -425,10 +416,7 @@ impl<T> Receiver<T> {
     /// ```
     #[must_use]
     pub fn group(&self) -> usize {
-        match &*self.0 {
-            Source::Channel(shared) => shared.side,
-            Source::Timer(_) => 1,
-        }
+        self.0.case().side()
     }
 
     /// How many receivers its group has.
@@ -442,7 +430,10 @@ impl<T> Receiver<T> {
     /// ```
     #[must_use]
     pub fn receiver_count(&self) -> usize {
-        Arc::strong_count(&self.0)
+        match &self.0 {
+            Source::Channel(core, group) => core.handle_count(*group as usize),
+            Source::Timer(timer) => Arc::strong_count(timer),
+        }
     }
 
     /// How many senders the channel has.
@@ -456,9 +447,9 @@ impl<T> Receiver<T> {
     /// ```
     #[must_use]
     pub fn sender_count(&self) -> usize {
-        match &*self.0 {
-            Source::Channel(shared) => shared.core.sender_count(),
-            Source::Timer(_) => 0,
+        match self.0.case() {
+            Case::Of(core, _) => core.handle_count(SENDERS),
+            Case::Timer(_) => 0,
         }
     }
 
@@ -475,9 +466,9 @@ impl<T> Receiver<T> {
     /// ```
     #[must_use]
     pub fn downgrade(&self) -> WeakReceiver<T> {
-        let source = match &*self.0 {
-            Source::Channel(Shared { core, side }) => WeakSource::Channel(core.clone(), *side),
-            Source::Timer(_) => WeakSource::Timer(Arc::downgrade(&self.0)),
+        let source = match &self.0 {
+            Source::Channel(core, group) => WeakSource::Channel(core.clone(), *group),
+            Source::Timer(timer) => WeakSource::Timer(Arc::downgrade(timer)),
         };
         WeakReceiver(source, PhantomData)
     }
@@ -498,8 +489,8 @@ pub struct WeakReceiver<T>(WeakSource, Of<T>);
 /// The channel with the group; or the timer.
 #[derive(Clone)]
 enum WeakSource {
-    Channel(Arc<Core>, usize),
-    Timer(Weak<Source>),
+    Channel(Arc<Core>, u32),
+    Timer(Weak<Timer>),
 }
 
 impl<T> WeakReceiver<T> {
@@ -516,10 +507,12 @@ impl<T> WeakReceiver<T> {
     #[must_use]
     pub fn upgrade(&self) -> Option<Receiver<T>> {
         let source = match &self.0 {
-            WeakSource::Channel(core, group) => core.upgrade_receiver(*group),
-            WeakSource::Timer(source) => source.upgrade(),
+            WeakSource::Channel(core, group) => {
+                Source::Channel(core.upgrade(*group as usize)?, *group)
+            }
+            WeakSource::Timer(timer) => Source::Timer(timer.upgrade()?),
         };
-        Some(Receiver(source?, PhantomData))
+        Some(Receiver(source, PhantomData))
     }
 }
 

@@ -26,11 +26,11 @@
 //!
 //! **Without memory** for a further queue nothing changes, and the send is tried again later.
 use super::body::{Item, Unsent};
-use super::core::{Core, NoItem, NotSent, SENDERS, Sent};
+use super::core::{Core, NotSent, SENDERS, Sent};
 use super::limit::Limit;
 use super::pool::{QueueHandle, SeatGuard};
-use crate::event::{Again, ignore_panics, lock};
-use crate::queue::handle::{Handle, code, unexpected};
+use crate::event::{ignore_panics, lock};
+use crate::queue::handle::{Handle, code};
 use crate::queue::{self, Config, OpenError};
 use std::collections::VecDeque;
 use std::mem::{self, replace};
@@ -39,13 +39,8 @@ use std::sync::{Mutex, MutexGuard};
 /// A list of fewer queues doesn't shrink.
 const FEW: usize = 64;
 
-/// The configurations of the queues of a row.
-#[derive(Clone, Copy)]
-pub struct Shape {
-    pub first: Config,
-    /// That of all others.
-    pub further: Config,
-}
+/// The configurations of the queues of a row: that of the first one, and that of all others. A seat needs a pass of each.
+pub type Shape = [Config; 2];
 
 /// The passes of a queue: those of its senders, and then those of each of its groups.
 type Passes = Vec<Vec<Handle>>;
@@ -58,14 +53,6 @@ struct Queue {
     passes: Passes,
 }
 
-/// The queue that is opened beforehand.
-enum Spare {
-    Wanted,
-    /// By some thread, which has left the lock.
-    BeingOpened,
-    Open(Passes),
-}
-
 /// The part of a row that is locked.
 struct Queues {
     /// The number of the first one of these queues. The first one of all has 0.
@@ -74,7 +61,8 @@ struct Queues {
     queues: VecDeque<Queue>,
     /// The number of the queue that each group is at. None once it has found the end of the last one that has it.
     at: Vec<Option<u64>>,
-    spare: Spare,
+    /// The queue that is opened beforehand.
+    spare: Option<Passes>,
     /// Whether the last queue is closed for good.
     is_closed: bool,
     /// The groups without receivers that are in no queue from the last one on, and have items left.
@@ -101,12 +89,12 @@ struct Locked<'a> {
 impl Row {
     /// Opens a row of one queue, whose passes it gives.
     pub fn open(
-        shape: &Shape,
+        [first, further]: Shape,
         limit: Option<usize>,
-        groups: u32,
+        groups: usize,
         words: usize,
     ) -> Result<(Row, Passes), OpenError> {
-        let passes = queue::open(&shape.first, groups, words)?;
+        let passes = queue::open(&first, groups, words)?;
         let first = Queue {
             groups: (1..passes.len()).collect(),
             passes: passes.iter().map(|_| vec![]).collect(),
@@ -115,18 +103,9 @@ impl Row {
             first: 0,
             at: vec![Some(0); first.groups.len()],
             queues: [first].into(),
-            spare: Spare::Wanted,
+            spare: None,
             is_closed: false,
             left: vec![],
-        };
-        // Each seat needs a pass of each queue.
-        let Config {
-            senders, receivers, ..
-        } = shape.first;
-        let further = Config {
-            senders,
-            receivers,
-            ..shape.further
         };
         let row = Row {
             further,
@@ -151,21 +130,19 @@ impl Row {
 
     /// Opens a further queue, of this number of groups.
     fn open_further(&self, groups: usize) -> Result<Passes, OpenError> {
-        queue::open(&self.further, groups as u32, self.words)
+        queue::open(&self.further, groups, self.words)
     }
 
-    /// Opens a queue beforehand, if one is wanted. If there is no memory, the next send that appends one tries again.
+    /// Opens a queue beforehand, if there is none. If there is no memory, the next send that appends one tries again.
     fn open_spare(&self) {
-        let mut locked = self.lock();
-        if locked.queues.is_closed || !matches!(locked.queues.spare, Spare::Wanted) {
+        let locked = self.lock();
+        if locked.queues.is_closed || locked.queues.spare.is_some() {
             return;
         }
-        locked.queues.spare = Spare::BeingOpened;
         let groups = locked.queues.last().groups.len();
         drop(locked);
-        let opened = self.open_further(groups);
-        let spare = opened.map_or(Spare::Wanted, Spare::Open);
-        self.lock().set_spare(spare);
+        let opened = self.open_further(groups).ok();
+        self.lock().set_spare(opened);
     }
 }
 
@@ -190,18 +167,16 @@ impl Locked<'_> {
         self.released.extend(passes.into_iter().flatten());
     }
 
-    fn set_spare(&mut self, spare: Spare) {
-        if let Spare::Open(passes) = replace(&mut self.queues.spare, spare) {
-            self.release(passes);
-        }
+    fn set_spare(&mut self, spare: Option<Passes>) {
+        let before = replace(&mut self.queues.spare, spare);
+        self.release(before.unwrap_or_default());
     }
 
     /// A further queue of this number of groups: the one that was opened beforehand, or one that is opened now.
     fn take_spare(&mut self, row: &Row, groups: usize) -> Result<Passes, OpenError> {
-        match replace(&mut self.queues.spare, Spare::Wanted) {
-            Spare::Open(passes) if passes.len() == 1 + groups => return Ok(passes),
-            Spare::Open(passes) => self.release(passes),
-            other => self.queues.spare = other,
+        match self.queues.spare.take() {
+            Some(passes) if passes.len() == 1 + groups => return Ok(passes),
+            other => self.release(other.unwrap_or_default()),
         }
         row.open_further(groups)
     }
@@ -294,12 +269,13 @@ impl Core {
     }
 
     /// After the queue of this seat refused an item: the seat goes on to the last queue, behind which it appends one if it
-    /// was there already.
-    fn next_for_senders(&self, row: &Row, seat: &mut SeatGuard) -> Sent {
+    /// was there already. Returns whether it did.
+    fn next_for_senders(&self, row: &Row, seat: &mut SeatGuard) -> Result<bool, NotSent> {
         // The refused call may have served a close whose caller has the lock.
         seat.wake_served();
         let mut locked = row.lock();
-        if seat.pass().0.queue == locked.queues.last_number() {
+        let appends = seat.pass().0.queue == locked.queues.last_number();
+        if appends {
             if locked.queues.is_closed {
                 return Err(NotSent::Closed);
             }
@@ -309,58 +285,37 @@ impl Core {
         }
         let last = locked.queues.last_number();
         locked.fetch(SENDERS, last, seat);
+        Ok(appends)
+    }
+
+    /// Sends an item by this seat, in the queue of the seat or one behind it. The seat is held until the item is accepted.
+    #[cold]
+    #[inline(never)]
+    pub fn send_in_row<'a>(
+        &'a self,
+        row: &Row,
+        item: &mut Unsent,
+        mut seat: SeatGuard<'a>,
+    ) -> Sent {
+        let mut has_appended = false;
+        while self.send_by(&mut seat, item) != code::ACCEPTED {
+            has_appended |= self.next_for_senders(row, &mut seat)?;
+        }
+        drop(seat);
+        self.notify_item();
+        if has_appended {
+            row.open_spare();
+            // The item is sent: a panic of others' drops ends here.
+            ignore_panics(self.left_by_lost(row), drop);
+        }
         Ok(())
     }
 
     /// After the queue of this seat has ended: the seat goes on to the queue that its group is at. Returns whether there is one.
-    #[cold]
-    fn next_for_group(&self, row: &Row, group: usize, seat: &mut SeatGuard) -> bool {
+    pub fn next_for_group(&self, row: &Row, group: usize, mut seat: SeatGuard) -> bool {
         let mut locked = row.lock();
         let next = locked.go_on(group, seat.pass().0.queue);
-        next.map(|it| locked.fetch(group, it, seat)).is_some()
-    }
-
-    /// Sends an item that the queue of this seat refused with this code, in a queue behind it.
-    #[cold]
-    #[inline(never)]
-    pub fn send_further(
-        &self,
-        row: &Row,
-        item: &mut Unsent,
-        mut code: u32,
-        mut seat: SeatGuard,
-    ) -> Sent {
-        while code != code::ACCEPTED {
-            match code {
-                code::FULL | code::SPENT | code::WORN | code::CLOSED => {}
-                code => unexpected(code),
-            }
-            self.next_for_senders(row, &mut seat)?;
-            code = self.send_by(&mut seat, item);
-        }
-        drop(seat);
-        self.notify_item();
-        row.open_spare();
-        // The item is sent: a panic of others' drops ends here.
-        ignore_panics(self.left_by_lost(row), drop);
-        Ok(())
-    }
-
-    /// Tries to take an item for a group, of the queue that it is at or of those behind it.
-    pub fn take_in_row(&self, row: &Row, group: usize) -> Result<Item, NoItem> {
-        let mut seat = self.side(group).seats.acquire();
-        loop {
-            match self.take_by(&mut seat, self.kind.words) {
-                Ok(item) => {
-                    self.count_taken(seat);
-                    return Ok(item);
-                }
-                Err(code::EMPTY) => return Err(Again::WhenNotified.into()),
-                Err(code::ENDED) if self.next_for_group(row, group, &mut seat) => {}
-                Err(code::ENDED) => return Err(NoItem::Ended),
-                Err(code) => unexpected(code),
-            }
-        }
+        next.map(|it| locked.fetch(group, it, &mut seat)).is_some()
     }
 
     /// Closes the last queue for good. Returns whether it was open.
@@ -370,7 +325,7 @@ impl Core {
         let last = locked.queues.last_number();
         locked.fetch(SENDERS, last, &mut seat);
         seat.close();
-        locked.set_spare(Spare::Wanted);
+        locked.set_spare(None);
         // Under the lock, so that whoever found the queue closed knows it.
         self.set_closed();
         !replace(&mut locked.queues.is_closed, true)

@@ -9,12 +9,11 @@ use std::time::Duration;
 /// A first queue of the first number of places, and further ones of the second. Each accepts this number of items, and this number
 /// of sends of each sender.
 pub fn small_shape(places: [u32; 2], life: u64, per_sender: u32) -> Shape {
-    let [first, further] = places.map(|capacity| Config {
+    places.map(|capacity| Config {
         life,
         per_sender,
         ..config(capacity as usize)
-    });
-    Shape { first, further }
+    })
 }
 
 /// Places, items, and sends of each sender.
@@ -31,14 +30,14 @@ pub const SMALL: [([u32; 2], u64, u32); 6] = [
 pub fn small<T>(which: ([u32; 2], u64, u32), limit: Option<usize>) -> (Sender<T>, Receiver<T>) {
     let (places, life, per_sender) = which;
     let shape = small_shape(places, life, per_sender);
-    pair(Core::open_row(&shape, limit, 1, Kind::alone::<T>()).unwrap())
+    pair(Core::open_row(shape, limit, 1, Kind::alone::<T>()).unwrap())
 }
 
 /// The same of two groups.
 fn small_groups(which: ([u32; 2], u64, u32)) -> (Sender<Arc<u64>>, Vec<Receiver<Arc<u64>>>) {
     let (places, life, per_sender) = which;
     let shape = small_shape(places, life, per_sender);
-    handles(Core::open_row(&shape, None, 2, Kind::of_groups::<Arc<u64>>()).unwrap())
+    handles(Core::open_row(shape, None, 2, Kind::of_groups::<Arc<u64>>()).unwrap())
 }
 
 #[test]
@@ -184,7 +183,7 @@ fn without_memory_sends_wait() {
     let shape = small_shape([2, 0], 1 << 48, u32::MAX);
     for limit in [None, Some(5)] {
         let (sender, receiver) =
-            pair::<u64>(Core::open_row(&shape, limit, 1, Kind::alone::<u64>()).unwrap());
+            pair::<u64>(Core::open_row(shape, limit, 1, Kind::alone::<u64>()).unwrap());
         sender.send(1).unwrap();
         sender.send(2).unwrap();
         assert_eq!(sender.try_send(3), Err(TrySendError::Full(3)));

@@ -28,15 +28,15 @@
 //! is a load of each, and counts again. A holder before that has counted; a holder after that sees the waiter in line. So a look that finds nothing
 //! is the look of [`event`](crate::event)'s argument: at some moment of it there was nothing.
 use super::body::{Item, Unsent};
-use super::core::{Core, NoItem, NotSent, Sent, or_closed};
-use super::rendezvous::{Operation, Rendezvous, Role, Waiter, meet_or_post};
-use super::side::{Shared, Source};
+use super::core::{Core, Flavor, NotSent, SENDERS, Sent, or_closed};
+use super::rendezvous::{Operation, Rendezvous, Waiter, meet_or_post, withdraw};
+use super::timer::Timer;
 use super::{
     ReadyTimeoutError, Receiver, RecvError, SelectTimeoutError, SendError, Sender, TryReadyError,
     TrySelectError,
 };
 use crate::backoff::FOR_OTHERS;
-use crate::event::{Again, Event, Panics, Parker, Ticket, Try, is_over};
+use crate::event::{Event, Panics, Parker, Ticket, Try, is_over};
 use std::cell::Cell;
 use std::hash::{BuildHasher, Hasher, RandomState};
 use std::marker::PhantomData;
@@ -45,107 +45,100 @@ use std::sync::Arc;
 use std::time::{Duration, Instant};
 
 /// The state of a selected operation, until it is completed.
-#[derive(Clone, Copy)]
 pub enum Begun {
-    /// The operation has the item.
-    Taken,
+    /// It is a take, which has the item.
+    Taken(Item),
     /// A place is reserved.
     Room,
-    /// It has met another, in this pair.
-    Met(u64),
+    /// It has met another one: this is the take, to which the item is given.
+    Met(Arc<Waiter>),
     /// The channel is closed.
     Closed,
-    /// It was only looked at.
-    Nothing,
 }
 
 /// An operation of a select or of a future.
 #[derive(Clone, Copy)]
 pub enum Case<'a> {
-    Take(&'a Source),
-    Send(&'a Core),
+    /// A send or a take of this side of a channel.
+    Of(&'a Core, usize),
+    /// A take.
+    Timer(&'a Timer),
 }
 
 impl<'a> Case<'a> {
     /// The line in which one waits for it.
     pub fn line(self) -> &'a Event {
         match self {
-            Case::Take(source) => source.line(),
-            Case::Send(core) => &core.senders.line,
+            Case::Of(core, side) => &core.side(side).line,
+            Case::Timer(timer) => &timer.line,
         }
     }
 
-    /// Its channel, if that isn't a timer's.
-    fn core(self) -> Option<&'a Core> {
+    /// The number of its side.
+    pub fn side(self) -> usize {
         match self {
-            Case::Take(Source::Channel(Shared { core, .. })) => Some(core),
-            Case::Take(Source::Timer(_)) => None,
-            Case::Send(core) => Some(core),
+            Case::Of(_, side) => side,
+            Case::Timer(_) => 1,
         }
     }
 
-    /// The same, if it has capacity 0.
-    pub fn meeting_place(self) -> Option<&'a Core> {
-        self.core().filter(|it| it.rendezvous.is_some())
-    }
-
-    /// The place where it is posted, and its role there, if the channel has capacity 0.
-    fn rendezvous(self) -> Option<(&'a Rendezvous, Role)> {
-        let role = match self {
-            Case::Take(_) => Role::Take,
-            Case::Send(_) => Role::Send,
-        };
-        Some((self.core()?.rendezvous.as_deref()?, role))
-    }
-
-    /// It is posted: notifies those of the other role that aren't.
-    fn notify_posted(self) {
-        match (self, self.core()) {
-            (Case::Take(_), Some(core)) => core.senders.line.notify_one(),
-            (_, core) => core.into_iter().for_each(Core::notify_item),
-        }
-    }
-
-    /// Begins it, if it is ready. A take puts its item here.
-    #[inline]
-    fn begin(self, taken: &mut Option<Item>) -> Try<Begun> {
-        if let Some((rendezvous, role)) = self.rendezvous() {
-            return rendezvous.try_meet(role);
-        }
+    /// Its channel, and where it is posted there, if that has capacity 0.
+    pub fn meeting_place(self) -> Option<(&'a Core, &'a Rendezvous)> {
         match self {
-            Case::Take(source) => match source.try_take() {
-                Ok(item) => {
-                    *taken = Some(item);
-                    Ok(Begun::Taken)
-                }
-                Err(NoItem::Ended) => Ok(Begun::Closed),
-                Err(NoItem::Yet(again)) => Err(again),
+            Case::Of(core, _) => match &core.flavor {
+                Flavor::Rendezvous(rendezvous) => Some((core, rendezvous)),
+                _ => None,
             },
-            Case::Send(core) => {
-                let reserved = or_closed(core.reserve())?;
-                Ok(reserved.map_or(Begun::Closed, |()| Begun::Room))
-            }
+            Case::Timer(_) => None,
         }
+    }
+
+    /// Tries to take an item. It gives None at the end of the channel.
+    #[inline]
+    pub fn try_take(self) -> Try<Option<Item>> {
+        match self {
+            Case::Of(core, group) => core.try_recv(group),
+            Case::Timer(timer) => timer.try_take(),
+        }
+    }
+
+    /// It is posted: notifies those of the other side that aren't.
+    fn notify_posted(self) {
+        match self {
+            Case::Of(core, SENDERS) => core.notify_item(),
+            Case::Of(core, _) => core.senders.line.notify_one(),
+            Case::Timer(_) => {}
+        }
+    }
+
+    /// Begins it, if it is ready.
+    #[inline]
+    fn begin(self, begun: &mut Option<Begun>) -> Try<()> {
+        *begun = Some(match self {
+            Case::Of(core, SENDERS) => match &core.flavor {
+                Flavor::Rendezvous(rendezvous) => rendezvous.meet(SENDERS, &mut None)?,
+                _ => or_closed(core.reserve())?.map_or(Begun::Closed, |()| Begun::Room),
+            },
+            _ => self.try_take()?.map_or(Begun::Closed, Begun::Taken),
+        });
+        Ok(())
     }
 
     /// Whether it is ready. It may say so though it isn't.
     pub fn look(self) -> Try<()> {
-        if let Some((rendezvous, role)) = self.rendezvous() {
-            return rendezvous.look(role);
-        }
-        match self {
-            Case::Take(Source::Channel(shared)) => shared.core.seems_to_have_item(shared.side),
-            Case::Take(Source::Timer(timer)) => timer.look(),
-            Case::Send(core) => core.seems_to_have_room(),
+        match (self, self.meeting_place()) {
+            (Case::Of(_, side), Some((_, rendezvous))) => rendezvous.look(side),
+            (Case::Of(core, SENDERS), None) => core.seems_to_have_room(),
+            (Case::Of(core, group), None) => core.seems_to_have_item(group),
+            (Case::Timer(timer), _) => timer.look(),
         }
     }
 
     /// How many calls of this operation were made: no more than at any later moment.
     fn made(self) -> u64 {
         match self {
-            Case::Take(Source::Channel(shared)) => shared.core.side(shared.side).seats.count(),
-            Case::Take(Source::Timer(timer)) => timer.taken(),
-            Case::Send(core) => core.senders.seats.count(),
+            Case::Of(core, side) => core.side(side).seats.count(),
+            Case::Timer(timer) => timer.taken(),
         }
     }
 
@@ -153,25 +146,18 @@ impl<'a> Case<'a> {
     /// that isn't known, or the channel is closed.
     fn possible(self) -> Option<u64> {
         match self {
-            Case::Take(Source::Channel(shared)) => shared.core.possible_takes(),
-            Case::Take(Source::Timer(timer)) => timer.possible(),
-            Case::Send(core) => core.possible_sends(),
+            _ if self.meeting_place().is_some() => None,
+            Case::Of(core, SENDERS) => core.possible_sends(),
+            Case::Of(core, _) => core.possible_takes(),
+            Case::Timer(timer) => timer.possible(),
         }
     }
 
-    /// The item of the pair of a take that has met a send.
-    fn item_of(self, pair: u64) -> Option<Item> {
-        self.rendezvous()?.0.take(pair)
-    }
-
-    /// It isn't completed. This may drop an item.
+    /// It isn't completed.
     fn give_up(self, begun: Begun) {
-        match (self, begun, self.rendezvous()) {
-            (Case::Send(core), Begun::Room, _) => core.give_back_room(),
-            (Case::Send(_), Begun::Met(pair), Some((rendezvous, _))) => {
-                drop(rendezvous.give_up(pair));
-            }
-            (Case::Take(_), Begun::Met(pair), _) => drop(self.item_of(pair)),
+        match (self, begun) {
+            (Case::Of(core, _), Begun::Room) => core.give_back_room(),
+            (_, Begun::Met(take)) => take.give_up(),
             _ => {}
         }
     }
@@ -179,58 +165,19 @@ impl<'a> Case<'a> {
 
 impl Core {
     /// Sends by a selected send.
-    fn complete(&self, begun: Begun, item: &mut Unsent) -> Sent {
-        match (begun, &self.rendezvous) {
-            (Begun::Met(pair), Some(rendezvous)) => {
-                let sent = rendezvous.send(pair, item.take());
+    fn complete(&self, begun: &mut Option<Begun>, item: &mut Unsent) -> Sent {
+        let sent = match (&*begun, &self.flavor) {
+            (Some(Begun::Met(take)), Flavor::Rendezvous(rendezvous)) => {
+                let sent = rendezvous.complete(take, item);
                 // If its take was dropped, the item may be kept for another one.
                 self.notify_item();
-                let Err(left) = sent else {
-                    return Ok(());
-                };
-                item.put_back(left);
-                Err(NotSent::Closed)
+                sent
             }
-            (Begun::Room, _) => self.send_to_room(item),
+            (Some(Begun::Room), _) => self.send_to_room(item),
             _ => Err(NotSent::Closed),
-        }
-    }
-}
-
-/// A thread that stands in line. Its drop passes on the notification that took it out, if no try came after it.
-struct Standing<'a> {
-    event: &'a Event,
-    /// Until it leaves the line.
-    ticket: Option<Ticket>,
-    /// Whether a notification took it out. A try that is made after that clears it.
-    notified: bool,
-}
-
-impl<'a> Standing<'a> {
-    /// Stands in line. The thread has to try after this, before it parks.
-    fn stand(event: &'a Event, parker: &Arc<Parker>) -> Standing<'a> {
-        Standing {
-            event,
-            ticket: Some(event.stand(parker.clone().into())),
-            notified: false,
-        }
-    }
-
-    /// Leaves the line. A try has to follow, since a notification may have taken this one out.
-    fn leave(&mut self) {
-        if let Some(ticket) = self.ticket.take() {
-            // It is a parker's, whose drop doesn't panic.
-            self.notified = self.event.leave(ticket, &mut Panics::default());
-        }
-    }
-}
-
-impl Drop for Standing<'_> {
-    fn drop(&mut self) {
-        self.leave();
-        if self.notified {
-            self.event.notify_one();
-        }
+        };
+        *begun = None;
+        sent
     }
 }
 
@@ -246,26 +193,24 @@ struct Entry<'a> {
 /// An arm of the macros, whose select stays on its thread: so its items are of any type.
 #[doc(hidden)]
 #[derive(Clone, Copy)]
-pub struct Arm<'a>(Case<'a>, usize, PhantomData<*const ()>);
+pub struct Arm<'a>(Entry<'a>, PhantomData<*const ()>);
 
 impl<'a> Arm<'a> {
-    pub fn take<T>(receiver: &'a Receiver<T>) -> Arm<'a> {
-        let handle = ptr::from_ref(receiver).addr();
-        Arm(Case::Take(&receiver.0), handle, PhantomData)
+    pub fn recv<T>(receiver: &'a Receiver<T>) -> Arm<'a> {
+        Arm::of(receiver.0.case(), receiver)
     }
 
     pub fn send<T>(sender: &'a Sender<T>) -> Arm<'a> {
-        let handle = ptr::from_ref(sender).addr();
-        Arm(Case::Send(sender.core()), handle, PhantomData)
+        Arm::of(sender.case(), sender)
     }
 
-    fn entry(self, index: usize) -> Entry<'a> {
-        let Arm(case, handle, _) = self;
-        Entry {
-            index,
+    fn of<H>(case: Case<'a>, handle: &H) -> Arm<'a> {
+        let entry = Entry {
+            index: 0,
             case,
-            handle,
-        }
+            handle: ptr::from_ref(handle).addr(),
+        };
+        Arm(entry, PhantomData)
     }
 }
 
@@ -279,36 +224,13 @@ enum Aim {
     Look,
 }
 
-impl Entry<'_> {
-    #[inline]
-    fn attempt(&self, aim: Aim, taken: &mut Option<Item>) -> Try<Begun> {
-        match aim {
-            Aim::Begin => self.case.begin(taken),
-            Aim::Look => self.case.look().map(|()| Begun::Nothing),
-        }
-    }
-
-    /// Whether what has begun is for good. A take that has met a send waits here for its item; if the send gives their
-    /// pair up, it isn't.
-    #[inline]
-    fn has_its_pair(&self, begun: &Begun) -> bool {
-        let Begun::Met(pair) = *begun else {
-            return true;
-        };
-        match self.case.rendezvous() {
-            Some((channel, Role::Take)) => channel.wait_for_item(pair),
-            _ => true,
-        }
-    }
-}
-
 thread_local! {
     /// The state of this thread's random numbers, from random keys.
     static RANDOM: Cell<u64> = Cell::new(RandomState::new().build_hasher().finish() | 1);
 }
 
 /// A random number below this one, by Marsaglia's xorshift.
-fn random_below(limit: usize) -> usize {
+pub fn random_below(limit: usize) -> usize {
     let mut random = RANDOM.get();
     random ^= random << 13;
     random ^= random >> 7;
@@ -350,7 +272,7 @@ fn random_below(limit: usize) -> usize {
 /// assert_eq!(numbers.1.try_recv(), Ok(7));
 /// # Ok::<(), vahepito::OpenError>(())
 /// ```
-#[derive(Clone)]
+#[derive(Clone, Default)]
 pub struct Select<'a> {
     entries: Vec<Entry<'a>>,
     next: usize,
@@ -358,19 +280,11 @@ pub struct Select<'a> {
 }
 
 impl<'a> Select<'a> {
-    fn of(is_biased: bool) -> Select<'a> {
-        Select {
-            entries: vec![],
-            next: 0,
-            is_biased,
-        }
-    }
-
-    fn add(&mut self, arm: Arm<'a>) -> usize {
-        let index = self.next;
+    fn add(&mut self, Arm(mut entry, _): Arm<'a>) -> usize {
+        entry.index = self.next;
         self.next += 1;
-        self.entries.push(arm.entry(index));
-        index
+        self.entries.push(entry);
+        entry.index
     }
 
     /// One without operations.
@@ -381,7 +295,7 @@ impl<'a> Select<'a> {
     /// ```
     #[must_use]
     pub fn new() -> Select<'a> {
-        Select::of(false)
+        Select::default()
     }
 
     /// One that prefers the operation with the lowest index.
@@ -400,7 +314,11 @@ impl<'a> Select<'a> {
     /// ```
     #[must_use]
     pub fn new_biased() -> Select<'a> {
-        Select::of(true)
+        let is_biased = true;
+        Select {
+            is_biased,
+            ..Select::default()
+        }
     }
 
     /// Adds a send, and returns its index.
@@ -432,7 +350,7 @@ impl<'a> Select<'a> {
     /// # Ok::<(), vahepito::OpenError>(())
     /// ```
     pub fn recv<T: Send>(&mut self, receiver: &'a Receiver<T>) -> usize {
-        self.add(Arm::take(receiver))
+        self.add(Arm::recv(receiver))
     }
 
     /// Removes an operation. The others keep their indices.
@@ -464,10 +382,12 @@ struct Turn<'s, 'a> {
     entries: &'s [Entry<'a>],
     aim: Aim,
     until: Option<Instant>,
+    /// The operation that it has begun.
+    begun: Option<Begun>,
 }
 
 impl<'s, 'a> Turn<'s, 'a> {
-    /// In the order of their indices if it is biased, and else in a random one.
+    /// Of operations that are in the order of their indices. If the select isn't biased, they get a random one.
     #[inline]
     fn new(
         entries: &'s mut [Entry<'a>],
@@ -475,9 +395,7 @@ impl<'s, 'a> Turn<'s, 'a> {
         aim: Aim,
         until: Option<Instant>,
     ) -> Turn<'s, 'a> {
-        if is_biased {
-            entries.sort_by_key(|it| it.index);
-        } else {
+        if !is_biased {
             for last in (1..entries.len()).rev() {
                 entries.swap(last, random_below(last + 1));
             }
@@ -486,84 +404,78 @@ impl<'s, 'a> Turn<'s, 'a> {
             entries,
             aim,
             until,
+            begun: None,
         }
     }
 
     /// Begins an operation.
     #[inline]
-    fn select(&self) -> Option<SelectedOperation<'a>> {
-        let mut taken = None;
-        let (entry, begun) = self.wait(&mut taken)?;
+    fn select(mut self) -> Option<SelectedOperation<'a>> {
+        let at = self.wait()?;
         Some(SelectedOperation {
-            entry,
-            begun: Some(begun),
-            taken,
+            entry: self.entries[at],
+            begun: self.begun,
             stays: PhantomData,
         })
     }
 
-    /// Tries each until one is done, or the time is over. A take puts its item here.
+    /// Tries each until one is done, or the time is over. Gives the place of the one that is begun, or is ready.
     #[inline]
-    fn wait(&self, taken: &mut Option<Item>) -> Option<(Entry<'a>, Begun)> {
-        self.try_once(taken).or_else(|| self.park(taken))
+    fn wait(&mut self) -> Option<usize> {
+        let done = self.try_each(0..);
+        done.or_else(|| self.park())
     }
 
-    /// Tries each once, until one is done. One that meets another which gives their pair up isn't.
     #[inline]
-    fn try_once(&self, taken: &mut Option<Item>) -> Option<(Entry<'a>, Begun)> {
-        self.entries.iter().find_map(|entry| {
-            let begun = entry.attempt(self.aim, taken).ok()?;
-            entry.has_its_pair(&begun).then_some((*entry, begun))
-        })
+    fn attempt(&mut self, case: Case) -> Try<()> {
+        match self.aim {
+            Aim::Begin => case.begin(&mut self.begun),
+            Aim::Look => case.look(),
+        }
     }
 
-    /// Tries each once. Gives the index of the first that is begun.
-    fn try_each(&self, taken: &mut Option<Item>) -> Try<(usize, Begun)> {
-        let mut earliest = Again::WhenNotified;
-        for (at, entry) in self.entries.iter().enumerate() {
-            match entry.attempt(self.aim, taken) {
-                Ok(begun) => return Ok((at, begun)),
-                Err(again) => earliest = again.min(earliest),
+    /// Tries the operations of these places, until one is done.
+    #[inline]
+    fn try_each(&mut self, places: impl Iterator<Item = usize>) -> Option<usize> {
+        for at in places {
+            let entry = self.entries.get(at)?;
+            if self.attempt(entry.case).is_ok() {
+                return Some(at);
             }
         }
-        Err(earliest)
+        None
     }
 
     /// Whether it is posted for others to meet: then it isn't in a line.
     fn is_posted(&self, entry: &Entry) -> bool {
-        self.aim == Aim::Begin && entry.case.rendezvous().is_some()
+        self.aim == Aim::Begin && entry.case.meeting_place().is_some()
     }
 
     /// Parks until one is done, or the time is over, after a few further tries.
     #[cold]
     #[inline(never)]
-    fn park(&self, taken: &mut Option<Item>) -> Option<(Entry<'a>, Begun)> {
+    fn park(&mut self) -> Option<usize> {
         if is_over(self.until) {
             // A try of one operation says itself that it wasn't ready.
             if self.entries.len() == 1 {
                 return None;
             }
-            if let Some(end) = self.end(taken) {
+            if let Some(end) = self.end() {
                 return end;
             }
         }
         let mut done = None;
         // Those that may meet another are posted at once.
         if !self.entries.iter().any(|it| self.is_posted(it)) {
-            done = FOR_OTHERS.try_until(self.until, || self.try_once(taken));
+            done = FOR_OTHERS.try_until(self.until, || self.try_each(0..));
         }
         done.or_else(|| {
             Parker::with(|parker| {
                 loop {
-                    match self.stand_and_park(parker, taken) {
-                        Ok((at, begun)) => {
-                            let entry = self.entries[at];
-                            if entry.has_its_pair(&begun) {
-                                return Some((entry, begun));
-                            }
-                        }
+                    match self.stand_and_park(parker) {
+                        Ok(done) => return Some(done),
                         Err(quiet) if is_over(self.until) => {
-                            let end = self.end(taken);
+                            let end = self.end();
                             if let Some(end) = end.or(quiet.then_some(None)) {
                                 return end;
                             }
@@ -576,14 +488,13 @@ impl<'s, 'a> Turn<'s, 'a> {
     }
 
     /// After the time: begins one that is ready, or finds that none was ready at one moment. None if it finds neither.
-    fn end(&self, taken: &mut Option<Item>) -> Option<Option<(Entry<'a>, Begun)>> {
+    fn end(&mut self) -> Option<Option<usize>> {
         for _ in 0..LAST_TRIES {
             if self.is_none_ready()? {
                 return Some(None);
             }
-            let done = self.try_once(taken);
-            if done.is_some() {
-                return Some(done);
+            if let Some(done) = self.try_each(0..) {
+                return Some(Some(done));
             }
         }
         None
@@ -604,63 +515,71 @@ impl<'s, 'a> Turn<'s, 'a> {
     /// Stands in all lines, looks, and parks; leaves all, and tries again: the one that was notified comes first. The
     /// notification of a line is passed on if its operation wasn't tried after it, or was only looked at and is ready. If none is
     /// ready, it returns whether no line was notified: at the end none was ready then.
-    fn stand_and_park(
-        &self,
-        parker: &Arc<Parker>,
-        taken: &mut Option<Item>,
-    ) -> Result<(usize, Begun), bool> {
-        let stand = |it: &'s Entry<'a>| {
+    fn stand_and_park(&mut self, parker: &Arc<Parker>) -> Result<usize, bool> {
+        let entries = self.entries;
+        let stand = |it: &Entry| {
             let stands = !self.is_posted(it);
-            stands.then(|| Standing::stand(it.case.line(), parker))
+            stands.then(|| it.case.line().stand(parker.clone().into()))
         };
-        let mut lines: Vec<_> = self.entries.iter().map(stand).collect();
-        let until = match self.try_each(taken) {
-            Ok(done) => return Ok(done),
-            Err(again) => again.before(self.until),
+        let tickets: Vec<_> = entries.iter().map(stand).collect();
+        let mut until = self.until;
+        let is_done = |it: &Entry| {
+            let tried = self.attempt(it.case);
+            until = tried.err().map_or(until, |again| again.before(until));
+            tried.is_ok()
         };
-        if lines.iter().any(Option::is_none) {
-            let met = self.meet(until, parker);
-            if let Some(met) = met {
-                return Ok(met);
+        let mut done = entries.iter().position(is_done);
+        if done.is_none() {
+            if tickets.iter().all(Option::is_some) {
+                parker.park(until);
+            } else {
+                done = self.meet(until, parker);
             }
-        } else {
-            parker.park(until);
         }
-        lines.iter_mut().flatten().for_each(Standing::leave);
-        let is_notified = |it: &Option<Standing>| it.as_ref().is_some_and(|it| it.notified);
-        let first = lines.iter().position(is_notified);
-        let quiet = first.is_none();
-        let first = first.into_iter();
-        let attempt = |at: usize| Some((at, self.entries[at].attempt(self.aim, taken).ok()?));
-        let done = first.chain(0..lines.len()).find_map(attempt);
-        for (at, line) in lines.iter_mut().enumerate() {
-            let is_this = |&(made, _): &(usize, _)| self.aim == Aim::Begin && made == at;
-            let used = done.as_ref().is_none_or(is_this);
-            line.iter_mut().for_each(|it| it.notified &= !used);
+        let leave = |(at, ticket): (usize, Option<Ticket>)| {
+            // The waker is a parker's, whose drop doesn't panic.
+            let line = entries[at].case.line();
+            line.leave(ticket?, &mut Panics::default()).then_some(at)
+        };
+        let notified: Vec<_> = tickets.into_iter().enumerate().filter_map(leave).collect();
+        let tries = done.is_none();
+        if tries {
+            let first = notified.first().copied().into_iter();
+            done = self.try_each(first.chain(0..));
         }
-        done.ok_or(quiet)
+        for &at in &notified {
+            let is_used = done.is_none() || self.aim == Aim::Begin && done == Some(at);
+            if !(tries && is_used) {
+                entries[at].case.line().notify_one();
+            }
+        }
+        done.ok_or(notified.is_empty())
     }
 
-    /// Posts the operations of channels of capacity 0, parks, and takes them off. Gives the one that has met
-    /// another.
-    fn meet(&self, until: Option<Instant>, parker: &Arc<Parker>) -> Option<(usize, Begun)> {
+    /// Posts the operations of channels of capacity 0, parks, and takes them off. Gives the place of one that has met
+    /// another; if that is a take, once it has its item.
+    fn meet(&mut self, until: Option<Instant>, parker: &Arc<Parker>) -> Option<usize> {
         let operations = self.entries.iter().enumerate().filter_map(|(at, it)| {
-            let (channel, role) = it.case.rendezvous()?;
-            Some(Operation { at, channel, role })
+            let (_, channel) = it.case.meeting_place()?;
+            Some(Operation::new(at, channel, it.case.side()))
         });
-        let operations: Vec<_> = operations.collect();
-        let waiter = Waiter::new(parker.clone().into());
-        let met = meet_or_post(&operations, &waiter);
-        if met.is_none() {
+        let mut operations: Vec<_> = operations.collect();
+        let waiter = Waiter::new(Some(parker.clone().into()));
+        let met = meet_or_post(&mut operations, &waiter, &mut None);
+        let (at, met) = met.or_else(|| {
             for it in &operations {
                 self.entries[it.at].case.notify_posted();
             }
             parker.wait(until);
-        }
-        met.or_else(|| {
-            let met = waiter.withdraw(&operations)?;
-            Some((met.at, Begun::Met(met.pair)))
-        })
+            withdraw(&operations, &waiter)
+        })?;
+        self.begun = Some(match met {
+            Begun::Met(take) if self.entries[at].case.side() != SENDERS => {
+                Begun::Taken(take.wait_for_item()?)
+            }
+            met => met,
+        });
+        Some(at)
     }
 }
 
@@ -768,8 +687,9 @@ impl<'a> Select<'a> {
     }
 
     fn ready_until(&mut self, until: Option<Instant>) -> Option<usize> {
-        let (entry, _) = self.turn(Aim::Look, until).wait(&mut None)?;
-        Some(entry.index)
+        let mut turn = self.turn(Aim::Look, until);
+        let at = turn.wait()?;
+        Some(turn.entries[at].index)
     }
 
     /// Returns the index of an operation that is ready, if there is one. Another thread may make it
@@ -870,20 +790,16 @@ pub fn select_arms<'a, const N: usize>(
     is_biased: bool,
     time: Option<Duration>,
 ) -> Option<SelectedOperation<'a>> {
-    let mut index = 0..;
-    let mut entries = arms.map(|arm| arm.entry(index.next().unwrap_or_default()));
+    let mut entries = arms.map(|Arm(entry, _)| entry);
+    (0..)
+        .zip(&mut entries)
+        .for_each(|(index, it)| it.index = index);
     // A moment beyond the clock's range never comes.
     let until = time.and_then(|time| Instant::now().checked_add(time));
     Turn::new(&mut entries, is_biased, Aim::Begin, until).select()
 }
 
 fmt_by_text! { impl Debug for Select<'_>: _ => "Select { .. }" }
-
-impl Default for Select<'_> {
-    fn default() -> Self {
-        Select::new()
-    }
-}
 
 /// An operation that a [`Select`] has begun: a take that has its item, or a send that has its room.
 ///
@@ -897,7 +813,6 @@ pub struct SelectedOperation<'a> {
     entry: Entry<'a>,
     /// Until it is completed.
     pub(super) begun: Option<Begun>,
-    taken: Option<Item>,
     /// Its item may be one that stays on its thread.
     stays: PhantomData<*const ()>,
 }
@@ -927,11 +842,11 @@ impl<'a> SelectedOperation<'a> {
         self.entry.index
     }
 
-    /// Its state, if it is the operation of this handle.
-    fn begun_of<H>(&mut self, handle: &H) -> Begun {
+    /// Whether it is the operation of this handle.
+    #[inline]
+    fn check<H>(&self, handle: &H) {
         let is_this = ptr::from_ref(handle).addr() == self.entry.handle;
         assert!(is_this, "another handle was selected");
-        self.begun.take().unwrap_or(Begun::Closed)
     }
 
     /// Completes a take.
@@ -955,11 +870,11 @@ impl<'a> SelectedOperation<'a> {
     /// # Ok::<(), vahepito::OpenError>(())
     /// ```
     pub fn recv<T>(mut self, receiver: &Receiver<T>) -> Result<T, RecvError> {
-        let item = match self.begun_of(receiver) {
-            Begun::Met(pair) => self.entry.case.item_of(pair),
-            _ => self.taken.take(),
-        };
-        Ok(receiver.unpack(item.ok_or(RecvError)?))
+        self.check(receiver);
+        match self.begun.take() {
+            Some(Begun::Taken(item)) => Ok(receiver.unpack(item)),
+            _ => Err(RecvError),
+        }
     }
 
     /// Completes a send. It doesn't wait, unless memory is wanting for a further queue. With capacity 0 its receiver
@@ -986,13 +901,14 @@ impl<'a> SelectedOperation<'a> {
     /// # Ok::<(), vahepito::OpenError>(())
     /// ```
     pub fn send<T>(mut self, sender: &Sender<T>, item: T) -> Result<(), SendError<T>> {
-        let (begun, mut item) = (self.begun_of(sender), sender.pack(item));
-        let sent = sender.core().complete(begun, &mut item);
-        sent.map_err(|_| SendError(sender.unpack(item.take())))
+        self.check(sender);
+        let send = |core: &Core, item: &mut Unsent| core.complete(&mut self.begun, item);
+        sender.send_by(item, send, |_, item| SendError(item))
     }
 }
 
 impl Drop for SelectedOperation<'_> {
+    #[inline]
     fn drop(&mut self) {
         if let Some(begun) = self.begun.take() {
             self.entry.case.give_up(begun);

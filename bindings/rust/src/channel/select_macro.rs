@@ -79,16 +79,12 @@ macro_rules! __select {
         $crate::__select!(@read $biased $arms $default default() => $($rest)*)
     };
     (@read $biased:literal $arms:tt $default:tt
-        $kind:ident $of:tt $(-> $result:pat)? => $body:expr, $($rest:tt)*) => {
-        $crate::__select!(@sort $biased $arms $default [$kind $of ($($result)?) $body] $($rest)*)
+        $kind:ident $of:tt $(-> $result:pat)? => $body:expr $(, $($rest:tt)*)?) => {
+        $crate::__select!(@sort $biased $arms $default [$kind $of ($($result)?) $body] $($($rest)*)?)
     };
     (@read $biased:literal $arms:tt $default:tt
         $kind:ident $of:tt $(-> $result:pat)? => $body:block $($rest:tt)*) => {
         $crate::__select!(@sort $biased $arms $default [$kind $of ($($result)?) $body] $($rest)*)
-    };
-    (@read $biased:literal $arms:tt $default:tt
-        $kind:ident $of:tt $(-> $result:pat)? => $body:expr) => {
-        $crate::__select!(@sort $biased $arms $default [$kind $of ($($result)?) $body])
     };
     (@read $biased:literal $arms:tt $default:tt $($wrong:tt)+) => {
         ::core::compile_error!(::core::concat!(
@@ -118,23 +114,10 @@ macro_rules! __select {
     };
 
     (@name $biased:literal ($index:expr) [$($named:tt)*] $default:tt
-        [recv ($of:expr) ($result:pat) $body:expr] $($arms:tt)*) => {
+        [$kind:ident ($of:expr $(, $item:expr)?) ($result:pat) $body:expr] $($arms:tt)*) => {
         match $of {
-            ref receiver => {
-                let arm: &$crate::Receiver<_> = receiver;
-                $crate::__select!(@name $biased ($index + 1)
-                    [$($named)* [($index) (take arm) ($result) (recv arm) $body]] $default $($arms)*)
-            }
-        }
-    };
-    (@name $biased:literal ($index:expr) [$($named:tt)*] $default:tt
-        [send ($of:expr, $item:expr) ($result:pat) $body:expr] $($arms:tt)*) => {
-        match $of {
-            ref sender => {
-                let arm: &$crate::Sender<_> = sender;
-                $crate::__select!(@name $biased ($index + 1)
-                    [$($named)* [($index) (send arm) ($result) (send arm $item) $body]] $default $($arms)*)
-            }
+            ref arm => $crate::__select!(@name $biased ($index + 1)
+                [$($named)* [($index) ($result) ($kind arm $($item)?) $body]] $default $($arms)*),
         }
     };
     (@name $biased:literal $count:tt $named:tt []) => {
@@ -148,9 +131,10 @@ macro_rules! __select {
         $crate::__select!(@wait $biased (::core::option::Option::Some($time)) $named $body)
     };
     (@wait $biased:literal $time:tt
-        [$([$index:tt ($kind:ident $arm:ident) $result:tt $call:tt $made:expr])*] $body:expr) => {
+        [$([$index:tt $result:tt ($kind:ident $arm:ident $($item:expr)?) $made:expr])*] $body:expr) => {
         match $crate::select_arms([$($crate::Arm::$kind($arm)),*], $biased, $time) {
-            selected => $crate::__select!(@make selected ($body) $([$index $result $call $made])*),
+            selected => $crate::__select!(@make selected ($body)
+                $([$index $result ($kind $arm $($item)?) $made])*),
         }
     };
 

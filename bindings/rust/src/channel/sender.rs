@@ -2,10 +2,12 @@
 use super::body::{Item, Of, Unsent};
 use super::core::{Core, NotSent, SENDERS, Sent};
 use super::future::SendFuture;
-use super::side::Shared;
+use super::select::Case;
+use super::side::Target;
 use super::{SendError, SendTimeoutError, TrySendError};
 use std::borrow::Cow;
 use std::marker::PhantomData;
+use std::mem::forget;
 use std::sync::Arc;
 use std::time::{Duration, Instant};
 
@@ -28,11 +30,16 @@ use std::time::{Duration, Instant};
 /// assert!(receiver.into_iter().eq([1, 2]));
 /// # Ok::<(), vahepito::OpenError>(())
 /// ```
-pub struct Sender<T>(pub(super) Arc<Shared>, pub(super) Of<T>);
+pub struct Sender<T>(pub(super) Target, pub(super) Of<T>);
 
 impl<T> Sender<T> {
     pub(super) fn core(&self) -> &Arc<Core> {
-        &self.0.core
+        &self.0.0
+    }
+
+    /// A send of it.
+    pub(super) fn case(&self) -> Case<'_> {
+        Case::Of(self.core(), SENDERS)
     }
 
     /// An item for the channel.
@@ -40,33 +47,33 @@ impl<T> Sender<T> {
     #[inline]
     pub(super) fn pack(&self, item: T) -> Unsent {
         // SAFETY: the channel was opened for items of `T`, with a kind of that type; its handles come from each other.
-        Unsent::new(unsafe { Item::pack(item, self.core().kind) })
+        Some(unsafe { Item::pack(item, self.core().kind) })
     }
 
     /// An item that this channel didn't send.
     #[allow(unsafe_code)]
     #[inline]
-    pub(super) fn unpack(&self, item: Item) -> T {
+    pub(super) fn unpack(&self, item: Unsent) -> T {
+        let item = item.expect("a refused item is put back");
         // SAFETY: as of `pack`.
         unsafe { item.unpack() }
     }
 
-    /// Sends an item by this call.
+    /// Sends an item by this call. If it isn't sent, the error has it.
     #[inline(always)]
-    fn send_by(
+    pub(super) fn send_by<E>(
         &self,
         item: T,
-        send: impl FnOnce(&Shared, &mut Unsent) -> Sent,
-    ) -> Result<(), SendTimeoutError<T>> {
+        send: impl FnOnce(&Core, &mut Unsent) -> Sent,
+        error: impl FnOnce(NotSent, T) -> E,
+    ) -> Result<(), E> {
         let mut item = self.pack(item);
-        match send(&self.0, &mut item) {
-            Ok(()) => {
-                item.end();
-                Ok(())
-            }
-            Err(NotSent::Closed) => Err(SendTimeoutError::Disconnected(self.unpack(item.take()))),
-            Err(_) => Err(SendTimeoutError::Timeout(self.unpack(item.take()))),
+        if let Err(why) = send(self.core(), &mut item) {
+            return Err(error(why, self.unpack(item)));
         }
+        // Without a look whether there is something to drop.
+        forget(item);
+        Ok(())
     }
 
     /// Sends, if there is room. It doesn't wait for room; but if another thread serves the calls of
@@ -87,17 +94,20 @@ impl<T> Sender<T> {
     /// # Ok::<(), vahepito::OpenError>(())
     /// ```
     pub fn try_send(&self, item: T) -> Result<(), TrySendError<T>> {
-        let sent = self.send_by(item, |shared, item| shared.core.try_send(item));
-        sent.map_err(|error| match error {
-            SendTimeoutError::Timeout(item) => TrySendError::Full(item),
-            SendTimeoutError::Disconnected(item) => TrySendError::Disconnected(item),
+        self.send_by(item, Core::try_send, |why, item| match why {
+            NotSent::Closed => TrySendError::Disconnected(item),
+            _ => TrySendError::Full(item),
         })
     }
 
     /// Sends, and waits for room until this moment.
     #[inline]
     fn send_until(&self, item: T, until: Option<Instant>) -> Result<(), SendTimeoutError<T>> {
-        self.send_by(item, |shared, item| shared.send_until(item, until))
+        let send = |core: &Core, item: &mut Unsent| core.send_until(item, until);
+        self.send_by(item, send, |why, item| match why {
+            NotSent::Closed => SendTimeoutError::Disconnected(item),
+            _ => SendTimeoutError::Timeout(item),
+        })
     }
 
     /// Sends, and waits while there is no room. It parks after a few tries.
@@ -115,8 +125,8 @@ impl<T> Sender<T> {
     /// ```
     #[inline]
     pub fn send(&self, item: T) -> Result<(), SendError<T>> {
-        let sent = self.send_until(item, None);
-        sent.map_err(|error| SendError(error.into_inner()))
+        let send = |core: &Core, item: &mut Unsent| core.send_until(item, None);
+        self.send_by(item, send, |_, item| SendError(item))
     }
 
     /// Sends, and waits for room, but not longer than this.
@@ -313,7 +323,7 @@ impl<T> Sender<T> {
     /// ```
     #[must_use]
     pub fn sender_count(&self) -> usize {
-        self.core().sender_count()
+        self.core().handle_count(SENDERS)
     }
 
     /// How many receivers the channel has, of all groups together.
@@ -327,7 +337,7 @@ impl<T> Sender<T> {
     #[must_use]
     pub fn receiver_count(&self) -> usize {
         let groups = 1..=self.core().groups.len();
-        groups.map(|group| self.core().receiver_count(group)).sum()
+        groups.map(|group| self.core().handle_count(group)).sum()
     }
 
     /// A sender that doesn't keep the channel open.
@@ -371,8 +381,8 @@ impl<T> WeakSender<T> {
     /// ```
     #[must_use]
     pub fn upgrade(&self) -> Option<Sender<T>> {
-        let shared = self.0.upgrade_sender()?;
-        Some(Sender(shared, PhantomData))
+        let core = self.0.upgrade(SENDERS)?;
+        Some(Sender(Target(core), PhantomData))
     }
 }
 

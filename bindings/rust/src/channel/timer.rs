@@ -1,7 +1,6 @@
 //! Timers, and a receiver that has no item. None has a queue or a thread: a call that waits parks until the moment.
 use super::Receiver;
 use super::body::Item;
-use super::core::NoItem;
 use super::side::Source;
 use crate::event::{Again, Event, Panics, Try, lock};
 use std::marker::PhantomData;
@@ -24,17 +23,16 @@ pub struct Timer {
 }
 
 impl Timer {
-    /// Takes the item of a moment that has come. The next one comes a period after it, or, if a whole period
+    /// Takes the item of a moment that has come; or gives None if none will come. The next one comes a period after it, or, if a whole period
     /// has passed, after now.
-    pub fn try_take(&self) -> Result<Item, NoItem> {
+    pub fn try_take(&self) -> Try<Option<Item>> {
         let mut due = lock(&self.due);
         let Some(at) = *due else {
-            Again::unless(self.is_closed())?;
-            return Err(NoItem::Ended);
+            return Again::unless(self.is_closed()).map(|()| None);
         };
         let now = Instant::now();
         if now < at {
-            return Err(Again::At(at).into());
+            return Err(Again::At(at));
         }
         let next = |every: Duration| {
             let from = if now - at < every { at } else { now };
@@ -42,7 +40,7 @@ impl Timer {
         };
         *due = self.every.filter(|_| !self.is_closed()).and_then(next);
         self.taken.fetch_add(1, Ordering::SeqCst);
-        Ok(Item::alone(at))
+        Ok(Some(Item::alone(at)))
     }
 
     /// Whether there is an item, or none will come.
@@ -59,11 +57,10 @@ impl Timer {
         self.taken.load(Ordering::SeqCst)
     }
 
-    /// How many items there have been. None if it is closed.
+    /// How many items there have been, and maybe one more. None if it is closed.
     pub fn possible(&self) -> Option<u64> {
-        let due = lock(&self.due);
-        let is_due = due.is_some_and(|at| at <= Instant::now());
-        (!self.is_closed()).then(|| self.taken() + u64::from(is_due))
+        let left = self.len() as u64;
+        (!self.is_closed()).then(|| self.taken() + left)
     }
 
     pub fn capacity(&self) -> usize {
@@ -93,7 +90,7 @@ impl Timer {
 }
 
 fn timer<T>(due: Option<Instant>, every: Option<Duration>, has_items: bool) -> Receiver<T> {
-    let source = Source::Timer(Timer {
+    let timer = Arc::new(Timer {
         due: Mutex::new(due),
         every,
         has_items,
@@ -101,7 +98,7 @@ fn timer<T>(due: Option<Instant>, every: Option<Duration>, has_items: bool) -> R
         taken: AtomicU64::new(0),
         line: Event::default(),
     });
-    Receiver(Arc::new(source), PhantomData)
+    Receiver(Source::Timer(timer), PhantomData)
 }
 
 /// A receiver with one item, which is there at this moment, and is the moment. Then it is empty for ever.

@@ -13,8 +13,7 @@ mod tests;
 pub use config::Config;
 pub use error::OpenError;
 use handle::Handle;
-use std::iter;
-use std::mem::MaybeUninit;
+use std::mem::{MaybeUninit, replace};
 
 /// Whether the library is below the channels: without the feature `unproved`. With the feature `strict` it is the library
 /// as it was proved; by default some of its stores are release stores. The channels themselves are tested.
@@ -38,15 +37,21 @@ pub type Words = [Word; 4];
 pub const MOST_GROUPS: usize = 8;
 
 /// Opens a queue, and gives the handles of its sides: those of the senders, and then those of each group.
-pub fn open(config: &Config, groups: u32, words: usize) -> Result<Vec<Vec<Handle>>, OpenError> {
+pub fn open(config: &Config, groups: usize, words: usize) -> Result<Vec<Vec<Handle>>, OpenError> {
     // A number that is too large is refused, with any handles.
+    let groups = groups.try_into().unwrap_or(u32::MAX);
     let some = |count: u32| (0..count.min(MOST_GROUPS as u32 * 64)).map(|_| Handle::empty());
     let mut senders: Vec<_> = some(config.senders).collect();
     let mut receivers: Vec<_> = some(groups.saturating_mul(config.receivers)).collect();
     handle::fill(config, groups, words, &mut senders, &mut receivers)?;
-    let mut receivers = receivers.into_iter();
-    let group = |_| receivers.by_ref().take(config.receivers as usize).collect();
-    Ok(iter::once(senders).chain((0..groups).map(group)).collect())
+    let mut sides = Vec::with_capacity(1 + groups as usize);
+    sides.push(senders);
+    for _ in 1..groups {
+        let others = receivers.split_off(config.receivers as usize);
+        sides.push(replace(&mut receivers, others));
+    }
+    sides.push(receivers);
+    Ok(sides)
 }
 
 /// The codes that a call returns, by the header's names.

@@ -54,7 +54,7 @@ fn an_opening_is_refused_by_the_first_number_out_of_its_range() {
             assert_eq!(refused, Some(OpenError::Capacity), "{capacity}");
         }
     }
-    for groups in [0, 9, u32::MAX] {
+    for groups in [0, 9, usize::MAX] {
         let refused = open(&SMALL, groups, 1).err();
         assert_eq!(refused, Some(OpenError::Groups), "{groups}");
     }
@@ -83,7 +83,7 @@ fn one_to_eight_groups_are_opened() {
         let mut sides = open(&config, groups, 1).unwrap();
         let lengths: Vec<usize> = sides.iter().map(Vec::len).collect();
         assert_eq!(lengths[0], 64);
-        assert_eq!(lengths[1..], vec![in_each as usize; groups as usize]);
+        assert_eq!(lengths[1..], vec![in_each as usize; groups]);
         // The last receiver of each group gets what the last sender sent.
         assert_eq!(send(&mut sides[0][63], 5), code::ACCEPTED);
         for group in &mut sides[1..] {
