@@ -32,7 +32,7 @@ else
     # The sanitizers see the programs alone, which are the same; and the searches over interleavings have a model of the library.
     mapfile -t strict < <(make -s -C bindings/c names | tr ' ' '\n' | grep -vxE 'check-(row_)?interleavings')
     strict+=(check-valgrind)
-    [ -z "$quick" ] || strict=(check-version check-groups_threads check-hand_over check-waits)
+    [ -z "$quick" ] || strict=(check-version check-any_order check-hand_over check-waits)
     echo "$tests: C: the same over the strict archive"
     make -s -C bindings/c "${strict[@]}" STRICT=yes OUT="$room/strict" </dev/null || failed=$((failed + 1))
 fi
@@ -60,7 +60,7 @@ limit=600 step 'Rust: tests' cargo "${options[@]}" test
 limit=600 step 'Rust: tests with the feature strict' env CARGO_PROFILE_DEV_DEBUG=none "VAHEPITO_ROUNDS=${VAHEPITO_ROUNDS:-25}" cargo "${options[@]}" test "${chosen[@]}" --features strict -- "${searches[@]}"
 limit=600 step 'Rust: tests with the feature unproved' env CARGO_PROFILE_DEV_DEBUG=none "VAHEPITO_ROUNDS=${VAHEPITO_ROUNDS:-5}" cargo "${options[@]}" test "${chosen[@]}" --features unproved -- "${searches[@]}"
 mkdir "$room/logs"
-step 'Rust: calls over rows of queues are recorded' env "VAHEPITO_LOGS=$room/logs" "VAHEPITO_ROUNDS=${VAHEPITO_ROUNDS:-50}" \
+step 'Rust: calls over tiny queues and rows are recorded' env "VAHEPITO_LOGS=$room/logs" "VAHEPITO_ROUNDS=${VAHEPITO_ROUNDS:-50}" \
     cargo "${options[@]}" test --lib judged -- --ignored
 step 'Rust: the recorded calls are judged' "$top/tests/judged_rows.py" "$room/logs"
 step 'Rust: the recorder' cargo "${options[@]}" test --manifest-path record/Cargo.toml

@@ -1,14 +1,13 @@
-/* Begins and turns in random orders, in C: each turn returns what a model of the queue returns, which serves whole
- * calls.
+/* Begins, turns and drops in random orders, in C: each turn returns what a model of the queue returns, which serves
+ * whole calls.
  *
  * In thousands of runs three senders, and two receivers of each of one to three groups, begin calls and turn them in an
- * order that is rolled, on queues whose sizes are rolled too. At the end each call is turned until it is answered. It
- * ends with status 0 where each answer, each wait and each number of served calls was the model's, and each of these
- * occurred. */
-#include "by_handles.h"
-
-#include <stdio.h>
-#include <string.h>
+ * order that is rolled, on queues whose sizes are rolled too. Now and then a pass is dropped, and a call that it has
+ * begun is given up: another one may still serve that call, but if it is the first of its side, all behind it wait for
+ * ever. At the end each other call is turned until it is answered. It ends with status 0 where each answer, each wait
+ * and each number of served calls was the model's, and each of these occurred. */
+#include "checks.h"
+#include "handles.h"
 
 enum {
     RUNS = 4000, SENDERS = 3, IN_EACH = 2, MOST_GROUPS = 3, MOST_PASSES = SENDERS + MOST_GROUPS * IN_EACH,
@@ -35,7 +34,7 @@ struct pass {
     uint32_t begun;
     size_t count;
     uint64_t words[VAHEPITO_MOST_WORDS];
-    int is_served;
+    int is_served, is_dropped;
     struct told told;
 };
 
@@ -142,8 +141,9 @@ static void begin_model(int pass, enum call call) {
 
 static vahepito_handle passes[MOST_PASSES];
 
-/* How often each result occurred: the codes, and turns that served none, and several. */
-static uint32_t codes[VAHEPITO_WIDE + 1], by_others, of_others;
+/* How often each result occurred: the codes, turns that served none, and several, calls of dropped passes that were
+ * served, and calls that waited for ever behind one that wasn't. */
+static uint32_t codes[VAHEPITO_WIDE + 1], by_others, of_others, of_dropped, stopped;
 
 static void begin_send(int pass) {
     struct pass *mine = &model.passes[pass];
@@ -201,6 +201,12 @@ static void turn(int pass) {
     of_others += told.served > 1;
 }
 
+/* Drops a pass, whose call may be begun. */
+static void drop(int pass) {
+    check(vahepito_drop(&passes[pass]) == VAHEPITO_DONE && !passes[pass].live, "a pass is let go");
+    model.passes[pass].is_dropped = 1;
+}
+
 static int passes_in_all(void) { return SENDERS + (int)model.groups * IN_EACH; }
 
 /* A queue whose sizes are rolled. */
@@ -220,15 +226,22 @@ static void run(void) {
     const int all = passes_in_all();
     for (uint32_t left = roll(&dice, 120); left > 0; left--) {
         const int pass = (int)roll(&dice, (uint32_t)all);
-        if (model.passes[pass].call == NONE) begin(pass);
+        if (model.passes[pass].is_dropped) continue;
+        if (roll(&dice, 100) == 0) drop(pass);
+        else if (model.passes[pass].call == NONE) begin(pass);
         else turn(pass);
     }
     /* as often as answers every call */
     for (int turns = 0; turns < 6 * all; turns++)
-        if (model.passes[turns % all].call != NONE) turn(turns % all);
+        if (model.passes[turns % all].call != NONE && !model.passes[turns % all].is_dropped) turn(turns % all);
     for (int pass = 0; pass < all; pass++) {
-        check(model.passes[pass].call == NONE, "each call is answered in the end");
-        check(vahepito_drop(&passes[pass]) == VAHEPITO_DONE, "a pass is let go");
+        const struct pass *const mine = &model.passes[pass];
+        const struct line *const line = &model.lines[side_of(pass)];
+        of_dropped += mine->is_dropped && mine->call != NONE && mine->is_served;
+        if (mine->is_dropped) continue;
+        check(mine->call == NONE || model.passes[line->passes[0]].is_dropped, "each call is answered in the end");
+        stopped += mine->call != NONE;
+        drop(pass);
     }
 }
 
@@ -239,6 +252,7 @@ int main(void) {
     for (int k = 0; k < RUNS; k++) run();
     for (size_t k = 0; k < sizeof seen / sizeof *seen; k++) check(codes[seen[k]] > 100, "each answer occurred");
     check(by_others > 100 && of_others > 100, "calls were served by others");
+    check(of_dropped > 100 && stopped > 100, "and some that were given up, and others weren't");
     printf("%d orders of calls\n", RUNS);
     return 0;
 }

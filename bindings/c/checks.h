@@ -1,4 +1,4 @@
-/* What the programs here share: checks that end them, rolled numbers, and what threads that send or take do. */
+/* What the programs here share: checks that end them, threads, clocks, and rolled numbers. */
 #ifndef CHECKS_H
 #define CHECKS_H
 #ifndef _POSIX_C_SOURCE
@@ -23,16 +23,39 @@ static inline void check(int holds, const char *what) {
     }
 }
 
-static inline uint64_t processor_time(clockid_t clock) {
+/* A thread that runs this; and the result of one, once it has ended. */
+static inline pthread_t started(void *(*body)(void *), void *with) {
+    pthread_t thread;
+    check(pthread_create(&thread, NULL, body, with) == 0, "a thread starts");
+    return thread;
+}
+
+static inline void *joined(pthread_t thread) {
+    void *result;
+    check(pthread_join(thread, &result) == 0, "a thread ends");
+    return result;
+}
+
+static inline void join_all(const pthread_t *threads, size_t count) {
+    for (size_t k = 0; k < count; k++) (void)joined(threads[k]);
+}
+
+/* The time of a clock, in nanoseconds. */
+static inline uint64_t time_of(clockid_t clock) {
     struct timespec time;
     check(clock_gettime(clock, &time) == 0, "there is a clock");
     return (uint64_t)time.tv_sec * 1000000000u + (uint64_t)time.tv_nsec;
 }
 
+static inline void sleep_for(uint64_t milliseconds) {
+    const struct timespec time = {(time_t)(milliseconds / 1000), (long)(milliseconds % 1000) * 1000000};
+    (void)nanosleep(&time, NULL);
+}
+
 static inline void *watches(void *unused) {
     for (uint64_t before = 0;;) {
-        const uint64_t mine = processor_time(CLOCK_THREAD_CPUTIME_ID);
-        const uint64_t others = processor_time(CLOCK_PROCESS_CPUTIME_ID) - mine;
+        const uint64_t mine = time_of(CLOCK_THREAD_CPUTIME_ID);
+        const uint64_t others = time_of(CLOCK_PROCESS_CPUTIME_ID) - mine;
         if (before && others - before < 100000) abort();
         before = others;
         sleep(120);
@@ -45,9 +68,8 @@ static inline void *watches(void *unused) {
  * machine a test that goes on takes as long as it takes. */
 static inline void end_if_still(void) {
     const struct rlimit limit = {600, 600};
-    pthread_t thread;
     check(setrlimit(RLIMIT_CPU, &limit) == 0, "the processor time has a limit");
-    check(!pthread_create(&thread, NULL, watches, NULL) && !pthread_detach(thread), "a thread watches");
+    check(pthread_detach(started(watches, NULL)) == 0, "a thread watches");
 }
 
 /* Opens a queue of this capacity for items of one word, with this number of groups. */
@@ -69,44 +91,5 @@ static inline uint32_t roll(uint64_t *dice, uint32_t bound) {
 /* An item of a thread: the number of the thread is in the upper half of the word, and that of the item in the lower
  * half. */
 static inline uint64_t item_of(uint32_t thread, uint64_t number) { return (uint64_t)thread << 32 | number; }
-
-/* A thread's sends, from 1 up to a number of items, each of which is accepted. */
-static inline void send_up_to(vahepito_queue *queue, uint32_t thread, uint64_t items) {
-    uint64_t last = 0;
-    for (uint64_t number = 1; number <= items; number++) {
-        uint64_t place;
-        check(vahepito_send(queue, item_of(thread, number), &place) == VAHEPITO_ACCEPTED,
-              "a send is accepted in the end");
-        check(number == 1 || place > last, "places rise");
-        last = place;
-    }
-}
-
-/* The items that a thread took, and the total of its end; the most threads that send. */
-struct taker {
-    uint64_t got, sum, total;
-};
-enum { MOST_THREADS = 64 };
-
-/* Takes until the end for a group the items that threads below this number send by send_up_to. */
-static inline void take_to_the_end(vahepito_queue *queue, uint32_t group, uint32_t threads, struct taker *mine) {
-    uint64_t last[MOST_THREADS] = {0}, last_place = 0;
-    vahepito_item item;
-    uint32_t code;
-    while ((code = vahepito_take(queue, group, &item, &mine->total)) != VAHEPITO_ENDED) {
-        const uint32_t thread = (uint32_t)(item.words[0] >> 32);
-        const uint64_t number = (uint32_t)item.words[0];
-        check(code == VAHEPITO_GOT, "a take gets an item, or is told the end");
-        check(mine->total == 0 && item.count == 1 && item.words[1] == 0,
-              "an item comes as it was sent, without a total");
-        check(thread < threads && number > last[thread], "each thread's items come in order");
-        check(mine->got == 0 || item.place > last_place, "places rise");
-        last[thread] = number;
-        last_place = item.place;
-        mine->got++;
-        mine->sum += number;
-    }
-    check(item.count == 0 && item.words[0] == 0 && item.sender == 0, "the end comes without an item");
-}
 
 #endif

@@ -1,5 +1,5 @@
-/* Descriptors: threads that sleep in epoll without end miss nothing, of two groups, beside calls that park, and beside
- * a close.
+/* Descriptors: what they say on one thread; and threads that sleep in epoll without end miss nothing, of two groups,
+ * beside calls that park, and beside a close.
  *
  *     descriptors [ITEMS]
  *
@@ -11,7 +11,9 @@
 #endif
 #include "checks.h"
 
-#include <pthread.h>
+#include <errno.h>
+#include <fcntl.h>
+#include <poll.h>
 #include <sys/epoll.h>
 
 enum { GROUPS = 2, SENDERS = 2, TAKERS = 2 * GROUPS, THREADS = SENDERS + 2 * TAKERS };
@@ -23,6 +25,35 @@ static pthread_barrier_t round_begins, round_ends;
 static bool is_over;
 static uint32_t absent; /* the group whose threads make no calls in this round; 0: the senders; GROUPS + 1: none */
 static uint64_t got[GROUPS];
+
+/* ---- one thread */
+
+static bool is_readable(int place) {
+    struct pollfd it = {place, POLLIN, 0};
+    return poll(&it, 1, 0) == 1;
+}
+
+/* A descriptor is readable when there is something. */
+static void one_thread(void) {
+    queue = opened(1, 1);
+    const int item = vahepito_descriptor(queue, 1), room = vahepito_descriptor(queue, 0);
+    check(item >= 0 && room >= 0 && item != room && vahepito_descriptor(queue, 1) == item, "there are two");
+    check(vahepito_descriptor(queue, 2) == -1 && errno == EINVAL, "and no more");
+    errno = 77;
+    check(vahepito_take_now(queue, 1, NULL, NULL) == VAHEPITO_EMPTY && !is_readable(item),
+          "after a take that found nothing it isn't readable");
+    check(vahepito_send_now(queue, 1, NULL) == VAHEPITO_ACCEPTED && is_readable(item), "after a send it is");
+    check(vahepito_send_now(queue, 2, NULL) == VAHEPITO_FULL && !is_readable(room), "there is no room");
+    check(vahepito_take_now(queue, 1, NULL, NULL) == VAHEPITO_GOT && is_readable(room), "and then there is");
+    check(vahepito_take_now(queue, 1, NULL, NULL) == VAHEPITO_EMPTY && !is_readable(item), "and no item");
+    check(errno == 77, "these calls change no errno");
+    check(vahepito_close(queue, NULL) == VAHEPITO_SHUT, "it is closed");
+    check(is_readable(item) && is_readable(room), "and then both are readable");
+    vahepito_destroy(queue, NULL, NULL);
+    check(fcntl(item, F_GETFD) == -1 && fcntl(room, F_GETFD) == -1, "and are closed with the queue");
+}
+
+/* ---- threads */
 
 /* A thread: its number, and the group that it takes for, or 0 if it sends. */
 struct one {
@@ -101,7 +132,7 @@ static uint32_t start(pthread_t *threads, struct one *ones, bool with_waits, voi
     for (uint32_t k = 0; k < count; k++) {
         ones[k] = (struct one){k, k < SENDERS ? 0 : 1 + k % GROUPS, k < SENDERS + TAKERS, k};
         ones[k].number += k >= SENDERS ? k / GROUPS % 2 : 0; /* in each group one takes levels, and one edges */
-        check(!pthread_create(&threads[k], NULL, body, &ones[k]), "a thread starts");
+        threads[k] = started(body, &ones[k]);
     }
     return count;
 }
@@ -112,9 +143,9 @@ static void pass_items(bool with_waits, uint32_t capacity) {
     queue = opened(capacity, GROUPS);
     memset(got, 0, sizeof got);
     const uint32_t count = start(threads, ones, with_waits, passes_items);
-    for (uint32_t k = 0; k < SENDERS; k++) check(!pthread_join(threads[k], NULL), "a sender ends");
+    join_all(threads, SENDERS);
     check(vahepito_close(queue, NULL) == VAHEPITO_SHUT, "it is closed");
-    for (uint32_t k = SENDERS; k < count; k++) check(!pthread_join(threads[k], NULL), "a receiver ends");
+    join_all(threads + SENDERS, count - SENDERS);
     for (uint32_t group = 0; group < GROUPS; group++) check(got[group] == SENDERS * items, "each group got each item");
     vahepito_destroy(queue, NULL, NULL);
 }
@@ -140,12 +171,13 @@ static void close_beside_sleepers(uint64_t rounds) {
     }
     is_over = true;
     (void)pthread_barrier_wait(&round_begins);
-    for (uint32_t k = 0; k < count; k++) check(!pthread_join(threads[k], NULL), "a thread ends");
+    join_all(threads, count);
 }
 
 int main(int count, char **words) {
     if (count > 1) items = strtoull(words[1], NULL, 10);
     end_if_still();
+    one_thread();
     pass_items(false, 3);
     pass_items(true, 1);
     close_beside_sleepers(items / 2);

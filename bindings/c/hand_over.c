@@ -7,8 +7,6 @@
  * It ends with status 0 where each box came once, as it was filled. */
 #include "checks.h"
 
-#include <pthread.h>
-
 enum { EACH = 4 };
 
 struct box {
@@ -67,16 +65,12 @@ int main(int count, char **words) {
     if (count > 1) boxes = strtoull(words[1], NULL, 10);
     queue = opened(3, 1);
     for (int k = 0; k < EACH; k++) {
-        check(!pthread_create(&taking[k], NULL, take_boxes, &numbers[k]), "a thread starts");
-        check(!pthread_create(&sending[k], NULL, send_boxes, &numbers[k]), "a thread starts");
+        taking[k] = started(take_boxes, &numbers[k]);
+        sending[k] = started(send_boxes, &numbers[k]);
     }
-    for (int k = 0; k < EACH; k++) check(!pthread_join(sending[k], NULL), "a sender ends");
+    join_all(sending, EACH);
     check(vahepito_close(queue, NULL) == VAHEPITO_SHUT, "the queue is closed");
-    for (int k = 0; k < EACH; k++) {
-        void *taken;
-        check(!pthread_join(taking[k], &taken), "a receiver ends");
-        sum += (uintptr_t)taken;
-    }
+    for (int k = 0; k < EACH; k++) sum += (uintptr_t)joined(taking[k]);
     check(sum == EACH * (boxes * (boxes + 1) / 2), "each box came once");
     vahepito_destroy(queue, NULL, NULL);
     printf("%llu boxes\n", (unsigned long long)(EACH * boxes));

@@ -4,12 +4,10 @@
  * An opening that is refused memory says so, whichever of its allocations that is, leaves the handles empty and keeps
  * nothing. No later call takes memory, but a send of vahepito.h that needs a further queue. The last handle frees all,
  * and none before it frees the queue. */
+#include "checks.h"
 #include "handles.h"
 
 #include <errno.h>
-#include <stdio.h>
-#include <stdlib.h>
-#include <string.h>
 
 void *__real_malloc(size_t);
 int __real_posix_memalign(void **, size_t, size_t);
@@ -18,30 +16,25 @@ void __real_free(void *);
 
 /* how many allocations were asked for, which of them is refused (0: none), and how many blocks there are */
 static long asked, refused, blocks;
-/* and the most bytes that were asked for */
-static size_t largest;
 
-static int is_refused(size_t size) {
-    if (size > largest) largest = size;
-    return ++asked == refused;
-}
+static int is_refused(void) { return ++asked == refused; }
 
 void *__wrap_malloc(size_t size) {
-    if (is_refused(size)) return NULL;
+    if (is_refused()) return NULL;
     void *at = __real_malloc(size);
     blocks += at != NULL;
     return at;
 }
 
 int __wrap_posix_memalign(void **at, size_t alignment, size_t size) {
-    if (is_refused(size)) return ENOMEM;
+    if (is_refused()) return ENOMEM;
     int refusal = __real_posix_memalign(at, alignment, size);
     blocks += refusal == 0;
     return refusal;
 }
 
 void *__wrap_realloc(void *old, size_t size) {
-    if (is_refused(size)) return NULL;
+    if (is_refused()) return NULL;
     void *at = __real_realloc(old, size);
     blocks += old == NULL && at != NULL;
     return at;
@@ -50,13 +43,6 @@ void *__wrap_realloc(void *old, size_t size) {
 void __wrap_free(void *at) {
     blocks -= at != NULL;
     __real_free(at);
-}
-
-static void check(int holds, const char *what) {
-    if (!holds) {
-        fprintf(stderr, "memory: not so: %s (allocation %ld refused)\n", what, refused);
-        exit(1);
-    }
 }
 
 /* As many receivers in each group. */
@@ -196,31 +182,30 @@ static void use_row(void) {
     check(blocks == 0, "and in the end all");
 }
 
-/* A queue without a bound, and the most bytes that its further queue asks for, perhaps after each of the allocations
- * was refused once. */
-static size_t further_queue(int are_refused) {
-    vahepito_queue *const queue = vahepito_create(0);
-    uint32_t code;
-    check(queue != NULL, "the queue is opened");
-    for (uint64_t item = 0; item < 64; item++)
-        check(vahepito_send(queue, item, NULL) == VAHEPITO_ACCEPTED, "there is room for 64 items");
-    for (refused = are_refused;; refused++) {
-        asked = 0, largest = 0;
-        code = vahepito_send(queue, 64, NULL);
-        if (asked < refused || refused == 0) break;
-        check(code == VAHEPITO_NO_MEMORY, "a further queue is refused");
+/* A queue without a bound: the further queue that a send needs, and the one that it opens beforehand, each refused each
+ * of its allocations. */
+static void use_unbounded(void) {
+    for (long which = 0, all = 0; which <= all; which++) {
+        vahepito_queue *const queue = vahepito_create(0);
+        uint64_t items = 0;
+        check(queue != NULL, "the queue is opened");
+        while (items < 64) check(vahepito_send(queue, items++, NULL) == VAHEPITO_ACCEPTED, "there is room");
+        asked = 0, refused = which;
+        const uint32_t code = vahepito_send(queue, items, NULL);
+        if (which == 0) all = asked;
+        refused = 0;
+        check(code == (which > 0 && which <= all / 2 ? VAHEPITO_NO_MEMORY : VAHEPITO_ACCEPTED),
+              "the first one alone is needed");
+        while (items < 1000) check(vahepito_send(queue, items++, NULL) == VAHEPITO_ACCEPTED, "and then there is room");
+        vahepito_destroy(queue, NULL, NULL);
+        check(blocks == 0, "and in the end all is freed");
     }
-    refused = 0;
-    check(code == VAHEPITO_ACCEPTED && asked > 0, "and then it is there");
-    vahepito_destroy(queue, NULL, NULL);
-    check(blocks == 0, "and in the end all is freed");
-    return largest;
 }
 
 int main(void) {
     use_row();
-    check(further_queue(1) == further_queue(0), "a queue that was refused asks for no more than before");
+    use_unbounded();
     for (uint32_t groups = 1; groups <= MOST_GROUPS; groups++) use_queue(groups);
-    printf("%s\n", "all memory is free");
+    printf("all memory is free\n");
     return 0;
 }

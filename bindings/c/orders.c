@@ -5,8 +5,6 @@
  * It ends with status 0 if each thread read what the order says. */
 #include "checks.h"
 
-#include <pthread.h>
-
 enum { THREADS = 4, ROUNDS = 500, CAPACITY = 3, BUFFERS = CAPACITY + 2 };
 
 static vahepito_queue *queue;
@@ -15,12 +13,11 @@ static pthread_t threads[THREADS];
 static void open_for(uint32_t capacity) { queue = opened(capacity, 1); }
 
 static void start(void *(*body)(void *)) {
-    for (int k = 0; k < THREADS; k++)
-        check(!pthread_create(&threads[k], NULL, body, k % 2 ? &threads[k] : NULL), "a thread starts");
+    for (int k = 0; k < THREADS; k++) threads[k] = started(body, k % 2 ? &threads[k] : NULL);
 }
 
 static void join_and_free(void) {
-    for (int k = 0; k < THREADS; k++) check(!pthread_join(threads[k], NULL), "a thread ends");
+    join_all(threads, THREADS);
     vahepito_destroy(queue, NULL, NULL);
 }
 
@@ -97,15 +94,14 @@ static void *reads_buffers(void *unused) {
 }
 
 static void lends_buffers(void) {
-    pthread_t reader;
     open_for(CAPACITY);
-    check(!pthread_create(&reader, NULL, reads_buffers, NULL), "a thread starts");
+    const pthread_t reader = started(reads_buffers, NULL);
     for (uint64_t number = 0; number < ROUNDS; number++) {
         for (int k = 0; k < 4; k++) buffers[number % BUFFERS].numbers[k] = number;
         check(vahepito_send(queue, number % BUFFERS, NULL) == VAHEPITO_ACCEPTED, "a buffer is lent");
     }
     check(vahepito_close(queue, NULL) == VAHEPITO_SHUT, "the queue is closed");
-    check(!pthread_join(reader, NULL), "a thread ends");
+    (void)joined(reader);
     vahepito_destroy(queue, NULL, NULL);
 }
 

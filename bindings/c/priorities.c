@@ -10,29 +10,19 @@
 #define _GNU_SOURCE
 #include "checks.h"
 
-#include <pthread.h>
-#include <stdio.h>
-#include <stdlib.h>
-
-static const long ALL = 1500000000; /* nanoseconds */
+static const uint64_t ALL = 1500000000; /* nanoseconds */
 
 static vahepito_queue *queue;
 static int is_over;
 
-static long now(clockid_t clock) {
-    struct timespec time;
-    clock_gettime(clock, &time);
-    return time.tv_sec * 1000000000L + time.tv_nsec;
-}
-
 /* For how many nanoseconds threads of the class may run before the kernel lets others run; its default if it doesn't
  * say so. */
-static long share_of_the_class(void) {
+static uint64_t share_of_the_class(void) {
     long microseconds = 0;
     FILE *file = fopen("/proc/sys/kernel/sched_rt_runtime_us", "r");
     if (file && fscanf(file, "%ld", &microseconds) != 1) microseconds = 0;
     if (file) fclose(file);
-    return 1000 * (microseconds > 0 ? microseconds : 950000);
+    return 1000 * (uint64_t)(microseconds > 0 ? microseconds : 950000);
 }
 
 static void send_and_take(void) {
@@ -54,27 +44,26 @@ int main(void) {
     CPU_SET(sched_getcpu(), &one);
     check(sched_setaffinity(0, sizeof one, &one) == 0, "the threads stay on one processor");
     queue = opened(64, 1);
-    pthread_t thread;
-    check(pthread_create(&thread, NULL, ordinary, NULL) == 0, "a thread starts");
+    const pthread_t thread = started(ordinary, NULL);
     const struct sched_param first = {1}, last = {0};
     if (pthread_setschedparam(pthread_self(), SCHED_FIFO, &first) != 0) {
         puts("SKIPPED: this process may not use SCHED_FIFO");
         return 77;
     }
-    long longest = 0, pairs = 0;
-    for (const long end = now(CLOCK_MONOTONIC) + ALL; now(CLOCK_MONOTONIC) < end; pairs++) {
+    uint64_t longest = 0, pairs = 0;
+    for (const uint64_t end = time_of(CLOCK_MONOTONIC) + ALL; time_of(CLOCK_MONOTONIC) < end; pairs++) {
         const struct timespec pause = {0, 300000};
         nanosleep(&pause, NULL);
-        const long begin = now(CLOCK_THREAD_CPUTIME_ID);
+        const uint64_t begin = time_of(CLOCK_THREAD_CPUTIME_ID);
         send_and_take();
-        const long took = now(CLOCK_THREAD_CPUTIME_ID) - begin;
+        const uint64_t took = time_of(CLOCK_THREAD_CPUTIME_ID) - begin;
         if (took > longest) longest = took;
     }
     pthread_setschedparam(pthread_self(), SCHED_OTHER, &last);
     __atomic_store_n(&is_over, 1, __ATOMIC_RELAXED);
-    pthread_join(thread, NULL);
+    (void)joined(thread);
     vahepito_destroy(queue, NULL, NULL);
-    fprintf(stderr, "C: priorities: %ld pairs, the longest took %.3f ms of the processor\n", pairs,
-            (double)longest / 1e6);
+    fprintf(stderr, "C: priorities: %llu pairs, the longest took %.3f ms of the processor\n",
+            (unsigned long long)pairs, (double)longest / 1e6);
     return longest >= share_of_the_class() / 2;
 }

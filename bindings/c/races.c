@@ -9,8 +9,6 @@
  * The steps of the three threads have one order by a number, which itself orders no memory. */
 #include "checks.h"
 
-#include <pthread.h>
-
 static vahepito_queue *first, *second;
 int shared; /* not static, or a compiler sees that its value doesn't matter */
 static int stage;
@@ -81,8 +79,8 @@ int main(int count, char **words) {
     race = count > 1 ? words[1] : "";
     first = opened(is("items") ? 4 : 1, 1);
     second = opened(1, 1);
-    for (int k = 0; k < 3; k++) check(!pthread_create(&threads[k], NULL, bodies[k], NULL), "a thread starts");
-    for (int k = 0; k < 3; k++) check(!pthread_join(threads[k], NULL), "a thread ends");
+    for (int k = 0; k < 3; k++) threads[k] = started(bodies[k], NULL);
+    join_all(threads, 3);
     vahepito_destroy(first, NULL, NULL);
     vahepito_destroy(second, NULL, NULL);
     return 0;

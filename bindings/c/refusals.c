@@ -4,11 +4,8 @@
  * is made once in each of these six, of a queue of its own, and the code is compared with a table. If it is refused it
  * returns no number and no item, and changes nothing: what was begun is answered then, and the first item is the first.
  * It ends with status 0 if each call returned what it has to. */
-#include "by_handles.h"
-
-#include <stddef.h>
-#include <stdio.h>
-#include <string.h>
+#include "checks.h"
+#include "handles.h"
 
 enum state { EMPTY, SENDER, SENDING, CLOSING, RECEIVER, TAKING, STATES };
 

@@ -11,12 +11,12 @@
  *
  * A process may be stopped before each atomic access, each lock and each call of the library or of the system. It isn't
  * stopped before a plain access or an unlock. So each plain access has to keep rules, and a state in which one is
- * broken is wrong: what changes is accessed plainly under the lock alone, what doesn't change isn't written, an atomic
- * isn't accessed plainly, what is freed isn't accessed, and a part is freed under the lock, when no process has
- * accessed it plainly since the last step of that process. Nor is a process stopped where that makes no difference: at
- * bells, of which there are none; at the counts of lines, if no call of the model waits; at loads, under the lock, of
- * what is stored under the lock alone; and while all seats are taken. A step that no other process hinders or sees
- * comes first.
+ * broken is wrong: what changes is accessed plainly under the lock alone, or by the process that asked for the memory,
+ * until its pointer is stored; what doesn't change isn't written, an atomic isn't accessed plainly, what is freed isn't
+ * accessed, and a part is freed under the lock, when no process has accessed it plainly since the last step of that
+ * process. Nor is a process stopped where that makes no difference: at bells, of which there are none; at the counts of
+ * lines, if no call of the model waits; at loads, under the lock, of what is stored under the lock alone; and while all
+ * seats are taken. A step that no other process hinders or sees comes first.
  *
  * The code keeps the rules of which crates/cc_row proves that a row by them is one queue (`threads_make_rows`), and
  * that nobody uses a queue that is freed (`left_queues_rest`). A call is made in a seat, at a queue that was the last
@@ -110,8 +110,7 @@ const struct layout code_layout = {sizeof(vahepito_queue), offsetof(vahepito_que
 enum field code_field(const void *of, const void *place, uint32_t *number) {
     const vahepito_queue *const queue = of;
     *number = 0;
-    if (LIES_IN(config.capacity)) return queue->has_bound ? FIXED : LOCKED;
-    if (LIES_IN(first) || LIES_IN(retired)) return LOCKED;
+    if (LIES_IN(first) || LIES_IN(retired) || LIES_IN(spare) || LIES_IN(is_opening)) return LOCKED;
     if (LIES_IN(is_closed)) return *number = CLOSED_WORD, GUARDED;
     if (LIES_IN(last)) return *number = LAST_WORD, GUARDED;
     if (LIES_IN(at)) return *number = AT_WORDS + (uint32_t)((queue_part *const *)place - queue->at), GUARDED;
@@ -158,10 +157,11 @@ enum {
 enum { MEMORY = 16384, STACK = 65536, UNUSED = 1024, SIDES = 1 + GROUPS };
 enum { MOST_BYTES = PROCESSES * STACK + MEMORY + (1 << 18) }; /* of a state */
 
-/* The calls of each process, in order: a send or a take of group 1 or 2 that waits (s, t, u), or that doesn't (m, n,
- * o); two sends or takes at once (b, k) that don't wait; a close (c); a length (l); whether the queue is closed (i). */
+/* The calls of each process, in order, with a space between two processes: a send or a take of group 1 or 2 that waits
+ * (s, t, u), or that doesn't (m, n, o); two sends or takes at once (b, k) that don't wait; a close (c); a length (l);
+ * whether the queue is closed (i). */
 struct model {
-    const char *calls[PROCESSES];
+    const char *calls;
     uint8_t capacity; /* 0: none */
     uint8_t room;     /* of each queue of the row, if the row has no bound */
     uint8_t groups, places, life, per_sender;
@@ -175,6 +175,7 @@ struct model {
 enum { THERE, NEW };
 
 static const struct model *model;
+static char calls[PROCESSES][CALLS + 1]; /* of each process of the model */
 
 /* ---- states */
 
@@ -209,9 +210,9 @@ struct raw {
     struct pending pending[SIDES][PLACES];
 };
 
-/* Memory that the code asked for. It is shown once its pointer was stored. */
+/* Memory that the code asked for, and the process that did, from 1. It is shown once its pointer was stored. */
 struct block {
-    uint32_t start, size, is_free, is_shown;
+    uint32_t start, size, is_free, is_shown, owner;
 };
 
 /* An order that explains the answers: the queue after it; and of each process nothing, or that its call isn't in the
@@ -329,6 +330,7 @@ static void plain(const void *place, bool writes) {
     const enum field field = field_of(block, place, &number);
     if (field == WORD || field == LINE || field == SEAT || field == QUIET) is_wrong("an atomic is accessed plainly");
     if (field == GUARDED && writes) is_wrong("an atomic is accessed plainly");
+    if (!block->is_shown && block->owner == (uint32_t)current + 1) return;
     if (field != FIXED && !is_locked()) is_wrong("it is accessed without the lock");
     if (field == FIXED && writes && (block->is_shown || !is_locked())) is_wrong("what doesn't change is written");
     if (block != blocks && !is_locked()) this_process()->reads |= 1u << (block - blocks);
@@ -617,7 +619,7 @@ int model_memory(void **place, size_t alignment, size_t size) {
     if (is_refused()) return ENOMEM;
     const uint32_t start = (world.used + (uint32_t)alignment - 1) / (uint32_t)alignment * (uint32_t)alignment;
     if (start + size > MEMORY || world.block_count == BLOCKS) abort();
-    blocks[world.block_count++] = (struct block){start, (uint32_t)size, 0, 0};
+    blocks[world.block_count++] = (struct block){start, (uint32_t)size, 0, 0, (uint32_t)current + 1};
     world.used = start + (uint32_t)size;
     *place = memset(&memory[start], 0xcc, size);
     return 0;
@@ -923,7 +925,7 @@ static uint32_t make_call(char call, uint8_t item) {
 
 static void run_process(void) {
     for (;;) {
-        const char call = model->calls[current][this_process()->call];
+        const char call = calls[current][this_process()->call];
         if (!call) this_process()->status = OVER, stop(), abort();
         this_process()->answer = make_call(call, item_of(current, this_process()->call));
         check_return(code_of(this_process()->answer));
@@ -983,7 +985,7 @@ static uint32_t part_in(struct order *at, char call, uint32_t before, uint8_t it
 /* The next effect of this process's call in an order; false if it has none there, as it waits. */
 static bool extend(struct order *at, int process) {
     const uint32_t number = processes[process].call, before = at->calls[process];
-    const char call = model->calls[process][number];
+    const char call = calls[process][number];
     const uint8_t item = item_of(process, number);
     uint32_t it;
     switch (call) {
@@ -1302,9 +1304,9 @@ static bool search(const struct model *it) {
     memset(blocks, 0, sizeof blocks);
     memset(raws, 0, sizeof raws);
     memset(orders, 0, sizeof orders);
-    has_waits = false;
-    for (process_count = 0; process_count < PROCESSES && it->calls[process_count][0]; process_count++)
-        has_waits |= strpbrk(it->calls[process_count], "stu") != NULL;
+    has_waits = strpbrk(it->calls, "stu") != NULL;
+    memset(calls, 0, sizeof calls);
+    process_count = sscanf(it->calls, "%4s %4s %4s %4s", calls[0], calls[1], calls[2], calls[3]);
     memset(memory, 0, sizeof memory);
     memset(stacks, 0, sizeof stacks);
     memset(seen, 0, seen_room * sizeof *seen);
@@ -1334,86 +1336,47 @@ static void print_path(void) {
 
 /* From small ones to large ones. */
 static const struct model models[] = {
-    {{"mmmm", "n", "", ""}, 0, 2, 1, 2, 0, 0, 0, false, THERE, 1},
-    {{"b", "k", "", ""}, 0, 1, 1, 2, 1, 0, 1, false, THERE, 1},
-    {{"b", "k", "", ""}, 2, 0, 1, 2, 1, 0, 0, false, THERE, 1},
-    {{"mm", "nn", "", ""}, 2, 0, 1, 1, 1, 0, 0, false, NEW, 1},
-    {{"mn", "mn", "", ""}, 0, 1, 1, 2, 1, 0, 0, false, NEW, 1},
-    {{"mm", "no", "", ""}, 1, 0, 2, 2, 1, 0, 0, false, THERE, 1},
-    {{"mm", "nn", "", ""}, 1, 0, 1, 1, 1, 0, 1, false, THERE, 1},
-    {{"mm", "nn", "", ""}, 0, 1, 1, 2, 0, 0, 1, false, THERE, 1},
-    {{"mmm", "nc", "", ""}, 1, 0, 1, 2, 1, 0, 0, false, THERE, 1},
-    {{"mmm", "no", "", ""}, 1, 0, 2, 2, 2, 0, 0, false, THERE, 1},
-    {{"mm", "n", "n", ""}, 0, 1, 1, 1, 0, 0, 0, false, THERE, 1},
-    {{"mmm", "nn", "", ""}, 1, 0, 1, 2, 2, 0, 0, false, THERE, 1},
-    {{"mbb", "nn", "", ""}, 2, 0, 1, 2, 2, 0, 0, false, THERE, 1},
-    {{"mm", "mn", "", ""}, 2, 0, 1, 2, 1, 0, 0, true, THERE, 1},
-    {{"mm", "c", "c", ""}, 2, 0, 1, 2, 1, 0, 0, false, THERE, 1},
-    {{"mm", "m", "", ""}, 1, 0, 1, 2, 1, 0, 0, false, THERE, 1},
-    {{"mm", "nn", "", ""}, 2, 0, 1, 1, 1, 0, 0, false, THERE, 1},
-    {{"mm", "oon", "", ""}, 2, 0, 2, 2, 1, 0, 0, false, THERE, 1},
-    {{"mmm", "nnc", "", ""}, 1, 0, 1, 1, 2, 0, 0, false, THERE, 1},
-    {{"mm", "nm", "", ""}, 0, 1, 1, 1, 0, 0, 0, true, THERE, 1},
-    {{"mm", "nn", "", ""}, 1, 0, 1, 2, 1, 0, 0, true, THERE, 1},
-    {{"mm", "nn", "", ""}, 2, 0, 1, 1, 1, 0, 0, true, THERE, 2},
-    {{"m", "m", "n", ""}, 1, 0, 1, 2, 1, 0, 0, false, THERE, 1},
-    {{"mmmm", "nnn", "", ""}, 3, 0, 2, 2, 2, 0, 0, false, THERE, 1},
-    {{"mm", "m", "nn", ""}, 1, 0, 1, 1, 2, 0, 0, false, THERE, 1},
-    {{"mn", "mn", "l", ""}, 0, 1, 1, 2, 1, 0, 0, false, THERE, 1},
-    {{"m", "m", "n", ""}, 0, 1, 1, 2, 1, 0, 0, true, THERE, 1},
-    {{"mmm", "nnn", "", ""}, 0, 1, 1, 2, 1, 0, 0, false, THERE, 1},
-    {{"mmm", "nnn", "", ""}, 2, 0, 1, 1, 2, 0, 0, false, THERE, 1},
-    {{"mm", "nn", "l", ""}, 0, 1, 1, 2, 0, 0, 0, false, THERE, 1},
-    {{"m", "m", "n", ""}, 1, 0, 1, 2, 1, 0, 0, true, THERE, 1},
-    {{"ss", "tt", "", ""}, 2, 0, 1, 2, 1, 0, 0, false, THERE, 1},
-    {{"mmmm", "nnm", "", ""}, 2, 0, 1, 2, 4, 0, 0, false, THERE, 1},
-    {{"m", "m", "n", "c"}, 0, 1, 1, 1, 0, 0, 0, false, THERE, 1},
-    {{"mm", "nn", "l", ""}, 2, 0, 1, 2, 1, 0, 0, false, THERE, 1},
-    {{"mm", "nm", "", ""}, 0, 1, 1, 2, 0, 0, 0, false, THERE, 1},
-    {{"mm", "no", "l", ""}, 0, 1, 2, 2, 0, 0, 0, false, THERE, 1},
-    {{"mm", "mm", "", ""}, 2, 0, 1, 1, 1, 0, 0, false, THERE, 1},
-    {{"b", "k", "c", ""}, 1, 0, 1, 2, 1, 0, 0, false, THERE, 1},
-    {{"m", "m", "n", "n"}, 1, 0, 1, 1, 1, 0, 0, false, THERE, 1},
-    {{"mm", "nn", "ci", ""}, 0, 1, 1, 1, 0, 0, 1, false, THERE, 1},
-    {{"mm", "m", "n", ""}, 1, 0, 1, 2, 2, 0, 0, false, THERE, 1},
-    {{"mmm", "nnn", "", ""}, 3, 0, 1, 2, 1, 0, 0, false, THERE, 1},
-    {{"mm", "n", "o", ""}, 0, 1, 2, 2, 1, 0, 0, false, THERE, 1},
-    {{"mmm", "nnn", "", ""}, 2, 0, 1, 2, 1, 0, 0, false, THERE, 1},
-    {{"mm", "m", "n", ""}, 0, 1, 1, 1, 0, 0, 0, true, THERE, 1},
-    {{"mm", "nn", "n", ""}, 0, 1, 1, 1, 1, 0, 0, false, THERE, 1},
-    {{"mn", "mn", "c", ""}, 1, 0, 1, 2, 1, 0, 0, false, THERE, 1},
-    {{"mm", "m", "n", ""}, 0, 1, 1, 1, 0, 0, 1, false, THERE, 1},
-    {{"mm", "n", "o", ""}, 2, 0, 2, 2, 1, 0, 0, false, THERE, 1},
-    {{"ss", "tt", "", ""}, 1, 0, 1, 1, 1, 0, 0, false, THERE, 1},
-    {{"s", "s", "t", ""}, 1, 0, 1, 1, 2, 0, 0, false, THERE, 1},
-    {{"mm", "nn", "c", ""}, 0, 1, 1, 2, 0, 0, 0, false, THERE, 1},
-    {{"mm", "n", "n", ""}, 0, 1, 1, 2, 1, 0, 0, false, THERE, 1},
-    {{"mm", "nn", "c", ""}, 2, 0, 1, 2, 1, 0, 0, false, THERE, 1},
-    {{"mm", "m", "n", ""}, 2, 0, 1, 1, 1, 0, 0, false, THERE, 1},
-    {{"mm", "mm", "", ""}, 2, 0, 1, 2, 1, 0, 1, false, THERE, 1},
-    {{"sss", "ttt", "", ""}, 1, 0, 1, 2, 2, 0, 0, false, THERE, 1},
-    {{"mnmo", "mnmo", "", ""}, 2, 0, 2, 1, 1, 0, 0, false, THERE, 1},
-    {{"s", "t", "u", ""}, 1, 0, 2, 1, 1, 0, 0, false, THERE, 1},
-    {{"mm", "nn", "n", ""}, 2, 0, 1, 1, 1, 0, 0, false, THERE, 1},
-    {{"mm", "n", "o", ""}, 2, 0, 2, 2, 1, 0, 0, true, THERE, 1},
-    {{"mm", "n", "n", ""}, 2, 0, 1, 2, 1, 0, 0, false, THERE, 1},
-    {{"mm", "nn", "c", ""}, 2, 0, 1, 2, 1, 0, 0, true, THERE, 1},
-    {{"mnmn", "mnmn", "", ""}, 2, 0, 1, 1, 2, 0, 0, false, THERE, 1},
-    {{"mm", "m", "nn", ""}, 0, 1, 1, 1, 0, 0, 0, false, THERE, 1},
-    {{"ss", "t", "c", ""}, 1, 0, 1, 2, 1, 0, 0, false, THERE, 1},
-    {{"mnmn", "mnmn", "", ""}, 2, 0, 1, 2, 0, 1, 0, false, THERE, 1},
-    {{"mm", "m", "n", ""}, 2, 0, 1, 2, 0, 1, 0, false, THERE, 1},
-    {{"s", "s", "t", ""}, 1, 0, 1, 2, 1, 0, 0, false, THERE, 1},
-    {{"mm", "nn", "nn", ""}, 2, 0, 1, 1, 1, 0, 0, false, THERE, 1},
-    {{"mm", "m", "n", ""}, 2, 0, 1, 2, 1, 0, 0, false, THERE, 1},
-    {{"mm", "m", "n", ""}, 0, 1, 1, 2, 0, 0, 0, false, THERE, 1},
-    {{"mnmn", "mnmn", "", ""}, 0, 1, 1, 2, 0, 0, 0, false, THERE, 1},
-    {{"ss", "t", "u", ""}, 1, 0, 2, 1, 1, 0, 0, false, THERE, 1},
-    {{"mnmn", "mnmn", "", ""}, 1, 0, 1, 1, 1, 0, 0, false, THERE, 1},
-    {{"s", "s", "tt", ""}, 1, 0, 1, 1, 1, 0, 0, false, THERE, 1},
-    {{"mnmn", "mnmn", "", ""}, 2, 0, 1, 2, 1, 0, 0, false, THERE, 1},
-    {{"ss", "t", "t", ""}, 0, 1, 1, 1, 0, 0, 0, false, THERE, 1},
-    {{"mn", "mn", "mn", ""}, 2, 0, 1, 1, 1, 0, 0, false, THERE, 1},
+    {"mmmm n", 0, 2, 1, 2, 0, 0, 0, false, THERE, 1}, {"b k", 0, 1, 1, 2, 1, 0, 1, false, THERE, 1},
+    {"b k", 2, 0, 1, 2, 1, 0, 0, false, THERE, 1}, {"mm nn", 2, 0, 1, 1, 1, 0, 0, false, NEW, 1},
+    {"mn mn", 0, 1, 1, 2, 1, 0, 0, false, NEW, 1}, {"mm no", 1, 0, 2, 2, 1, 0, 0, false, THERE, 1},
+    {"mm nn", 1, 0, 1, 1, 1, 0, 1, false, THERE, 1}, {"mm nn", 0, 1, 1, 2, 0, 0, 1, false, THERE, 1},
+    {"mmm nc", 1, 0, 1, 2, 1, 0, 0, false, THERE, 1}, {"mmm no", 1, 0, 2, 2, 2, 0, 0, false, THERE, 1},
+    {"mm n n", 0, 1, 1, 1, 0, 0, 0, false, THERE, 1}, {"mmm nn", 1, 0, 1, 2, 2, 0, 0, false, THERE, 1},
+    {"mbb nn", 2, 0, 1, 2, 2, 0, 0, false, THERE, 1}, {"mm mn", 2, 0, 1, 2, 1, 0, 0, true, THERE, 1},
+    {"mm c c", 2, 0, 1, 2, 1, 0, 0, false, THERE, 1}, {"mm m", 1, 0, 1, 2, 1, 0, 0, false, THERE, 1},
+    {"mm nn", 2, 0, 1, 1, 1, 0, 0, false, THERE, 1}, {"mm oon", 2, 0, 2, 2, 1, 0, 0, false, THERE, 1},
+    {"mmm nnc", 1, 0, 1, 1, 2, 0, 0, false, THERE, 1}, {"mm nm", 0, 1, 1, 1, 0, 0, 0, true, THERE, 1},
+    {"mm nn", 1, 0, 1, 2, 1, 0, 0, true, THERE, 1}, {"mm nn", 2, 0, 1, 1, 1, 0, 0, true, THERE, 2},
+    {"m m n", 1, 0, 1, 2, 1, 0, 0, false, THERE, 1}, {"mmmm nnn", 3, 0, 2, 2, 2, 0, 0, false, THERE, 1},
+    {"mm m nn", 1, 0, 1, 1, 2, 0, 0, false, THERE, 1}, {"mn mn l", 0, 1, 1, 2, 1, 0, 0, false, THERE, 1},
+    {"m m n", 0, 1, 1, 2, 1, 0, 0, true, THERE, 1}, {"mmm nnn", 0, 1, 1, 2, 1, 0, 0, false, THERE, 1},
+    {"mmm nnn", 2, 0, 1, 1, 2, 0, 0, false, THERE, 1}, {"mm nn l", 0, 1, 1, 2, 0, 0, 0, false, THERE, 1},
+    {"m m n", 1, 0, 1, 2, 1, 0, 0, true, THERE, 1}, {"ss tt", 2, 0, 1, 2, 1, 0, 0, false, THERE, 1},
+    {"mmmm nnm", 2, 0, 1, 2, 4, 0, 0, false, THERE, 1}, {"m m n c", 0, 1, 1, 1, 0, 0, 0, false, THERE, 1},
+    {"mm nn l", 2, 0, 1, 2, 1, 0, 0, false, THERE, 1}, {"mm nm", 0, 1, 1, 2, 0, 0, 0, false, THERE, 1},
+    {"mm no l", 0, 1, 2, 2, 0, 0, 0, false, THERE, 1}, {"mm mm", 2, 0, 1, 1, 1, 0, 0, false, THERE, 1},
+    {"b k c", 1, 0, 1, 2, 1, 0, 0, false, THERE, 1}, {"m m n n", 1, 0, 1, 1, 1, 0, 0, false, THERE, 1},
+    {"mm nn ci", 0, 1, 1, 1, 0, 0, 1, false, THERE, 1}, {"mm m n", 1, 0, 1, 2, 2, 0, 0, false, THERE, 1},
+    {"mmm nnn", 3, 0, 1, 2, 1, 0, 0, false, THERE, 1}, {"mm n o", 0, 1, 2, 2, 1, 0, 0, false, THERE, 1},
+    {"mmm mm", 0, 1, 1, 1, 0, 0, 0, false, THERE, 1}, {"mmm nnn", 2, 0, 1, 2, 1, 0, 0, false, THERE, 1},
+    {"mm m n", 0, 1, 1, 1, 0, 0, 0, true, THERE, 1}, {"mm nn n", 0, 1, 1, 1, 1, 0, 0, false, THERE, 1},
+    {"mn mn c", 1, 0, 1, 2, 1, 0, 0, false, THERE, 1}, {"mm m n", 0, 1, 1, 1, 0, 0, 1, false, THERE, 1},
+    {"mm n o", 2, 0, 2, 2, 1, 0, 0, false, THERE, 1}, {"ss tt", 1, 0, 1, 1, 1, 0, 0, false, THERE, 1},
+    {"s s t", 1, 0, 1, 1, 2, 0, 0, false, THERE, 1}, {"mm nn c", 0, 1, 1, 2, 0, 0, 0, false, THERE, 1},
+    {"mm n n", 0, 1, 1, 2, 1, 0, 0, false, THERE, 1}, {"mm nn c", 2, 0, 1, 2, 1, 0, 0, false, THERE, 1},
+    {"mm m n", 2, 0, 1, 1, 1, 0, 0, false, THERE, 1}, {"mm mm", 2, 0, 1, 2, 1, 0, 1, false, THERE, 1},
+    {"sss ttt", 1, 0, 1, 2, 2, 0, 0, false, THERE, 1}, {"mnmo mnmo", 2, 0, 2, 1, 1, 0, 0, false, THERE, 1},
+    {"s t u", 1, 0, 2, 1, 1, 0, 0, false, THERE, 1}, {"mm nn n", 2, 0, 1, 1, 1, 0, 0, false, THERE, 1},
+    {"mm n o", 2, 0, 2, 2, 1, 0, 0, true, THERE, 1}, {"mm n n", 2, 0, 1, 2, 1, 0, 0, false, THERE, 1},
+    {"mm nn c", 2, 0, 1, 2, 1, 0, 0, true, THERE, 1}, {"mnmn mnmn", 2, 0, 1, 1, 2, 0, 0, false, THERE, 1},
+    {"mm m nn", 0, 1, 1, 1, 0, 0, 0, false, THERE, 1}, {"ss t c", 1, 0, 1, 2, 1, 0, 0, false, THERE, 1},
+    {"mnmn mnmn", 2, 0, 1, 2, 0, 1, 0, false, THERE, 1}, {"mm m n", 2, 0, 1, 2, 0, 1, 0, false, THERE, 1},
+    {"s s t", 1, 0, 1, 2, 1, 0, 0, false, THERE, 1}, {"mm nn nn", 2, 0, 1, 1, 1, 0, 0, false, THERE, 1},
+    {"mm m n", 2, 0, 1, 2, 1, 0, 0, false, THERE, 1}, {"mm m n", 0, 1, 1, 2, 0, 0, 0, false, THERE, 1},
+    {"mnmn mnmn", 0, 1, 1, 2, 0, 0, 0, false, THERE, 1}, {"ss t u", 1, 0, 2, 1, 1, 0, 0, false, THERE, 1},
+    {"mnmn mnmn", 1, 0, 1, 1, 1, 0, 0, false, THERE, 1}, {"s s tt", 1, 0, 1, 1, 1, 0, 0, false, THERE, 1},
+    {"mnmn mnmn", 2, 0, 1, 2, 1, 0, 0, false, THERE, 1}, {"ss t t", 0, 1, 1, 1, 0, 0, 0, false, THERE, 1},
+    {"mn mn mn", 2, 0, 1, 1, 1, 0, 0, false, THERE, 1},
 };
 
 enum { FEW = 44 }; /* of these a slow machine searches */
@@ -1428,12 +1391,11 @@ int main(int count, char **words) {
     grow();
     for (size_t at = 0; at < (few ? FEW : sizeof models / sizeof *models); at++) {
         const bool found = search(&models[at]);
-        const char *const *const calls = models[at].calls;
         all += state_count;
         if (sizes || (found && !faults))
-            fprintf(stderr, "%s %s %s %s: %zu states\n", calls[0], calls[1], calls[2], calls[3], state_count);
+            fprintf(stderr, "%s: %zu states\n", model->calls, state_count);
         if (!found || (wanted && strcmp(fault, wanted) != 0)) continue;
-        if (faults) return printf("%s %s %s %s: %s\n", calls[0], calls[1], calls[2], calls[3], fault) < 0;
+        if (faults) return printf("%s: %s\n", model->calls, fault) < 0;
         fprintf(stderr, "%s, after these steps:\n", fault);
         print_path();
         return 1;

@@ -10,8 +10,6 @@
 #include "checks.h"
 #include "vahepito_record.h"
 
-#include <pthread.h>
-
 enum { EACH = 4 };
 
 static vahepito_queue *queue;
@@ -74,14 +72,12 @@ int main(int count, char **words) {
     attributes.capacity = (uint32_t)strtoul(words[2], NULL, 10), attributes.life = 7, attributes.per_sender = 5;
     check(vahepito_create_as(&attributes, &queue) == VAHEPITO_DONE, "the queue is opened");
     for (int k = 0; k < 2 * EACH; k++) vahepito_recorder_open(&recorders[k], &calls);
-    for (int k = 0; k < 2 * EACH; k++)
-        check(!pthread_create(&threads[k], NULL, k < EACH ? sends : takes, &recorders[k]), "a thread starts");
+    for (int k = 0; k < 2 * EACH; k++) threads[k] = started(k < EACH ? sends : takes, &recorders[k]);
     while (__atomic_load_n(&running, __ATOMIC_SEQ_CST) > 0) {
-        const struct timespec pause = {0, 10000000};
-        nanosleep(&pause, NULL);
+        sleep_for(10);
         vahepito_log_round(&calls);
     }
-    for (int k = 0; k < 2 * EACH; k++) check(!pthread_join(threads[k], NULL), "a thread ends");
+    join_all(threads, 2 * EACH);
     check(vahepito_log_close(&calls) == 0, "the log is whole");
     vahepito_destroy(queue, NULL, NULL);
     printf("%llu items are sent\n", (unsigned long long)(EACH * items));

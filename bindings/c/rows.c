@@ -1,56 +1,67 @@
 /* The row of a queue: small limits, so that a queue is used up after a few items and a further one follows, by many
- * threads; a queue without a bound; no memory for a further queue; what is left at the end; batches; and descriptors
- * for poll.
+ * threads; a queue without a bound; what is left at the end; batches; and descriptors for poll.
  *
  *     rows [ITEMS]
  *
  * It ends with status 0 if each group got each item once, each sender's in their order and with rising places, there
  * were never more items than the capacity, all memory but a few queues was freed on the way, and each call returned
- * what it has to. ITEMS (300) is how many each of 8 threads sends. With RECORD defined it writes a log for `ccq judge`
- * of the queue with one group. */
+ * what it has to. If a wake-up is lost it ends by a signal. ITEMS (300) is how many each of 8 threads sends. */
 #include "vahepito_queue.c" /* whose parts it looks into */
 
 #include "checks.h"
 
-#include <fcntl.h>
-#include <poll.h>
-#include <pthread.h>
-
-enum { SENDING = 8, TAKING = 4, GROUPS_AT_MOST = 3 };
+enum { SENDING = 8, TAKING = 4, GROUPS_AT_MOST = 3, TAKING_AT_MOST = GROUPS_AT_MOST * TAKING, MOST_ITEMS = 4096 };
 
 static uint64_t items = 300;
 static vahepito_queue *queue;
 /* How many items are accepted and not taken by the first group, as the threads count them: too few of them. */
 static int64_t inside;
-static uint64_t place_counts[SENDING * 4096];
+static uint64_t place_counts[SENDING * MOST_ITEMS];
 
 struct shape {
     uint32_t capacity, groups, places, per_sender;
     uint64_t life;
+    uint32_t words; /* of an item: 1 or 2 */
 };
 
 static void open_as(const struct shape *shape) {
     vahepito_attributes attributes = VAHEPITO_ATTRIBUTES;
     attributes.capacity = shape->capacity, attributes.groups = shape->groups, attributes.places = shape->places;
-    attributes.per_sender = shape->per_sender, attributes.life = shape->life;
+    attributes.per_sender = shape->per_sender, attributes.life = shape->life, attributes.words = shape->words;
     check(vahepito_create_as(&attributes, &queue) == VAHEPITO_DONE && queue, "the queue is opened");
 }
 
+/* No call has a seat, none is in a line, or was notified and isn't, and none is parked. */
+static void free_queue(void) {
+    for (uint32_t k = 0; k < queue->places; k++) check(!queue->seats[k].is_taken, "no call has a seat");
+    check(queue->senders.counts == 0 && queue->served.waiting != PARKED, "no send waits");
+    for (uint32_t k = 0; k < queue->groups; k++) check(queue->receivers[k].counts == 0, "no take waits");
+    vahepito_destroy(queue, NULL, NULL);
+}
+
 /* ---- many threads */
+
+/* A try of a send: one that waits, one that waits for some time, or one that doesn't. An item's second word is the
+ * complement of the first one. */
+static uint32_t send_once(uint32_t kind, uint64_t word, uint64_t *place) {
+    const uint64_t words[2] = {word, ~word};
+    const struct timespec soon = vahepito_after(50000);
+    if (queue->words == 1)
+        return kind == 0   ? vahepito_send(queue, word, place)
+               : kind == 1 ? vahepito_send_now(queue, word, place)
+                           : vahepito_send_until(queue, word, &soon, place);
+    return kind == 0   ? vahepito_send_words(queue, words, 2, place)
+           : kind == 1 ? vahepito_send_words_now(queue, words, 2, place)
+                       : vahepito_send_words_until(queue, words, 2, &soon, place);
+}
 
 static void *sends(void *at) {
     const uint32_t thread = *(const uint32_t *)at;
     uint64_t last = 0;
     for (uint64_t number = 1; number <= items; number++) {
         uint64_t place;
-        uint32_t code = VAHEPITO_FULL;
-        while (thread % 3 == 1 && (code = vahepito_send_now(queue, item_of(thread, number), &place)) == VAHEPITO_FULL)
-            sched_yield();
-        while (thread % 3 == 2 && code == VAHEPITO_FULL) {
-            const struct timespec soon = vahepito_after(50000);
-            code = vahepito_send_until(queue, item_of(thread, number), &soon, &place);
-        }
-        if (thread % 3 == 0) code = vahepito_send(queue, item_of(thread, number), &place);
+        uint32_t code;
+        while ((code = send_once(thread % 3, item_of(thread, number), &place)) == VAHEPITO_FULL) sched_yield();
         check(code == VAHEPITO_ACCEPTED, "a send is accepted in the end");
         check(number == 1 || place > last, "places rise");
         check(place < SENDING * items && __atomic_fetch_add(&place_counts[place], 1, __ATOMIC_RELAXED) == 0,
@@ -58,9 +69,15 @@ static void *sends(void *at) {
         const int64_t now = __atomic_add_fetch(&inside, 1, __ATOMIC_SEQ_CST);
         const uint32_t capacity = vahepito_capacity(queue);
         check(capacity == 0 || now <= (int64_t)capacity, "there are never more items than the capacity");
+        if (number % 100 == 50) sleep_for(1); /* so that others park */
         last = place;
     }
     return NULL;
+}
+
+static void start_sends(pthread_t *threads) {
+    static uint32_t numbers[SENDING];
+    for (uint32_t k = 0; k < SENDING; k++) numbers[k] = k, threads[k] = started(sends, &numbers[k]);
 }
 
 struct worker {
@@ -68,22 +85,32 @@ struct worker {
     uint64_t got, sum, total;
 };
 
+/* A take, of several items, or for some time, or as it waits. */
+static uint32_t take_once(struct worker *mine, vahepito_item *got, size_t *count) {
+    const struct timespec soon = vahepito_after(50000);
+    *count = 1;
+    if (mine->number == 3 && mine->group != 1)
+        return vahepito_take_many(queue, mine->group, got, 5, NULL, count, &mine->total);
+    if (mine->number == 2) return vahepito_take_until(queue, mine->group, got, &soon, &mine->total);
+    return vahepito_take(queue, mine->group, got, &mine->total);
+}
+
 static void *takes(void *at) {
     struct worker *const mine = at;
     uint64_t last[SENDING] = {0}, last_place = 0;
     vahepito_item got[5];
     for (;;) {
-        size_t count = 1;
+        size_t count;
+        uint32_t code;
         /* It is counted before it is taken, so that the count is never too high. */
         if (mine->group == 1) __atomic_sub_fetch(&inside, 1, __ATOMIC_SEQ_CST);
-        const uint32_t code = mine->number == 3 && mine->group != 1
-                                  ? vahepito_take_many(queue, mine->group, got, 5, NULL, &count, &mine->total)
-                                  : vahepito_take(queue, mine->group, got, &mine->total);
+        while ((code = take_once(mine, got, &count)) == VAHEPITO_EMPTY) continue;
         if (code == VAHEPITO_ENDED) return NULL;
         check(code == VAHEPITO_GOT && count > 0 && count <= 5, "a take gets an item, or is told the end");
         for (size_t k = 0; k < count; k++) {
-            const uint32_t thread = (uint32_t)(got[k].words[0] >> 32);
-            const uint64_t number = (uint32_t)got[k].words[0];
+            const uint64_t word = got[k].words[0], number = (uint32_t)word, thread = word >> 32;
+            check(got[k].count == queue->words && got[k].words[1] == (got[k].count == 2 ? ~word : 0),
+                  "an item comes as it was sent");
             check(thread < SENDING && number > last[thread], "each thread's items come in order");
             check(mine->got == 0 || got[k].place > last_place, "places rise");
             last[thread] = number, last_place = got[k].place, mine->got++, mine->sum += number;
@@ -99,53 +126,45 @@ static uint64_t parts_kept(void) {
 }
 
 static void many_threads(const struct shape *shape) {
-    pthread_t sending[SENDING], taking[GROUPS_AT_MOST * TAKING];
-    static uint32_t numbers[SENDING];
-    struct worker workers[GROUPS_AT_MOST * TAKING] = {{0, 0, 0, 0, 0}};
-    uint64_t total;
+    pthread_t sending[SENDING], taking[TAKING_AT_MOST];
+    struct worker workers[TAKING_AT_MOST] = {{0, 0, 0, 0, 0}};
+    const uint32_t takers = shape->groups * TAKING;
+    uint64_t total, got[GROUPS_AT_MOST] = {0}, sum[GROUPS_AT_MOST] = {0};
     open_as(shape);
     memset(place_counts, 0, sizeof place_counts);
     inside = 0;
-    for (uint32_t k = 0; k < shape->groups * TAKING; k++) {
+    for (uint32_t k = 0; k < takers; k++) {
         workers[k].group = k / TAKING + 1, workers[k].number = k % TAKING;
-        check(!pthread_create(&taking[k], NULL, takes, &workers[k]), "a thread starts");
+        taking[k] = started(takes, &workers[k]);
     }
-    for (uint32_t k = 0; k < SENDING; k++) {
-        numbers[k] = k;
-        check(!pthread_create(&sending[k], NULL, sends, &numbers[k]), "a thread starts");
-    }
-    for (uint32_t k = 0; k < SENDING; k++) check(!pthread_join(sending[k], NULL), "a sender ends");
+    start_sends(sending);
+    join_all(sending, SENDING);
     check(!vahepito_is_closed(queue) && vahepito_close(queue, &total) == VAHEPITO_SHUT && total == SENDING * items,
           "all were accepted");
     check(vahepito_is_closed(queue) && vahepito_close(queue, &total) == VAHEPITO_ALREADY && total == SENDING * items,
           "it is closed once");
-    uint64_t got[GROUPS_AT_MOST] = {0}, sum[GROUPS_AT_MOST] = {0};
-    for (uint32_t k = 0; k < shape->groups * TAKING; k++) {
-        check(!pthread_join(taking[k], NULL), "a receiver ends");
+    join_all(taking, takers);
+    for (uint32_t k = 0; k < takers; k++) {
         check(workers[k].total == total, "the end tells the total");
         got[k / TAKING] += workers[k].got, sum[k / TAKING] += workers[k].sum;
     }
     for (uint32_t group = 0; group < shape->groups; group++)
         check(got[group] == total && sum[group] == SENDING * (items * (items + 1) / 2),
               "each group got each item once");
-    const uint64_t opened_in_all = queue->last->number + 1;
-    const uint64_t life = shape->life ? shape->life : UINT64_MAX;
-    check(life == UINT64_MAX || opened_in_all >= total / life, "there were many queues");
+    check(shape->life == 0 || queue->last->number + 1 >= total / shape->life, "there were many queues");
     /* How many are kept before that depends on how long a thread was stopped in a seat. */
     retire_parts(queue);
     check(parts_kept() == 1, "of which the last one is left, when no call has a seat");
     check(vahepito_length(queue) == 0, "nothing is left");
     check(vahepito_send(queue, 1, NULL) == VAHEPITO_CLOSED, "and nothing is accepted");
-    for (uint32_t k = 0; k < queue->places; k++) check(!queue->seats[k].is_taken, "no call has a seat");
-    check(queue->senders.counts == 0 && queue->receivers[0].counts == 0, "and none is in a line");
-    vahepito_destroy(queue, NULL, NULL);
+    free_queue();
 }
 
 /* ---- one thread */
 
 /* The bound over several queues: sends are refused when `capacity` items are there, in whichever queues of the row. */
 static void bound_over_queues(uint32_t capacity, uint32_t per_sender, uint64_t life, uint32_t groups) {
-    const struct shape shape = {capacity, groups, 1, per_sender, life};
+    const struct shape shape = {capacity, groups, 1, per_sender, life, 1};
     uint64_t dice = capacity * 7 + life, sent = 0, taken[GROUPS_AT_MOST] = {0};
     vahepito_item item;
     open_as(&shape);
@@ -185,7 +204,7 @@ static void is_left(void *with, uint32_t group, const vahepito_item *item) {
 
 /* A queue without a bound grows, and what is left in it goes to a function. */
 static void no_bound(void) {
-    const struct shape shape = {0, 2, 0, 0, 100};
+    const struct shape shape = {0, 2, 0, 0, 100, 1};
     vahepito_item item;
     open_as(&shape);
     check(vahepito_capacity(queue) == 0, "it has no bound");
@@ -211,7 +230,7 @@ static void no_bound(void) {
 
 /* A call that is stopped in its seat, at the first queue. */
 static void stalled(void) {
-    const struct shape shape = {0, 1, 8, 0, 100};
+    const struct shape shape = {0, 1, 8, 0, 100, 1};
     vahepito_item item;
     open_as(&shape);
     queue->seats[5].is_taken = (uintptr_t)queue->first;
@@ -238,19 +257,18 @@ static void *leaves(void *unused) {
 static void leaving(const struct shape *shape) {
     const uint64_t words[2] = {7, 8};
     pthread_t thread, sending[SENDING];
-    static uint32_t numbers[SENDING];
     uint64_t total, taken = 0;
     vahepito_item item;
     open_as(shape);
     memset(place_counts, 0, sizeof place_counts);
     inside = INT64_MIN / 2; /* the bound isn't looked at here */
-    check(!pthread_create(&thread, NULL, leaves, NULL), "a thread starts");
-    for (uint32_t k = 0; k < SENDING; k++)
-        numbers[k] = k, check(!pthread_create(&sending[k], NULL, sends, &numbers[k]), "a thread starts");
+    thread = started(leaves, NULL);
+    start_sends(sending);
     while (taken < SENDING * items)
         check(vahepito_take(queue, 1, &item, NULL) == VAHEPITO_GOT && item.place == taken++, "the other group has all");
-    for (uint32_t k = 0; k < SENDING; k++) check(!pthread_join(sending[k], NULL), "a sender ends");
-    check(!pthread_join(thread, NULL) && vahepito_length(queue) == 0, "nothing is left of either");
+    join_all(sending, SENDING);
+    (void)joined(thread);
+    check(vahepito_length(queue) == 0, "nothing is left of either");
     check(vahepito_send_many(queue, words, 1, NULL, NULL) == VAHEPITO_ACCEPTED &&
               vahepito_take(queue, 1, &item, NULL) == VAHEPITO_GOT,
           "a batch too");
@@ -298,62 +316,15 @@ static void batches(void) {
     vahepito_destroy(queue, NULL, NULL);
 }
 
-static bool is_readable(int place, int milliseconds) {
-    struct pollfd it = {place, POLLIN, 0};
-    return poll(&it, 1, milliseconds) == 1;
-}
-
-static void *polls(void *unused) {
-    const int place = vahepito_descriptor(queue, 1);
-    uint64_t expected = 0;
-    vahepito_item item;
-    for (;;) {
-        uint32_t code;
-        check(is_readable(place, 60000), "a descriptor gets readable");
-        while ((code = vahepito_take_now(queue, 1, &item, NULL)) == VAHEPITO_GOT)
-            check(item.words[0] == expected++, "in order");
-        if (code == VAHEPITO_ENDED) break;
-    }
-    check(expected == 5000, "each item was found");
-    return unused;
-}
-
-/* A descriptor is readable when there is something; and a thread that polls misses nothing. */
-static void descriptors(void) {
-    pthread_t thread;
-    queue = opened(1, 1);
-    const int item = vahepito_descriptor(queue, 1), room = vahepito_descriptor(queue, 0);
-    check(item >= 0 && room >= 0 && item != room && vahepito_descriptor(queue, 1) == item, "there are two");
-    check(vahepito_descriptor(queue, 2) == -1 && errno == EINVAL, "and no more");
-    errno = 77;
-    check(vahepito_take_now(queue, 1, NULL, NULL) == VAHEPITO_EMPTY && !is_readable(item, 0),
-          "after a take that found nothing it isn't readable");
-    check(vahepito_send_now(queue, 1, NULL) == VAHEPITO_ACCEPTED && is_readable(item, 0), "after a send it is");
-    check(vahepito_send_now(queue, 2, NULL) == VAHEPITO_FULL && !is_readable(room, 0), "there is no room");
-    check(vahepito_take_now(queue, 1, NULL, NULL) == VAHEPITO_GOT && is_readable(room, 0), "and then there is");
-    check(vahepito_take_now(queue, 1, NULL, NULL) == VAHEPITO_EMPTY && !is_readable(item, 0), "and no item");
-    check(errno == 77, "these calls change no errno");
-    check(!pthread_create(&thread, NULL, polls, NULL), "a thread starts");
-    for (uint64_t number = 0; number < 5000;) {
-        const uint32_t code = vahepito_send_now(queue, number, NULL);
-        if (code == VAHEPITO_ACCEPTED) number++;
-        else check(code == VAHEPITO_FULL && is_readable(room, 60000), "room comes");
-    }
-    check(vahepito_close(queue, NULL) == VAHEPITO_SHUT, "it is closed");
-    check(!pthread_join(thread, NULL), "a thread ends");
-    check(is_readable(item, 0) && is_readable(room, 0), "and then both are readable");
-    vahepito_destroy(queue, NULL, NULL);
-    check(fcntl(item, F_GETFD) == -1 && fcntl(room, F_GETFD) == -1, "and are closed with the queue");
-}
-
 int main(int count, char **words) {
     static const struct shape shapes[] = {
-        {1, 1, 1, 5, 7}, {3, 1, 2, 5, 7}, {64, 1, 8, 5, 7}, {4, 2, 2, 5, 7}, {16, 3, 4, 2, 3},   {5, 1, 3, 1, 1},
-        {0, 1, 2, 5, 7}, {0, 3, 0, 5, 7}, {8, 1, 1, 3, 0},  {2, 2, 8, 0, 2}, {4096, 1, 0, 0, 9}, {8, 2, 0, 0, 0},
+        {1, 1, 1, 5, 7, 2},  {3, 1, 2, 5, 7, 1}, {64, 1, 8, 5, 7, 1}, {4, 2, 2, 5, 7, 2}, {16, 3, 4, 2, 3, 1},
+        {5, 1, 3, 1, 1, 1},  {0, 1, 2, 5, 7, 2}, {0, 3, 0, 5, 7, 1},  {8, 1, 1, 3, 0, 2}, {2, 2, 8, 0, 2, 1},
+        {4096, 1, 0, 0, 9, 1}, {8, 2, 0, 0, 0, 1}, {1, 1, 0, 0, 0, 1}, {64, 1, 0, 0, 0, 2}, {0, 1, 0, 0, 0, 1},
     };
     size_t at = 0;
     if (count > 1) items = strtoull(words[1], NULL, 10);
-    check(items <= 4096, "so many items");
+    check(items <= MOST_ITEMS, "so many items");
     end_if_still();
     for (uint32_t groups = 1; groups <= 3; groups++) {
         bound_over_queues(1, 5, 7, groups);
@@ -363,11 +334,10 @@ int main(int count, char **words) {
     }
     no_bound();
     stalled();
-    leaving(&(struct shape){3, 2, 2, 0, 0});
-    leaving(&(struct shape){8, 2, 1, 0, 7});
-    leaving(&(struct shape){0, 2, 0, 0, 100});
+    leaving(&(struct shape){3, 2, 2, 0, 0, 1});
+    leaving(&(struct shape){8, 2, 1, 0, 7, 2});
+    leaving(&(struct shape){0, 2, 0, 0, 100, 1});
     batches();
-    descriptors();
     for (; at < sizeof shapes / sizeof *shapes; at++) many_threads(&shapes[at]);
     printf("%zu rows\n", at);
     return 0;

@@ -39,8 +39,8 @@
  * nanoseconds aren't from 0 to 999,999,999, it has come.
  *
  * **It isn't used up.** The queue is a row of proved queues. Each of these accepts a number of items; then it is
- * closed, and a further one follows, which takes memory, and for which other sends wait. If memory is refused, the send
- * returns NO_MEMORY, and may be repeated.
+ * closed, and a further one follows, which takes memory, and for which other sends may wait. If memory is refused, the
+ * send returns NO_MEMORY, and may be repeated.
  *
  * Each call takes effect at one moment between its begin and its return. This is proved of the order of the atomic
  * steps of the queues of the row, and of rows that keep the rules of docs/PROVED.md, "A row of queues". Of a FULL by two
@@ -191,7 +191,7 @@ typedef struct {
     uint32_t groups;     /* of receivers: 1 to 8; 0 is 1 */
     uint32_t words;      /* how many words an item has at most: 1 to 4; 0 is 1 */
     uint32_t places;     /* how many calls are under way at once, which others wait for: 1 to 64, rounded up to a power
-                          * of two; 0 is 16 */
+                          * of two; 0 is 16, and 4 of a queue without a bound */
     uint32_t bound;      /* how many waiting calls one call serves before it hands over to the next: 1 to 1024; 0 is 64,
                           * which is right */
     uint32_t per_sender; /* for tests: after how many sends of a place a further queue follows; 0 is 2^32 - 1 */
@@ -240,8 +240,7 @@ uint32_t vahepito_send_words_now(vahepito_queue *queue, const uint64_t *words, s
     VAHEPITO_INTERNAL_NO_NULL(1, 2) VAHEPITO_INTERNAL_LOOK_AT;
 
 /* Sends `count` items of one word each, one after another, and waits for room until this moment, or not at all if it is
- * {0, 0}. Each item is a send of its own, and others' items may come between them. The receivers are woken once, for
- * all of them.
+ * {0, 0}. Each item is a send of its own, which wakes receivers, and others' items may come between them.
  * ACCEPTED: all were. FULL, CLOSED, NO_MEMORY: as above, and the first `sent` were accepted. */
 uint32_t vahepito_send_many(vahepito_queue *queue, const uint64_t *words, size_t count,
     const struct timespec *moment, size_t *sent)
@@ -263,8 +262,8 @@ uint32_t vahepito_take_now(vahepito_queue *queue, uint32_t group, vahepito_item 
     VAHEPITO_INTERNAL_NO_NULL(1) VAHEPITO_INTERNAL_LOOK_AT;
 
 /* Takes up to `most` items, one after another: waits for the first one until this moment, or not at all if it is {0,
- * 0}, and takes those that are there then. Senders are woken once, for all of them. GOT: `count` items, at least one.
- * ENDED, EMPTY, BAD_GROUPS: as above; EMPTY too if `most` is 0. */
+ * 0}, and takes those that are there then. Each item wakes a sender. GOT: `count` items, at least one. ENDED, EMPTY,
+ * BAD_GROUPS: as above; EMPTY too if `most` is 0. */
 uint32_t vahepito_take_many(vahepito_queue *queue, uint32_t group, vahepito_item *items, size_t most,
     const struct timespec *moment, size_t *count, uint64_t *total)
     VAHEPITO_INTERNAL_NO_NULL(1, 3) VAHEPITO_INTERNAL_LOOK_AT;
@@ -456,14 +455,14 @@ static inline uint32_t vahepito_internal_answered(const void *queue, uint32_t co
     return code;
 }
 
-/* After a take; its group is 0 if it isn't known. */
+/* After a take. */
 static inline uint32_t vahepito_internal_took(const void *queue, uint32_t group, uint32_t code,
                                               const vahepito_item *item) {
     if (code == VAHEPITO_ENDED) vahepito_internal_acquire(vahepito_internal_begun_at(queue, VAHEPITO_INTERNAL_END, 0));
     if (code == VAHEPITO_GOT) {
         vahepito_internal_comes_after(queue, VAHEPITO_INTERNAL_ITEM, vahepito_internal_hash(item->words, item->count),
                                       item->place);
-        if (group != 0) vahepito_internal_was_done(queue, group, item->place);
+        vahepito_internal_was_done(queue, group, item->place);
     }
     return code;
 }

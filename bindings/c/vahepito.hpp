@@ -43,8 +43,8 @@ enum class sent { accepted, full, closed };
 using moment = std::chrono::steady_clock::time_point;
 
 struct config {
-    std::uint32_t capacity = 64, groups = 1;         /* capacity 0: any number of items */
-    std::uint32_t places = 16;               /* how many calls are under way at once */
+    std::uint32_t capacity = 64, groups = 1; /* capacity 0: any number of items */
+    std::uint32_t places = 0;                /* how many calls are under way at once; 0 as in vahepito.h */
 };
 
 namespace detail {

@@ -20,6 +20,9 @@
  * queue, the row is `narrow`: then each send is made under the lock, after a look at the counts. So Full is returned
  * only if `capacity` items were in the row.
  *
+ * A further queue of a row without a bound is opened beforehand: a send that has appended one opens the next one then,
+ * without the lock. If that isn't there yet, a queue is opened under the lock.
+ *
  * Seats. A call takes a seat and then reads at which queue it is. A seat has one sender, and one receiver of each
  * group, of each queue of the row, so that one thread at a time uses them. Then the seat says which queue that is. A
  * queue that all groups have left is freed once each seat was seen away from it after that, free or at another one: a
@@ -71,8 +74,10 @@ extern long syscall(long number, ...);
 #define VAHEPITO_SERVED_TIME 20000
 #endif
 
-/* The pause after the first look, and the longest one: each is twice as long as the one before. */
-enum { FIRST_PAUSE = 150, LONGEST_PAUSE = 1000 };
+/* The pause after the first look, and the longest one: each is twice as long as the one before. A call that waits for
+ * the other side, from QUICK_CAPACITY on, begins with the longest one if its side passed QUICK_ITEMS since the wait
+ * before: so the other side gets ahead. */
+enum { FIRST_PAUSE = 150, LONGEST_PAUSE = 1000, QUICK_CAPACITY = 16, QUICK_ITEMS = 5 };
 
 /* How long a call lets others of its side go ahead, if the last two calls in its seat waited for them and it comes at
  * once: within AT_ONCE. */
@@ -87,10 +92,13 @@ enum { AT_ONCE = 500 };
 #define VAHEPITO_PACE 20000
 #endif
 
-/* A row without a bound begins with a queue of the least capacity, and each further one has twice as much, up to the
- * most. A further queue is opened by a send, under the lock: with 16 places that takes 10 us and 14 ns an item, and as
- * long again for memory that the process hasn't used before. */
-enum { SEATS = 64, USUAL_SEATS = 16, MOST_GROUPS = 8, LEAST_CAPACITY = 64, MOST_CAPACITY = 256 };
+/* How many seats there are at most, and if the program says nothing. A row without a bound has fewer then: its sends
+ * open further queues, which takes 1 us, half a microsecond a seat and 13 ns an item, and as long again for memory that
+ * the process hasn't used before. */
+enum { SEATS = 64, USUAL_SEATS = 16, UNBOUNDED_SEATS = 4, MOST_GROUPS = 8 };
+
+/* The capacities of the queues of a row without a bound. */
+enum { FIRST_CAPACITY = 64, FURTHER_CAPACITY = 256 };
 
 /* What is special in a row. */
 enum { NARROW = 1, WAS_FULL = 2 };
@@ -155,7 +163,7 @@ static __attribute__((noinline, cold)) void notify_line(call_line *line, uint32_
 
 /* Whether a call of the line isn't notified. */
 static inline bool has_waiting(const call_line *line) {
-    return __builtin_expect(__atomic_load_n(&line->counts, __ATOMIC_SEQ_CST) >= ONE_WAITING, 0);
+    return __builtin_expect(__atomic_load_n(&line->counts, __ATOMIC_SEQ_CST) >> 32 != 0, 0);
 }
 
 /* Leaves the line after a look that succeeded. */
@@ -190,11 +198,13 @@ static uint64_t clock_moment(void) {
 }
 
 /* The pace of a side, for its calls that wait: when the last wait ended that was longer than its spins, and with the
- * item of which place; and whether the side is slow by that, so that its calls park at once. These are hints: two
- * threads may write them at once. */
+ * item of which place; whether the side is slow by that, so that its calls park at once; with the item of which place
+ * the last wait of all ended that was no longer; and whether the side is quick by that. These are hints: two threads
+ * may write them at once. */
 typedef struct {
     uint64_t ended, place;
-    uint32_t is_slow;
+    uint32_t is_slow, is_quick;
+    uint64_t last;
 } side_pace;
 
 static bool is_slow_side(const side_pace *pace) { return __atomic_load_n(&pace->is_slow, __ATOMIC_RELAXED) != 0; }
@@ -207,6 +217,13 @@ static void note_wait(side_pace *pace, uint64_t place) {
     if (before != 0) __atomic_store_n(&pace->is_slow, ended - before > VAHEPITO_PACE * items, __ATOMIC_RELAXED);
     __atomic_store_n(&pace->ended, ended, __ATOMIC_RELAXED);
     __atomic_store_n(&pace->place, place, __ATOMIC_RELAXED);
+}
+
+/* Notes the end of a wait that didn't park, with the item of this place. */
+static void note_items(side_pace *pace, uint64_t place) {
+    const uint64_t items = place - __atomic_load_n(&pace->last, __ATOMIC_RELAXED);
+    __atomic_store_n(&pace->is_quick, items >= QUICK_ITEMS, __ATOMIC_RELAXED);
+    __atomic_store_n(&pace->last, place, __ATOMIC_RELAXED);
 }
 
 /* The hint of a thread that spins: on aarch64 as Rust's std has it. */
@@ -224,8 +241,8 @@ static void spin_until(uint64_t moment) {
     while ((int64_t)(moment - clock_moment()) > 0) pause_processor();
 }
 
-/* How a call passes the time between its looks, before it parks. It begins with the first pause after the first
- * look. */
+/* How a call passes the time between its looks, before it parks: since when, which is 0 before the first look, and the
+ * next pause. */
 typedef struct {
     uint64_t begin, pause;
 } wait_time;
@@ -233,7 +250,7 @@ typedef struct {
 /* After a look that found nothing: spins, or yields, if the time for it isn't over. Returns whether it isn't. */
 static bool pass_time(wait_time *it, uint64_t spins, uint64_t yields) {
     const uint64_t now = clock_moment();
-    if (it->pause == 0) it->begin = now, it->pause = FIRST_PAUSE;
+    if (it->begin == 0) it->begin = now;
     const uint64_t spent = now - it->begin;
     if (spent < spins) {
         spin_until(now + it->pause);
@@ -273,7 +290,7 @@ static void end_look(served_wait *backoff, uint32_t ended) {
 /* Makes a call, whose code is `code`, again and again while `again` holds, and passes the time in between. */
 #define CALL_WHILE(line, code, call, again)                     \
     do {                                                        \
-        served_wait backoff = {line, {0, 0}, false};            \
+        served_wait backoff = {line, {0, FIRST_PAUSE}, false};  \
         for (;;) {                                              \
             const uint32_t ended = begin_look(&backoff);        \
             code = call;                                        \
@@ -331,8 +348,10 @@ struct vahepito_queue {
     uint32_t special; /* NARROW: some group isn't at the last queue, and there is a bound. WAS_FULL: a send found no
                        * room; so a send looks first */
     queue_part *last, *at[MOST_GROUPS];
-    pthread_mutex_t lock;                   /* for `is_closed`, NARROW, the queues, and the two lists of them */
+    pthread_mutex_t lock;                   /* for `is_closed`, NARROW, and the queues in this and the next lines */
     queue_part *first, *retired; /* those that some group is at, and all behind them; those that are done with */
+    queue_part *spare;           /* the one that was opened beforehand, or NULL */
+    bool is_opening;             /* whether some send opens the spare one, without the lock */
     side_bell bells[1 + MOST_GROUPS];
     served_line served; /* the calls that are parked until they have an answer or a seat */
     side_pace pace[1 + MOST_GROUPS]; /* of the senders, and of each group */
@@ -542,10 +561,9 @@ static void ring_and_skip(vahepito_queue *queue);
 /* After a send that was accepted: wakes a receiver of each group. */
 static inline void notify_items(vahepito_queue *queue, bool has_seat) {
     keep_order();
-    uint32_t group = 0;
-    do
+    if (has_waiting(&queue->receivers[0])) notify_line(&queue->receivers[0], 1);
+    for (uint32_t group = 1; __builtin_expect(group < queue->groups, 0); group++)
         if (has_waiting(&queue->receivers[group])) notify_line(&queue->receivers[group], 1);
-    while (++group < queue->groups);
     if (__builtin_expect(__atomic_load_n(&queue->has_bells, __ATOMIC_SEQ_CST), 0))
         (has_seat ? ring_for_items : ring_and_skip)(queue);
 }
@@ -579,11 +597,11 @@ static void free_part(const vahepito_queue *queue, queue_part *part) {
 }
 
 /* A further queue of the row; NULL if there is no memory. */
-static queue_part *append_part(vahepito_queue *queue, uint32_t *code) {
+static queue_part *open_part(vahepito_queue *queue, uint32_t *code) {
     vahepito_handle passes[(1 + MOST_GROUPS) * SEATS];
     const size_t count = (1 + (size_t)queue->groups) * queue->places;
     void *memory = NULL;
-    memset(passes, 0, sizeof passes);
+    memset(passes, 0, count * sizeof *passes);
     *code = vahepito_open_words(&queue->config, queue->groups, queue->words, passes, queue->places,
                                 passes + queue->places, count - queue->places);
     if (*code != VAHEPITO_DONE) return NULL;
@@ -677,29 +695,42 @@ static uint32_t close_last(vahepito_queue *queue, uint64_t *total) {
     return code;
 }
 
+/* Opens the spare queue, without the lock. If memory is refused, the next send that appends a queue tries again. */
+static void open_spare(vahepito_queue *queue) {
+    const int errno_before = errno;
+    uint32_t code;
+    queue_part *const part = open_part(queue, &code);
+    errno = errno_before;
+    lock_row(queue);
+    queue->spare = part;
+    queue->is_opening = false;
+    unlock_row(queue);
+}
+
 /* After the queue of this number refused a send: sends continue at the next one, which is appended if that was the
  * last. DONE; CLOSED; NO_MEMORY. */
 static __attribute__((noinline)) uint32_t next_for_senders(vahepito_queue *queue, uint64_t number) {
     uint32_t code = VAHEPITO_DONE;
+    bool opens_spare = false;
     lock_row(queue);
     if (row_is_closed(queue)) {
         code = VAHEPITO_CLOSED;
     } else if (queue->last->number == number) {
-        const uint32_t capacity = queue->config.capacity;
-        if (!queue->has_bound && capacity < MOST_CAPACITY) queue->config.capacity = 2 * capacity;
-        queue_part *const next = append_part(queue, &code);
-        if (!next) {
-            if (!queue->has_bound) queue->config.capacity = capacity;
-        } else {
+        queue_part *const next = queue->spare ? queue->spare : open_part(queue, &code);
+        if (next) {
+            queue->spare = NULL;
             (void)close_last(queue, &next->base);
             next->number = number + 1;
             queue->last->next = next;
             if (queue->has_bound) (void)__atomic_fetch_or(&queue->special, NARROW, __ATOMIC_SEQ_CST);
             __atomic_store_n(&queue->last, next, __ATOMIC_SEQ_CST);
             retire_parts(queue);
+            opens_spare = !queue->has_bound && !queue->is_opening;
+            if (opens_spare) queue->is_opening = true;
         }
     }
     unlock_row(queue);
+    if (opens_spare) open_spare(queue);
     return code;
 }
 
@@ -844,8 +875,7 @@ static uint32_t after_take(take_request *it, uint32_t seat, queue_part *part, ui
 }
 
 /* A take at this queue, in this seat. */
-static uint32_t take_by(take_request *it, uint32_t seat,
-                                          queue_part *part) {
+static uint32_t take_by(take_request *it, uint32_t seat, queue_part *part) {
     vahepito_handle *const pass = pass_of(part, it->queue, it->group, seat);
     uint32_t served;
     return after_take(it, seat, part, vahepito_try_take_words(pass, it->item, &it->total, &served));
@@ -900,14 +930,17 @@ static uint64_t place_of(uint32_t nothing, const void *request) {
 }
 
 /* Tries again for some time, and spins or yields between the tries, unless the side is slow. */
-static uint32_t try_for_some_time(side_pace *pace, void *request, uint32_t nothing) {
-    wait_time time = {0, 0};
+static uint32_t try_for_some_time(const vahepito_queue *queue, side_pace *pace, void *request, uint32_t nothing) {
+    const bool is_quick =
+        queue->config.capacity >= QUICK_CAPACITY && __atomic_load_n(&pace->is_quick, __ATOMIC_RELAXED) != 0;
+    wait_time time = {0, is_quick ? LONGEST_PAUSE : FIRST_PAUSE};
     uint32_t code = nothing;
     if (VAHEPITO_SPIN_TIME == 0 || is_slow_side(pace)) return nothing;
     while (code == nothing && pass_time(&time, VAHEPITO_SPIN_TIME, VAHEPITO_YIELD_TIME))
         code = attempt_call(nothing, request);
-    if (code != nothing && clock_moment() - time.begin > VAHEPITO_SPIN_TIME)
-        note_wait(pace, place_of(nothing, request));
+    if (code == nothing) return code;
+    note_items(pace, place_of(nothing, request));
+    if (clock_moment() - time.begin > VAHEPITO_SPIN_TIME) note_wait(pace, place_of(nothing, request));
     return code;
 }
 
@@ -919,10 +952,12 @@ static bool is_past(const struct timespec *moment) {
 
 /* Tries until a try finds something, or until this moment; `nothing` is FULL of a send, or EMPTY of a take. A try that
  * finds nothing again costs a look at the counts. */
-static uint32_t wait_in_line(call_line *line, side_pace *pace, void *request, uint32_t nothing,
+static uint32_t wait_in_line(vahepito_queue *queue, uint32_t group, void *request, uint32_t nothing,
                              const struct timespec *moment) {
+    call_line *const line = group == 0 ? &queue->senders : &queue->receivers[group - 1];
+    side_pace *const pace = &queue->pace[group];
     if (moment && is_past(moment)) return nothing;
-    uint32_t code = try_for_some_time(pace, request, nothing);
+    uint32_t code = try_for_some_time(queue, pace, request, nothing);
     if (code != nothing) return code;
     do {
         (void)__atomic_fetch_add(&line->counts, ONE_WAITING, __ATOMIC_SEQ_CST);
@@ -948,8 +983,7 @@ static __attribute__((noinline)) uint32_t wait_or_arm(vahepito_queue *queue, uin
     side_bell *const bell = &queue->bells[group];
     uint32_t code;
     if (!moment || moment->tv_sec != 0 || moment->tv_nsec != 0)
-        return wait_in_line(group == 0 ? &queue->senders : &queue->receivers[group - 1], &queue->pace[group], request,
-                            nothing, moment);
+        return wait_in_line(queue, group, request, nothing, moment);
     if (!__atomic_load_n(&queue->has_bells, __ATOMIC_SEQ_CST) || !arm_bell(bell)) return nothing;
     code = attempt_call(nothing, request);
     if (code != nothing) ring_if_armed(bell);
@@ -1243,8 +1277,9 @@ static uint32_t value_or(uint32_t number, uint32_t other) { return number ? numb
 static void begin_queue(vahepito_queue *queue, const vahepito_attributes *attributes) {
     memset(queue, 0, sizeof *queue);
     queue->has_bound = attributes->capacity != 0;
-    queue->config.capacity = value_or(attributes->capacity, LEAST_CAPACITY);
-    for (queue->places = 1; queue->places < value_or(attributes->places, USUAL_SEATS);) queue->places *= 2;
+    queue->config.capacity = value_or(attributes->capacity, FIRST_CAPACITY);
+    const uint32_t usual = queue->has_bound ? USUAL_SEATS : UNBOUNDED_SEATS;
+    for (queue->places = 1; queue->places < value_or(attributes->places, usual);) queue->places *= 2;
     queue->config.senders = queue->config.receivers = queue->places;
     queue->config.bound = value_or(attributes->bound, 64);
     queue->config.life = attributes->life ? attributes->life : (uint64_t)1 << 48;
@@ -1271,10 +1306,11 @@ uint32_t vahepito_create_as(const vahepito_attributes *attributes, vahepito_queu
     if (posix_memalign(&memory, 64, sizeof(vahepito_queue)) != 0) return VAHEPITO_NO_MEMORY;
     vahepito_queue *const queue = memory;
     begin_queue(queue, attributes);
-    queue->first = queue->last = append_part(queue, &code);
+    queue->first = queue->last = open_part(queue, &code);
     if (!queue->first) return free(queue), code;
     if (pthread_mutex_init(&queue->lock, NULL) != 0)
         return free_part(queue, queue->first), free(queue), VAHEPITO_NO_MEMORY;
+    if (!queue->has_bound) queue->config.capacity = FURTHER_CAPACITY;
     for (uint32_t group = 0; group < queue->groups; group++) queue->at[group] = queue->first;
     *opened = queue;
     return VAHEPITO_DONE;
@@ -1301,6 +1337,7 @@ void vahepito_destroy(vahepito_queue *queue, vahepito_leftover *left, void *with
     if (left) drain_row(queue, left, with);
     for (queue_part *part = queue->first, *next; part; part = next) next = part->next, free_part(queue, part);
     for (queue_part *part = queue->retired, *next; part; part = next) next = part->next, free_part(queue, part);
+    if (queue->spare) free_part(queue, queue->spare);
     for (uint32_t bell = 0; bell <= MOST_GROUPS; bell++)
         if (queue->bells[bell].place >= 0) (void)syscall(SYS_close, queue->bells[bell].place);
     (void)pthread_mutex_destroy(&queue->lock);
@@ -1311,55 +1348,42 @@ bool vahepito_is_done(uint32_t code) {
     return code == VAHEPITO_DONE || code == VAHEPITO_ACCEPTED || code == VAHEPITO_SHUT || code == VAHEPITO_GOT;
 }
 
-const char *vahepito_name(uint32_t code) {
-    switch (code) {
-    case VAHEPITO_DONE: return "DONE";
-    case VAHEPITO_BAD_PLACES: return "BAD_PLACES";
-    case VAHEPITO_BAD_CAPACITY: return "BAD_CAPACITY";
-    case VAHEPITO_BAD_BOUND: return "BAD_BOUND";
-    case VAHEPITO_BAD_LIFE: return "BAD_LIFE";
-    case VAHEPITO_BAD_PER_SENDER: return "BAD_PER_SENDER";
-    case VAHEPITO_NO_MEMORY: return "NO_MEMORY";
-    case VAHEPITO_ACCEPTED: return "ACCEPTED";
-    case VAHEPITO_FULL: return "FULL";
-    case VAHEPITO_CLOSED: return "CLOSED";
-    case VAHEPITO_SHUT: return "SHUT";
-    case VAHEPITO_ALREADY: return "ALREADY";
-    case VAHEPITO_GOT: return "GOT";
-    case VAHEPITO_EMPTY: return "EMPTY";
-    case VAHEPITO_ENDED: return "ENDED";
-    case VAHEPITO_BAD_GROUPS: return "BAD_GROUPS";
-    case VAHEPITO_BAD_VERSION: return "BAD_VERSION";
-    case VAHEPITO_BAD_WORDS: return "BAD_WORDS";
-    case VAHEPITO_LONG: return "LONG";
-    default: return "no code";
-    }
+/* The codes, with their names and sentences; and for any other number the last row. */
+#define CODE(name, text) {VAHEPITO_##name, #name, text}
+static const struct code_row {
+    uint32_t code;
+    const char *name, *text;
+} code_rows[] = {
+    CODE(DONE, "it was done"),
+    CODE(BAD_PLACES, "the number of places is not from 1 to 64"),
+    CODE(BAD_CAPACITY, "the capacity is not from 1 to 4096"),
+    CODE(BAD_BOUND, "the bound is not from 1 to 1024"),
+    CODE(BAD_LIFE, "the life is not from 1 to 2^48"),
+    CODE(BAD_PER_SENDER, "a place for sends may begin none"),
+    CODE(NO_MEMORY, "memory was refused"),
+    CODE(ACCEPTED, "the item was accepted"),
+    CODE(FULL, "there was no room"),
+    CODE(CLOSED, "the queue is closed"),
+    CODE(SHUT, "this call closed the queue"),
+    CODE(ALREADY, "the queue was closed before"),
+    CODE(GOT, "an item was taken"),
+    CODE(EMPTY, "there was no item"),
+    CODE(ENDED, "the queue is closed, and the group has taken all its items"),
+    CODE(BAD_GROUPS, "there is no such group, or there are not 1 to 8"),
+    CODE(BAD_VERSION, "the library does not serve this header"),
+    CODE(BAD_WORDS, "the number of words is not from 1 to 4"),
+    CODE(LONG, "an item of this queue has fewer words"),
+    {UINT32_MAX, "no code", "there is no such code"},
+};
+
+static const struct code_row *row_of(uint32_t code) {
+    const struct code_row *row = code_rows;
+    while (row->code != code && row->code != UINT32_MAX) row++;
+    return row;
 }
 
-const char *vahepito_text(uint32_t code) {
-    switch (code) {
-    case VAHEPITO_DONE: return "it was done";
-    case VAHEPITO_BAD_PLACES: return "the number of places is not from 1 to 64";
-    case VAHEPITO_BAD_CAPACITY: return "the capacity is not from 1 to 4096";
-    case VAHEPITO_BAD_BOUND: return "the bound is not from 1 to 1024";
-    case VAHEPITO_BAD_LIFE: return "the life is not from 1 to 2^48";
-    case VAHEPITO_BAD_PER_SENDER: return "a place for sends may begin none";
-    case VAHEPITO_NO_MEMORY: return "memory was refused";
-    case VAHEPITO_ACCEPTED: return "the item was accepted";
-    case VAHEPITO_FULL: return "there was no room";
-    case VAHEPITO_CLOSED: return "the queue is closed";
-    case VAHEPITO_SHUT: return "this call closed the queue";
-    case VAHEPITO_ALREADY: return "the queue was closed before";
-    case VAHEPITO_GOT: return "an item was taken";
-    case VAHEPITO_EMPTY: return "there was no item";
-    case VAHEPITO_ENDED: return "the queue is closed, and the group has taken all its items";
-    case VAHEPITO_BAD_GROUPS: return "there is no such group, or there are not 1 to 8";
-    case VAHEPITO_BAD_VERSION: return "the library does not serve this header";
-    case VAHEPITO_BAD_WORDS: return "the number of words is not from 1 to 4";
-    case VAHEPITO_LONG: return "an item of this queue has fewer words";
-    default: return "there is no such code";
-    }
-}
+const char *vahepito_name(uint32_t code) { return row_of(code)->name; }
+const char *vahepito_text(uint32_t code) { return row_of(code)->text; }
 
 struct timespec vahepito_after(uint64_t nanoseconds) {
     struct timespec moment;
