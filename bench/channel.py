@@ -8,10 +8,11 @@ archive into bench/channel/out. Its own library and functions for memory are nam
 linked with the archives in bindings/rust/lib, as this crate is. crossbeam's channel is Debian's
 librust-crossbeam-channel-dev; the run goes on without it.
 
-A round runs each burst once, in a random order, each in a process of its own: half of the rounds with nothing beside it,
-and half with a process that is busy on each processor (none with --alone). Medians are printed, with quartiles in brackets,
-and the median of each round's quotient to the crate of the commit, or to crossbeam where that is compared. With --write
-the table `channel` of docs/BENCH.md is written: what of this bench/peers/run.py doesn't measure, with nothing beside it.
+A round runs each burst once, in a random order, each in a process of its own: half of the rounds with nothing beside
+it, and half with a process that is busy on each processor (none with --alone). Medians are printed, with quartiles in
+brackets, and the median of each round's quotient to the crate of the commit, or to crossbeam where that is compared.
+With --write the table `channel` of docs/BENCH.md is written: what of this bench/peers/run.py doesn't measure, with
+nothing beside it.
 """
 import argparse
 import contextlib
@@ -33,7 +34,8 @@ TOP = os.path.dirname(HERE)
 OUT = os.path.join(HERE, "channel", "out")
 REGISTRY = "/usr/share/cargo/registry"
 LIBRARY = os.path.join(TOP, "bindings", "rust", "lib", "x86_64-unknown-linux-gnu")
-ARCHIVES = {"VAHEPITO_LIB": os.path.join(LIBRARY, "libvahepito.a"), "VAHEPITO_HEAP": os.path.join(LIBRARY, "libvahepito_heap.a")}
+ARCHIVES = {"VAHEPITO_LIB": os.path.join(LIBRARY, "libvahepito.a"),
+            "VAHEPITO_HEAP": os.path.join(LIBRARY, "libvahepito_heap.a")}
 
 VERSION = r'(?m)(?<=^version = ")\d+\.\d+\.\d+(?="$)'
 
@@ -71,9 +73,11 @@ def build(name, crate, archives, peers, selects):
     with open(os.path.join(room, "Cargo.toml"), "w") as file:
         file.write('[package]\nname = "channel"\nversion = "0.1.0"\nedition = "2024"\n\n[workspace]\n\n'
                    f'[[bin]]\nname = "channel"\npath = "{HERE}/channel/src/main.rs"\n\n'
-                   f'[dependencies]\nvahepito = {{ path = "{crate}" }}\n{wanted}\n[features]\nselect = []\ncrossbeam-channel = {feature}\n')
+                   f'[dependencies]\nvahepito = {{ path = "{crate}" }}\n{wanted}\n'
+                   f'[features]\nselect = []\ncrossbeam-channel = {feature}\n')
     with open(os.path.join(room, ".cargo", "config.toml"), "w") as file:
-        file.write(f'[source.crates-io]\nreplace-with = "debian"\n\n[source.debian]\ndirectory = "{REGISTRY}"\n' if peers else "")
+        file.write(f'[source.crates-io]\nreplace-with = "debian"\n\n[source.debian]\ndirectory = "{REGISTRY}"\n'
+                   if peers else "")
     features = ["select"] * selects + ["crossbeam-channel"] * peers
     words = ["cargo", "build", "-q", "--release", "--offline", "--features", ",".join(features)]
     environment = {**archives, **os.environ, "CARGO_TARGET_DIR": os.path.join(room, "target")}
@@ -95,7 +99,8 @@ def change(path, pattern, text):
 
 
 def crate_at(commit, is_linked_with_its_own):
-    """The crate of this commit. If it is linked with the archives in bindings/rust/lib, it takes them for those of its version."""
+    """The crate of this commit. If it is linked with the archives in bindings/rust/lib, it takes them for those of its
+    version."""
     room = os.path.join(OUT, "tree")
     shutil.rmtree(room, ignore_errors=True)
     os.makedirs(room)
@@ -110,7 +115,8 @@ def crate_at(commit, is_linked_with_its_own):
     # It compares three sizes, where the library tells four.
     handle = os.path.join(crate, "src", "words", "handle.rs")
     if os.path.exists(handle) and "pass: &mut usize, item: &mut usize);" in read(handle):
-        change(handle, r"(?<=fn vahepito_sizes\(config: &mut usize, pass: &mut usize, item: &mut usize)(?=\);)", ", _: &mut usize")
+        change(handle, r"(?<=fn vahepito_sizes\(config: &mut usize, pass: &mut usize, item: &mut usize)(?=\);)",
+               ", _: &mut usize")
         change(handle, r"(?<=vahepito_sizes\(&mut config, &mut pass, &mut item)(?=\);)", ", &mut 0")
     return crate
 
@@ -127,11 +133,13 @@ def told(values):
 
 
 def table(took, bursts):
-    """The rows of the table `channel`: what bench/peers/run.py doesn't measure of this crate and of crossbeam's, alone."""
+    """The rows of the table `channel`: what bench/peers/run.py doesn't measure of this crate and of crossbeam's,
+    alone."""
     rows = [["", "typed", "crossbeam-channel"]]
     for name, mode, number, *_ in bursts:
         if mode not in ("shared", "blocked", "slowest") and (mode, number) != ("alone", 1):
-            rows.append([name, *(spread(took[name, False, of]) if (name, False, of) in took else "" for of in ("new", "crossbeam"))])
+            rows.append([name, *(spread(took[name, False, of]) if (name, False, of) in took else ""
+                                 for of in ("new", "crossbeam"))])
     return rows
 
 
@@ -144,7 +152,8 @@ def main():
     parser.add_argument("--alone", action="store_true", help="no rounds beside busy processes")
     parser.add_argument("--write", action="store_true", help="the table of docs/BENCH.md")
     words = parser.parse_args()
-    peers = any(name.startswith("crossbeam-channel-") for name in os.listdir(REGISTRY)) if os.path.isdir(REGISTRY) else False
+    there = os.listdir(REGISTRY) if os.path.isdir(REGISTRY) else []
+    peers = any(name.startswith("crossbeam-channel-") for name in there)
     own = dict(zip(ARCHIVES, map(os.path.abspath, words.archives))) if words.archives else ARCHIVES
     programs = {"new": (build("new", os.path.join(TOP, "bindings", "rust"), ARCHIVES, peers, True), "vahepito"),
                 "old": (build("old", crate_at(words.commit, words.archives), own, False, False), "vahepito")}
@@ -162,14 +171,16 @@ def main():
             for burst, name in cells:
                 took.setdefault((burst[0], busy, name), []).append(run(*programs[name], burst))
         rounds += 1
-    print(f"{rounds} rounds in {time.time() - start:.0f} s, {os.cpu_count()} processors, load {os.getloadavg()[0]:.1f}: nanoseconds\n")
+    print(f"{rounds} rounds in {time.time() - start:.0f} s, {os.cpu_count()} processors, load "
+          f"{os.getloadavg()[0]:.1f}: nanoseconds\n")
     for busy in [False] if words.alone else [False, True]:
         print("| " + ("beside a busy process on each processor" if busy else "alone") + " | now | " + words.commit
               + " | now to that | crossbeam | now to crossbeam |\n|---|---|---|---|---|---|")
         for burst in bursts:
             new, old, peer = (took.get((burst[0], busy, name)) for name in ["new", "old", "crossbeam"])
             quotient = lambda base: f"{statistics.median(a / b for a, b in zip(new, base)):.2f}" if base else ""
-            print(f"| {burst[0]} | {told(new)} | {told(old) if old else ''} | {quotient(old)} | {told(peer) if peer else ''} | {quotient(peer)} |")
+            print(f"| {burst[0]} | {told(new)} | {told(old) if old else ''} | {quotient(old)} | "
+                  f"{told(peer) if peer else ''} | {quotient(peer)} |")
         print()
     if words.write:
         write("channel", table(took, bursts))

@@ -1,13 +1,13 @@
 #!/usr/bin/env python3
-"""Times `ccq drive`, another build of it and the driver by hand, interleaved: each round runs every program once, and the
-median of the rounds is printed with its quartiles.
+"""Times `ccq drive`, another build of it and the driver by hand, interleaved: each round runs every program once, and
+the median of the rounds is printed with its quartiles.
 
     bench/drive.py [--rounds N] [--seconds N] [--beside PROGRAM] [--only crowd|few|twice|memory].. [--write]
 
-It runs `crates/ccq/out/ccq` (build it by `rt run` in crates/ccq) and `plain drive` of bench/plain (`cargo build --release`),
-the driver by hand over std's Mutex with Condvars, which has no bound; --beside names another `ccq`, called `before`. A
-round goes over all shapes of a part; no further round of a part begins when it has had its share of --seconds. With --write
-`crowd` writes the table `driver` of docs/BENCH.md, and `memory` the table `memory`.
+It runs `crates/ccq/out/ccq` (build it by `rt run` in crates/ccq) and `plain drive` of bench/plain (`cargo build
+--release`), the driver by hand over std's Mutex with Condvars, which has no bound; --beside names another `ccq`, called
+`before`. A round goes over all shapes of a part; no further round of a part begins when it has had its share of
+--seconds. With --write `crowd` writes the table `driver` of docs/BENCH.md, and `memory` the table `memory`.
 
   crowd   4 and 63 or 64 threads on each side, bounds 1, 8 and 64, capacity 64; and capacity 1
   few     one thread, two and four on each side, capacities 64 and 1024
@@ -57,8 +57,8 @@ def command(program, shape):
 
 
 def run(program, shape):
-    """The seconds of the clock and of the processors that a run takes, and the most bytes that it keeps. A run that doesn't
-    end is ended, and counts as long as that took."""
+    """The seconds of the clock and of the processors that a run takes, and the most bytes that it keeps. A run that
+    doesn't end is ended, and counts as long as that took."""
     line, wanted = command(program, shape)
     out, into = os.pipe()
     start = time.perf_counter()
@@ -92,7 +92,8 @@ def times(shapes, names, runs):
         cells = []
         for measured in runs[shape].values():
             clocks, processors, _ = zip(*measured)
-            cells.append(f"{spread([c * per for c in clocks])}, {max(clocks) * per:,.0f} [{statistics.median(processors) * per:,.0f}]")
+            cells.append(f"{spread([c * per for c in clocks])}, {max(clocks) * per:,.0f} "
+                         f"[{statistics.median(processors) * per:,.0f}]")
         rows.append([f"{senders} and {receivers}", str(capacity), str(bound), *cells])
     return rows
 
@@ -125,7 +126,8 @@ def main():
     names["by hand"] = "by hand"
     parts = options.only or list(PARTS)
     load, total, stolen = machine()
-    print(f"{time.strftime('%Y-%m-%d %H:%M', time.gmtime())} UTC, {PROCESSORS} processors, load {load[0]:.2f}", flush=True)
+    print(f"{time.strftime('%Y-%m-%d %H:%M', time.gmtime())} UTC, {PROCESSORS} processors, load {load[0]:.2f}",
+          flush=True)
     for part in parts:
         shapes = PARTS[part]
         runs = {shape: {name: [] for name in names} for shape in shapes}

@@ -3,9 +3,9 @@
 
     bench/readme.py [--write]
 
-Each figure is a cell of docs/BENCH.md: an item's time by the clock, and the p99.99 of a send of 16 senders beside four receivers. The
-peers' versions are those that docs/BENCH.md names. Without --write it writes nothing, and says if README differs; exit status 1
-then.
+Each figure is a cell of docs/BENCH.md: an item's time by the clock, and the p99.99 of a send of 16 senders beside four
+receivers. The peers' versions are those that docs/BENCH.md names. Without --write it writes nothing, and says if README
+differs; exit status 1 then.
 """
 import os
 import re
@@ -14,7 +14,8 @@ import sys
 TOP = os.path.dirname(os.path.dirname(os.path.abspath(__file__)))
 BEGIN, END = "<!-- speed -->\n", "<!-- end of speed -->\n"
 # The rows, by their names in the tables of docs/BENCH.md, and the columns of an item's time.
-ROWS = {"typed": "**vahepito** (Rust)", "crossbeam-channel": None, "flume": None, "async-channel": None, "Mutex+Condvar": "std `Mutex`, `Condvar`"}
+ROWS = {"typed": "**vahepito** (Rust)", "crossbeam-channel": None, "flume": None, "async-channel": None,
+        "Mutex+Condvar": "std `Mutex`, `Condvar`"}
 COLUMNS = {"one thread": "one thread", "1/1": "1→1", "4/4": "4→4", "32/32": "32→32"}
 
 
@@ -23,7 +24,8 @@ def rows_after(text, mark):
     lines = text[text.index(mark):].split("\n")
     begin = next(at for at, line in enumerate(lines) if line.startswith("|"))
     end = next(at for at in range(begin, len(lines) + 1) if at == len(lines) or not lines[at].startswith("|"))
-    head, _, *rows = [[cell.strip().strip("*") for cell in line.strip().strip("|").split("|")] for line in lines[begin:end]]
+    head, _, *rows = [[cell.strip().strip("*") for cell in line.strip().strip("|").split("|")]
+                      for line in lines[begin:end]]
     return {row[0]: dict(zip(head, row)) for row in rows}, [dict(zip(head, row)) for row in rows]
 
 

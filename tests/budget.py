@@ -6,11 +6,11 @@ Usage: tests/budget.py --yard           prints the time, and the processor secon
        tests/budget.py PARTS YARDS      compares: PARTS has a line `SECONDS END NAME` for each part, one after another,
                                         YARDS the lines of --yards
 
-The piece of work is the proof of the toolchain's own template of a library, from nothing. CONTRIBUTING.md has the limit,
-in processor minutes, and the seconds that this work takes on the host of its table. A part counts less on a slower
-host, by as much as the work took longer while the part ran: by the mean of what was measured then, or else by what was
-measured nearest to it. For a host's speed changes with its load, and four proofs at once are another load than one
-test. The exit status is 0 if the sum of all parts is within the limit.
+The piece of work is the proof of the toolchain's own template of a library, from nothing. CONTRIBUTING.md has the
+limit, in processor minutes, and the seconds that this work takes on the host of its table. A part counts less on a
+slower host, by as much as the work took longer while the part ran: by the mean of what was measured then, or else by
+what was measured nearest to it. For a host's speed changes with its load, and four proofs at once are another load than
+one test. The exit status is 0 if the sum of all parts is within the limit.
 """
 
 import os

@@ -1,5 +1,6 @@
 #!/usr/bin/env python3
-"""Converts histories of Jepsen and Porcupine by `tools/to_log.py`, and splits logs by `tools/lanes.py`, and sees what `ccq judge` says.
+"""Converts histories of Jepsen and Porcupine by `tools/to_log.py`, and splits logs by `tools/lanes.py`, and sees what
+`ccq judge` says.
 
 Usage: tests/histories.py
 
@@ -19,8 +20,8 @@ from pathlib import Path
 TOP = Path(__file__).resolve().parent.parent
 PROGRAM = Path(os.environ.get("CCQ", TOP / "crates/ccq/out/ccq"))
 
-# One operation a line, as Jepsen writes them; a client's process, a nemesis, a failed enqueue, two failed dequeues, an enqueue whose end isn't
-# known, and a drain.
+# One operation a line, as Jepsen writes them; a client's process, a nemesis, a failed enqueue, two failed dequeues, an
+# enqueue whose end isn't known, and a drain.
 JEPSEN = """
 {:type :invoke, :f :enqueue, :value 1, :process 0, :time 10, :index 0}
 {:type :info, :f :start, :value nil, :process :nemesis, :time 11, :index 1} ; a comment, with a { in it
@@ -60,10 +61,12 @@ JEPSEN_ROWS = [
     (("[3 [4, 7]]", "[3 3]"), [], "judge fault: taken twice: "),
     (("[3 [4, 7]]", "[3 5]"), [], "judge fault: never sent: "),
     ((":time 22, :error [:refused", ":time 22, :error [:timeout"), ["--empty", "timeout"], "judge clean: 9 calls"),
-    ((":fail, :f :dequeue, :process 1, :time 27", ":fail, :f :dequeue, :process 1, :time 27, :value nil"), [], "judge clean: 8 calls"),
+    ((":fail, :f :dequeue, :process 1, :time 27", ":fail, :f :dequeue, :process 1, :time 27, :value nil"), [],
+     "judge clean: 8 calls"),
 ]
 # A history without times, in a vector: the places are the times.
-UNTIMED = "[{:process 0 :type :invoke :f :enqueue :value 5} {:process 0 :type :ok :f :enqueue :value 5} #_ {:a 1} {:process 1 :type :invoke :f :close}]"
+UNTIMED = ("[{:process 0 :type :invoke :f :enqueue :value 5} {:process 0 :type :ok :f :enqueue :value 5} #_ {:a 1} "
+           "{:process 1 :type :invoke :f :close}]")
 UNTIMED_LOG = '{"thread":"0","begin":0,"end":1,"send":5}\n{"thread":"1","begin":2,"close":true}\n'
 
 PORCUPINE = """[
@@ -176,8 +179,10 @@ REFUSED = [
     ("jepsen", "", "no operation of a client"),
     ("jepsen", "{:process 0 :type :ok :f :enqueue :value 1}", "operation 1: process 0 has no pending operation"),
     ("jepsen", "{:process 0 :type :invoke :f :enqueue :value 1}" * 2, "operation 2: process 0 has a pending operation"),
-    ("jepsen", "{:process 0 :type :invoke :f :enqueue :value :a} {:process 0 :type :ok :f :enqueue :value :a}", "operation 2: no item"),
-    ("jepsen", "{:process 0 :type :invoke :f :drain} {:process 0 :type :info :f :drain}", "operation 2: a :drain that isn't :ok"),
+    ("jepsen", "{:process 0 :type :invoke :f :enqueue :value :a} {:process 0 :type :ok :f :enqueue :value :a}",
+     "operation 2: no item"),
+    ("jepsen", "{:process 0 :type :invoke :f :drain} {:process 0 :type :info :f :drain}",
+     "operation 2: a :drain that isn't :ok"),
     ("jepsen", "{:process 0 :type :invoke", "the history ends within a value"),
     ("jepsen", "{:process 0 :type}", "a key without a value"),
     ("porcupine", "", "no operation"),
@@ -206,10 +211,15 @@ LANE_ROWS = [
     (('"take":11}', '"take":13}'),
      "lanes: thread a: judge fault: overtaken: line 3 had ended before line 4 began; the item of line 3 is not taken "
      "before line 8 began, after line 6 took the other\nlanes: 1 of 2 lanes are clean\n"),
-    (('"take":13}', '"take":99}'), "lanes: thread no line: judge fault: never sent: line 9 took an item that no accepted send sent\nlanes: 2 of 3 lanes are clean\n"),
+    (('"take":13}', '"take":99}'),
+     "lanes: thread no line: judge fault: never sent: line 9 took an item that no accepted send sent\n"
+     "lanes: 2 of 3 lanes are clean\n"),
     (('"thread":"d","begin":13,"take":null', '"thread":"d","begin":13,"end":14,"take":null'),
-     "lanes: thread a: judge fault: overtaken: line 3 had ended before line 4 began; the item of line 3 is never taken, after line 9 took the other\nlanes: 1 of 2 lanes are clean\n"),
-    (('"take":13}', '"take":99}\n{"ends":"whole"}'), "lanes: thread no line: judge fault: never sent: line 9 took an item that no accepted send sent\nlanes: 2 of 3 lanes are clean\n"),
+     "lanes: thread a: judge fault: overtaken: line 3 had ended before line 4 began; the item of line 3 is never "
+     "taken, after line 9 took the other\nlanes: 1 of 2 lanes are clean\n"),
+    (('"take":13}', '"take":99}\n{"ends":"whole"}'),
+     "lanes: thread no line: judge fault: never sent: line 9 took an item that no accepted send sent\n"
+     "lanes: 2 of 3 lanes are clean\n"),
     (('"take":13}', '"take":99}\n{"ends":"early"}'), "lanes: 3 of 3 lanes are clean\n"),
     (('"take":13}', '"take":13}\n{"ends":"whole"}\n{"ends":"whole"}'), ""),
 ]
@@ -226,8 +236,10 @@ def tool(name, words, text):
     with tempfile.NamedTemporaryFile("w", suffix=".txt") as file:
         file.write(text)
         file.flush()
-        command = [sys.executable, "-B", TOP / "tools" / name, *[file.name if word == "FILE" else word for word in words]]
-        run = subprocess.run(command, capture_output=True, text=True, check=False, env=os.environ | {"CCQ": str(PROGRAM)})
+        command = [sys.executable, "-B", TOP / "tools" / name,
+                   *[file.name if word == "FILE" else word for word in words]]
+        run = subprocess.run(command, capture_output=True, text=True, check=False,
+                             env=os.environ | {"CCQ": str(PROGRAM)})
     return run.returncode, run.stdout, run.stderr.replace(file.name, "FILE")
 
 

@@ -1,12 +1,12 @@
 #!/usr/bin/env python3
-"""Judges the calls of threads over rows of tiny queues, which bindings/rust/src/channel/judged.rs recorded, by `ccq
-judge` in bin/.
+"""Judges the calls of threads over tiny queues and rows of them, which bindings/rust/src/channel/judged.rs recorded, by
+`ccq judge` in bin/.
 
 Usage: tests/judged_rows.py FOLDER
 
-Each log in the folder has to be clean, with its limit as the capacity if it has one. Then a fault is planted in each,
-which has to be found: the line of a take that returned an item goes (the item is lost), or stands a second time under
-another thread. The exit status is 0 if all that holds, and 77 if the program doesn't run here.
+A log is of one group of receivers. Each log in the folder has to be clean, with its capacity if it has one. Then a
+fault is planted in each, which has to be found: the line of a take that returned an item goes (the item is lost), or
+stands a second time under another thread. The exit status is 0 if all that holds, and 77 if the program doesn't run here.
 """
 
 import random
@@ -45,7 +45,7 @@ def main() -> int:
     except (OSError, subprocess.CalledProcessError):
         print("judged rows: SKIPPED: the program in bin/ doesn't run here")
         return 77
-    logs = sorted(Path(sys.argv[1]).glob("row*"))
+    logs = sorted(Path(sys.argv[1]).iterdir())
     wrong, calls = [], 0
     with tempfile.TemporaryDirectory() as room:
         for log in logs:

@@ -19,8 +19,8 @@ not at each mark.
 
 Without that clang it does nothing, says so in a line, and the exit status is 77. Exit status 0 if all is so.
 
-With --into it writes archives of these objects of a target into a folder, for `make from-text` in bindings/c; exit status 1 if they
-aren't those of the tree.
+With --into it writes archives of these objects of a target into a folder, for `make from-text` in bindings/c; exit
+status 1 if they aren't those of the tree.
 """
 import collections
 import lzma

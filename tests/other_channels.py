@@ -23,7 +23,7 @@ from pathlib import Path
 sys.dont_write_bytecode = True
 TOP = Path(__file__).resolve().parent.parent
 REGISTRY = Path("/usr/share/cargo/registry")
-SHAPE = ("first: config(64),\n        further: config(512),", "first: config(1),\n        further: config(1),")
+SHAPE = ("config(64);\n    let capacity = 512;", "config(1);\n    let capacity = 1;")
 RESULT = re.compile(r"^test (\S+)(?: - should panic)? \.\.\. (ok|FAILED|ignored)", re.M)
 
 # Of each other channel: its package, the files of its tests, what these need, each with its features, and its edition.

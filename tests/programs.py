@@ -1,4 +1,5 @@
-"""Rows: arguments and an input of `ccq` with what is due, by hand and by tests/derive.py; and what a program does of one."""
+"""Rows: arguments and an input of `ccq` with what is due, by hand and by tests/derive.py; and what a program does of
+one."""
 import dataclasses
 import os
 import pathlib

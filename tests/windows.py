@@ -1,17 +1,18 @@
 #!/usr/bin/env python3
-"""Cuts windows out of what is recorded of real bounded queues, and sees that `ccq judge` accuses no window, and finds a planted fault.
+"""Cuts windows out of what is recorded of real bounded queues, and sees that `ccq judge` accuses no window, and finds a
+planted fault.
 
 Usage: tests/windows.py
 
-The queues are Python's `queue.Queue` and a `deque` under a lock that can be closed. Threads send, take and close; a clock is read
-directly before and after each call. A window begins and ends at a moment, and is said to begin late: it lacks calls before it, the
-items of these that are still in the queue, and often the close. Half of the windows are judged with the capacity of the queue.
-None may be accused, whatever the judge's rules are: each is of a correct queue. Some are cut by the program too, which has to say the
-same. Then two takes of a window are exchanged, the
-first of which ended before the second began, of items sent one after another; or a send that found the queue closed is
-said to have been accepted. These have to be found, the latter also in a window that the program cuts behind the only
-close. And of each window some calls are dropped, wherever they are, and it is said to end early in place
-of beginning late: it isn't accused.
+The queues are Python's `queue.Queue` and a `deque` under a lock that can be closed. Threads send, take and close; a
+clock is read directly before and after each call. A window begins and ends at a moment, and is said to begin late: it
+lacks calls before it, the items of these that are still in the queue, and often the close. Half of the windows are
+judged with the capacity of the queue. None may be accused, whatever the judge's rules are: each is of a correct queue.
+Some are cut by the program too, which has to say the same. Then two takes of a window are exchanged, the first of which
+ended before the second began, of items sent one after another; or a send that found the queue closed is said to have
+been accepted. These have to be found, the latter also in a window that the program cuts behind the only close. And of
+each window some calls are dropped, wherever they are, and it is said to end early in place of beginning late: it isn't
+accused.
 """
 
 import collections
@@ -39,8 +40,10 @@ LATE, EARLY = '{"begins":"late"}\n', '{"ends":"early"}\n'
 # A queue that was full before the log, and one that was closed before the log and is closed again in it.
 BY_HAND = [
     (["--capacity", "1"], '{"thread":"a","begin":10,"end":11,"send":5,"answer":"full"}\n'),
-    ([], '{"thread":"a","begin":10,"end":11,"send":5,"answer":"closed"}\n{"thread":"a","begin":12,"end":13,"close":true}\n'),
-    ([], '{"thread":"a","begin":10,"end":11,"take":null,"answer":"ended"}\n{"thread":"a","begin":12,"end":13,"close":true}\n'),
+    ([], '{"thread":"a","begin":10,"end":11,"send":5,"answer":"closed"}\n'
+         '{"thread":"a","begin":12,"end":13,"close":true}\n'),
+    ([], '{"thread":"a","begin":10,"end":11,"take":null,"answer":"ended"}\n'
+         '{"thread":"a","begin":12,"end":13,"close":true}\n'),
 ]
 
 
@@ -140,7 +143,8 @@ def record(kind, seed):
 
 
 def cut(call, until):
-    """The call as it was at a moment: one that ended later hasn't returned. Or None, if it is a send that was refused later."""
+    """The call as it was at a moment: one that ended later hasn't returned. Or None, if it is a send that was refused
+    later."""
     if call["end"] < until:
         return call
     if "send" in call and "answer" in call:
@@ -150,8 +154,8 @@ def cut(call, until):
 
 
 def window(calls, rng):
-    """The calls between two moments, with those that were under way at the first, or without; and the moments. There are some: of
-    sends alone that are refused after the second moment nothing is left."""
+    """The calls between two moments, with those that were under way at the first, or without; and the moments. There
+    are some: of sends alone that are refused after the second moment nothing is left."""
     while True:
         size = rng.choice([3, 10, 40, 200, 600])
         first = rng.randrange(len(calls) - size)
@@ -184,7 +188,8 @@ def reopened(calls):
     """The calls with a send accepted that found the queue closed, after another call that showed it closed. Or None."""
     if not any("close" in call for call in calls):
         return None
-    shown = [call["end"] for call in calls if "end" in call and ("close" in call or call.get("answer") in ("closed", "ended"))]
+    shown = [call["end"] for call in calls if "end" in call
+             and ("close" in call or call.get("answer") in ("closed", "ended"))]
     for call in calls:
         if call.get("answer") == "closed" and "send" in call and min(shown) < call["begin"]:
             accepted = {key: value for key, value in call.items() if key != "answer"}
@@ -216,8 +221,8 @@ def text_of(calls):
 
 
 def judged_window(logs, number):
-    """Of a window what is wrong with its verdict, or None; whether it has calls that found the queue full or closed; and the same of
-    the planted faults: what is wrong, and how many there are."""
+    """Of a window what is wrong with its verdict, or None; whether it has calls that found the queue full or closed;
+    and the same of the planted faults: what is wrong, and how many there are."""
     rng = random.Random(number)
     calls, start, until = window(logs[number % len(logs)], rng)
     options = ["--capacity", str(CAPACITY)] * (rng.random() < 0.5)
@@ -239,8 +244,8 @@ def judged_window(logs, number):
 
 
 def cut_wrongly(calls, number, start, until):
-    """What is wrong if the program cuts the log itself: at both moments, and at the second, with the capacity and with every call
-    before it."""
+    """What is wrong if the program cuts the log itself: at both moments, and at the second, with the capacity and with
+    every call before it."""
     whole = text_of(calls)
     kept = within(calls, "end", start, until)
     # Closes are judged if the log has one, in the window or not.
@@ -280,7 +285,8 @@ def judge_windows():
             right &= not wrong
             for line in wrong:
                 print(f"windows: {line}", end="")
-    print(f"windows: {WINDOWS} windows of {len(logs)} recorded logs are judged, {full} with a capacity and full, {closes} with closes; {faults} faults are planted")
+    print(f"windows: {WINDOWS} windows of {len(logs)} recorded logs are judged, {full} with a capacity and full, "
+          f"{closes} with closes; {faults} faults are planted")
     return right and min(full, closes, faults) > 50
 
 

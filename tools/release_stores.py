@@ -1,17 +1,18 @@
 #!/usr/bin/env python3
-"""Makes the module of the default archive of that of the strict one, both as LLVM's text: some stores become release stores.
+"""Makes the module of the default archive of that of the strict one, both as LLVM's text: some stores become release
+stores.
 
     tools/release_stores.py < MODULE > RELEASED
 
-A module of rattle has one atomic store, `core::raw_atomic::store`, which is seq_cst, between two barriers for the compiler. The
-contracts of the functions in STORES ask at each call that the step may be early (`early`), and that is proved. So the
-stores of these functions call a copy of that store, which is a release store. All others stay.
+A module of rattle has one atomic store, `core::raw_atomic::store`, which is seq_cst, between two barriers for the
+compiler. The contracts of the functions in STORES ask at each call that the step may be early (`early`), and that is
+proved. So the stores of these functions call a copy of that store, which is a release store. All others stay.
 
-The toolchain's `fence` is an empty function, since each step of the proofs is sequentially consistent. With release stores it has to be a
-fence, so it gets a body. By it a thread empties its store buffer before a turn.
+The toolchain's `fence` is an empty function, since each step of the proofs is sequentially consistent. With release
+stores it has to be a fence, so it gets a body. By it a thread empties its store buffer before a turn.
 
-All other lines stay as they are. A module is refused in which one of these functions isn't there once, has more than one store, or shares
-its store with another function; then the exit status is 1, and nothing is written.
+All other lines stay as they are. A module is refused in which one of these functions isn't there once, has more than
+one store, or shares its store with another function; then the exit status is 1, and nothing is written.
 """
 import re
 import sys

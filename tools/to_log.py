@@ -55,7 +55,8 @@ class Refused(Exception):
 
 
 class Edn:
-    """A reader of EDN: maps are dicts, keywords are texts with their colon, and of a tagged value the tag is dropped."""
+    """A reader of EDN: maps are dicts, keywords are texts with their colon, and of a tagged value the tag is
+    dropped."""
 
     def __init__(self, text):
         self.tokens, place = [], 0

@@ -4,16 +4,17 @@
     bench/judged/run.py [--seeds N] [--only LANGUAGE] [--again] [--print]
     bench/judged/run.py --short
 
-Threads send and take on each queue, in a program of its language, which records the calls; `ccq judge` judges the log. In C, C++ and
-Rust half of the runs are with stops: threads are stopped in the middle of their calls; in the other languages one program is
-killed, and what it leaves has to be clean. What a program needs and the machine lacks is installed,
-if this is root's and there is apt-get; what can't be had is skipped, and a line names it. All runs use two processors. N is how many runs
-there are of each number of threads, with stops and without (1). --only runs the queues of one
-language, and takes what was seen last of the others; --again takes that of all. --print writes nothing into docs.
+Threads send and take on each queue, in a program of its language, which records the calls; `ccq judge` judges the log.
+In C, C++ and Rust half of the runs are with stops: threads are stopped in the middle of their calls; in the other
+languages one program is killed, and what it leaves has to be clean. What a program needs and the machine lacks is
+installed, if this is root's and there is apt-get; what can't be had is skipped, and a line names it. All runs use two
+processors. N is how many runs there are of each number of threads, with stops and without (1). --only runs the queues
+of one language, and takes what was seen last of the others; --again takes that of all. --print writes nothing into
+docs.
 
-Controls have to be clean, planted faults have to be found, and each other fault has to be one that NOTES explains, else the exit status
-is 1. The short form is for the gate: fewer runs, of what is installed; it installs nothing and writes nothing. The program is
-bin's, or what CCQ names.
+Controls have to be clean, planted faults have to be found, and each other fault has to be one that NOTES explains, else
+the exit status is 1. The short form is for the gate: fewer runs, of what is installed; it installs nothing and writes
+nothing. The program is bin's, or what CCQ names.
 """
 import argparse
 import collections
@@ -56,7 +57,8 @@ PLANTED_SHAPE, STOPPED_CALLS = (2, 2), 100_000
 
 @dataclass
 class Queue:
-    """A queue: its name for its program, and in the table; the package whose version is shown; how many items it holds."""
+    """A queue: its name for its program, and in the table; the package whose version is shown; how many items it
+    holds."""
 
     name: str
     title: str
@@ -86,11 +88,13 @@ class Program:
 BOUNDED = 16
 C = Program("C and C++", tools=["cc", "c++"], stops=True, queues=[
     Queue("locked", "std::deque under a lock, 16", capacity=BOUNDED, control=True),
-    Queue("planted_lost", "the same, each thousandth item lost", capacity=BOUNDED, planted="overtaken|not empty|too many"),
+    Queue("planted_lost", "the same, each thousandth item lost", capacity=BOUNDED,
+          planted="overtaken|not empty|too many"),
     Queue("planted_twice", "the same, each thousandth item given twice", capacity=BOUNDED, planted="taken twice"),
     Queue("planted_overtaken", "the same, each thousandth item overtaken", capacity=BOUNDED, planted="overtaken"),
     Queue("planted_full", "the same, full if it is empty", capacity=BOUNDED, planted="not full"),
-    Queue("vyukov", "Vyukov's bounded queue as published, 16", capacity=BOUNDED, planted="not empty|not full", needs_stops=True),
+    Queue("vyukov", "Vyukov's bounded queue as published, 16", capacity=BOUNDED, planted="not empty|not full",
+          needs_stops=True),
     Queue("pipe", "pipe of 4 KiB, writes of 8 bytes"),
     Queue("datagrams", "socketpair, datagrams"),
     Queue("posix", "POSIX message queue, 10", capacity=10),
@@ -112,8 +116,10 @@ C = Program("C and C++", tools=["cc", "c++"], stops=True, queues=[
 RUST = Program("Rust", tools=["cargo"], stops=True, queues=[
     Queue("locked", "`VecDeque` under a lock, 16", capacity=BOUNDED, control=True),
     Queue("locked_closed", "the same, closed", capacity=BOUNDED, control=True),
-    Queue("planted_reopened_closed", "the same, closed, each tenth send accepted", capacity=BOUNDED, planted="open after closed"),
-    Queue("vyukov", "Vyukov's bounded queue, all orders strong, 16", capacity=BOUNDED, planted="not empty|not full", needs_stops=True),
+    Queue("planted_reopened_closed", "the same, closed, each tenth send accepted", capacity=BOUNDED,
+          planted="open after closed"),
+    Queue("vyukov", "Vyukov's bounded queue, all orders strong, 16", capacity=BOUNDED, planted="not empty|not full",
+          needs_stops=True),
     Queue("vahepito", "the channel of this repository, 16", capacity=BOUNDED),
     Queue("sync_channel", "std::sync::mpsc::sync_channel, 16", "rustc", BOUNDED),
     Queue("channel", "std::sync::mpsc::channel", "rustc"),
@@ -144,8 +150,10 @@ JAVA = Program("Java", tools=["java", "javac"], queues=[
     Queue("LinkedList", "`LinkedList` without a lock", "java"),
     Queue("MpmcArrayQueue", "JCTools' `MpmcArrayQueue`, 16", "libjctools-java", BOUNDED),
     Queue("MpmcArrayQueue_relaxed", "the same, relaxed calls", "libjctools-java", BOUNDED),
-    Queue("DisruptorBlockingQueue", "Conversant's `DisruptorBlockingQueue`, 16", "libconversant-disruptor-java", BOUNDED),
-    Queue("MultithreadConcurrentQueue", "Conversant's `MultithreadConcurrentQueue`, 16", "libconversant-disruptor-java", BOUNDED),
+    Queue("DisruptorBlockingQueue", "Conversant's `DisruptorBlockingQueue`, 16", "libconversant-disruptor-java",
+          BOUNDED),
+    Queue("MultithreadConcurrentQueue", "Conversant's `MultithreadConcurrentQueue`, 16",
+          "libconversant-disruptor-java", BOUNDED),
     Queue("RingBuffer", "LMAX's `RingBuffer`, many senders, 16", "libdisruptor-java", BOUNDED),
 ])
 GO = Program("Go", tools=["go"], queues=[
@@ -164,12 +172,18 @@ PYTHON = Program("Python", queues=[
 PROGRAMS = [C, RUST, JAVA, GO, PYTHON]
 # What a queue is known to do, by its name: the faults, and why. Each was read by hand in a recorded log.
 NOTES = {
-    "moodycamel": ("overtaken|not empty", "documented: order is kept for each sender alone, so items of two senders overtake each other"),
-    "MpmcArrayQueue_relaxed": ("not empty|not full", "documented: a relaxed call may find none or no room while another call is under way"),
-    "RingBuffer": ("not empty", "by its design: a sender claims its place before it writes, and later items aren't available until then"),
-    "multiprocessing_Queue": ("not empty", "documented: put returns before a thread of the library has written the item to the pipe"),
-    "ArrayDeque": ("taken twice|overtaken|not empty|never sent", "documented: it isn't safe for threads without a lock"),
-    "LinkedList": ("taken twice|overtaken|not empty|never sent", "documented: it isn't safe for threads without a lock"),
+    "moodycamel": ("overtaken|not empty", "documented: order is kept for each sender alone, so items of two senders "
+                                          "overtake each other"),
+    "MpmcArrayQueue_relaxed": ("not empty|not full", "documented: a relaxed call may find none or no room while "
+                                                     "another call is under way"),
+    "RingBuffer": ("not empty", "by its design: a sender claims its place before it writes, and later items aren't "
+                                "available until then"),
+    "multiprocessing_Queue": ("not empty", "documented: put returns before a thread of the library has written the "
+                                           "item to the pipe"),
+    "ArrayDeque": ("taken twice|overtaken|not empty|never sent",
+                   "documented: it isn't safe for threads without a lock"),
+    "LinkedList": ("taken twice|overtaken|not empty|never sent",
+                   "documented: it isn't safe for threads without a lock"),
 }
 FAULTS_OF_PLANTED = {
     "vyukov": "planted: a place that a call has claimed and not written yet makes the queue look empty or full",
@@ -196,7 +210,8 @@ def version(package):
 
 def install(programs):
     """Installs what is missing, one package after another."""
-    packages = dict.fromkeys(queue.package for program in programs for queue in program.queues if queue.package.startswith(("lib", "golang")))
+    packages = dict.fromkeys(queue.package for program in programs for queue in program.queues
+                             if queue.package.startswith(("lib", "golang")))
     missing = [package for package in packages if not version(package)]
     if not missing or os.geteuid() != 0 or not shutil.which("apt-get"):
         return
@@ -218,17 +233,20 @@ def told(command, **options):
 
 def build_c(room, main=("record.cpp",), more=()):
     """A program over the libraries that are there: its own sources, and further words for the compilers."""
-    libraries = {"BOOST": ("libboost-dev", []), "MOODYCAMEL": ("libconcurrentqueue-dev", []), "TBB": ("libtbb-dev", ["tbb"]),
-                 "GLIB": ("libglib2.0-dev", ["glib-2.0"]), "URCU": ("liburcu-dev", ["liburcu", "liburcu-cds"]), "CK": ("libck-dev", ["ck"])}
+    libraries = {"BOOST": ("libboost-dev", []), "MOODYCAMEL": ("libconcurrentqueue-dev", []),
+                 "TBB": ("libtbb-dev", ["tbb"]), "GLIB": ("libglib2.0-dev", ["glib-2.0"]),
+                 "URCU": ("liburcu-dev", ["liburcu", "liburcu-cds"]), "CK": ("libck-dev", ["ck"])}
     there = {name: links for name, (package, links) in libraries.items() if version(package)}
     links = [link for of_one in there.values() for link in of_one]
     flags = lambda kind: told(["pkg-config", kind, *links]).split() if links else []
     defines = [*more, *(f"-DHAS_{name}" for name in there)]
     objects = [name for name in ("ck", "urcu") if name.upper() in there]
     for name in objects:
-        told(["cc", "-std=gnu11", "-O2", *more, "-c", SOURCES / f"{name}.c", "-o", room / f"{name}.o", *flags("--cflags")])
+        told(["cc", "-std=gnu11", "-O2", *more, "-c", SOURCES / f"{name}.c", "-o", room / f"{name}.o",
+              *flags("--cflags")])
     sources = [SOURCES / name for name in (*main, "cpp.cpp", "from_c.cpp")]
-    told(["c++", "-std=c++17", "-O2", "-pthread", *defines, *flags("--cflags"), *sources, *[room / f"{name}.o" for name in objects],
+    told(["c++", "-std=c++17", "-O2", "-pthread", *defines, *flags("--cflags"), *sources,
+          *[room / f"{name}.o" for name in objects],
           "-o", room / "record", *flags("--libs"), "-lrt"])
     return [room / "record"]
 
@@ -241,14 +259,19 @@ def build_rust(_):
     (folder / "Cargo.lock").unlink(missing_ok=True)
     extra = {"flume": ", default-features = false", "tokio": ', default-features = false, features = ["sync"]'}
     wanted = "".join(f'{library} = {{ version = "*", optional = true{extra.get(library, "")} }}\n' for library in there)
-    features = "".join(f'{library} = ["dep:{library}"]\n' if library in there else f"{library} = []\n" for library in libraries)
+    features = "".join(f'{library} = ["dep:{library}"]\n' if library in there else f"{library} = []\n"
+                       for library in libraries)
     (folder / "Cargo.toml").write_text(
-        f'[package]\nname = "judged"\nversion = "0.1.0"\nedition = "2024"\n\n[workspace]\n\n[[bin]]\nname = "judged"\npath = "{SOURCES}/main.rs"\n\n'
+        '[package]\nname = "judged"\nversion = "0.1.0"\nedition = "2024"\n\n[workspace]\n\n'
+        f'[[bin]]\nname = "judged"\npath = "{SOURCES}/main.rs"\n\n'
         f'[dependencies]\nvahepito = {{ path = "{TOP}/bindings/rust" }}\n'
-        f'vahepito-record = {{ path = "{TOP}/bindings/rust/record", features = ["stops"] }}\n{wanted}\n[features]\n{features}')
-    debian = ["--config", 'source.crates-io.replace-with = "debian"', "--config", f'source.debian.directory = "{REGISTRY}"']
+        f'vahepito-record = {{ path = "{TOP}/bindings/rust/record", features = ["stops"] }}\n'
+        f'{wanted}\n[features]\n{features}')
+    debian = ["--config", 'source.crates-io.replace-with = "debian"', "--config",
+              f'source.debian.directory = "{REGISTRY}"']
     environment = os.environ | {"CARGO_TARGET_DIR": str(folder / "target")}
-    told(["cargo", *(debian if there else []), "--quiet", "--offline", "build", "--release", "--jobs", "1", "--features", ",".join(there)],
+    told(["cargo", *(debian if there else []), "--quiet", "--offline", "build", "--release", "--jobs", "1",
+          "--features", ",".join(there)],
          cwd=folder, env=environment)
     return [folder / "target/release/judged"]
 
@@ -311,7 +334,8 @@ def join_threads(log):
 
 def run_once(command, result, log, shape, calls, seed, stops, has_stops):
     """Records a run, and has it judged. Its verdict."""
-    words = [*command, result.queue.name, log, *map(str, shape), str(calls // sum(shape)), str(seed), *([str(int(stops))] * has_stops)]
+    words = [*command, result.queue.name, log, *map(str, shape), str(calls // sum(shape)), str(seed),
+             *([str(int(stops))] * has_stops)]
     done = subprocess.run(words, capture_output=True, text=True, timeout=LIMIT, check=False)
     if done.returncode:
         raise RuntimeError(done.stderr.strip() or f"exit status {done.returncode}")
@@ -335,7 +359,8 @@ def find_planted(command, result, log, calls, program):
     while time.monotonic() - start < PATIENCE:
         seed += 1
         if run_once(command, result, log, PLANTED_SHAPE, calls, seed, program.stops, program.stops) != "clean":
-            say(f"{result.language}: {result.queue.name}: found after {time.monotonic() - start:.0f} s, {result.runs} runs, {result.calls:,} calls")
+            say(f"{result.language}: {result.queue.name}: found after {time.monotonic() - start:.0f} s, {result.runs} "
+                f"runs, {result.calls:,} calls")
             return
 
 
@@ -417,7 +442,8 @@ def judge_program(program, short, seeds, skip):
             wrong = wrong_of(result)
             right &= wrong is None
             verdicts = ", ".join(f"{count} {verdict}" for verdict, count in result.verdicts.items())
-            say(f"{program.language}: {queue.name}: {result.runs} runs, {result.calls:,} calls: {verdicts}{f': WRONG: {wrong}' if wrong else ''}")
+            say(f"{program.language}: {queue.name}: {result.runs} runs, {result.calls:,} calls: "
+                f"{verdicts}{f': WRONG: {wrong}' if wrong else ''}")
             results.append(result)
     return results, right
 
@@ -427,7 +453,8 @@ def judge_program(program, short, seeds, skip):
 def verdict_text(result):
     counts = result.verdicts
     stopped = lambda verdict: f" ({result.with_stops[verdict]} with stops)" if result.stopped else ""
-    faults = ", ".join(f"{count} {verdict}{stopped(verdict)}" for verdict, count in sorted(counts.items()) if verdict != "clean")
+    faults = ", ".join(f"{count} {verdict}{stopped(verdict)}" for verdict, count in sorted(counts.items())
+                       if verdict != "clean")
     text = f"**{faults}**" + f", {counts['clean']} clean" * bool(counts["clean"]) if faults else "clean"
     if result.lanes:
         text += f"; by sender {result.lanes['clean']:,} of {sum(result.lanes.values()):,} lanes clean"
@@ -449,13 +476,15 @@ def about(results):
     load = ", ".join(f"{one:.2f}" for one in os.getloadavg())
     ccq = subprocess.run([PROGRAM, "--version"], capture_output=True, text=True, check=True).stdout.strip()
     models = re.findall(r"model name\s*: (.*)", Path("/proc/cpuinfo").read_text())
-    text = (f"{datetime.date.today()}, `{ccq}`: {len(results)} queues, {runs:,} runs, {calls:,} calls; {stopped:,} runs with stops. "
-                     f"{models[0] if models else platform.machine()}, two processors, Linux {platform.release()}, a load of {load} at the end.")
+    model = models[0] if models else platform.machine()
+    text = (f"{datetime.date.today()}, `{ccq}`: {len(results)} queues, {runs:,} runs, {calls:,} calls; {stopped:,} "
+            f"runs with stops. {model}, two processors, Linux {platform.release()}, a load of {load} at the end.")
     return textwrap.fill(text, 116, break_long_words=False, break_on_hyphens=False)
 
 
 def titled(results):
-    """The results with their titles, which have the name of the queue above in place of `the same`, and their versions."""
+    """The results with their titles, which have the name of the queue above in place of `the same`, and their
+    versions."""
     for result in results:
         title, package = result.queue.title, result.queue.package
         if not title.startswith("the same"):
@@ -471,7 +500,8 @@ def table(head, results):
         for result, title, known in titled(result for result in results if result.language == program.language):
             counts = f"{result.runs} ({result.stopped})" if program.stops else str(result.runs)
             if result.faults():
-                faults.append(f"| {title} | {known} | {counts} | {result.calls:,} | {verdict_text(result)} | {why(result)} |")
+                faults.append(f"| {title} | {known} | {counts} | {result.calls:,} | {verdict_text(result)} | "
+                              f"{why(result)} |")
             else:
                 clean.append(f"{title} ({known})" if known else title)
         if faults:
@@ -488,7 +518,8 @@ def keep(results):
     languages = {result.language for result in results}
     before = kept()[1] if KEPT.exists() else []
     results = [result for result in before if result.language not in languages] + results
-    told = [{"language": result.language, "name": result.queue.name, "runs": result.runs, "stopped": result.stopped, "calls": result.calls,
+    told = [{"language": result.language, "name": result.queue.name, "runs": result.runs, "stopped": result.stopped,
+             "calls": result.calls,
              "verdicts": result.verdicts, "with_stops": result.with_stops, "lanes": result.lanes} for result in results]
     KEPT.parent.mkdir(exist_ok=True)
     KEPT.write_text(json.dumps({"about": about(results), "results": told}))

@@ -1,23 +1,25 @@
 #!/usr/bin/env python3
 """Times the proved queue beside its peers, in one run, and writes the tables and pictures of docs/BENCH.md.
 
-    bench/peers/run.py [--seconds N] [--print | --all | --busy | --tail | --busy-tail | --steps | --unbounded | --pinned | --c] [--again]
+    bench/peers/run.py [--seconds N] [--print | --all | --busy | --tail | --busy-tail | --steps | --unbounded
+        | --pinned | --c] [--again]
 
 One command, in some N seconds (420 where no number is given; 120 are a short form, and 20 a trial), after the build. It
-takes crossbeam's, flume's and smol's queues from Debian's packages: those that aren't there it installs, where it is root
-and there is apt-get, and goes on without those that it can't have. The proved queue is linked from bindings/rust/lib.
+takes crossbeam's, flume's and smol's queues from Debian's packages: those that aren't there it installs, where it is
+root and there is apt-get, and goes on without those that it can't have. The proved queue is linked from
+bindings/rust/lib.
 
 A run is some rounds of bursts: each round runs each queue in each shape once, all of them in a random order, each in a
 process of its own. The medians of the rounds are told, and their quartiles. What others took of the processors
-meanwhile is measured and written beside them. --print writes nothing into docs, --again takes the figures of the last run.
-With --busy a process is busy on each processor meanwhile, and the table `busy` of docs/BENCH.md is written. With --tail
-the slowest calls are measured, and the table `tail` is written; with --busy-tail these with a process that is busy on each processor,
-and the table `busy_tail`. With --steps the exports are timed with the same atomic steps by hand, and the table `steps` is written.
-With --unbounded queues without a bound are timed, and the table `unbounded` is written. With --pinned short bursts of pinned threads
-are timed, of which those count in which no thread lost its processor, and the table `pinned` is written: also on a busy machine.
-With --c the queue of vahepito.h is timed beside queues of libraries for C and C++, with the adapters of bench/judged, and the
-table `c` is written.
---all measures all but the steps and the queues without a bound, in some N + 300 seconds, then writes README's table (bench/readme.py).
+meanwhile is measured and written beside them. --print writes nothing into docs, --again takes the figures of the last
+run. With --busy a process is busy on each processor meanwhile, and the table `busy` of docs/BENCH.md is written. With
+--tail the slowest calls are measured, and the table `tail` is written; with --busy-tail these with a process that is
+busy on each processor, and the table `busy_tail`. With --steps the exports are timed with the same atomic steps by
+hand, and the table `steps` is written. With --unbounded queues without a bound are timed, and the table `unbounded` is
+written. With --pinned short bursts of pinned threads are timed, of which those count in which no thread lost its
+processor, and the table `pinned` is written: also on a busy machine. With --c the queue of vahepito.h is timed beside
+queues of libraries for C and C++, with the adapters of bench/judged, and the table `c` is written. --all measures all
+but the steps and the queues without a bound, in some N + 300 seconds, then writes README's table (bench/readme.py).
 """
 import argparse
 import glob
@@ -49,8 +51,10 @@ PICTURES = os.path.join(TOP, "docs", "pictures")
 BEGIN, END = "<!-- bench/peers/run.py writes from here -->\n", "<!-- to here -->\n"
 REGISTRY = "/usr/share/cargo/registry"
 LIBRARIES = ["crossbeam-channel", "crossbeam-queue", "flume", "async-channel", "concurrent-queue"]
-OURS, POLLED, OF_STD = ["words", "C", "typed"], ["crossbeam-queue", "concurrent-queue"], ["sync_channel", "Mutex+Condvar"]
-SHOWN = {"words": "**words**", "C": "**C**", "typed": "**typed**", "strict": "typed, strict", "crossbeam-queue": "crossbeam's ArrayQueue"}
+OURS, POLLED = ["words", "C", "typed"], ["crossbeam-queue", "concurrent-queue"]
+OF_STD = ["sync_channel", "Mutex+Condvar"]
+SHOWN = {"words": "**words**", "C": "**C**", "typed": "**typed**", "strict": "typed, strict",
+         "crossbeam-queue": "crossbeam's ArrayQueue"}
 BOUND = 64
 
 
@@ -79,19 +83,23 @@ def install():
 
 
 def build(there):
-    """The program, of the libraries that are there (its package names no other ones), and the program over the strict archive."""
+    """The program, of the libraries that are there (its package names no other ones), and the program over the strict
+    archive."""
     os.makedirs(os.path.join(OUT, ".cargo"), exist_ok=True)
     wanted, features = "", ""
     for library in LIBRARIES:
         if library in there:
-            wanted += f'{library} = {{ version = "*", optional = true, default-features = {"false" if library == "flume" else "true"} }}\n'
+            default = "false" if library == "flume" else "true"
+            wanted += f'{library} = {{ version = "*", optional = true, default-features = {default} }}\n'
         features += f'{library} = ["dep:{library}"]\n' if library in there else f"{library} = []\n"
     with open(os.path.join(OUT, "Cargo.toml"), "w") as file:
         file.write('[package]\nname = "peers"\nversion = "0.1.0"\nedition = "2024"\n\n[workspace]\n\n'
                    '[[bin]]\nname = "peers"\npath = "../src/main.rs"\n\n'
-                   '[dependencies]\nvahepito = { path = "../../../bindings/rust" }\n' + wanted + "\n[features]\n" + features)
+                   '[dependencies]\nvahepito = { path = "../../../bindings/rust" }\n' + wanted
+                   + "\n[features]\n" + features)
     with open(os.path.join(OUT, ".cargo", "config.toml"), "w") as file:
-        file.write(f'[source.crates-io]\nreplace-with = "debian"\n\n[source.debian]\ndirectory = "{REGISTRY}"\n' if there else "")
+        file.write(f'[source.crates-io]\nreplace-with = "debian"\n\n[source.debian]\ndirectory = "{REGISTRY}"\n'
+                   if there else "")
     lock = os.path.join(OUT, "Cargo.lock")
     if os.path.exists(lock):
         os.remove(lock)
@@ -100,7 +108,8 @@ def build(there):
     subprocess.run(["ar", "rcs", archive, f"{OUT}/vahepito_queue.o"], check=True)
     with_c = {**os.environ, "RUSTFLAGS": f"-L native={OUT}"}
     for target, features in (("target", there), ("strict", [*there, "vahepito/strict"])):
-        command = ["cargo", "build", "-q", "--release", "--offline", "--target-dir", target, "--features", ",".join(features)]
+        command = ["cargo", "build", "-q", "--release", "--offline", "--target-dir", target, "--features",
+                   ",".join(features)]
         subprocess.run(command, cwd=OUT, check=True, env=with_c)
     return [os.path.join(OUT, target, "release", "peers") for target in ("target", "strict")]
 
@@ -134,7 +143,8 @@ def processes():
                 text = file.read()
         except OSError:
             continue
-        number, name, words = int(text.split()[0]), text[text.index("(") + 1:text.rindex(")")], text[text.rindex(")") + 2:].split()
+        number, name = int(text.split()[0]), text[text.index("(") + 1:text.rindex(")")]
+        words = text[text.rindex(")") + 2:].split()
         if number != os.getpid():
             spent[number, name] = (int(words[11]) + int(words[12])) / os.sysconf("SC_CLK_TCK")
     return spent
@@ -159,11 +169,15 @@ class Watch:
         for key, spent in processes().items():
             names[key[1]] = names.get(key[1], 0) + (spent - self.processes.get(key, 0)) / seconds
         busiest = sorted(names.items(), key=lambda it: -it[1])[:3]
-        mean, worst = (pick(others for others, _ in self.rounds) for pick in (lambda it: statistics.mean(list(it)), max))
-        model = next((line.split(":")[1].strip() for line in open("/proc/cpuinfo") if line.startswith("model name")), "unknown")
+        mean, worst = (pick(others for others, _ in self.rounds)
+                       for pick in (lambda it: statistics.mean(list(it)), max))
+        model = next((line.split(":")[1].strip() for line in open("/proc/cpuinfo") if line.startswith("model name")),
+                     "unknown")
         return {
-            "date": time.strftime("%Y-%m-%d %H:%M UTC", time.gmtime(self.start)), "seconds": round(seconds), "rounds": len(self.rounds),
-            "processors": os.cpu_count(), "usable": len(os.sched_getaffinity(0)), "model": model, "kernel": os.uname().release,
+            "date": time.strftime("%Y-%m-%d %H:%M UTC", time.gmtime(self.start)), "seconds": round(seconds),
+            "rounds": len(self.rounds),
+            "processors": os.cpu_count(), "usable": len(os.sched_getaffinity(0)), "model": model,
+            "kernel": os.uname().release,
             "load": [self.load, os.getloadavg()], "others": mean, "worst": worst,
             "stolen": statistics.mean(stolen for _, stolen in self.rounds),
             "busiest": [(name, share) for name, share in busiest if share >= 0.01],
@@ -187,33 +201,37 @@ def cell(mode, queue, it, length=1.0):
 
 
 def tables(queues):
-    """Name, title, whether columns are joined in the picture, unit, what is told of it, and {row: {column: (cell, which number)}}."""
+    """Name, title, whether columns are joined in the picture, unit, what is told of it, and {row: {column: (cell, which
+    number)}}."""
     waiting = [queue for queue in queues if queue not in [*POLLED, "words"]]
     at = lambda n: f"{n[0]}/{n[1]}"
     return [
         ("clock", "An item's time, by the clock", True, "ns an item",
-         "Capacity 64, the blocking calls; *one thread* is a send and the take of its item, by the calls that don't wait. Columns are "
-         "senders/receivers, each on a thread of its own.",
-         {q: {"one thread": (cell("alone", q, shape(1, 1), 0.3), 0), **{at(n): (cell("pass", q, shape(*n)), 0) for n in PAIRS}} for q in queues}),
+         "Capacity 64, the blocking calls; *one thread* is a send and the take of its item, by the calls that don't "
+         "wait. Columns are senders/receivers, each on a thread of its own.",
+         {q: {"one thread": (cell("alone", q, shape(1, 1), 0.3), 0),
+              **{at(n): (cell("pass", q, shape(*n)), 0) for n in PAIRS}} for q in queues}),
         ("processors", "An item's time, of all processors together", True, "ns an item",
          "The same bursts.",
          {q: {at(n): (cell("pass", q, shape(*n)), 1) for n in PAIRS} for q in queues}),
         ("calls", "One call's time", False, "ns",
-         "`try_send` that is accepted and `try_recv` that gets an item, with 0 to 10 us of other work before each call; capacity 64. The "
-         "clock's own time, about 20 to 50 ns, is in each. 4/4 are more threads than four processors.",
+         "`try_send` that is accepted and `try_recv` that gets an item, with 0 to 10 us of other work before each "
+         "call; capacity 64. The clock's own time, about 20 to 50 ns, is in each. 4/4 are more threads than four "
+         "processors.",
          {q: {f"{at(n)} {name}": (cell("calls", q, shape(*n)), k) for n in ((2, 2), (4, 4))
               for k, name in enumerate(("send p50", "send p99", "take p50", "take p99"))} for q in queues}),
         ("paced", "A receiver that waits, an item a millisecond", False, "us",
-         "p50 and p99 from before the send to after the take, and the processors' time of both threads for an item. Queues that don't wait, "
-         "and the exports (*words*), aren't in it.",
-         {q: {name: (cell("paced", q, shape(1, 1), 5), k) for k, name in enumerate(("p50", "p99", "receiver's processor", "sender's processor"))}
+         "p50 and p99 from before the send to after the take, and the processors' time of both threads for an item. "
+         "Queues that don't wait, and the exports (*words*), aren't in it.",
+         {q: {name: (cell("paced", q, shape(1, 1), 5), k)
+              for k, name in enumerate(("p50", "p99", "receiver's processor", "sender's processor"))}
           for q in waiting}),
         ("idle", "Receivers that wait for nothing", False, "thousandths of a processor, each",
          "1 or 8 receivers of an empty queue, into which nothing is sent.",
          {q: {f"{n} waiting": (cell("idle", q, shape(1, n), 2), 0) for n in (1, 8)} for q in waiting}),
         ("full", "A send that finds the queue full, by capacity", True, "ns a call",
-         "`try_send` on one thread, again and again. This queue looks at all its nodes. A look takes up to twice as long if the linker puts "
-         "a jump of this loop across 32 bytes (Intel's erratum of conditional jumps).",
+         "`try_send` on one thread, again and again. This queue looks at all its nodes. A look takes up to twice as "
+         "long if the linker puts a jump of this loop across 32 bytes (Intel's erratum of conditional jumps).",
          {q: {str(c): (cell("full", q, shape(1, 1, c), 0.2), 0) for c in CAPACITIES} for q in queues}),
         ("bounds", "The bound, by threads", True, "ns an item",
          "The exports with capacity 64 and bounds of 4 to 1,024; the crate's own is 64.",
@@ -247,7 +265,8 @@ def measure(programs, all_tables, seconds):
                 print(f"peers: {' '.join(command[1:])} failed: {fault}", flush=True)
         watch.round()
         took = time.time() - began
-        print(f"peers: round {number + 1} of {rounds} in {took:.0f} s, others had {watch.rounds[-1][0]:.2f} processors", flush=True)
+        others = watch.rounds[-1][0]
+        print(f"peers: round {number + 1} of {rounds} in {took:.0f} s, others had {others:.2f} processors", flush=True)
     return {"machine": watch.told(), "length": length, "numbers": [[one, of] for one, of in numbers.items()]}
 
 
@@ -272,22 +291,27 @@ def wrapped(text):
 def text_of(machine, length, versions, all_tables, numbers):
     """The section of docs/BENCH.md."""
     idle = machine["others"] < 0.1
-    busiest = ", ".join(f"`{name}` {share:.2f}" for name, share in machine["busiest"]) or "none with a hundredth of a processor"
+    busiest = ", ".join(f"`{name}` {share:.2f}"
+                        for name, share in machine["busiest"]) or "none with a hundredth of a processor"
     loads = " and ".join(", ".join(f"{one:.2f}" for one in load) for load in machine["load"])
     queues = ", ".join(f"{library} {number}" for library, number in versions.items())
     queues += " (as Debian has them), " if queues else ""
     lines = [wrapped(
-        f"{machine['date']}, {machine['rounds']} rounds in {machine['seconds']} s, a burst of {length:.0f} ms in each: {machine['model']}, "
-        f"{machine['usable']} of {machine['processors']} processors, Linux {machine['kernel']}. "
+        f"{machine['date']}, {machine['rounds']} rounds in {machine['seconds']} s, a burst of {length:.0f} ms in each: "
+        f"{machine['model']}, {machine['usable']} of {machine['processors']} processors, Linux {machine['kernel']}. "
         f"The load was {loads} before and after (of 1, 5 and 15 minutes); "
-        + ("the machine was idle otherwise: " if idle else "**others ran meanwhile, so compare within a column alone**: ")
-        + f"other processes had {machine['others']:.2f} processors in the mean and {machine['worst']:.2f} in the worst round "
-        f"({busiest}), and the host took {machine['stolen']:.2f}."), "", wrapped(
-        f"*words* are the exports of the library, with bodies of one word and a caller of the bench's own, whose waits are counts; *C* is the queue of `bindings/c`, and *typed* the channel of any type of `bindings/rust`, with a bound of {BOUND}. "
+        + ("the machine was idle otherwise: " if idle
+           else "**others ran meanwhile, so compare within a column alone**: ")
+        + f"other processes had {machine['others']:.2f} processors in the mean and {machine['worst']:.2f} in the worst "
+        f"round ({busiest}), and the host took {machine['stolen']:.2f}."), "", wrapped(
+        f"*words* are the exports of the library, with bodies of one word and a caller of the bench's own, whose waits "
+        f"are counts; *C* is the queue of `bindings/c`, and *typed* the channel of any type of `bindings/rust`, with a "
+        f"bound of {BOUND}. "
         "Both are over the default archive, and *typed, strict* is the channel over the strict one. "
-        f"The peers are {queues}std's `sync_channel`, whose one receiver is shared under a lock, and std's `Mutex` with two "
-        "`Condvar`s round a `VecDeque`, which notifies only if a thread waits. ArrayQueue and concurrent-queue have no calls that wait: they are tried again, first with "
-        "spinning between two tries and then with yields. Cells have the medians of the rounds, the pictures the quartiles too."), "",
+        f"The peers are {queues}std's `sync_channel`, whose one receiver is shared under a lock, and std's `Mutex` "
+        "with two `Condvar`s round a `VecDeque`, which notifies only if a thread waits. ArrayQueue and "
+        "concurrent-queue have no calls that wait: they are tried again, first with spinning between two tries and "
+        "then with yields. Cells have the medians of the rounds, the pictures the quartiles too."), "",
     ]
     for name, title, _, unit, about, rows in all_tables:
         columns = list(next(iter(rows.values())))
@@ -327,8 +351,8 @@ SLICED = "typed, slice of 12 ms"
 
 # What docs/BENCH.md gets once the slowest calls were measured beside busy processes.
 BUSY_TAIL = """
-`bench/peers/run.py --busy-tail`: the same with a busy process on each processor, ns. ArrayQueue's receivers don't block: they try, spin and
-yield.
+`bench/peers/run.py --busy-tail`: the same with a busy process on each processor, ns. ArrayQueue's receivers don't
+block: they try, spin and yield.
 
 <!-- busy_tail -->
 <!-- end of busy_tail -->
@@ -336,8 +360,8 @@ yield.
 
 
 def slowest_calls(programs, queues, seconds, counts):
-    """The rows of the tables `tail` and `busy_tail`: percentiles of the time of a send that doesn't wait, beside four receivers that
-    block."""
+    """The rows of the tables `tail` and `busy_tail`: percentiles of the time of a send that doesn't wait, beside four
+    receivers that block."""
     cells, start, rounds = {(count, queue): [] for count in counts for queue in queues}, time.time(), 0
     while time.time() - start < seconds:
         for count, queue in random.sample(list(cells), len(cells)):
@@ -350,7 +374,8 @@ def slowest_calls(programs, queues, seconds, counts):
     print(f"peers: {rounds} rounds of the slowest calls, and a load of {load} at their end")
     median = lambda count, queue, at: short(statistics.median(burst[at] for burst in cells[count, queue]))
     parts = {"p99": 1, "p99.9": 2, "p99.99": 3}
-    rows = [[part, str(count), *(median(count, queue, at) for queue in queues)] for count in counts for part, at in parts.items()]
+    rows = [[part, str(count), *(median(count, queue, at) for queue in queues)] for count in counts
+            for part, at in parts.items()]
     return [["part", "senders", *queues], *rows]
 
 
@@ -363,7 +388,9 @@ def write_busy_tail(programs, there, seconds):
     """Writes the table, after that of the idle machine if docs/BENCH.md has none yet."""
     wanted = ["crossbeam-channel", "crossbeam-queue", "async-channel"]
     with busy_processors():
-        rows = slowest_calls(programs, ["typed", SLICED, *(queue for queue in wanted if queue in there), "Mutex+Condvar"], seconds, (4, 16, 64))
+        rows = slowest_calls(programs,
+                             ["typed", SLICED, *(queue for queue in wanted if queue in there), "Mutex+Condvar"],
+                             seconds, (4, 16, 64))
     with open(BENCH) as file:
         text = file.read()
     if "<!-- busy_tail -->" not in text:
@@ -375,8 +402,8 @@ def write_busy_tail(programs, there, seconds):
 # Tables of their own: a row for each shape, a column for each queue.
 
 def timed(shapes, queues, seconds):
-    """The times of an item, by shape and queue. A shape has a mode, numbers, and whether a queue is timed in it; a queue has
-    the program, its name there, and its capacity."""
+    """The times of an item, by shape and queue. A shape has a mode, numbers, and whether a queue is timed in it; a
+    queue has the program, its name there, and its capacity."""
     times = {(name, queue): [] for name, (_, _, has) in shapes.items() for queue in queues if has(queue)}
     start = time.time()
     while time.time() - start < seconds:
@@ -399,13 +426,16 @@ def quotient(ones, others):
 def by_hand(programs, seconds):
     """The rows of the table `steps`: an item's time by the exports over both archives and by the same steps by hand."""
     default, strict = programs
-    queues = {"words": (default, "words", 64), "words, strict": (strict, "words", 64), "by hand": (default, "steps", 64)}
+    queues = {"words": (default, "words", 64), "words, strict": (strict, "words", 64),
+              "by hand": (default, "steps", 64)}
     each = lambda queue: True
-    shapes = {"one thread": ("alone", shape(1, 1), each), **{f"{n[0]}/{n[1]}": ("pass", shape(*n), each) for n in PAIRS[:4]}}
+    shapes = {"one thread": ("alone", shape(1, 1), each),
+              **{f"{n[0]}/{n[1]}": ("pass", shape(*n), each) for n in PAIRS[:4]}}
     times = timed(shapes, queues, seconds)
     rows = [["senders/receivers", *queues, "strict / by hand"]]
     for name in shapes:
-        rows.append([name, *(spread(times[name, queue]) for queue in queues), quotient(times[name, "words, strict"], times[name, "by hand"])])
+        rows.append([name, *(spread(times[name, queue]) for queue in queues),
+                     quotient(times[name, "words, strict"], times[name, "by hand"])])
     return rows
 
 
@@ -417,7 +447,8 @@ def in_short_bursts(programs, there, seconds):
     each = lambda queue: True
     shapes = {f"{n}/{n}": ("pinned", shape(n, n), each) for n in (1, 2) if 2 * n <= os.cpu_count()}
     times = timed(shapes, queues, seconds)
-    return [["senders/receivers", *queues], *([name, *(spread(times[name, queue]) for queue in queues)] for name in shapes)]
+    return [["senders/receivers", *queues],
+            *([name, *(spread(times[name, queue]) for queue in queues)] for name in shapes)]
 
 
 def without_bound(programs, there, seconds):
@@ -469,8 +500,9 @@ def build_in_c():
 
 
 def in_c(seconds):
-    """The rows of the table `c`."""
+    """The rows of the table `c`, whose head has the load before and after."""
     program, names = build_in_c()
+    load = os.getloadavg()[0]
     queues = {name: (program, name, 64) for name in names}
     each, waits = lambda queue: True, lambda queue: queue in WAIT_IN_C
     shapes = {
@@ -484,7 +516,7 @@ def in_c(seconds):
     told = lambda it: "" if it is None else f"{short(it[1])} ({short(it[0])}–{short(it[2])})"
     cells = {key: told(quartiles({key: [[time] for time in of]}, key, 0)) for key, of in times.items()}
     rows = [[at, *(cells.get((at, name), "") for name in names)] for at in shapes]
-    return [["", *(IN_C[name] for name in names)], *rows]
+    return [[f"load {load:.2f}, {os.getloadavg()[0]:.2f}", *(IN_C[name] for name in names)], *rows]
 
 
 # The pictures.
@@ -492,8 +524,10 @@ def in_c(seconds):
 def picture(title, joined, unit, rows, numbers):
     """The medians and quartiles of a table."""
     columns = list(next(iter(rows.values())))
-    points = {row: [quartiles(numbers, *cells[column]) if column in cells else None for column in columns] for row, cells in rows.items()}
-    return draw(title, joined, unit, columns, points, [*OURS, *LIBRARIES, *OF_STD], OURS, {row: SHOWN.get(row, row).strip("*") for row in rows})
+    points = {row: [quartiles(numbers, *cells[column]) if column in cells else None for column in columns]
+              for row, cells in rows.items()}
+    return draw(title, joined, unit, columns, points, [*OURS, *LIBRARIES, *OF_STD], OURS,
+                {row: SHOWN.get(row, row).strip("*") for row in rows})
 
 
 def main():

@@ -142,8 +142,8 @@ fn blocked<C: Channel>(time: Duration) -> f64 {
     waits.join().unwrap()
 }
 
-/// Sixteen threads send without a wait, with 0 to 10 us of other work before each call, to four that block: the time of a call below which
-/// this number of ten thousand lie.
+/// Sixteen threads send without a wait, with 0 to 10 us of other work before each call, to four that block: the time of
+/// a call below which this number of ten thousand lie.
 fn slowest<C: Channel>(part: usize, time: Duration) -> f64 {
     let (sender, receiver) = C::open(1024);
     let stop = &AtomicBool::new(false);

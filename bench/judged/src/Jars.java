@@ -11,7 +11,8 @@ public class Jars {
         long item;
     }
 
-    /** LMAX's ring for many senders; its one consumer is under a lock here, and asks whether the next place is published. */
+    /** LMAX's ring for many senders; its one consumer is under a lock here, and asks whether the next place is
+     * published. */
     static class Ring implements Judged.Queue {
         final RingBuffer<Event> ring = RingBuffer.createMultiProducer(Event::new, Judged.CAPACITY);
         final Sequence taken = new Sequence(-1);

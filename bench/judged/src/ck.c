@@ -1,5 +1,5 @@
-/* The queues of Concurrency Kit. Nodes of its fifos are not freed: a run is short, and that needs a scheme of its own. No item is a
- * null pointer: each is one more. */
+/* The queues of Concurrency Kit. Nodes of its fifos are not freed: a run is short, and that needs a scheme of its own.
+ * No item is a null pointer: each is one more. */
 #include "c.h"
 
 #include <ck_fifo.h>

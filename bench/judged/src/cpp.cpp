@@ -1,4 +1,5 @@
-// The queues in C++: those of libraries that HAS_ names, those of the system, a control under a lock, and planted faults.
+// The queues in C++: those of libraries that HAS_ names, those of the system, a control under a lock, and planted
+// faults.
 #include "queues.hpp"
 
 #include <atomic>
@@ -26,7 +27,8 @@ constexpr size_t CAPACITY = PLACES;
 }
 
 // A control: a deque under a lock. It can be planted with faults: each thousandth item is lost, given twice, or
-// overtaken by the next; or a send finds the empty queue full. What a fault needs, a second item or none, is waited for.
+// overtaken by the next; or a send finds the empty queue full. What a fault needs, a second item or none, is waited
+// for.
 struct Locked : Queue {
     enum Fault { NONE, LOST, TWICE, OVERTAKEN, FULL_EARLY };
     explicit Locked(Fault its_fault) : fault(its_fault) {}
@@ -54,8 +56,9 @@ struct Locked : Queue {
     uint64_t sends = 0, takes = 0;
 };
 
-// Dmitry Vyukov's bounded queue as published (1024cores.net, "Bounded MPMC queue"). A send that was interrupted after it has claimed
-// its place makes takes find none though items of later sends are there; and a take so makes sends find no room.
+// Dmitry Vyukov's bounded queue as published (1024cores.net, "Bounded MPMC queue"). A send that was interrupted after
+// it has claimed its place makes takes find none though items of later sends are there; and a take so makes sends find
+// no room.
 struct Vyukov : Queue {
     struct Cell {
         std::atomic<size_t> sequence;

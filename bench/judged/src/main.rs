@@ -2,8 +2,9 @@
 //!
 //!     rust QUEUE LOG SENDERS TAKERS CALLS SEED STOPS
 //!
-//! Each thread makes this number of calls; if STOPS is 1, threads are stopped in the middle of them. A queue whose name ends in
-//! `_closed` is closed by the first sender near the end. At the end the items that are left are taken, until two takes have found none.
+//! Each thread makes this number of calls; if STOPS is 1, threads are stopped in the middle of them. A queue whose name
+//! ends in `_closed` is closed by the first sender near the end. At the end the items that are left are taken, until
+//! two takes have found none.
 use std::collections::VecDeque;
 use std::io;
 use std::sync::atomic::{AtomicU64, Ordering};
@@ -14,7 +15,8 @@ use vahepito_record::{Log, Recorder, Sent, Taken};
 
 const CAPACITY: usize = 16;
 
-/// How long a thread sleeps that found no item or no room. It doesn't yield: on a busy machine a yield takes far longer.
+/// How long a thread sleeps that found no item or no room. It doesn't yield: on a busy machine a yield takes far
+/// longer.
 const PAUSE: Duration = Duration::from_micros(20);
 
 /// A queue of numbers that many threads share. No call waits.
@@ -78,8 +80,8 @@ impl Queue for Reopened {
     }
 }
 
-/// Dmitry Vyukov's bounded queue as published (1024cores.net, "Bounded MPMC queue"), but for stronger orders. A send that was
-/// interrupted after it has claimed its place makes takes find none though items of later sends are there.
+/// Dmitry Vyukov's bounded queue as published (1024cores.net, "Bounded MPMC queue"), but for stronger orders. A send
+/// that was interrupted after it has claimed its place makes takes find none though items of later sends are there.
 struct Vyukov {
     /// The turn of each place, and its item.
     places: Vec<(AtomicU64, AtomicU64)>,
@@ -98,7 +100,8 @@ impl Vyukov {
         }
     }
 
-    /// The number and the place of the next call, whose turn has to be its number and `shift` more; None if it is behind.
+    /// The number and the place of the next call, whose turn has to be its number and `shift` more; None if it is
+    /// behind.
     fn claim(&self, next: &AtomicU64, shift: u64) -> Option<(u64, &(AtomicU64, AtomicU64))> {
         let mut at = next.load(Ordering::SeqCst);
         loop {

@@ -2,8 +2,9 @@
 //
 //     record QUEUE LOG SENDERS TAKERS CALLS SEED STOPS
 //
-// Each thread makes this number of calls; if STOPS is 1, threads are stopped in the middle of them. At the end the items that are left
-// are taken, until two takes have found none. Exit status 2 if there is no such queue, 1 if the log isn't whole.
+// Each thread makes this number of calls; if STOPS is 1, threads are stopped in the middle of them. At the end the
+// items that are left are taken, until two takes have found none. Exit status 2 if there is no such queue, 1 if the log
+// isn't whole.
 #define VAHEPITO_RECORD_STOPS
 #include "../../../bindings/c/vahepito_record.h"
 #include "queues.hpp"
@@ -15,7 +16,8 @@
 
 static vahepito_log calls;
 
-// How long a thread sleeps that found no item or no room, in nanoseconds. It doesn't yield: on a busy machine a yield takes far longer.
+// How long a thread sleeps that found no item or no room, in nanoseconds. It doesn't yield: on a busy machine a yield
+// takes far longer.
 constexpr uint64_t PAUSE = 20000;
 
 // A number that changes with each call.

@@ -46,24 +46,24 @@ impl Drop for Opened {
     }
 }
 
-/// The last sender that is dropped closes the queue, by the count of the second one.
-pub struct Sender(Arc<Opened>, Arc<()>);
+/// What the senders share. Its drop, with that of the last sender, closes the queue.
+struct Senders(Arc<Opened>);
+
+pub struct Sender(Arc<Senders>);
 
 pub struct Receiver(Arc<Opened>);
 
-impl Drop for Sender {
+impl Drop for Senders {
     fn drop(&mut self) {
-        if Arc::get_mut(&mut self.1).is_some() {
-            // SAFETY: the queue is open.
-            unsafe { vahepito_close(self.0.0, null_mut()) };
-        }
+        // SAFETY: the queue is open.
+        unsafe { vahepito_close(self.0.0, null_mut()) };
     }
 }
 
 impl Sender {
     fn send_by(&self, send: Send, body: u64) -> bool {
         // SAFETY: the queue is open, and a place isn't asked for.
-        unsafe { send(self.0.0, body, null_mut()) == ACCEPTED }
+        unsafe { send(self.0.0.0, body, null_mut()) == ACCEPTED }
     }
 }
 
@@ -83,10 +83,8 @@ impl Queue for C {
         // SAFETY: the pointer is looked at.
         let opened = Arc::new(Opened(unsafe { vahepito_create(capacity as u32) }));
         assert!(!opened.0.is_null());
-        let sender = Sender(opened.clone(), Arc::new(()));
-        let senders = (1..senders).map(|_| Sender(opened.clone(), sender.1.clone()));
-        let mut senders: Vec<_> = senders.collect();
-        senders.push(sender);
+        let all = Arc::new(Senders(opened.clone()));
+        let senders = (0..senders).map(|_| Sender(all.clone())).collect();
         let receivers = (0..receivers).map(|_| Receiver(opened.clone())).collect();
         (senders, receivers)
     }

@@ -1,5 +1,5 @@
-//! Short bursts of pinned threads. A burst counts only if no thread lost its processor in it, so a busy machine gives the
-//! figures of an idle one: the median and the quartiles of the nanoseconds of an item, and how many bursts counted.
+//! Short bursts of pinned threads. A burst counts only if no thread lost its processor in it, so a busy machine gives
+//! the figures of an idle one: the median and the quartiles of the nanoseconds of an item, and how many bursts counted.
 use crate::queues::Queue;
 use crate::timed::percentile;
 use std::hint::{black_box, spin_loop};

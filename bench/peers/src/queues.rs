@@ -10,7 +10,8 @@ pub type Ends<Q> = (Vec<<Q as Queue>::Sender>, Vec<<Q as Queue>::Receiver>);
 pub trait Queue: Sized {
     type Sender: Send;
     type Receiver: Send;
-    /// This number of each. With capacity 0 it holds any number of items, if it can. The bound is for those alone that have one.
+    /// This number of each. With capacity 0 it holds any number of items, if it can. The bound is for those alone that
+    /// have one.
     fn open(senders: usize, receivers: usize, capacity: usize, bound: u32) -> Ends<Self>;
     fn send(sender: &mut Self::Sender, body: u64);
     /// None where the queue is closed and empty.
@@ -139,8 +140,8 @@ impl Queue for Std {
     }
 }
 
-/// A `VecDeque` under std's lock, with its two reasons to wait. A wake-up costs a call of the system, so the threads that wait are
-/// counted, and only these are woken.
+/// A `VecDeque` under std's lock, with its two reasons to wait. A wake-up costs a call of the system, so the threads
+/// that wait are counted, and only these are woken.
 pub struct Locked {
     inner: Mutex<Inner>,
     capacity: usize,

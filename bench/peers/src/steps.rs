@@ -1,5 +1,5 @@
-//! The queue's atomic steps by hand: the same words in the same slots, sequentially consistent, with nothing proved; and the
-//! queue of them that is timed, which waits as that of the exports does.
+//! The queue's atomic steps by hand: the same words in the same slots, sequentially consistent, with nothing proved;
+//! and the queue of them that is timed, which waits as that of the exports does.
 use crate::exports::Backoff;
 use crate::queues::{self, Ends};
 use std::hint::black_box;

@@ -6,8 +6,8 @@
 // It prints one number. `alone`: a send and its take on one thread, in ns of its processor. `pass`: an item's time by
 // the clock, in ns. An item a millisecond to a receiver that waits: `p50` and `p99` from before its send to after its
 // take, and `processor`, the receiver's time for each, in us. `idle`: what receivers of an empty queue take of a
-// processor, in thousandths, each. The capacity is PLACES, and the bound isn't looked at. Queues without calls that wait
-// are tried again: 64 times with a pause between two tries, and then with yields.
+// processor, in thousandths, each. The capacity is PLACES, and the bound isn't looked at. Queues without calls that
+// wait are tried again: 64 times with a pause between two tries, and then with yields.
 #include "queues.hpp"
 #include "vahepito.h"
 

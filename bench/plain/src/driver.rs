@@ -1,5 +1,5 @@
-//! The driver by hand over a Mutex with two Condvars: threads that send beside threads that take, each with its receipts, and
-//! an audit of them all by sorting.
+//! The driver by hand over a Mutex with two Condvars: threads that send beside threads that take, each with its
+//! receipts, and an audit of them all by sorting.
 use std::collections::VecDeque;
 use std::sync::{Condvar, Mutex};
 use std::thread;
@@ -76,7 +76,8 @@ pub fn drive(senders: usize, receivers: usize, capacity: usize, items: u64) {
     let (mut sent, mut taken) = thread::scope(|scope| {
         let queue = &queue;
         let takers: Vec<_> = (0..receivers).map(|_| scope.spawn(move || take_all(queue))).collect();
-        let sending: Vec<_> = (1..=senders as u32).map(|s| scope.spawn(move || send_all(queue, s, capacity, items))).collect();
+        let send = |s| scope.spawn(move || send_all(queue, s, capacity, items));
+        let sending: Vec<_> = (1..=senders as u32).map(send).collect();
         let sent = sending.into_iter().flat_map(|thread| thread.join().unwrap()).collect::<Vec<_>>();
         queue.state.lock().unwrap().closed = true;
         queue.not_empty.notify_all();

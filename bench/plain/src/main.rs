@@ -1,4 +1,5 @@
-//! The driver by hand: `plain drive SENDERS RECEIVERS CAPACITY ITEMS` has each sender send this number of items, and prints what
+//! The driver by hand: `plain drive SENDERS RECEIVERS CAPACITY ITEMS` has each sender send this number of items, and
+//! prints what
 //! `ccq drive` prints. `bench/drive.py` times both.
 mod driver;
 

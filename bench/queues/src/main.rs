@@ -1,6 +1,6 @@
-//! One queue with groups of one receiver each, and as many separate queues to which the same senders send each item: each
-//! round passes the items through both once, and the medians of the rounds are printed, in nanoseconds an item of the
-//! clock, and in brackets of all processors.
+//! One queue with groups of one receiver each, and as many separate queues to which the same senders send each item:
+//! each round passes the items through both once, and the medians of the rounds are printed, in nanoseconds an item of
+//! the clock, and in brackets of all processors.
 //!
 //!     cargo run --release --offline [-- --rounds N] [--items N]
 //!
