@@ -117,8 +117,8 @@ ahead_is_bounded c moves checked run x ok k = ahead_most c x k (reached c moves)
 few_open : (c : Setting) (x : Chain) (s : State) → Holds c x s → length (calls_on x s.history) ≤ length (answers_on x s.history) + members c x
 few_open c x s w =
     let few : w.ghost.calls - w.ghost.marked ≤ members c x = covered (members c x) (w.ghost.calls - w.ghost.marked) (λ p. w.ghost.at p - w.ghost.marked) (λ n. w.ghost.pass_of (w.ghost.marked + n))
-        (λ n less. w.inv.calls.open_pass (w.ghost.marked + n) (omega arith) (omega (arith, less)))
-        (λ n less. omega (arith, w.inv.calls.open_at (w.ghost.marked + n) (omega arith) (omega (arith, less)))) in
+    (λ n less. w.inv.calls.open_pass (w.ghost.marked + n) (omega arith) (omega (arith, less)))
+    (λ n less. omega (arith, w.inv.calls.open_at (w.ghost.marked + n) (omega arith) (omega (arith, less)))) in
     omega (arith, few, w.ties.calls_are, w.ties.answers_are, w.inv.calls.in_order)
 
 pub open_calls_are_few : OpenCallsAreFew
