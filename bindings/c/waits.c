@@ -257,9 +257,10 @@ static void moments(void) {
     check(vahepito_take_until(queue, 1, &item, &moment, &number) == VAHEPITO_EMPTY, "the moment is over");
     check(item.words[0] == 0 && number == 0, "and there is no item");
     check(vahepito_take_until(queue, 1, NULL, &wrong, NULL) == VAHEPITO_EMPTY, "no such moment comes");
+    const time_t last = (time_t)(UINT64_MAX / 1000000000), before = vahepito_after(0).tv_sec;
     moment = vahepito_after(UINT64_MAX);
     check(moment.tv_nsec >= 0 && moment.tv_nsec < 1000000000, "the last moment has nanoseconds that are some");
-    check((uint64_t)(moment.tv_sec - vahepito_after(0).tv_sec) - UINT64_MAX / 1000000000 <= 1,
+    check(moment.tv_sec - before >= last && moment.tv_sec - vahepito_after(0).tv_sec <= last + 1,
           "and comes in 584 years");
     const uint64_t now = time_of(CLOCK_MONOTONIC);
     moment = vahepito_after(999999999);
