@@ -81,9 +81,13 @@ static int opened_poll(const struct one *it) {
     return place;
 }
 
+/* If the process is stopped and goes on, epoll_wait ends without an event. */
 static void sleep_in(int place) {
     struct epoll_event event;
-    check(epoll_wait(place, &event, 1, -1) == 1, "a descriptor gets readable");
+    int count;
+    do count = epoll_wait(place, &event, 1, -1);
+    while (count == -1 && errno == EINTR);
+    check(count == 1, "a descriptor gets readable");
 }
 
 /* A call of this thread whose moment is now, or, if it doesn't poll, one that waits. */
