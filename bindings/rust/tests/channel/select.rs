@@ -30,16 +30,13 @@ fn waits<R: Send + 'static>(what: impl FnOnce() -> R + Send + 'static) -> thread
     thread
 }
 
-/// Tries this until it is done, which is so once another thread waits.
+/// Tries this until it is done, which is so once another thread waits: at most a minute's worth of tries.
 fn soon<R>(attempt: impl Fn() -> Option<R>) -> R {
-    let start = Instant::now();
-    loop {
-        if let Some(done) = attempt() {
-            return done;
-        }
-        assert!(start.elapsed() < LONG);
+    let tries = (0..60_000).find_map(|_| {
         thread::sleep(Duration::from_millis(1));
-    }
+        attempt()
+    });
+    tries.unwrap()
 }
 
 #[test]

@@ -1,7 +1,7 @@
 //! No wake-up is lost: a search over all interleavings of the waiting (`src/event.rs` says
 //! what its steps are) and of the rendezvous (`src/channel/rendezvous.rs`), and threads that stop for good where one
 //! is lost.
-use crate::ends::ends_within;
+use crate::ends::ends;
 use crate::parking::parked;
 use crate::rounds::rounds;
 use std::collections::HashSet;
@@ -962,11 +962,6 @@ fn the_search_finds_each_fault_of_a_meeting() {
             .any(|it| rendezvous::search(it, fault).is_err());
         assert!(found, "{fault:?}");
     }
-}
-
-/// Does this on a thread of its own. It stops for good where one wake-up is lost, and has two minutes.
-fn ends(what: impl FnOnce() + Send + 'static) {
-    ends_within(Duration::from_secs(120), what);
 }
 
 /// Now and then so long a pause that the other side parks.
