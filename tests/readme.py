@@ -11,8 +11,9 @@ temporary files that is the home of the user in there.
 
 In README a fenced block of the language `sh` has commands, one on each line. Each is run at the top of the clone, in a
 fresh shell with an empty environment, and has to end with status 0. If its comment ends with `prints: TEXT`, it has to
-print a line that begins with TEXT. A block of another language is a file, whose name is the last one in backticks
-before it. --list prints commands and files, and runs none.
+print a line that begins with TEXT. A comment that says "on Debian 13" names the word that the command has there, and
+the word for which it stands. A block of another language is a file, whose name is the last one in backticks before
+it. --list prints commands and files, and runs none.
 
 The tests of the crate make a twentieth of their rounds (VAHEPITO_ROUNDS). With --gate, as ./test calls it, they make a
 fiftieth, and cargo compiles each crate once for all commands, without a debugger's lines: tests/bindings.sh makes all
@@ -37,6 +38,7 @@ TOP = pathlib.Path(__file__).resolve().parent.parent
 KEPT = pathlib.Path(os.environ.get("XDG_CACHE_HOME") or pathlib.Path.home() / ".cache") / "vahepito" / "debian"
 ENVIRONMENT = {"HOME": "/root", "PATH": "/usr/local/sbin:/usr/local/bin:/usr/sbin:/usr/bin:/sbin:/bin",
                "LANG": "C.UTF-8", "VAHEPITO_ROUNDS": "5"}
+RELEASE = dict(re.findall(r'^(\w+)="?([^"\n]*)', pathlib.Path("/etc/os-release").read_text(), re.M))
 # What makes the same commands cheaper, in the gate.
 CHEAPER = {"VAHEPITO_ROUNDS": "2", "RUSTDOC": "true", "CARGO_TARGET_DIR": "/root/target",
            "CARGO_PROFILE_DEV_DEBUG": "none", "CARGO_INCREMENTAL": "0"}
@@ -63,6 +65,9 @@ class Command:
     def __init__(self, line):
         self.text, _, comment = line.partition("   #")
         self.text = self.text.strip()
+        for number, this, that in re.findall(r"on Debian (\d+) `(\S+)`, not `(\S+)`", comment):
+            if number == RELEASE.get("VERSION_ID"):
+                self.text = self.text.replace(that, this)
         self.prints = (re.findall(r"prints: (.*)", comment) or [None])[0]
 
 
@@ -93,13 +98,12 @@ def parts(text):
 
 def mirror():
     """This machine's Debian and the address of its packages."""
-    release = dict(re.findall(r'^(\w+)="?([^"\n]*)', pathlib.Path("/etc/os-release").read_text(), re.M))
-    if release.get("ID") != "debian":
+    if RELEASE.get("ID") != "debian":
         raise Skipped("this machine isn't a Debian, whose mirror it would know")
     targets = ["apt-get", "indextargets", "--format", "$(CODENAME) $(COMPONENT) $(REPO_URI)", "Created-By: Packages"]
     for line in subprocess.run(targets, capture_output=True, text=True, check=True).stdout.splitlines():
         codename, component, address = line.split()
-        if codename == release["VERSION_CODENAME"] and component == "main":
+        if codename == RELEASE["VERSION_CODENAME"] and component == "main":
             return codename, address
     raise Skipped("apt-get knows no mirror of this Debian")
 
