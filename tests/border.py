@@ -33,7 +33,7 @@ OF_THE_BENCH = [("vahepito_config", "Settings", "Config"), ("vahepito_word_item"
 # Types as C has them. The crate lends a pass as a Pass or as a Handle, which has nothing beside it, and its words may
 # be unwritten.
 IN_C = {"u32": "uint32_t", "u64": "uint64_t", "usize": "size_t", "Word": "uint64_t", "Handle": "vahepito_handle",
-        "RawHandle": "vahepito_handle"}
+        "Raw": "vahepito_handle"}
 IN_C.update({name: in_c for in_c, *names in STRUCTS + OF_THE_BENCH for name in names if name})
 # What has no bytes.
 NOTHING = {"Global"}

@@ -32,15 +32,15 @@ impl Config {
 }
 
 #[repr(C)]
-struct RawHandle {
+struct Raw {
     at: *mut c_void,
     live: bool,
 }
 
 // SAFETY: each pass is used by `&mut` alone, and the library says that it goes to another thread.
-unsafe impl Send for RawHandle {}
+unsafe impl Send for Raw {}
 
-impl Drop for RawHandle {
+impl Drop for Raw {
     fn drop(&mut self) {
         vahepito_drop(self);
     }
@@ -68,25 +68,25 @@ unsafe extern "C" {
         config: &Config,
         groups: u32,
         words: u32,
-        senders: *mut RawHandle,
+        senders: *mut Raw,
         sender_count: usize,
-        receivers: *mut RawHandle,
+        receivers: *mut Raw,
         receiver_count: usize,
     ) -> u32;
-    safe fn vahepito_drop(pass: &mut RawHandle) -> u32;
+    safe fn vahepito_drop(pass: &mut Raw) -> u32;
     safe fn vahepito_try_send(
-        sender: &mut RawHandle,
+        sender: &mut Raw,
         body: u64,
         place: &mut u64,
         served: &mut u32,
     ) -> u32;
-    safe fn vahepito_turn_send(sender: &mut RawHandle, place: &mut u64, served: &mut u32) -> u32;
-    safe fn vahepito_begin_close(sender: &mut RawHandle) -> u32;
-    safe fn vahepito_turn_close(sender: &mut RawHandle, total: &mut u64, served: &mut u32) -> u32;
-    safe fn vahepito_try_take(_: &mut RawHandle, _: &mut Item, total: &mut u64, served: &mut u32)
+    safe fn vahepito_turn_send(sender: &mut Raw, place: &mut u64, served: &mut u32) -> u32;
+    safe fn vahepito_begin_close(sender: &mut Raw) -> u32;
+    safe fn vahepito_turn_close(sender: &mut Raw, total: &mut u64, served: &mut u32) -> u32;
+    safe fn vahepito_try_take(_: &mut Raw, _: &mut Item, total: &mut u64, served: &mut u32)
     -> u32;
     safe fn vahepito_turn_take(
-        _: &mut RawHandle,
+        _: &mut Raw,
         _: &mut Item,
         total: &mut u64,
         served: &mut u32,
@@ -127,20 +127,20 @@ fn answered(mut code: u32, mut turn: impl FnMut() -> u32) -> u32 {
 
 /// The last one that is dropped closes the queue.
 pub struct Sender {
-    pass: RawHandle,
+    pass: Raw,
     left: Arc<AtomicUsize>,
 }
 
-pub struct Receiver(RawHandle);
+pub struct Receiver(Raw);
 
 /// The senders of a queue, and its receivers, group by group.
 pub fn open(config: Config, groups: usize) -> (Vec<Sender>, Vec<Receiver>) {
-    let empty = |_| RawHandle {
+    let empty = |_| Raw {
         at: null_mut(),
         live: false,
     };
-    let mut senders: Vec<RawHandle> = (0..config.senders).map(empty).collect();
-    let mut receivers: Vec<RawHandle> = (0..config.receivers * groups as u32).map(empty).collect();
+    let mut senders: Vec<Raw> = (0..config.senders).map(empty).collect();
+    let mut receivers: Vec<Raw> = (0..config.receivers * groups as u32).map(empty).collect();
     let (to, from) = (senders.as_mut_ptr(), receivers.as_mut_ptr());
     // SAFETY: the pointers and counts are those of two lists, and the passes of both are empty.
     let code = unsafe {

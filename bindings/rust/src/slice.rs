@@ -23,27 +23,14 @@ use std::io;
 /// }
 /// ```
 pub fn lengthen_slice() -> io::Result<()> {
-    lengthen()
-}
-
-#[cfg(all(
-    target_os = "linux",
-    any(target_arch = "x86_64", target_arch = "aarch64")
-))]
-use of_linux::lengthen;
-
-#[cfg(not(all(
-    target_os = "linux",
-    any(target_arch = "x86_64", target_arch = "aarch64")
-)))]
-fn lengthen() -> io::Result<()> {
+    #[cfg(target_os = "linux")]
+    if let Some(numbers) = of_linux::CALLS {
+        return of_linux::lengthen(numbers);
+    }
     Err(io::ErrorKind::Unsupported.into())
 }
 
-#[cfg(all(
-    target_os = "linux",
-    any(target_arch = "x86_64", target_arch = "aarch64")
-))]
+#[cfg(target_os = "linux")]
 mod of_linux {
     use std::ffi::{c_int, c_long, c_uint};
     use std::io;
@@ -52,12 +39,13 @@ mod of_linux {
     const OTHER: u32 = 0;
     const BATCH: u32 = 3;
 
-    /// The numbers of `sched_setattr` and `sched_getattr`.
-    const CALLS: (c_long, c_long) = if cfg!(target_arch = "x86_64") {
-        (314, 315)
-    } else {
-        (274, 275)
-    };
+    /// The numbers of `sched_setattr` and `sched_getattr`, on the targets of which they are known.
+    pub const CALLS: Option<(c_long, c_long)> =
+        match (cfg!(target_arch = "x86_64"), cfg!(target_arch = "aarch64")) {
+            (true, _) => Some((314, 315)),
+            (_, true) => Some((274, 275)),
+            _ => None,
+        };
 
     /// `struct sched_attr` in its first version. The slice of an ordinary thread is its `runtime`.
     #[repr(C)]
@@ -79,36 +67,35 @@ mod of_linux {
         fn syscall(number: c_long, ...) -> c_long;
     }
 
-    fn checked(result: c_long) -> io::Result<()> {
-        if result < 0 {
+    /// Makes one of these calls for this thread. One of them has a third argument, the size; the other one has flags there, 0.
+    fn call(number: c_long, attributes: &mut Attributes, third: c_uint) -> io::Result<()> {
+        let (thread, flags): (c_int, c_uint) = (0, 0);
+        // SAFETY: the system reads, or writes, no more bytes there than the size says that it is given.
+        if unsafe { syscall(number, thread, &raw mut *attributes, third, flags) } < 0 {
             return Err(io::Error::last_os_error());
         }
         Ok(())
     }
 
-    fn attributes() -> io::Result<Attributes> {
+    fn attributes(number: c_long) -> io::Result<Attributes> {
         let mut of_thread = Attributes::default();
-        let (thread, flags): (c_int, c_uint) = (0, 0);
-        // SAFETY: the system writes at most this number of bytes there.
-        checked(unsafe { syscall(CALLS.1, thread, &raw mut of_thread, SIZE, flags) })?;
+        call(number, &mut of_thread, SIZE)?;
         Ok(of_thread)
     }
 
-    pub fn lengthen() -> io::Result<()> {
-        let before = attributes()?;
+    pub fn lengthen((set, get): (c_long, c_long)) -> io::Result<()> {
+        let before = attributes(get)?;
         if ![OTHER, BATCH].contains(&before.policy) {
             return Err(io::ErrorKind::InvalidInput.into());
         }
-        let wanted = Attributes {
+        let mut wanted = Attributes {
             size: SIZE,
             runtime: NANOSECONDS,
             ..before
         };
-        let (thread, flags): (c_int, c_uint) = (0, 0);
-        // SAFETY: the system reads as many bytes there as `size` says.
-        checked(unsafe { syscall(CALLS.0, thread, &raw const wanted, flags) })?;
+        call(set, &mut wanted, 0)?;
         // An earlier system doesn't look at the slice.
-        match attributes()?.runtime {
+        match attributes(get)?.runtime {
             NANOSECONDS => Ok(()),
             _ => Err(io::ErrorKind::Unsupported.into()),
         }
@@ -116,7 +103,8 @@ mod of_linux {
 
     #[cfg(test)]
     mod tests {
-        use super::{NANOSECONDS, attributes, lengthen};
+        use super::{CALLS, NANOSECONDS, attributes};
+        use crate::lengthen_slice as lengthen;
         use std::ffi::{c_int, c_long};
         use std::io;
         use std::thread;
@@ -128,7 +116,7 @@ mod of_linux {
         }
 
         fn slice() -> u64 {
-            attributes().unwrap().runtime
+            attributes(CALLS.unwrap().1).unwrap().runtime
         }
 
         #[test]

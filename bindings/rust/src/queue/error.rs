@@ -31,13 +31,12 @@ pub enum OpenError {
 
 impl Display for OpenError {
     fn fmt(&self, f: &mut Formatter<'_>) -> Result {
+        let dotted = |it: u32| format!("{}.{}.{}", it / 1_000_000, it / 1_000 % 1_000, it % 1_000);
         let said = match *self {
             Self::Capacity => "the capacity of groups is 0",
             Self::Groups => "the number of groups isn't from 1 to 8",
             Self::NoMemory => "there is no memory for the queue",
             Self::OtherLibrary { linked, wanted } => {
-                let dotted =
-                    |it: u32| format!("{}.{}.{}", it / 1_000_000, it / 1_000 % 1_000, it % 1_000);
                 let (library, this) = (dotted(linked), dotted(wanted));
                 write!(
                     f,

@@ -11,7 +11,7 @@ use std::mem::size_of;
 use std::ptr::{null_mut, read_volatile};
 
 #[repr(C)]
-struct RawHandle {
+struct Raw {
     at: *mut c_void,
     live: bool,
 }
@@ -49,33 +49,23 @@ unsafe extern "C" {
         receivers: *mut Handle,
         receiver_count: usize,
     ) -> u32;
-    safe fn vahepito_drop(pass: &mut RawHandle) -> u32;
-    safe fn vahepito_begin_close(sender: &mut RawHandle) -> u32;
-    safe fn vahepito_try_send(_: &mut RawHandle, body: Word, place: &mut u64, _: &mut u32) -> u32;
+    safe fn vahepito_drop(pass: &mut Raw) -> u32;
+    safe fn vahepito_begin_close(sender: &mut Raw) -> u32;
+    safe fn vahepito_try_send(_: &mut Raw, body: Word, place: &mut u64, _: &mut u32) -> u32;
     fn vahepito_try_send_words(
-        sender: &mut RawHandle,
+        sender: &mut Raw,
         words: *const Word,
         count: usize,
         place: &mut u64,
         served: &mut u32,
     ) -> u32;
-    safe fn vahepito_turn_send(_: &mut RawHandle, place: &mut u64, served: &mut u32) -> u32;
-    safe fn vahepito_turn_close(_: &mut RawHandle, total: &mut u64, served: &mut u32) -> u32;
+    safe fn vahepito_turn_send(_: &mut Raw, place: &mut u64, served: &mut u32) -> u32;
+    safe fn vahepito_turn_close(_: &mut Raw, total: &mut u64, served: &mut u32) -> u32;
     // These write the item, the total of items at the end, and how many calls were served.
-    safe fn vahepito_turn_take(_: &mut RawHandle, _: &mut Taken, _: &mut u64, _: &mut u32) -> u32;
-    safe fn vahepito_turn_take_words(
-        _: &mut RawHandle,
-        _: &mut Taken,
-        _: &mut u64,
-        _: &mut u32,
-    ) -> u32;
-    safe fn vahepito_try_take(_: &mut RawHandle, _: &mut Taken, _: &mut u64, _: &mut u32) -> u32;
-    safe fn vahepito_try_take_words(
-        _: &mut RawHandle,
-        _: &mut Taken,
-        _: &mut u64,
-        _: &mut u32,
-    ) -> u32;
+    safe fn vahepito_turn_take(_: &mut Raw, _: &mut Taken, _: &mut u64, _: &mut u32) -> u32;
+    safe fn vahepito_turn_take_words(_: &mut Raw, _: &mut Taken, _: &mut u64, _: &mut u32) -> u32;
+    safe fn vahepito_try_take(_: &mut Raw, _: &mut Taken, _: &mut u64, _: &mut u32) -> u32;
+    safe fn vahepito_try_take_words(_: &mut Raw, _: &mut Taken, _: &mut u64, _: &mut u32) -> u32;
 }
 
 /// A take writes it, or nothing is read of it.
@@ -85,21 +75,19 @@ const NO_ITEM: Taken = [Word::uninit(); 7];
 /// at once waits until both are written.
 #[inline]
 fn words_of(item: &Taken, count: usize) -> Words {
-    let mut words = [Word::uninit(); 4];
     // SAFETY: it is read from a reference.
-    let read = |field| unsafe { read_volatile(field) };
-    if count == 1 {
-        words[0] = read(&item[2]);
-    } else {
-        words = [3, 4, 5, 6].map(|at| read(&item[at]));
+    let read = |at: usize| unsafe { read_volatile(&item[at]) };
+    let other = Word::uninit();
+    match count {
+        1 => [read(2), other, other, other],
+        _ => [3, 4, 5, 6].map(read),
     }
-    words
 }
 
 /// One pass of a queue. It is empty, or `open` filled it; it isn't copied, and its drop lets the
 /// pass go.
 #[repr(transparent)]
-pub struct Handle(RawHandle);
+pub struct Handle(Raw);
 
 // SAFETY: the library proves its handle `Send` (`unsafe impl Send for Held`, with its proof). Calls
 // on one handle don't overlap, since each takes it by `&mut`; and moving a value between threads
@@ -108,7 +96,7 @@ unsafe impl Send for Handle {}
 
 impl Handle {
     pub const fn empty() -> Handle {
-        Handle(RawHandle {
+        Handle(Raw {
             at: null_mut(),
             live: false,
         })
@@ -190,23 +178,15 @@ impl Drop for Handle {
 /// Looks whether the linked library is the one that this crate is for. Of another one no other call
 /// is made.
 pub fn check_library() -> Result<(), OpenError> {
-    let (mut config, mut pass, mut item, mut words_item) = (0, 0, 0, 0);
-    let linked = vahepito_version();
-    if linked == VERSION {
-        vahepito_sizes(&mut config, &mut pass, &mut item, &mut words_item);
+    let (linked, wanted, word) = (vahepito_version(), VERSION, size_of::<Word>());
+    let mut sizes = [0; 4];
+    if linked == wanted {
+        let [config, pass, item, item_of_words] = &mut sizes;
+        vahepito_sizes(config, pass, item, item_of_words);
     }
-    let word = size_of::<Word>();
-    let here = [
-        size_of::<Config>(),
-        size_of::<RawHandle>(),
-        3 * word,
-        7 * word,
-    ];
-    if [config, pass, item, words_item] == here {
-        return Ok(());
-    }
-    let wanted = VERSION;
-    Err(OpenError::OtherLibrary { linked, wanted })
+    let here = [size_of::<Config>(), size_of::<Raw>(), 3 * word, 7 * word];
+    let error = OpenError::OtherLibrary { linked, wanted };
+    (sizes == here).then_some(()).ok_or(error)
 }
 
 /// Opens a queue, and fills the handles of its senders, and those of the groups of receivers, one group after another. They are

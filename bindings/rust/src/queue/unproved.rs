@@ -19,6 +19,7 @@ struct Queue {
 }
 
 /// A handle of a queue, or an empty one.
+#[derive(Default)]
 pub struct Handle {
     queue: Option<Arc<Mutex<Queue>>>,
     /// Of a receiver: the place of its group.
@@ -28,12 +29,8 @@ pub struct Handle {
 }
 
 impl Handle {
-    pub const fn empty() -> Handle {
-        Handle {
-            queue: None,
-            group: 0,
-            sends: 0,
-        }
+    pub fn empty() -> Handle {
+        Handle::default()
     }
 
     /// Makes this call while no other is made.
