@@ -29,10 +29,9 @@ const FOR_OTHERS_AT_PACE: Wait = micros(1, 4);
 
 /// Until something comes from the other side, which is slow or isn't.
 pub const fn for_others(is_slow: bool) -> &'static Wait {
-    if is_slow {
-        &FOR_OTHERS
-    } else {
-        &FOR_OTHERS_AT_PACE
+    match is_slow {
+        true => &FOR_OTHERS,
+        false => &FOR_OTHERS_AT_PACE,
     }
 }
 

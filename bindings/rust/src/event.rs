@@ -262,10 +262,6 @@ pub struct Parker {
 
 impl Wake for Parker {
     fn wake(self: Arc<Self>) {
-        self.wake_by_ref();
-    }
-
-    fn wake_by_ref(self: &Arc<Self>) {
         self.woken.store(true, Ordering::SeqCst);
         self.thread.unpark();
     }
@@ -302,11 +298,9 @@ impl Parker {
         let is_woken = || self.woken.load(Ordering::SeqCst).then_some(());
         for_others(parks > 0).try_until(until, is_woken);
         self.park(until);
-        let is_long = begin.elapsed() > PACE;
-        let parks = if is_long {
-            AFTER_LONG
-        } else {
-            parks.saturating_sub(1)
+        let parks = match begin.elapsed() > PACE {
+            true => AFTER_LONG,
+            false => parks.saturating_sub(1),
         };
         self.parks.store(parks, Ordering::Relaxed);
     }
@@ -387,7 +381,7 @@ pub fn wait_without_end<R>(
 }
 
 /// Tries until it is done, or until this moment: then None. After this wait it parks, and waits for notifications
-/// between its tries. If the moment has passed it tries once.
+/// between its tries.
 pub fn wait<R>(
     event: &Event,
     before: &Wait,
@@ -410,12 +404,8 @@ fn wait_in_line(
     until: Option<Instant>,
     attempt: &mut dyn FnMut() -> Try<()>,
 ) -> Option<()> {
-    if is_over(until) {
-        return attempt().ok();
-    }
-    let done = before.try_until(until, || attempt().ok());
-    if done.is_some() {
-        return done;
+    if let Some(done) = before.try_until(until, || attempt().ok()) {
+        return Some(done);
     }
     Parker::with(|parker| {
         loop {

@@ -12,7 +12,6 @@ use crate::backoff::{Contention, FOR_A_LOOK, FOR_OWN_SIDE};
 use crate::event::{Apart, Event, Panics, Served, lock, wait_without_end};
 use crate::queue::handle::{Handle, hands_over, has_taken};
 use std::cell::{Cell, UnsafeCell};
-use std::iter;
 use std::sync::atomic::{AtomicBool, AtomicU16, AtomicU64, AtomicUsize, Ordering};
 use std::sync::{Mutex, OnceLock};
 use std::thread::available_parallelism;
@@ -158,7 +157,6 @@ impl<'a> SeatGuard<'a> {
     }
 
     #[cold]
-    #[inline(never)]
     fn end_round(&self, count: u64) {
         if count == 0 {
             let number = self.index() + 1;
@@ -279,11 +277,10 @@ impl Pool {
     /// The seat that this thread tries first.
     #[inline]
     fn seat(&self) -> &Seat {
-        let Some(others) = self.others.get() else {
-            return &self.first;
-        };
-        has_taken(&self.others);
-        self.seat_at(others, HINT.get())
+        match self.others() {
+            [] => &self.first,
+            others => self.seat_at(others, HINT.get()),
+        }
     }
 
     /// The seat at this index, of which the lowest bits count.
@@ -354,8 +351,10 @@ impl Pool {
 
     /// All seats. A caller that comes to the end of the others knows those that were added before it came to the first one.
     fn seats(&self) -> impl Iterator<Item = &Seat> {
-        let others = iter::once_with(|| self.others()).flatten().map(|it| &it.0);
-        iter::once(&self.first).chain(others)
+        (0..).map_while(|at| match at {
+            0 => Some(&self.first),
+            at => Some(&self.others().get(at - 1)?.0),
+        })
     }
 
     /// Acquires each seat that is free.
@@ -382,16 +381,8 @@ impl Pool {
     /// Whether each seat was free once; of one that is held, this says whether it was.
     #[inline(always)]
     fn sees_each_free(&self, becomes_free: impl Fn(&Seat) -> bool) -> bool {
-        let stays_held = |seat: &Seat| seat.is_held() && !becomes_free(seat);
-        if stays_held(&self.first) {
-            return false;
-        }
-        for Other(seat) in self.others() {
-            if stays_held(seat) {
-                return false;
-            }
-        }
-        true
+        let is_free = |seat: &Seat| !seat.is_held() || becomes_free(seat);
+        is_free(&self.first) && self.others().iter().all(|it| is_free(&it.0))
     }
 
     /// Waits until this seat was free once, in line.
