@@ -38,6 +38,11 @@ pub struct Kind {
 }
 
 impl Kind {
+    /// Whether a body of each kind of `T` has one word.
+    pub const fn is_one_word<T>() -> bool {
+        !matches!(size_of::<T>(), 9..=INLINE)
+    }
+
     /// Of items that one receiver each gets.
     pub fn alone<T>() -> &'static Kind {
         const { &Kind::new::<T>(None) }
@@ -54,24 +59,15 @@ impl Kind {
             words @ 2.. if !is_boxed => words,
             _ => 1,
         };
-        let drop = if is_boxed {
-            drop_boxed::<T>
-        } else {
-            drop_inline::<T>
-        };
         Kind {
             words,
             is_boxed,
-            drop,
+            drop: match is_boxed {
+                true => drop_boxed::<T>,
+                false => drop_inline::<T>,
+            },
             copy,
         }
-    }
-}
-
-impl Kind {
-    /// Whether a body of each kind of `T` has one word.
-    pub const fn is_one_word<T>() -> bool {
-        !matches!(size_of::<T>(), 9..=INLINE)
     }
 }
 

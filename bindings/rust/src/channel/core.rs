@@ -13,10 +13,10 @@ use super::body::{Item, Kind, Unsent, send_by};
 use super::pool::{Pool, QueueHandle, SeatGuard};
 use super::rendezvous::Rendezvous;
 use super::row::{Row, Shape};
-use crate::backoff::{PACE, Wait, for_others};
+use crate::backoff::PACE;
 use crate::event::{Again, Apart, Event, Panics, Try, lock};
 use crate::queue::handle::{Handle, code, hands_over, has_taken, unexpected};
-use crate::queue::{self, Config, OpenError};
+use crate::queue::{self, Config, OpenError, Passes};
 use std::iter;
 use std::mem::ManuallyDrop;
 use std::ptr;
@@ -34,11 +34,11 @@ pub struct Side {
     /// Whether its last try found no item, or no room: then the next one looks first, since a look costs less than a call in vain.
     pub found_none: AtomicBool,
     /// Whether few items passed while the last call waited that did: then a call that waits doesn't yield.
-    is_slow: AtomicBool,
+    pub is_slow: AtomicBool,
     /// Whether it has lost its last handle. The groups are locked until the channel is closed, or goes on without it.
     lost: AtomicBool,
     /// Whether the queue has this group; a row has all. It changes while the groups are locked, and all seats are held.
-    in_queue: AtomicBool,
+    pub in_queue: AtomicBool,
 }
 
 impl Side {
@@ -58,22 +58,9 @@ impl Side {
         }
     }
 
-    pub fn is_in_queue(&self) -> bool {
-        self.in_queue.load(Ordering::Relaxed)
-    }
-
-    pub fn leave_queue(&self) {
-        self.in_queue.store(false, Ordering::Relaxed);
-    }
-
     #[inline]
     pub fn is_lost(&self) -> bool {
         self.lost.load(Ordering::SeqCst)
-    }
-
-    /// How a call waits for the other side before it parks.
-    pub fn before_park(&self) -> &'static Wait {
-        for_others(self.is_slow.load(Ordering::Relaxed))
     }
 
     /// Notes how long a call waited, and how many items the other side passed meanwhile.
@@ -156,9 +143,6 @@ pub fn or_closed(sent: Sent) -> Try<Sent> {
     }
 }
 
-/// A take for a group: [`Core::take`], or that of items of one word.
-pub type Take = fn(&Core, usize) -> Option<Item>;
-
 /// What is between the two sides of a channel.
 pub enum Flavor {
     /// One queue, in the place of which another one may come.
@@ -168,6 +152,9 @@ pub enum Flavor {
     Rendezvous(Box<Rendezvous>),
 }
 
+/// A channel that is opened.
+pub type Opened = Result<Arc<Core>, OpenError>;
+
 pub struct Core {
     pub flavor: Flavor,
     /// The configuration of its queue, whose sides may have more seats by now; of a row, that of the first one.
@@ -176,7 +163,7 @@ pub struct Core {
     pub kind: &'static Kind,
     pub senders: Side,
     pub groups: Groups,
-    closed: AtomicBool,
+    pub closed: AtomicBool,
     /// The lock of the groups: under it a further queue takes the place of this one, and a side ends.
     pub groups_lock: Mutex<()>,
     /// How many places are reserved for selected sends. It grows under the lock of the groups. Of a row with a limit it is 1 for good,
@@ -185,17 +172,9 @@ pub struct Core {
 }
 
 impl Core {
-    /// Opens a channel. Each side has one seat at first, if there are few items to be moved over once a side gets its others.
-    pub fn open(
-        config: Config,
-        groups: usize,
-        kind: &'static Kind,
-    ) -> Result<Arc<Core>, OpenError> {
-        let mut first = config;
-        if config.capacity as usize <= MOST_MOVED {
-            (first.senders, first.receivers) = (1, 1);
-        }
-        let sides = queue::open(&first, groups, kind.words)?;
+    /// Opens a channel over a queue of this configuration.
+    pub fn open(config: Config, groups: usize, kind: &'static Kind) -> Opened {
+        let sides = queue::open(&config, groups, kind.words)?;
         Ok(Core::new(Flavor::Queue, config, kind, sides))
     }
 
@@ -205,7 +184,7 @@ impl Core {
         limit: Option<usize>,
         groups: usize,
         kind: &'static Kind,
-    ) -> Result<Arc<Core>, OpenError> {
+    ) -> Opened {
         let (row, sides) = Row::open(shape, limit, groups, kind.words)?;
         let flavor = Flavor::Row(Box::new(row));
         Ok(Core::new(flavor, shape[0], kind, sides))
@@ -219,12 +198,7 @@ impl Core {
     }
 
     /// With these passes: those of the senders, and then those of each group.
-    fn new(
-        flavor: Flavor,
-        config: Config,
-        kind: &'static Kind,
-        sides: Vec<Vec<Handle>>,
-    ) -> Arc<Core> {
+    fn new(flavor: Flavor, config: Config, kind: &'static Kind, sides: Passes) -> Arc<Core> {
         let shares = sides.len() - 1;
         let mut sides = sides.into_iter().map(|it| Side::new(it, shares));
         let mut side = || sides.next().expect("a channel has both sides");
@@ -253,10 +227,19 @@ impl Core {
         }
     }
 
+    /// What is in the queue's place, if it has capacity 0.
+    #[inline]
+    pub fn rendezvous(&self) -> Option<&Rendezvous> {
+        match &self.flavor {
+            Flavor::Rendezvous(rendezvous) => Some(rendezvous),
+            _ => None,
+        }
+    }
+
     /// How many items it may hold; None if any number.
     pub fn capacity(&self) -> Option<usize> {
         match &self.flavor {
-            Flavor::Row(row) => row.capacity(),
+            Flavor::Row(row) => row.limit.as_ref().map(|it| it.capacity),
             _ => Some(self.config.capacity as usize),
         }
     }
@@ -265,8 +248,9 @@ impl Core {
         self.closed.load(Ordering::SeqCst)
     }
 
-    pub fn set_closed(&self) {
-        self.closed.store(true, Ordering::SeqCst);
+    /// Refuses a send if the channel is closed.
+    pub fn check_open(&self) -> Sent {
+        (!self.is_closed()).then_some(()).ok_or(NotSent::Closed)
     }
 
     /// The groups that have receivers.
@@ -308,7 +292,6 @@ impl Core {
     }
 
     #[cold]
-    #[inline(never)]
     fn acquire_another_seat<'a>(&'a self, side: &'a Side) -> SeatGuard<'a> {
         if let Some(seat) = side.seats.try_acquire_behind(|| self.distance(side)) {
             return seat;
@@ -322,7 +305,7 @@ impl Core {
     /// Tries to send this item.
     #[inline]
     pub fn try_send(&self, item: &mut Unsent) -> Sent {
-        if let Flavor::Rendezvous(rendezvous) = &self.flavor {
+        if let Some(rendezvous) = self.rendezvous() {
             return rendezvous.try_send(item);
         }
         if self.finds_no_room() {
@@ -349,7 +332,6 @@ impl Core {
 
     /// After the queue of this seat refused an item with this code: tries again, if there is a further queue.
     #[cold]
-    #[inline(never)]
     fn send_further(&self, item: &mut Unsent, code: u32, seat: SeatGuard) -> Sent {
         if let Flavor::Row(row) = &self.flavor {
             return self.send_in_row(row, item, seat);
@@ -386,7 +368,7 @@ impl Core {
         // Whether a lost group is in the queue, and holds up the others.
         let is_stale = shares != self.alive().count();
         match code {
-            code::CLOSED => self.set_closed(),
+            code::CLOSED => self.closed.store(true, Ordering::SeqCst),
             code::FULL if !is_stale => {
                 self.senders.found_none.store(true, Ordering::Relaxed);
                 return Err(NotSent::Full);
@@ -394,9 +376,7 @@ impl Core {
             _ => {}
         }
         let groups = lock(&self.groups_lock);
-        if self.is_closed() {
-            return Err(NotSent::Closed);
-        }
+        self.check_open()?;
         let mut left_by_lost = vec![];
         if self.senders.seats.acquire().pass().0.queue == queue {
             left_by_lost = self.replace_queue(None).ok_or(NotSent::NoMemory)?;
@@ -418,7 +398,7 @@ impl Core {
     /// The same, without a look that comes first.
     #[inline]
     pub fn take_if_there(&self, group: usize) -> Try<Option<Item>> {
-        if let Flavor::Rendezvous(rendezvous) = &self.flavor {
+        if let Some(rendezvous) = self.rendezvous() {
             return rendezvous.try_take();
         }
         match self.take_words(group, self.kind.words) {
@@ -457,7 +437,6 @@ impl Core {
 
     /// After the queue of this seat returned this code in place of an item: at its end tries again, if there is a next queue.
     #[cold]
-    #[inline(never)]
     fn take_further(&self, group: usize, code: u32, seat: SeatGuard) -> Try<Option<Item>> {
         match (code, &self.flavor) {
             (code::EMPTY, _) => {
@@ -469,7 +448,7 @@ impl Core {
                     return self.take_if_there(group);
                 }
             }
-            (code::ENDED, _) => self.set_closed(),
+            (code::ENDED, _) => self.closed.store(true, Ordering::SeqCst),
             (code, _) => unexpected(code),
         }
         Ok(None)
@@ -512,7 +491,7 @@ impl Core {
                 let mut seat = self.senders.seats.acquire();
                 let closed = seat.close();
                 // While the seat is held, so that whoever has all seats knows it.
-                self.set_closed();
+                self.closed.store(true, Ordering::SeqCst);
                 closed
             }
         }
@@ -522,7 +501,7 @@ impl Core {
     fn notify_all(&self, panics: &mut Panics) {
         let sides = iter::once(&self.senders).chain(self.groups.iter());
         sides.for_each(|it| it.line.notify_all(panics));
-        if let Flavor::Rendezvous(rendezvous) = &self.flavor {
+        if let Some(rendezvous) = self.rendezvous() {
             rendezvous.wake_all(panics);
         }
     }
@@ -530,11 +509,11 @@ impl Core {
     /// Whether this group has lost its receivers, and may not have taken all items of a closed channel.
     fn has_left(&self, group: usize) -> bool {
         let side = self.side(group);
-        side.is_lost() && side.is_in_queue() && {
+        side.is_lost() && side.in_queue.load(Ordering::Relaxed) && {
             // A thread that has a seat may have to count its item.
             self.senders.seats.wait_for_holders();
             let taken = side.seats.count();
-            matches!(self.flavor, Flavor::Rendezvous(_)) || taken < self.senders.seats.count()
+            self.rendezvous().is_some() || taken < self.senders.seats.count()
         }
     }
 

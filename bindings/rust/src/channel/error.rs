@@ -76,11 +76,7 @@ error_by_text! {
     TrySendError::Disconnected(_) => "sending on a disconnected channel",
 }
 
-impl<T> From<SendError<T>> for TrySendError<T> {
-    fn from(SendError(item): SendError<T>) -> Self {
-        TrySendError::Disconnected(item)
-    }
-}
+error_from! { impl<T> for TrySendError<T>, SendError<T>: SendError(item) => Self::Disconnected(item) }
 
 /// Why [`send_timeout`](crate::Sender::send_timeout) or [`send_deadline`](crate::Sender::send_deadline) didn't
 /// send. It has the item.
@@ -134,11 +130,7 @@ error_by_text! {
     SendTimeoutError::Disconnected(_) => "sending on a disconnected channel",
 }
 
-impl<T> From<SendError<T>> for SendTimeoutError<T> {
-    fn from(SendError(item): SendError<T>) -> Self {
-        SendTimeoutError::Disconnected(item)
-    }
-}
+error_from! { impl<T> for SendTimeoutError<T>, SendError<T>: SendError(item) => Self::Disconnected(item) }
 
 /// Why [`recv`](crate::Receiver::recv) gave no item: the channel is closed, and the receiver's group
 /// has all its items.
@@ -184,11 +176,7 @@ error_by_text! {
     TryRecvError::Disconnected => "receiving on an empty and disconnected channel",
 }
 
-impl From<RecvError> for TryRecvError {
-    fn from(RecvError: RecvError) -> Self {
-        TryRecvError::Disconnected
-    }
-}
+error_from! { impl for TryRecvError, RecvError: RecvError => Self::Disconnected }
 
 /// Why [`recv_timeout`](crate::Receiver::recv_timeout) or [`recv_deadline`](crate::Receiver::recv_deadline) gave
 /// no item.
@@ -228,11 +216,7 @@ error_by_text! {
     RecvTimeoutError::Disconnected => "channel is empty and disconnected",
 }
 
-impl From<RecvError> for RecvTimeoutError {
-    fn from(RecvError: RecvError) -> Self {
-        RecvTimeoutError::Disconnected
-    }
-}
+error_from! { impl for RecvTimeoutError, RecvError: RecvError => Self::Disconnected }
 
 /// Why [`try_select`](crate::Select::try_select) began nothing.
 #[derive(Clone, Copy, Debug, PartialEq, Eq, Hash)]

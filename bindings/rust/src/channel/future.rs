@@ -19,9 +19,7 @@ use std::sync::Arc;
 use std::task::{Context, Poll, Waker};
 
 /// How a task waits.
-#[derive(Default)]
 pub enum Waiting {
-    #[default]
     No,
     InLine(Ticket),
     /// In a channel of capacity 0.
@@ -62,9 +60,12 @@ impl Waiting {
     }
 }
 
-/// One poll by this call, which keeps the panics of wakers. The state is None once the future is done.
+/// None once the future is done.
+type State = Option<Waiting>;
+
+/// One poll by this call, which keeps the panics of wakers.
 fn poll_state<R>(
-    state: &mut Option<Waiting>,
+    state: &mut State,
     call: impl FnOnce(&mut Waiting, &mut Panics) -> Poll<R>,
 ) -> Poll<R> {
     let begun = state.as_mut();
@@ -79,7 +80,7 @@ fn poll_state<R>(
 }
 
 /// One poll of a take. It gives None if the channel is closed.
-fn poll_take(state: &mut Option<Waiting>, case: Case, waker: &Waker) -> Poll<Option<Item>> {
+fn poll_take(state: &mut State, case: Case, waker: &Waker) -> Poll<Option<Item>> {
     poll_state(state, |waiting, panics| match case.meeting_place() {
         Some((core, rendezvous)) => core.poll_met(rendezvous, waiting, waker, panics),
         None => waiting.poll_in_line(case, waker, panics, || case.try_take()),
@@ -87,12 +88,7 @@ fn poll_take(state: &mut Option<Waiting>, case: Case, waker: &Waker) -> Poll<Opt
 }
 
 /// One poll of a send. The item is put back if the channel is closed.
-fn poll_send(
-    state: &mut Option<Waiting>,
-    core: &Core,
-    item: &mut Unsent,
-    waker: &Waker,
-) -> Poll<Sent> {
+fn poll_send(state: &mut State, core: &Core, item: &mut Unsent, waker: &Waker) -> Poll<Sent> {
     let case = Case::Of(core, SENDERS);
     poll_state(state, |waiting, panics| match case.meeting_place() {
         Some((_, rendezvous)) => core.poll_posted(rendezvous, waiting, item, waker, panics),
@@ -124,17 +120,13 @@ fn end(waiting: Waiting, case: Case, mut item: Unsent) {
 pub struct RecvFuture<'a, T> {
     /// It borrows the receiver, or has it.
     receiver: Cow<'a, Receiver<T>>,
-    state: Option<Waiting>,
+    state: State,
 }
-
-// No item is pinned.
-impl<T> Unpin for RecvFuture<'_, T> {}
 
 impl<'a, T> RecvFuture<'a, T> {
     pub(super) fn new(receiver: Cow<'a, Receiver<T>>) -> Self {
         if let Source::Timer(timer) = &receiver.0 {
-            let has_items = timer.capacity() != 0;
-            assert!(!has_items, "a timer has no future: use the runtime's");
+            assert!(!timer.has_items, "a timer has no future: use the runtime's");
         }
         let state = Some(Waiting::No);
         RecvFuture { receiver, state }
@@ -191,21 +183,17 @@ fmt_by_text! { impl<T> Debug for RecvFuture<'_, T>: _ => "RecvFuture { .. }" }
 pub struct SendFuture<'a, T> {
     /// It borrows the sender, or has it.
     sender: Cow<'a, Sender<T>>,
-    state: Option<Waiting>,
+    state: State,
     /// Until it is sent or posted.
     item: Unsent,
 }
 
-// No item is pinned.
-impl<T> Unpin for SendFuture<'_, T> {}
-
 impl<'a, T> SendFuture<'a, T> {
     pub(super) fn new(sender: Cow<'a, Sender<T>>, item: T) -> Self {
-        let (state, item) = (Some(Waiting::No), sender.pack(item));
         SendFuture {
+            state: Some(Waiting::No),
+            item: sender.pack(item),
             sender,
-            state,
-            item,
         }
     }
 
@@ -247,7 +235,8 @@ impl<T> Future for SendFuture<'_, T> {
 impl<T> Drop for SendFuture<'_, T> {
     fn drop(&mut self) {
         if let Some(waiting) = self.state.take() {
-            end(waiting, self.sender.case(), self.item.take());
+            let case = Case::Of(self.sender.core(), SENDERS);
+            end(waiting, case, self.item.take());
         }
     }
 }

@@ -147,7 +147,7 @@ fn channels_are_recorded() {
         }
         for (groups, kind) in [(1, Kind::alone::<u64>()), (2, Kind::of_groups::<u64>())] {
             let ([capacity, _], life, per_sender) = which;
-            let mut config = config(capacity as usize);
+            let mut config = Config::new(1, 1, capacity);
             (config.life, config.per_sender) = (life.max(9), per_sender.max(9));
             let name = format!("queue{number}of{groups}");
             write(

@@ -11,7 +11,7 @@
 //!
 //! The counts of given room alone don't say so: of two takes the later one may have counted its item, and the earlier one not yet.
 use super::body::Unsent;
-use super::core::{Core, NotSent, Sent, Side};
+use super::core::{Core, Sent, Side};
 use super::pool::SeatGuard;
 use super::row::Row;
 use crate::event::{Again, Try, lock};
@@ -31,10 +31,8 @@ pub struct Limit {
 
 impl Limit {
     pub fn new(capacity: usize) -> Limit {
-        Limit {
-            capacity,
-            ..Limit::default()
-        }
+        let counts = Limit::default();
+        Limit { capacity, ..counts }
     }
 
     /// Whether these items are fewer than the limit, if this many were taken.
@@ -57,14 +55,10 @@ impl Limit {
         let (set, fetch) = (Ordering::SeqCst, Ordering::SeqCst);
         self.given.fetch_update(set, fetch, give).is_ok()
     }
-}
 
-impl Row {
     /// Gives room back that was given to an item.
-    pub fn give_back_room(&self) {
-        if let Some(limit) = &self.limit {
-            limit.given_back.fetch_add(1, Ordering::SeqCst);
-        }
+    pub fn give_back(&self) {
+        self.given_back.fetch_add(1, Ordering::SeqCst);
     }
 }
 
@@ -116,10 +110,7 @@ impl Core {
             seat = self.senders.seats.acquire();
         }
         let sent = self.send_in_row(row, item, seat);
-        if sent.is_err() {
-            row.give_back_room();
-        }
-        sent
+        sent.inspect_err(|_| self.give_back_room())
     }
 
     /// Reserves room for one send.
@@ -127,19 +118,12 @@ impl Core {
         while !self.get_room(row) {
             self.look_again(row)?;
         }
-        if self.is_closed() {
-            row.give_back_room();
-            return Err(NotSent::Closed);
-        }
-        Ok(())
+        self.check_open().inspect_err(|_| self.give_back_room())
     }
 
     /// Whether there may be room by now.
     fn look_again(&self, row: &Row) -> Sent {
         self.row_seems_to_have_room(row)?;
-        if self.is_closed() {
-            return Err(NotSent::Closed);
-        }
-        Ok(())
+        self.check_open()
     }
 }

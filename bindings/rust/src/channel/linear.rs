@@ -390,7 +390,7 @@ impl Runs {
         let core = match (capacity, self.row) {
             (0, _) => Ok(Core::of_rendezvous(kind)),
             (_, None) => {
-                let mut config = config(capacity);
+                let mut config = Config::new(1, 1, capacity as u32);
                 config.life = (life + capacity as u64).min(1 << 48);
                 config.per_sender = per_sender.saturating_add(capacity as u32);
                 Core::open(config, self.groups, kind)

@@ -42,7 +42,7 @@ pub use sender::{Sender, WeakSender};
 pub use timer::{after, at, never, tick};
 
 use self::body::Kind;
-use self::core::{Core, MOST_MOVED};
+use self::core::{Core, MOST_MOVED, Opened};
 use self::row::Shape;
 use self::side::{Source, Target};
 use crate::queue::{Config, OpenError};
@@ -66,11 +66,7 @@ fn shape() -> Shape {
 }
 
 /// A channel with a queue of this capacity; or with a row of them, if one isn't enough.
-fn of_capacity(
-    capacity: usize,
-    groups: usize,
-    kind: &'static Kind,
-) -> Result<Arc<Core>, OpenError> {
+fn of_capacity(capacity: usize, groups: usize, kind: &'static Kind) -> Opened {
     if capacity > MOST_PLACES {
         return Core::open_row(shape(), Some(capacity), groups, kind);
     }

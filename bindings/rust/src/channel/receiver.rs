@@ -1,6 +1,6 @@
 //! The receivers of a channel.
 use super::body::{Item, Kind, Of};
-use super::core::{Core, Flavor, SENDERS, Take};
+use super::core::{Core, SENDERS};
 use super::future::RecvFuture;
 use super::select::Case;
 use super::side::Source;
@@ -39,13 +39,12 @@ pub struct Receiver<T>(pub(super) Source, pub(super) Of<T>);
 impl Source {
     /// Takes an item, and waits for one until this moment.
     #[cold]
-    #[inline(never)]
     fn wait_for_item(&self, until: Option<Instant>) -> Result<Item, RecvTimeoutError> {
         let attempt = || self.case().try_take();
         let taken = match self.case() {
-            Case::Of(core, group) => match &core.flavor {
-                Flavor::Rendezvous(rendezvous) => core.meet_to_take(rendezvous, until),
-                _ => core.wait(group, until, attempt),
+            Case::Of(core, group) => match core.rendezvous() {
+                Some(rendezvous) => core.meet_to_take(rendezvous, until),
+                None => core.wait(group, until, attempt),
             },
             Case::Timer(timer) => wait(&timer.line, &FOR_OTHERS, until, attempt),
         };
@@ -55,10 +54,10 @@ impl Source {
 }
 
 impl<T> Receiver<T> {
-    const TAKE: Take = if Kind::is_one_word::<T>() {
-        Core::take_word
-    } else {
-        Core::take
+    /// Of items of one word the other words aren't copied.
+    const TAKE: fn(&Core, usize) -> Option<Item> = match Kind::is_one_word::<T>() {
+        true => Core::take_word,
+        false => Core::take,
     };
 
     /// An item of the channel.
@@ -90,10 +89,8 @@ impl<T> Receiver<T> {
     /// ```
     #[inline]
     pub fn try_recv(&self) -> Result<T, TryRecvError> {
-        if let Source::Channel(core, group) = &self.0 {
-            if core.finds_no_item(*group as usize) {
-                return Err(TryRecvError::Empty);
-            }
+        if matches!(self.0.case(), Case::Of(core, group) if core.finds_no_item(group)) {
+            return Err(TryRecvError::Empty);
         }
         self.take_if_there()
     }
@@ -115,14 +112,12 @@ impl<T> Receiver<T> {
     /// Takes an item, and waits for one until this moment.
     #[inline]
     fn recv_until(&self, until: Option<Instant>) -> Result<T, RecvTimeoutError> {
-        if let Source::Channel(core, group) = &self.0 {
-            let has_queue = !matches!(core.flavor, Flavor::Rendezvous(_));
-            if let Some(item) = has_queue
-                .then(|| Self::TAKE(core, *group as usize))
-                .flatten()
-            {
-                return Ok(self.unpack(item));
-            }
+        let taken = match self.0.case() {
+            Case::Of(core, group) if core.rendezvous().is_none() => Self::TAKE(core, group),
+            _ => None,
+        };
+        if let Some(item) = taken {
+            return Ok(self.unpack(item));
         }
         self.0.wait_for_item(until).map(|item| self.unpack(item))
     }
@@ -280,10 +275,7 @@ impl<T> Receiver<T> {
     /// ```
     pub fn drain(&self) -> Drain<'_, T> {
         let items: Vec<T> = self.try_iter().take(self.len()).collect();
-        Drain {
-            items: items.into_iter(),
-            receiver: PhantomData,
-        }
+        Drain(items.into_iter(), PhantomData)
     }
 
     /// Closes the channel. No item is accepted any more. The receivers take what was sent before, and then see
@@ -385,7 +377,7 @@ impl<T> Receiver<T> {
     pub fn capacity(&self) -> Option<usize> {
         match self.0.case() {
             Case::Of(core, _) => core.capacity(),
-            Case::Timer(timer) => Some(timer.capacity()),
+            Case::Timer(timer) => Some(timer.has_items.into()),
         }
     }
 
@@ -507,9 +499,7 @@ impl<T> WeakReceiver<T> {
     #[must_use]
     pub fn upgrade(&self) -> Option<Receiver<T>> {
         let source = match &self.0 {
-            WeakSource::Channel(core, group) => {
-                Source::Channel(core.upgrade(*group as usize)?, *group)
-            }
+            WeakSource::Channel(core, group) => Source::Channel(core.upgrade(*group)?, *group),
             WeakSource::Timer(timer) => Source::Timer(timer.upgrade()?),
         };
         Some(Receiver(source, PhantomData))
@@ -554,20 +544,17 @@ impl<T> Iterator for TryIter<'_, T> {
 
 /// Items that were taken at once: see [`Receiver::drain`].
 #[derive(Debug)]
-pub struct Drain<'a, T> {
-    items: vec::IntoIter<T>,
-    receiver: PhantomData<&'a Receiver<T>>,
-}
+pub struct Drain<'a, T>(vec::IntoIter<T>, PhantomData<&'a Receiver<T>>);
 
 impl<T> Iterator for Drain<'_, T> {
     type Item = T;
 
     fn next(&mut self) -> Option<T> {
-        self.items.next()
+        self.0.next()
     }
 
     fn size_hint(&self) -> (usize, Option<usize>) {
-        self.items.size_hint()
+        self.0.size_hint()
     }
 }
 

@@ -188,10 +188,9 @@ impl Drop for Lists {
 impl Lists {
     /// Meets the first of the other side that no call has met. A send that has its item gives the item to the take, and wakes it.
     fn meet(&mut self, side: usize, item: &mut Unsent, woken: &mut Option<Waker>) -> Option<Begun> {
-        if side == TAKES {
-            if let Some(item) = self.returned.pop_front() {
-                return Some(Begun::Taken(item));
-            }
+        let returned = (side == TAKES).then(|| self.returned.pop_front());
+        if let Some(item) = returned.flatten() {
+            return Some(Begun::Taken(item));
         }
         if self.is_closed {
             return Some(Begun::Closed);
@@ -246,17 +245,15 @@ pub fn meet_or_post(
     waiter: &Arc<Waiter>,
     item: &mut Unsent,
 ) -> Option<(usize, Begun)> {
-    let mut all: Vec<&Mutex<Lists>> = vec![];
+    let address = |it: &&Rendezvous| ptr::from_ref(*it);
+    let mut all: Vec<&Rendezvous> = vec![];
     for it in &*operations {
-        let lists = &it.channel.0;
-        let at = all.partition_point(|it| ptr::from_ref(*it) < ptr::from_ref(lists));
-        if !all.get(at).is_some_and(|it| ptr::eq(*it, lists)) {
-            all.insert(at, lists);
+        if let Err(at) = all.binary_search_by_key(&address(&it.channel), address) {
+            all.insert(at, it.channel);
         }
     }
-    let mut locked: Vec<_> = all.iter().map(|it| lock(it)).collect();
-    let index =
-        |of: &Rendezvous| all.partition_point(|it| ptr::from_ref(*it) < ptr::from_ref(&of.0));
+    let mut locked: Vec<_> = all.iter().map(|it| lock(&it.0)).collect();
+    let index = |of: &Rendezvous| all.partition_point(|it| address(it) < address(&of));
     let mut woken = None;
     let found = operations.iter().find_map(|it| {
         let lists = &mut locked[index(it.channel)];

@@ -2,10 +2,10 @@
 use super::body::Item;
 use super::core::{Core, Side};
 use super::pool::{self, QueueHandle};
-use crate::backoff::Contention;
-use crate::event::{Event, Panics, Served, ignore_panics};
+use crate::event::{Panics, ignore_panics};
 use crate::queue::handle::{Handle, code, unexpected};
 use crate::queue::{self, Config};
+use std::sync::atomic::Ordering;
 use std::{iter, ptr};
 
 impl Core {
@@ -56,19 +56,15 @@ impl Core {
     /// in addition to those by which items are moved over.
     pub fn replace_queue(&self, grows: Option<&Side>) -> Option<Vec<Item>> {
         let (words, capacity) = (self.kind.words, self.config.capacity as usize);
-        let in_queue = self.groups.iter().filter(|it| it.is_in_queue());
+        let is_in_queue = |it: &&Side| it.in_queue.load(Ordering::Relaxed);
+        let in_queue = self.groups.iter().filter(is_in_queue);
         let (lost, alive): (Vec<_>, Vec<_>) = in_queue.partition(|it| it.is_lost());
         let config = self.next_config(&alive, grows);
         let mut handles = queue::open(&config, alive.len(), words).ok()?;
         let (mut kept, mut left_by_lost) = (vec![], vec![]);
         kept.try_reserve_exact(capacity).ok()?;
         left_by_lost.try_reserve_exact(lost.len() * capacity).ok()?;
-        // From here on no other thread makes a call, until the seats are given back, so none waits in this line.
-        let (event, contention) = (&Event::default(), &Contention::default());
-        let line = Served {
-            line: event,
-            contention,
-        };
+        // From here on no other thread makes a call, until the seats are given back.
         let sides = || iter::once(&self.senders).chain(alive.iter().copied());
         let mut seats: Vec<_> = sides().map(|it| it.seats.acquire_all()).collect();
         let mut others: Vec<_> = lost.iter().map(|it| it.seats.acquire_all()).collect();
@@ -84,7 +80,8 @@ impl Core {
         // The items that the others have left are the end of those that the slowest group has left.
         let left = |group: usize| self.senders.seats.count() - alive[group].seats.count();
         let slowest = (0..alive.len()).max_by_key(|&it| left(it))?;
-        let from = seats[1 + slowest][0].pass().0;
+        // No call of these handles waits in this line.
+        let (from, line) = seats[1 + slowest][0].pass();
         kept.extend(iter::from_fn(|| from.handle.take(words, line).ok()));
         for body in &kept {
             let code = handles[0][0].send(body, words, line);
@@ -107,7 +104,8 @@ impl Core {
             }
             side.seats.add(passes);
         }
-        lost.into_iter().for_each(Side::leave_queue);
+        lost.iter()
+            .for_each(|it| it.in_queue.store(false, Ordering::Relaxed));
         Some(left_by_lost)
     }
 }

@@ -9,6 +9,7 @@
 //! then leaves the answer to the queue, which waits for no thread of the other side.
 use super::body::Unsent;
 use super::core::{Core, Flavor, NotSent, Sent, Side};
+use super::limit::Limit;
 use super::pool::{Pool, SeatGuard};
 use crate::event::{Again, Try, lock};
 use crate::queue::handle::code;
@@ -80,7 +81,6 @@ impl Core {
     }
 
     #[cold]
-    #[inline(never)]
     fn look_for_room(&self) -> Try<()> {
         self.has_room_beside(0, Pool::pause_for_holders)
     }
@@ -136,22 +136,17 @@ impl Core {
         let _groups = lock(&self.groups_lock);
         self.reserved.fetch_add(1, Ordering::SeqCst);
         self.senders.seats.wait_for_holders();
-        let refused = match self.has_room_beside_reserved(1) {
-            Ok(()) if !self.is_closed() => return Ok(()),
-            Ok(()) => NotSent::Closed,
-            Err(_) => {
-                self.senders.found_none.store(true, Ordering::Relaxed);
-                NotSent::Full
-            }
-        };
-        self.reserved.fetch_sub(1, Ordering::SeqCst);
-        Err(refused)
+        let room = self.has_room_beside_reserved(1);
+        let found_none = &self.senders.found_none;
+        found_none.store(room.is_err(), Ordering::Relaxed);
+        let reserved = room.map_err(NotSent::from).and_then(|()| self.check_open());
+        reserved.inspect_err(|_| _ = self.reserved.fetch_sub(1, Ordering::SeqCst))
     }
 
     /// Gives back room that was reserved.
     pub fn give_back_room(&self) {
         match &self.flavor {
-            Flavor::Row(row) => row.give_back_room(),
+            Flavor::Row(row) => row.limit.iter().for_each(Limit::give_back),
             _ => drop(self.reserved.fetch_sub(1, Ordering::SeqCst)),
         }
         self.senders.line.notify_one();
@@ -165,10 +160,7 @@ impl Core {
             thread::sleep(Duration::from_millis(1));
             sent = self.try_send_to_room(item);
         }
-        if sent.is_err() {
-            self.give_back_room();
-        }
-        sent
+        sent.inspect_err(|_| self.give_back_room())
     }
 
     fn try_send_to_room(&self, item: &mut Unsent) -> Sent {
@@ -176,12 +168,10 @@ impl Core {
         if let Flavor::Row(row) = &self.flavor {
             return self.send_in_row(row, item, seat);
         }
-        loop {
-            match self.send_by(&mut seat, item) {
-                code::ACCEPTED => break,
-                code => self.replace_refusing(code, seat)?,
-            }
-            seat = self.senders.seats.acquire();
+        let code = self.send_by(&mut seat, item);
+        if code != code::ACCEPTED {
+            self.replace_refusing(code, seat)?;
+            return self.try_send_to_room(item);
         }
         self.reserved.fetch_sub(1, Ordering::SeqCst);
         drop(seat);
@@ -192,17 +182,12 @@ impl Core {
     /// Tries to send while room is reserved for others. It does so under the lock of the groups: so nobody else sends, and no more
     /// room is reserved meanwhile. In a row it does so at this seat.
     #[cold]
-    #[inline(never)]
     pub fn send_beside_reserved<'a>(&'a self, item: &mut Unsent, seat: SeatGuard<'a>) -> Sent {
         if let Flavor::Row(row) = &self.flavor {
             return self.send_within_limit(row, item, seat);
         }
         drop(seat);
         let groups = lock(&self.groups_lock);
-        if self.reserved.load(Ordering::SeqCst) == 0 {
-            drop(groups);
-            return self.try_send(item);
-        }
         self.has_room_beside_reserved(0)?;
         let mut seat = self.senders.seats.acquire();
         let code = self.send_by(&mut seat, item);

@@ -31,9 +31,10 @@ use super::limit::Limit;
 use super::pool::{QueueHandle, SeatGuard};
 use crate::event::{ignore_panics, lock};
 use crate::queue::handle::{Handle, code};
-use crate::queue::{self, Config, OpenError};
+use crate::queue::{self, Config, OpenError, Passes};
 use std::collections::VecDeque;
 use std::mem::{self, replace};
+use std::sync::atomic::Ordering;
 use std::sync::{Mutex, MutexGuard};
 
 /// A list of fewer queues doesn't shrink.
@@ -41,9 +42,6 @@ const FEW: usize = 64;
 
 /// The configurations of the queues of a row: that of the first one, and that of all others. A seat needs a pass of each.
 pub type Shape = [Config; 2];
-
-/// The passes of a queue: those of its senders, and then those of each of its groups.
-type Passes = Vec<Vec<Handle>>;
 
 /// A queue of the row.
 struct Queue {
@@ -116,21 +114,11 @@ impl Row {
         Ok((row, passes))
     }
 
-    /// How many items it may hold; None if any number.
-    pub fn capacity(&self) -> Option<usize> {
-        self.limit.as_ref().map(|it| it.capacity)
-    }
-
     fn lock(&self) -> Locked<'_> {
         Locked {
             queues: lock(&self.queues),
             released: vec![],
         }
-    }
-
-    /// Opens a further queue, of this number of groups.
-    fn open_further(&self, groups: usize) -> Result<Passes, OpenError> {
-        queue::open(&self.further, groups, self.words)
     }
 
     /// Opens a queue beforehand, if there is none. If there is no memory, the next send that appends one tries again.
@@ -141,7 +129,7 @@ impl Row {
         }
         let groups = locked.queues.last().groups.len();
         drop(locked);
-        let opened = self.open_further(groups).ok();
+        let opened = queue::open(&self.further, groups, self.words).ok();
         self.lock().set_spare(opened);
     }
 }
@@ -178,7 +166,7 @@ impl Locked<'_> {
             Some(passes) if passes.len() == 1 + groups => return Ok(passes),
             other => self.release(other.unwrap_or_default()),
         }
-        row.open_further(groups)
+        queue::open(&row.further, groups, row.words)
     }
 
     /// Closes the last queue by this seat, which is at it, and appends a further one for these groups. Gives None if there is
@@ -290,7 +278,6 @@ impl Core {
 
     /// Sends an item by this seat, in the queue of the seat or one behind it. The seat is held until the item is accepted.
     #[cold]
-    #[inline(never)]
     pub fn send_in_row<'a>(
         &'a self,
         row: &Row,
@@ -327,7 +314,7 @@ impl Core {
         seat.close();
         locked.set_spare(None);
         // Under the lock, so that whoever found the queue closed knows it.
-        self.set_closed();
+        self.closed.store(true, Ordering::SeqCst);
         !replace(&mut locked.queues.is_closed, true)
     }
 

@@ -28,7 +28,7 @@
 //! is a load of each, and counts again. A holder before that has counted; a holder after that sees the waiter in line. So a look that finds nothing
 //! is the look of [`event`](crate::event)'s argument: at some moment of it there was nothing.
 use super::body::{Item, Unsent};
-use super::core::{Core, Flavor, NotSent, SENDERS, Sent, or_closed};
+use super::core::{Core, NotSent, SENDERS, Sent, or_closed};
 use super::rendezvous::{Operation, Rendezvous, Waiter, meet_or_post, withdraw};
 use super::timer::Timer;
 use super::{
@@ -42,6 +42,7 @@ use std::hash::{BuildHasher, Hasher, RandomState};
 use std::marker::PhantomData;
 use std::ptr;
 use std::sync::Arc;
+use std::sync::atomic::Ordering;
 use std::time::{Duration, Instant};
 
 /// The state of a selected operation, until it is completed.
@@ -85,10 +86,7 @@ impl<'a> Case<'a> {
     /// Its channel, and where it is posted there, if that has capacity 0.
     pub fn meeting_place(self) -> Option<(&'a Core, &'a Rendezvous)> {
         match self {
-            Case::Of(core, _) => match &core.flavor {
-                Flavor::Rendezvous(rendezvous) => Some((core, rendezvous)),
-                _ => None,
-            },
+            Case::Of(core, _) => Some((core, core.rendezvous()?)),
             Case::Timer(_) => None,
         }
     }
@@ -115,9 +113,9 @@ impl<'a> Case<'a> {
     #[inline]
     fn begin(self, begun: &mut Option<Begun>) -> Try<()> {
         *begun = Some(match self {
-            Case::Of(core, SENDERS) => match &core.flavor {
-                Flavor::Rendezvous(rendezvous) => rendezvous.meet(SENDERS, &mut None)?,
-                _ => or_closed(core.reserve())?.map_or(Begun::Closed, |()| Begun::Room),
+            Case::Of(core, SENDERS) => match core.rendezvous() {
+                Some(rendezvous) => rendezvous.meet(SENDERS, &mut None)?,
+                None => or_closed(core.reserve())?.map_or(Begun::Closed, |()| Begun::Room),
             },
             _ => self.try_take()?.map_or(Begun::Closed, Begun::Taken),
         });
@@ -138,7 +136,7 @@ impl<'a> Case<'a> {
     fn made(self) -> u64 {
         match self {
             Case::Of(core, side) => core.side(side).seats.count(),
-            Case::Timer(timer) => timer.taken(),
+            Case::Timer(timer) => timer.taken.load(Ordering::SeqCst),
         }
     }
 
@@ -166,8 +164,8 @@ impl<'a> Case<'a> {
 impl Core {
     /// Sends by a selected send.
     fn complete(&self, begun: &mut Option<Begun>, item: &mut Unsent) -> Sent {
-        let sent = match (&*begun, &self.flavor) {
-            (Some(Begun::Met(take)), Flavor::Rendezvous(rendezvous)) => {
+        let sent = match (&*begun, self.rendezvous()) {
+            (Some(Begun::Met(take)), Some(rendezvous)) => {
                 let sent = rendezvous.complete(take, item);
                 // If its take was dropped, the item may be kept for another one.
                 self.notify_item();
@@ -201,7 +199,7 @@ impl<'a> Arm<'a> {
     }
 
     pub fn send<T>(sender: &'a Sender<T>) -> Arm<'a> {
-        Arm::of(sender.case(), sender)
+        Arm::of(Case::Of(sender.core(), SENDERS), sender)
     }
 
     fn of<H>(case: Case<'a>, handle: &H) -> Arm<'a> {
@@ -314,9 +312,8 @@ impl<'a> Select<'a> {
     /// ```
     #[must_use]
     pub fn new_biased() -> Select<'a> {
-        let is_biased = true;
         Select {
-            is_biased,
+            is_biased: true,
             ..Select::default()
         }
     }
@@ -389,13 +386,8 @@ struct Turn<'s, 'a> {
 impl<'s, 'a> Turn<'s, 'a> {
     /// Of operations that are in the order of their indices. If the select isn't biased, they get a random one.
     #[inline]
-    fn new(
-        entries: &'s mut [Entry<'a>],
-        is_biased: bool,
-        aim: Aim,
-        until: Option<Instant>,
-    ) -> Turn<'s, 'a> {
-        if !is_biased {
+    fn new(entries: &'s mut [Entry<'a>], biased: bool, aim: Aim, until: Option<Instant>) -> Self {
+        if !biased {
             for last in (1..entries.len()).rev() {
                 entries.swap(last, random_below(last + 1));
             }
@@ -453,7 +445,6 @@ impl<'s, 'a> Turn<'s, 'a> {
 
     /// Parks until one is done, or the time is over, after a few further tries.
     #[cold]
-    #[inline(never)]
     fn park(&mut self) -> Option<usize> {
         if is_over(self.until) {
             // A try of one operation says itself that it wasn't ready.

@@ -2,13 +2,13 @@
 use super::body::{Item, Of, Unsent};
 use super::core::{Core, NotSent, SENDERS, Sent};
 use super::future::SendFuture;
-use super::select::Case;
 use super::side::Target;
 use super::{SendError, SendTimeoutError, TrySendError};
 use std::borrow::Cow;
 use std::marker::PhantomData;
 use std::mem::forget;
 use std::sync::Arc;
+use std::sync::atomic::Ordering;
 use std::time::{Duration, Instant};
 
 /// A sender of a channel, which [`channel`](crate::channel()) or [`groups`](crate::groups()) opens.
@@ -35,11 +35,6 @@ pub struct Sender<T>(pub(super) Target, pub(super) Of<T>);
 impl<T> Sender<T> {
     pub(super) fn core(&self) -> &Arc<Core> {
         &self.0.0
-    }
-
-    /// A send of it.
-    pub(super) fn case(&self) -> Case<'_> {
-        Case::Of(self.core(), SENDERS)
     }
 
     /// An item for the channel.
@@ -336,8 +331,8 @@ impl<T> Sender<T> {
     /// ```
     #[must_use]
     pub fn receiver_count(&self) -> usize {
-        let groups = 1..=self.core().groups.len();
-        groups.map(|group| self.core().handle_count(group)).sum()
+        let groups = self.core().groups.iter();
+        groups.map(|it| it.handles.load(Ordering::SeqCst)).sum()
     }
 
     /// A sender that doesn't keep the channel open.
@@ -381,7 +376,7 @@ impl<T> WeakSender<T> {
     /// ```
     #[must_use]
     pub fn upgrade(&self) -> Option<Sender<T>> {
-        let core = self.0.upgrade(SENDERS)?;
+        let core = self.0.upgrade(SENDERS as u32)?;
         Some(Sender(Target(core), PhantomData))
     }
 }

@@ -1,9 +1,9 @@
 //! The handles of both sides: their count, the end of a side, and the wait.
 use super::body::Unsent;
-use super::core::{Core, Flavor, NotSent, SENDERS, Sent, Side, or_closed};
+use super::core::{Core, NotSent, SENDERS, Sent, or_closed};
 use super::select::Case;
 use super::timer::Timer;
-use crate::backoff::{FOR_OTHERS, let_ahead};
+use crate::backoff::{FOR_OTHERS, for_others, let_ahead};
 use crate::event::{Try, is_over, lock, wait, wait_without_end};
 use std::panic::RefUnwindSafe;
 use std::sync::Arc;
@@ -25,7 +25,7 @@ pub enum Source {
 
 impl Clone for Target {
     fn clone(&self) -> Target {
-        Target(self.0.for_another(SENDERS))
+        Target(self.0.for_another(SENDERS as u32))
     }
 }
 
@@ -39,9 +39,7 @@ impl Drop for Target {
 impl Clone for Source {
     fn clone(&self) -> Source {
         match self {
-            Source::Channel(core, group) => {
-                Source::Channel(core.for_another(*group as usize), *group)
-            }
+            Source::Channel(core, group) => Source::Channel(core.for_another(*group), *group),
             Source::Timer(timer) => Source::Timer(timer.clone()),
         }
     }
@@ -72,8 +70,9 @@ impl RefUnwindSafe for Core {}
 
 impl Core {
     /// For a further handle of this side, which has one.
-    fn for_another(self: &Arc<Core>, side: usize) -> Arc<Core> {
-        self.side(side).handles.fetch_add(1, Ordering::SeqCst);
+    fn for_another(self: &Arc<Core>, side: u32) -> Arc<Core> {
+        let handles = &self.side(side as usize).handles;
+        handles.fetch_add(1, Ordering::SeqCst);
         self.clone()
     }
 
@@ -84,17 +83,16 @@ impl Core {
     }
 
     /// For a further handle of this side, if one is left.
-    pub fn upgrade(self: &Arc<Core>, side: usize) -> Option<Arc<Core>> {
+    pub fn upgrade(self: &Arc<Core>, side: u32) -> Option<Arc<Core>> {
         let order = (Ordering::SeqCst, Ordering::SeqCst);
-        let Side { handles, line, .. } = self.side(side);
+        let side = self.side(side as usize);
         let (core, another) = (self.clone(), |count| (count > 0).then_some(count + 1));
-        if handles.fetch_update(order.0, order.1, another).is_ok() {
+        if side.handles.fetch_update(order.0, order.1, another).is_ok() {
             return Some(core);
         }
         // Another thread may be dropping the last one, which then wakes the side's line: this waits until all is done that
         // comes of it. Nobody else waits there any more, so it takes away no notification.
-        let is_lost = || self.side(side).is_lost().then_some(());
-        wait_without_end(line, &FOR_OTHERS, is_lost);
+        wait_without_end(&side.line, &FOR_OTHERS, || side.is_lost().then_some(()));
         drop(lock(&self.groups_lock));
         None
     }
@@ -112,9 +110,8 @@ impl Core {
     }
 
     #[cold]
-    #[inline(never)]
     fn send_later(&self, item: &mut Unsent, until: Option<Instant>) -> Sent {
-        if let Flavor::Rendezvous(rendezvous) = &self.flavor {
+        if let Some(rendezvous) = self.rendezvous() {
             return self.meet_to_send(rendezvous, item, until);
         }
         let sent = self.wait(SENDERS, until, || or_closed(self.try_send(item)));
@@ -142,7 +139,8 @@ impl Core {
             let_ahead();
         }
         let (begin, passed) = (Instant::now(), other.count());
-        let done = wait(&own.line, own.before_park(), until, attempt);
+        let before_park = for_others(own.is_slow.load(Ordering::Relaxed));
+        let done = wait(&own.line, before_park, until, attempt);
         own.note_wait(begin.elapsed(), other.count() - passed);
         done
     }

@@ -12,7 +12,7 @@ fn short_config(capacity: u32, life: u64, per_sender: u32) -> Config {
     Config {
         life: life + u64::from(capacity),
         per_sender: per_sender + capacity,
-        ..config(capacity as usize)
+        ..Config::new(1, 1, capacity)
     }
 }
 

@@ -13,6 +13,17 @@ macro_rules! fmt_by_text {
     };
 }
 
+/// Implements `From` for an error that has a reason more, by a pattern of the other error.
+macro_rules! error_from {
+    (impl$(<$item:ident>)? for $error:ty, $other:ty: $pattern:pat => $value:expr) => {
+        impl$(<$item>)? From<$other> for $error {
+            fn from($pattern: $other) -> Self {
+                $value
+            }
+        }
+    };
+}
+
 /// Makes an error of a type, whose `Display` is a text for each of these patterns.
 macro_rules! error_by_text {
     (impl$(<$item:ident>)? for $type:ty: $($texts:tt)+) => {

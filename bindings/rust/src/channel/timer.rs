@@ -14,10 +14,10 @@ pub struct Timer {
     due: Mutex<Option<Instant>>,
     every: Option<Duration>,
     /// One of a channel of `Instant`s, or it has none at all.
-    has_items: bool,
+    pub has_items: bool,
     closed: AtomicBool,
     /// How many items were taken. It grows under the lock of `due`.
-    taken: AtomicU64,
+    pub taken: AtomicU64,
     /// The line of those that wait for the moment, or for a close.
     pub line: Event,
 }
@@ -52,19 +52,10 @@ impl Timer {
         }
     }
 
-    /// How many items were taken.
-    pub fn taken(&self) -> u64 {
-        self.taken.load(Ordering::SeqCst)
-    }
-
     /// How many items there have been, and maybe one more. None if it is closed.
     pub fn possible(&self) -> Option<u64> {
         let left = self.len() as u64;
-        (!self.is_closed()).then(|| self.taken() + left)
-    }
-
-    pub fn capacity(&self) -> usize {
-        self.has_items.into()
+        (!self.is_closed()).then(|| self.taken.load(Ordering::SeqCst) + left)
     }
 
     pub fn len(&self) -> usize {

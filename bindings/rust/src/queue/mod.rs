@@ -36,8 +36,11 @@ pub type Words = [Word; 4];
 /// The most groups that a queue has.
 pub const MOST_GROUPS: usize = 8;
 
-/// Opens a queue, and gives the handles of its sides: those of the senders, and then those of each group.
-pub fn open(config: &Config, groups: usize, words: usize) -> Result<Vec<Vec<Handle>>, OpenError> {
+/// The handles of a queue: those of its senders, and then those of each of its groups.
+pub type Passes = Vec<Vec<Handle>>;
+
+/// Opens a queue, and gives the handles of its sides.
+pub fn open(config: &Config, groups: usize, words: usize) -> Result<Passes, OpenError> {
     // A number that is too large is refused, with any handles.
     let groups = groups.try_into().unwrap_or(u32::MAX);
     let some = |count: u32| (0..count.min(MOST_GROUPS as u32 * 64)).map(|_| Handle::empty());
