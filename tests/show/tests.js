@@ -534,16 +534,22 @@ const tests = {
     assert(job.still ? page.getAnimations().length === 0 : moved >= 4, moved + ' nodes moved');
     await wait(1500);
     assert(page.getAnimations().length === 0, 'a motion does not end');
-    // In no frame of a motion has a row of nodes a scroll bar that it doesn't have at rest.
-    const barred = () => [...page.querySelectorAll('#lecture .strip, #lecture .list')].map(row => row.offsetHeight > row.clientHeight || row.offsetWidth > row.clientWidth);
-    key(page.body, 'Home');
-    for (let screen = 0, frames = 0; screen < 12 || !frames && !job.still; screen++) {
-      key(page.body, 'PageDown');
-      const seen = [];
-      do { await new Promise(view.requestAnimationFrame); seen.push(barred()); } while (page.getAnimations().length);
-      frames += seen.length;
-      const rest = barred();
-      for (const frame of seen) assert(frame.every((bar, k) => !bar || rest[k]), 'a row has a scroll bar in motion, at ' + textOf($('lecture-count')));
+    // In no frame of a motion has the page a scroll bar, nor a row of nodes one that it doesn't have at rest: also from a screen
+    // of one picture to one of two, and back.
+    const root = page.documentElement;
+    const barred = () => [root.scrollHeight > root.clientHeight || view.innerHeight > root.clientHeight,
+      ...[...page.querySelectorAll('#lecture .strip, #lecture .list')].map(row => row.offsetHeight > row.clientHeight || row.offsetWidth > row.clientWidth)];
+    for (const [address, screens] of [['#lecture=lone&screen=1', 12], ['#lecture=one_group&screen=4', 4]]) {
+      await follow(view, address);
+      for (let screen = 0, frames = 0; screen < screens || !frames && !job.still; screen++) {
+        key(page.body, 'PageDown');
+        const seen = [];
+        do { await new Promise(view.requestAnimationFrame); seen.push(barred()); } while (page.getAnimations().length);
+        frames += seen.length;
+        const rest = barred();
+        assert(!rest[0], 'the screen has to be scrolled, at ' + textOf($('lecture-count')));
+        for (const frame of seen) assert(frame.every((bar, k) => !bar || rest[k]), 'something has a scroll bar in motion, at ' + textOf($('lecture-count')));
+      }
     }
     return true;
   },

@@ -1535,19 +1535,19 @@ nt.clientWidth - tip.offsetWidth - 8)) + window.scrollX + 'px';\n  tip.style.top
 // ---- Motion: what is in both of two pictures moves from its place in the first to that in the second.\n\n\
 const STILL = window.matchMedia('(prefers-reduced-motion: reduce), print');\nlet moved_from = null;        // the run \
 and its event, or the lesson and its screen, from which the pictures move\nconst placesOf = parts => new Map(parts.fla\
-tMap(part => [...part.querySelectorAll('[data-key]')]).map(element => [element.dataset.key, element.getBoundingClientR\
-ect()]));\nfunction moving(parts, of, at, draw) {\n  const moves = moved_from && moved_from.of === of && moved_from.a\
-t !== at;\n  moved_from = { of, at };\n  if (!moves || STILL.matches || playing && Number($('speed').value) < 300) { d\
-raw(); return; }\n  const before = placesOf(parts), all = selector => parts.flatMap(part => [...part.querySelectorAll(\
-selector)]);\n  draw();\n  if (!before.size) return;\n  // A row with room for its nodes shows them also while they ar\
-e outside of it, and so has no scroll bar in motion.\n  const roomy = all('.strip, .list').filter(row => row.scrollWid\
-th <= row.clientWidth && row.scrollHeight <= row.clientHeight);\n  const moved = all('[data-key]').map(element => [ele\
-ment, before.get(element.dataset.key), element.getBoundingClientRect()]);\n  for (const row of roomy) row.classList.ad\
-d('roomy');\n  const done = moved.map(([element, was, is]) => {\n    if (!was) return element.animate([{ opacity: 0 }\
-, { opacity: 1 }], 240).finished;\n    const x = was.left - is.left, y = was.top - is.top;\n    return Math.abs(x) + M\
-ath.abs(y) <= 1 ? null\n      : element.animate([{ transform: 'translate(' + x + 'px,' + y + 'px)' }, { transform: 'no\
-ne' }], { duration: 260, easing: 'ease-out' }).finished;\n  });\n  Promise.allSettled(done).then(() => { for (const ro\
-w of roomy) row.classList.remove('roomy'); });\n}\n\n\
+tMap(part => [...part.querySelectorAll('[data-key]')]).filter(element => element.getClientRects().length)\n  .map(elem\
+ent => [element.dataset.key, element.getBoundingClientRect()]));\nfunction moving(parts, of, at, draw) {\n  const move\
+s = moved_from && moved_from.of === of && moved_from.at !== at;\n  moved_from = { of, at };\n  if (!moves || STILL.mat\
+ches || playing && Number($('speed').value) < 300) { draw(); return; }\n  const before = placesOf(parts), all = select\
+or => parts.flatMap(part => [...part.querySelectorAll(selector)]);\n  draw();\n  if (!before.size) return;\n  // A ro\
+w with room for its nodes shows them also while they are outside of it, and so has no scroll bar in motion.\n  const r\
+oomy = all('.strip, .list').filter(row => row.scrollWidth <= row.clientWidth && row.scrollHeight <= row.clientHeight);\
+\n  const moved = all('[data-key]').map(element => [element, before.get(element.dataset.key), element.getBoundingClien\
+tRect()]);\n  for (const row of roomy) row.classList.add('roomy');\n  const done = moved.map(([element, was, is]) => {\
+\n    if (!was) return element.animate([{ opacity: 0 }, { opacity: 1 }], 240).finished;\n    const x = was.left - is.l\
+eft, y = was.top - is.top;\n    return Math.abs(x) + Math.abs(y) <= 1 ? null\n      : element.animate([{ transform: 't\
+ranslate(' + x + 'px,' + y + 'px)' }, { transform: 'none' }], { duration: 260, easing: 'ease-out' }).finished;\n  });\
+\n  Promise.allSettled(done).then(() => { for (const row of roomy) row.classList.remove('roomy'); });\n}\n\n\
 // ---- Pictures of a chain and of the list, by the texts of Telling.\n\n\
 const DOWN = '<svg viewBox=\"0 0 14 14\" aria-hidden=\"true\"><path d=\"M7 0V9\"/><path class=\"tip-of-link\" d=\"M2 7\
 L7 14L12 7z\"/></svg>';\nconst ACROSS = '<svg viewBox=\"0 0 38 14\" aria-hidden=\"true\"><path class=\"link\" d=\"M0 7\
@@ -1850,30 +1850,32 @@ HTML = '';\n  }\n  lecture.at = Math.max(0, Math.min(at, lecture.screens.length 
 'lecture');\n  $('lecture').hidden = false;\n  drawLecture();\n  keepPlace();\n  return true;\n}\n\n\
 function drawLecture() {\n  const { lesson, screens, at, runs } = lecture, screen = screens[at], two = screen.kind ==\
 = 'pair';\n  const shown = runs[screen.table];\n  shown.goTo(screen.event);\n  if (two) lecture.pair.follow();\n  cons\
-t sides = two ? [shown, lecture.pair.run] : [shown];\n  hideTip();\n  $('lecture-title').textContent = screen.title;\
-\n  document.title = screen.title + ' - CC-Queue';\n  $('lecture-count').textContent = 'screen ' + (at + 1) + ' of ' \
-+ screens.length;\n  if ($('lecture-text').dataset.of !== lesson.id + at) { $('lecture-text').dataset.of = lesson.id \
-+ at; $('lecture-text').innerHTML = marked(screen.text); }\n  $('lecture').classList.toggle('pair', two);\n  const htm\
-l = sides.map(one => {\n    const e = one.now > 0 ? one.events[one.now - 1] : one.events[0], told = Telling.chain(one\
-, e.x);\n    return '<div class=\"side\">' + (two ? '<h2>' + tableName(one.variant) + '</h2>' : '') + '<div class=\"pa\
-rt part-chain\"><h3><b>The ' + told.name + '.</b> '\n      + told.head.map(marked).join(' ') + '</h3>' + stripOfLectur\
-e(told) + '</div><div class=\"part part-list\"><h3><b>The list.</b></h3>'\n      + listText(Telling.list(one), false) \
-+ '</div></div>';\n  }).join('');\n  $('lecture-line').innerHTML = sides.map(one => Telling.program(one)).map(told => \
-told ? '<p><span>' + told.title + '</span><code>' + escape(told.line.trim())\n    + '</code></p>' : '<span>No step yet\
-.</span>').join('');\n  for (const id of ['lecture-sides', 'lecture-line']) $(id).hidden = has_code;\n  $('lecture-cod\
-e').hidden = !has_code;\n  $('lecture-program').setAttribute('aria-pressed', has_code ? 'true' : 'false');\n  const pa\
-rts = sides.map(one => [one, Telling.program(one)]).map(([one, told]) => partText(one.variant, told ? told.part : 'cal\
-l', told));\n  $('lecture-code').innerHTML = parts.join('');\n  $('lecture-code').style.setProperty('--lines', Math.ma\
-x(...parts.map(text => text.split('<li').length)));\n  if (!has_code && (lecture.html !== html || lecture.width !== wi\
-ndow.innerWidth || lecture.height !== window.innerHeight)) moving([$('lecture-sides')], lesson, at,\n    () => { $('le\
-cture-sides').innerHTML = html; fitLecture(); });\n  Object.assign(lecture, { html: has_code ? '' : html, width: windo\
-w.innerWidth, height: window.innerHeight });\n  for (const side of $('lecture-sides').children) showTouched(side);\n  \
-// the Tab key stops at a row of nodes only where that scrolls\n  for (const strip of $('lecture-sides').querySelector\
-All('.strip')) strip.tabIndex = strip.scrollWidth > strip.clientWidth ? 0 : -1;\n  $('lecture-lesson').value = lesson.\
-id;\n  $('lecture-back').disabled = at === 0 && LECTURES[0] === lesson;\n  $('lecture-next').disabled = at === screens\
-.length - 1 && LECTURES[LECTURES.length - 1] === lesson;\n}\nlet has_code = false;         // whether the lecture show\
-s the program in place of the picture\nfunction toggleCode() {\n  has_code = !has_code;\n  drawLecture();\n}\nconst st\
-ripOfLecture = told => chainText(told, false).replace(/^<p class=\"head\">.*?<\\/p>/, '');\n\n\
+t sides = two ? [shown, lecture.pair.run] : [shown];\n  const html = sides.map(one => {\n    const e = one.now > 0 ? o\
+ne.events[one.now - 1] : one.events[0], told = Telling.chain(one, e.x);\n    return '<div class=\"side\">' + (two ? '<\
+h2>' + tableName(one.variant) + '</h2>' : '') + '<div class=\"part part-chain\"><h3><b>The ' + told.name + '.</b> '\
+\n      + told.head.map(marked).join(' ') + '</h3>' + stripOfLecture(told) + '</div><div class=\"part part-list\"><h3>\
+<b>The list.</b></h3>'\n      + listText(Telling.list(one), false) + '</div></div>';\n  }).join('');\n  const is_new \
+= !has_code && (lecture.html !== html || lecture.width !== window.innerWidth || lecture.height !== window.innerHeight)\
+;\n  // What moves does so from where it was before anything of this screen is drawn.\n  const draw = () => {\n    hid\
+eTip();\n    $('lecture-title').textContent = screen.title;\n    document.title = screen.title + ' - CC-Queue';\n    $\
+('lecture-count').textContent = 'screen ' + (at + 1) + ' of ' + screens.length;\n    if ($('lecture-text').dataset.of \
+!== lesson.id + at) { $('lecture-text').dataset.of = lesson.id + at; $('lecture-text').innerHTML = marked(screen.text)\
+; }\n    $('lecture').classList.toggle('pair', two);\n    $('lecture-line').innerHTML = sides.map(one => Telling.progr\
+am(one)).map(told => told ? '<p><span>' + told.title + '</span><code>' + escape(told.line.trim())\n      + '</code></p\
+>' : '<span>No step yet.</span>').join('');\n    for (const id of ['lecture-sides', 'lecture-line']) $(id).hidden = ha\
+s_code;\n    $('lecture-code').hidden = !has_code;\n    $('lecture-program').setAttribute('aria-pressed', has_code ? '\
+true' : 'false');\n    const parts = sides.map(one => [one, Telling.program(one)]).map(([one, told]) => partText(one.v\
+ariant, told ? told.part : 'call', told));\n    $('lecture-code').innerHTML = parts.join('');\n    $('lecture-code').s\
+tyle.setProperty('--lines', Math.max(...parts.map(text => text.split('<li').length)));\n    if (is_new) { $('lecture-s\
+ides').innerHTML = html; fitLecture(); }\n  };\n  if (is_new) moving([$('lecture-sides')], lesson, at, draw); else dra\
+w();\n  Object.assign(lecture, { html: has_code ? '' : html, width: window.innerWidth, height: window.innerHeight });\
+\n  for (const side of $('lecture-sides').children) showTouched(side);\n  // the Tab key stops at a row of nodes only \
+where that scrolls\n  for (const strip of $('lecture-sides').querySelectorAll('.strip')) strip.tabIndex = strip.scroll\
+Width > strip.clientWidth ? 0 : -1;\n  $('lecture-lesson').value = lesson.id;\n  $('lecture-back').disabled = at === \
+0 && LECTURES[0] === lesson;\n  $('lecture-next').disabled = at === screens.length - 1 && LECTURES[LECTURES.length - 1\
+] === lesson;\n}\nlet has_code = false;         // whether the lecture shows the program in place of the picture\nfunc\
+tion toggleCode() {\n  has_code = !has_code;\n  drawLecture();\n}\nconst stripOfLecture = told => chainText(told, fals\
+e).replace(/^<p class=\"head\">.*?<\\/p>/, '');\n\n\
 // Draws the chain and the list as large as they fit on the screen: first in width, and then in height, the list befor\
 e the chain.\nconst LETTERS = [64, 54, 46, 39, 33, 29, 26, 23, 21, 19, 18, 17, 16, 15, 14, 13, 12.5];\nfunction fitLec\
 ture() {\n  const largest = LETTERS.findIndex(size => size <= Math.max(26, window.innerWidth / 58));\n  const sides = \
