@@ -384,6 +384,9 @@ def on_programs():
 def on_tried():
     """The rows as the cases of one `rt try`, whose lines tell each one's status, and whether its output is the expected
     one."""
+    if not shutil.which("rt"):
+        print("rows: the program that is tried: SKIPPED: rt is not on this machine")
+        sys.exit(77)
     rows = [*by_hand("worked_rows"), *derived(), *by_hand("command_lines")]
     alike = collections.defaultdict(list)
     for name, row in rows:
