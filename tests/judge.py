@@ -13,7 +13,7 @@ though there is room: a fault that the program finds there has to leave no order
 of one thread each such log has to be found. Without words it also records 80,000 calls each of this crate's channel, of
 std's, of crossbeam's and flume's where Debian's packages of them are, and of a queue with a fault, which has to be found. And
 it records a ring of one's own by a program in Rust and by one in C: as it is, also with stops, with a planted fault, which has to be found,
-while the program is killed, and with a file that can't grow. Logs in other forms are refused by their forms. `windows.py` has the windows of logs, `histories.py` those of other tools, and
+while the program is killed, with a file that can't grow, and into a pipe. Logs in other forms are refused by their forms. `windows.py` has the windows of logs, `histories.py` those of other tools, and
 `bench/judged/run.py --short` records the queues that this machine has.
 """
 
@@ -27,6 +27,7 @@ import shutil
 import subprocess
 import sys
 import tempfile
+import threading
 import time
 from concurrent.futures import ThreadPoolExecutor
 from pathlib import Path
@@ -441,7 +442,25 @@ def judge_ring(language, ring, log):
         clean += is_clean(said, None)
         # It was killed while it wrote.
         right &= is_clean(said, None) or (": no JSON object" in said and "\n!" in "\n" + log.read_text())
-    return right and clean > 0
+    return right & judge_pipe(language, ring, log) and clean > 0
+
+
+def judge_pipe(language, ring, log):
+    """The same of what a pipe gets. Of a program that is killed these are whole lines, of a log that ends early."""
+    right = True
+    pipe = log.with_name("pipe")
+    os.mkfifo(pipe)
+    for kind, items, seconds in [("right", "5000", 60), ("early", "5000", 60), *[("right", "1000000000", 0.2)] * 3]:
+        with subprocess.Popen([ring, pipe, kind, items], stdout=subprocess.DEVNULL) as run, pipe.open() as read:
+            kill = threading.Timer(seconds, run.kill)
+            kill.start()
+            text = read.read()
+            kill.cancel()
+        log.write_text(text if seconds == 60 else text + '{"ends":"early"}\n')
+        said = judged_file(log)
+        print(f"judge: the ring in {language}, {kind}, in a pipe, for {seconds} s at most: {said}", end="")
+        right &= text.endswith("\n") and (said.startswith("judge fault: ") if kind == "early" else is_clean(said, "whole" if seconds == 60 else "early"))
+    return right
 
 
 def judge_recorded():

@@ -24,6 +24,10 @@
  * that waits for the others do a round every tenth of a second. If a round is killed while it writes, the log is
  * refused, by the line that begins with `!`.
  *
+ * A pipe, as mkfifo makes it, gets whole lines of calls that have ended, and those of pending calls at the end. So if
+ * the program is killed, its log ends early: the pending calls aren't in it. If the reader has gone, the program gets
+ * SIGPIPE; a program that ignores SIGPIPE goes on, and nothing more is written.
+ *
  * A write that fails ends the log early, and so does a limit, of which there is none unless `log.limit` is set after
  * vahepito_log_open, in bytes. The file is then as the last round left it, and vahepito_log_close returns -1, with
  * errno of the first write that failed, or EFBIG for the limit. The last line says so too: {"ends":"whole"} or
@@ -77,13 +81,13 @@ typedef struct vahepito_recorder {
 } vahepito_recorder;
 
 /* All recorders; of the file the bytes that stay, the text behind them, of calls that were pending in the last round,
- * and its size; the most bytes; why nothing more is written, an errno; a lock. */
+ * and its size; the most bytes; why nothing more is written, an errno; a lock; whether no line is written over. */
 typedef struct vahepito_log {
     vahepito_recorder *first;
     uint64_t names, kept, start, limit;
     char *shown;
     size_t shown_size;
-    int file, over, lock;
+    int file, over, lock, is_pipe;
 } vahepito_log;
 
 #define VAHEPITO_ENDS_WHOLE "{\"ends\":\"whole\"}\n"
@@ -129,14 +133,27 @@ static inline void vahepito_put_line(FILE *text, vahepito_recorder *mine, uint64
     else fprintf(text, ",\"%s\":[%" PRIu64 "]%s}\n", take ? "take" : "send", VAHEPITO_GET(it->item, RELAXED), answer);
 }
 
-/* Writes some bytes at a place of the file: 0, or an errno. */
+/* Writes some bytes at a place of the file, or at the end of a pipe: 0, or an errno. */
 static inline int vahepito_log_write(const vahepito_log *log, const char *bytes, size_t size, uint64_t at) {
     while (size > 0) {
-        const ssize_t wrote = pwrite(log->file, bytes, size, (off_t)at);
+        const ssize_t wrote = log->is_pipe ? write(log->file, bytes, size)
+                                           : pwrite(log->file, bytes, size, (off_t)at);
         if (wrote == 0 || (wrote < 0 && errno != EINTR)) return wrote < 0 ? errno : ENOSPC;
         if (wrote > 0) bytes += wrote, size -= (size_t)wrote, at += (uint64_t)wrote;
     }
     return 0;
+}
+
+/* Appends lines to a pipe, which takes 4096 bytes at once, in pieces of whole lines: so a kill cuts none. */
+static inline int vahepito_log_append(const vahepito_log *log, const char *bytes, size_t size) {
+    int failed = 0;
+    while (size > 0 && !failed) {
+        size_t piece = size < 4096 ? size : 4096;
+        while (piece > 1 && bytes[piece - 1] != '\n') piece--;
+        failed = vahepito_log_write(log, bytes, piece, 0);
+        bytes += piece, size -= piece;
+    }
+    return failed;
 }
 
 /* Writes a text behind the lines that stay: 0, or an errno. Until all of it is there its first byte is `!`. */
@@ -182,8 +199,12 @@ static inline void vahepito_log_round(vahepito_log *log) {
     if (!log->over && log->kept + all + sizeof VAHEPITO_ENDS_EARLY - 1 > log->limit) log->over = EFBIG;
     /* If no call has ended and no further one is pending, all is there */
     if (!log->over && (ended > 0 || all != log->shown_size)) {
-        log->over = vahepito_log_write_over(log, bytes, all, log->kept);
-        if (log->over) {
+        log->over = log->is_pipe ? vahepito_log_append(log, bytes, (size_t)ended)
+                                 : vahepito_log_write_over(log, bytes, all, log->kept);
+        if (log->over && log->is_pipe) {
+            /* It may end within a line: nothing more is written */
+            log->limit = 0;
+        } else if (log->over) {
             vahepito_log_write_over(log, log->shown, log->shown_size, log->kept);
             vahepito_log_cut(log, log->kept + log->shown_size);
         } else {
@@ -203,10 +224,12 @@ static inline void vahepito_log_round(vahepito_log *log) {
 /* A log in a new file: 0, or -1 with errno. */
 static inline int vahepito_log_open(vahepito_log *log, const char *path) {
     log->first = NULL, log->shown = NULL, log->shown_size = 0, log->limit = UINT64_MAX;
-    log->names = log->kept = log->start = 0, log->over = log->lock = 0;
+    log->names = log->kept = log->start = 0, log->over = log->lock = log->is_pipe = 0;
     log->start = vahepito_moment_after(log, 0);
     log->file = open(path, O_WRONLY | O_CREAT | O_TRUNC, 0666);
-    return log->file < 0 ? -1 : 0;
+    if (log->file < 0) return -1;
+    log->is_pipe = lseek(log->file, 0, SEEK_CUR) < 0;
+    return 0;
 }
 
 /* The recorder of a further thread, whose name is its number, from 0. */
@@ -230,8 +253,11 @@ static inline int vahepito_log_close(vahepito_log *log) {
     over = log->over;
     line = over ? VAHEPITO_ENDS_EARLY : VAHEPITO_ENDS_WHOLE;
     end = log->kept + log->shown_size;
-    failed = end + size > log->limit ? EFBIG : vahepito_log_write_over(log, line, size, end);
-    if (failed) vahepito_log_cut(log, end);
+    failed = end + size > log->limit ? EFBIG : 0;
+    if (!failed && log->is_pipe) failed = vahepito_log_append(log, log->shown, log->shown_size);
+    if (!failed) failed = log->is_pipe ? vahepito_log_append(log, line, size)
+                                       : vahepito_log_write_over(log, line, size, end);
+    if (failed && !log->is_pipe) vahepito_log_cut(log, end);
     if (!over) over = failed;
     if (close(log->file) != 0 && !over) over = errno;
     free(log->shown);

@@ -71,11 +71,7 @@ func work(mine *recorder, queue chan uint64, thread, senders, calls, seed uint64
 
 // The recorder of a thread, whose file is LOG with its number.
 func open(thread uint64) *recorder {
-	file, err := os.Create(fmt.Sprintf("%s.%d", os.Args[2], thread))
-	if err != nil {
-		panic(err)
-	}
-	return &recorder{file: file, thread: int(thread)}
+	return record(fmt.Sprintf("%s.%d", os.Args[2], thread), thread)
 }
 
 func main() {

@@ -15,7 +15,10 @@ fn path(name: &str) -> PathBuf {
 
 /// The lines of a log without their times.
 fn lines(path: &PathBuf) -> Vec<String> {
-    let text = fs::read_to_string(path).expect("the log is there");
+    lines_of(&fs::read_to_string(path).expect("the log is there"))
+}
+
+fn lines_of(text: &str) -> Vec<String> {
     let without = |line: &str| {
         let parts = line.split(',').filter(|part| !part.contains("begin"));
         let parts = parts.map(|part| {
@@ -261,13 +264,11 @@ fn killed_child() {
     });
 }
 
-/// Of a program that is killed all calls are there that ended before the last round, and no last line says that the log is whole.
-#[test]
-fn a_killed_program_leaves_its_calls() {
-    let path = path("killed");
+/// Starts the child, and kills it in its last call.
+fn kill_child(path: &PathBuf) {
     let mut child = Command::new(std::env::current_exe().expect("it has a name"))
         .args(["--exact", "tests::killed_child", "--nocapture"])
-        .env(CHILD, &path)
+        .env(CHILD, path)
         .stdout(Stdio::piped())
         .spawn()
         .expect("this program starts");
@@ -278,6 +279,13 @@ fn a_killed_program_leaves_its_calls() {
     child.kill().expect("it runs");
     child.wait().expect("it was killed");
     assert!(hangs);
+}
+
+/// Of a program that is killed all calls are there that ended before the last round, and no last line says that the log is whole.
+#[test]
+fn a_killed_program_leaves_its_calls() {
+    let path = path("killed");
+    kill_child(&path);
     let mut found = lines(&path);
     // The call that hangs may have begun after the last round.
     if found.len() as u64 > CALLS {
@@ -290,6 +298,66 @@ fn a_killed_program_leaves_its_calls() {
         .map(|item| format!(r#"{{"thread":"0",end,"send":[{item}]}}"#))
         .collect();
     assert_eq!(found, due);
+    fs::remove_file(path).expect("it was there");
+}
+
+/// A new pipe with a name, and what is read from it.
+fn pipe(name: &str) -> (PathBuf, thread::JoinHandle<String>) {
+    let path = path(name);
+    let made = Command::new("mkfifo").arg(&path).status();
+    assert!(made.expect("mkfifo starts").success());
+    let its = path.clone();
+    let read = thread::spawn(move || fs::read_to_string(its).expect("whole characters"));
+    (path, read)
+}
+
+/// A pipe gets each call once: a pending one at the end, or if the program is killed not at all.
+#[test]
+fn a_pipe_gets_whole_lines() {
+    let (path, read) = pipe("pipe");
+    let log = Log::create(&path).expect("a pipe");
+    let mut one = log.recorder();
+    let due = |item| format!(r#"{{"thread":"0",end,"send":[{item}]}}"#);
+    for item in 0..3 * SLOTS {
+        one.send(item, || Sent::Accepted);
+    }
+    let unwinds = catch_unwind(AssertUnwindSafe(|| one.take(|| panic!("planted"))));
+    assert!(unwinds.is_err());
+    thread::sleep(Duration::from_millis(300));
+    log.finish().expect("the pipe is read");
+    drop(one);
+    let mut all: Vec<String> = (0..3 * SLOTS).map(due).collect();
+    let pending = r#"{"thread":"0","take":null}"#;
+    all.extend([pending.into(), r#"{"ends":"whole"}"#.into()]);
+    assert_eq!(lines_of(&read.join().expect("it was read")), all);
+    fs::remove_file(path).expect("it was there");
+
+    let (path, read) = pipe("killed pipe");
+    kill_child(&path);
+    let text = read.join().expect("it was read");
+    assert_eq!(lines_of(&text), (0..CALLS).map(due).collect::<Vec<_>>());
+    assert!(text.ends_with('\n'));
+    fs::remove_file(path).expect("it was there");
+}
+
+/// If the reader of a pipe is gone, the log ends early, and says so to its caller alone.
+#[test]
+fn a_pipe_without_a_reader_ends_the_log() {
+    let path = path("left pipe");
+    let made = Command::new("mkfifo").arg(&path).status();
+    assert!(made.expect("mkfifo starts").success());
+    let its = path.clone();
+    let left = thread::spawn(move || drop(fs::File::open(its)));
+    let log = Log::create(&path).expect("a pipe");
+    left.join().expect("it has left");
+    let mut one = log.recorder();
+    for item in 0..3 * SLOTS {
+        one.send(item, || Sent::Accepted);
+    }
+    match log.finish() {
+        Err(Early::Write(error)) => assert_eq!(error.kind(), ErrorKind::BrokenPipe),
+        other => panic!("{other:?}"),
+    }
     fs::remove_file(path).expect("it was there");
 }
 

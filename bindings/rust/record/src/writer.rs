@@ -10,6 +10,9 @@ use std::sync::Arc;
 const WHOLE: &[u8] = b"{\"ends\":\"whole\"}\n";
 const EARLY: &[u8] = b"{\"ends\":\"early\"}\n";
 
+/// A pipe takes this number of bytes at once, or none of them.
+const PIECE: usize = 4096;
+
 /// Why a log isn't whole. The file has a log of the run up to a moment.
 #[derive(Debug)]
 #[non_exhaustive]
@@ -17,7 +20,7 @@ pub enum Early {
     /// The log would have had more bytes than this limit.
     Limit(u64),
     /// This was the first write that failed. The file is as the last round left it, if the system let it be put back; else it
-    /// may end in a line that begins with `!`.
+    /// may end in a line that begins with `!`. A pipe may end within a line.
     Write(io::Error),
 }
 
@@ -54,9 +57,11 @@ impl From<Early> for io::Error {
 #[derive(Debug)]
 pub(crate) struct Writer {
     file: File,
+    /// Whether it's a pipe, or another file without places: no line is written over.
+    is_pipe: bool,
     /// The number of bytes that stay: the lines of calls that have ended.
     kept: u64,
-    /// The lines behind those that stay: of the calls that were pending in the last round.
+    /// The lines behind those that stay: of the calls that were pending in the last round. A pipe gets them at the end.
     shown: Vec<u8>,
     /// The most bytes of the file.
     limit: u64,
@@ -69,8 +74,9 @@ pub(crate) struct Writer {
 }
 
 impl Writer {
-    pub(crate) fn new(file: File, limit: Option<u64>) -> Writer {
+    pub(crate) fn new(mut file: File, limit: Option<u64>) -> Writer {
         Writer {
+            is_pipe: file.stream_position().is_err(),
             file,
             kept: 0,
             shown: Vec::new(),
@@ -84,7 +90,7 @@ impl Writer {
     }
 
     /// Writes the log up to a moment. The lines of pending calls come last, and the next round writes over them: what it
-    /// writes is no shorter. While the text isn't whole its first byte is `!`.
+    /// writes is no shorter. While the text isn't whole its first byte is `!`. A pipe gets no line of a pending call.
     pub(crate) fn round(&mut self, moment: u64) {
         let (text, pending) = (&mut self.text, &mut self.pending);
         text.clear();
@@ -100,8 +106,13 @@ impl Writer {
             return;
         }
         let ended = text.len() as u64;
-        text.extend_from_slice(pending);
-        match write_over(&mut self.file, self.kept, &self.text) {
+        let wrote = if self.is_pipe {
+            append(&mut self.file, text)
+        } else {
+            text.extend_from_slice(pending);
+            write_over(&mut self.file, self.kept, text)
+        };
+        match wrote {
             Ok(()) => {
                 self.kept += ended;
                 std::mem::swap(&mut self.shown, &mut self.pending);
@@ -118,8 +129,11 @@ impl Writer {
         (self.is_over, self.early) = (true, Some(early));
     }
 
-    /// Puts the file back to what the last round left. If that fails too, there is nothing to be done.
+    /// Puts the file back to what the last round left. If that fails too, or it's a pipe, there is nothing to be done.
     fn put_back(&mut self) {
+        if self.is_pipe {
+            return;
+        }
         let _ = write_over(&mut self.file, self.kept, &self.shown);
         let _ = self.file.set_len(self.kept + self.shown.len() as u64);
     }
@@ -128,12 +142,21 @@ impl Writer {
     pub(crate) fn end(&mut self) -> Result<(), Early> {
         let early = self.early.take();
         self.is_over = true;
+        if self.is_pipe && matches!(early, Some(Early::Write(_))) {
+            return early.map_or(Ok(()), Err);
+        }
         let line = if early.is_some() { EARLY } else { WHOLE };
         let end = self.kept + self.shown.len() as u64;
         if end + line.len() as u64 > self.limit {
             return Err(early.unwrap_or(Early::Limit(self.limit)));
         }
-        if let Err(error) = write_over(&mut self.file, end, line) {
+        let wrote = if self.is_pipe {
+            self.shown.extend_from_slice(line);
+            append(&mut self.file, &self.shown)
+        } else {
+            write_over(&mut self.file, end, line)
+        };
+        if let Err(error) = wrote {
             let _ = self.file.set_len(end);
             return Err(early.unwrap_or(Early::Write(error)));
         }
@@ -151,6 +174,18 @@ fn write_over(file: &mut File, place: u64, text: &[u8]) -> io::Result<()> {
         write(place, b"!")?;
         write(place + 1, rest)?;
         write(place, &[*first])?;
+    }
+    Ok(())
+}
+
+/// Appends lines to a pipe, in pieces of whole lines: so a kill cuts none.
+fn append(file: &mut File, mut lines: &[u8]) -> io::Result<()> {
+    while !lines.is_empty() {
+        let piece = &lines[..lines.len().min(PIECE)];
+        let end = piece.iter().rposition(|byte| *byte == b'\n');
+        let (piece, rest) = lines.split_at(end.map_or(piece.len(), |end| end + 1));
+        file.write_all(piece)?;
+        lines = rest;
     }
     Ok(())
 }
