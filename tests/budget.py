@@ -10,12 +10,13 @@ The piece of work is the proof of the toolchain's own template of a library, fro
 limit, in processor minutes, and the seconds that this work takes on the host of its table. A part counts less on a
 slower host, by as much as the work took longer while the part ran: by the mean of what was measured then, or else by
 what was measured nearest to it. For a host's speed changes with its load, and four proofs at once are another load than
-one test. The exit status is 0 if the sum of all parts is within the limit.
+one test. The exit status is 0 if the sum of all parts is within the limit, and 127 if there is no git or rt to measure.
 """
 
 import os
 import re
 import resource
+import shutil
 import signal
 import subprocess
 import sys
@@ -92,6 +93,10 @@ def verdict(parts: list[tuple[float, float, str]], yards: list[tuple[float, floa
 
 def main() -> int:
     words = sys.argv[1:]
+    lacking = [it for it in ("git", "rt") if not shutil.which(it)]
+    if words in (["--yard"], ["--yards"]) and lacking:
+        print(f"budget: there is no {lacking[0]} on the path, which the fixed piece of work needs", file=sys.stderr)
+        return 127
     if words == ["--yard"]:
         print_yard()
         return 0
