@@ -227,14 +227,14 @@ unsafe extern "C" {
     safe fn __tsan_acquire(at: *const c_void);
 }
 
-/// Announces to the thread sanitizer, as neither the library nor std is built for it, that what is done before a send on
-/// this channel, or before seats are added here, comes before what is done after a take, or after a look at the seats.
+/// Announces to the thread sanitizer, as the library isn't built for it, that what is done before a send on
+/// this channel comes before what is done after a take.
 pub fn hands_over<C>(_channel: &C) {
     #[cfg(vahepito_tsan)]
     __tsan_release((&raw const *_channel).cast());
 }
 
-/// The same after the take, or the look.
+/// The same after a take.
 pub fn has_taken<C>(_channel: &C) {
     #[cfg(vahepito_tsan)]
     __tsan_acquire((&raw const *_channel).cast());

@@ -337,11 +337,8 @@ fn rendezvous<const N: usize>() {
     drop_all([nine]);
     run(|| operation.map(|it| it.map(|it| it.send(&sender, item()))));
     let mut last = sender.send_async(item());
-    if poll(&mut last) {
-        forget(last);
-    } else {
-        drop_all([last]);
-    }
+    poll(&mut last);
+    drop_all([last]);
     drop((send, take));
     drop_all([two, four, eight]);
     drop_all([five, seven]);
