@@ -29,9 +29,10 @@ const FOR_OTHERS_AT_PACE: Wait = micros(1, 4);
 
 /// Until something comes from the other side, which is slow or isn't.
 pub const fn for_others(is_slow: bool) -> &'static Wait {
-    match is_slow {
-        true => &FOR_OTHERS,
-        false => &FOR_OTHERS_AT_PACE,
+    if is_slow {
+        &FOR_OTHERS
+    } else {
+        &FOR_OTHERS_AT_PACE
     }
 }
 

@@ -12,10 +12,10 @@
 //! # User code
 //!
 //! Wakers and items have calls that the user wrote: a waker's clone, wake and drop; an item's clone and drop; the drop
-//! of a panic's payload. Each may block, call the channel, or panic. None runs while a lock or a seat is held. This table
-//! has every place at which one runs, what was done before it, and what becomes of its panic. [`Panics`] catches
-//! panics, and [`send_by`](crate::channel::body::send_by) forgets an item that the queue has. `tests/channel/user_code.rs`
-//! makes each of them panic.
+//! of a panic's payload. Each may block, call the channel, or panic. None runs while a lock or a seat is held. This
+//! table has every place at which one runs, what was done before it, and what becomes of its panic. [`Panics`] catches
+//! panics, and [`send_by`](crate::channel::body::send_by) forgets an item that the queue has.
+//! `tests/channel/user_code.rs` makes each of them panic.
 //!
 //! | user code | place | done before it | its panic |
 //! |---|---|---|---|
@@ -298,10 +298,8 @@ impl Parker {
         let is_woken = || self.woken.load(Ordering::SeqCst).then_some(());
         for_others(parks > 0).try_until(until, is_woken);
         self.park(until);
-        let parks = match begin.elapsed() > PACE {
-            true => AFTER_LONG,
-            false => parks.saturating_sub(1),
-        };
+        let (is_long, fewer) = (begin.elapsed() > PACE, parks.saturating_sub(1));
+        let parks = if is_long { AFTER_LONG } else { fewer };
         self.parks.store(parks, Ordering::Relaxed);
     }
 

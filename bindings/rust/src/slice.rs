@@ -67,7 +67,8 @@ mod of_linux {
         fn syscall(number: c_long, ...) -> c_long;
     }
 
-    /// Makes one of these calls for this thread. One of them has a third argument, the size; the other one has flags there, 0.
+    /// Makes one of these calls for this thread. One of them has a third argument, the size; the other one has flags
+    /// there, 0.
     fn call(number: c_long, attributes: &mut Attributes, third: c_uint) -> io::Result<()> {
         let (thread, flags): (c_int, c_uint) = (0, 0);
         // SAFETY: the system reads, or writes, no more bytes there than the size says that it is given.

@@ -62,9 +62,10 @@ impl Kind {
         Kind {
             words,
             is_boxed,
-            drop: match is_boxed {
-                true => drop_boxed::<T>,
-                false => drop_inline::<T>,
+            drop: if is_boxed {
+                drop_boxed::<T>
+            } else {
+                drop_inline::<T>
             },
             copy,
         }

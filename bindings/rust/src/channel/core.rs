@@ -31,7 +31,8 @@ pub struct Side {
     pub seats: Pool,
     /// How many handles there are.
     pub handles: AtomicUsize,
-    /// Whether its last try found no item, or no room: then the next one looks first, since a look costs less than a call in vain.
+    /// Whether its last try found no item, or no room: then the next one looks first, since a look costs less than a
+    /// call in vain.
     pub found_none: AtomicBool,
     /// Whether few items passed while the last call waited that did: then a call that waits doesn't yield.
     pub is_slow: AtomicBool,
@@ -143,7 +144,7 @@ pub fn or_closed(sent: Sent) -> Try<Sent> {
     }
 }
 
-/// What is between the two sides of a channel.
+/// The kind of a channel: how an item goes from its senders to its receivers.
 pub enum Flavor {
     /// One queue, in the place of which another one may come.
     Queue,
@@ -166,8 +167,8 @@ pub struct Core {
     pub closed: AtomicBool,
     /// The lock of the groups: under it a further queue takes the place of this one, and a side ends.
     pub groups_lock: Mutex<()>,
-    /// How many places are reserved for selected sends. It grows under the lock of the groups. Of a row with a limit it is 1 for good,
-    /// so that each send asks for room: see [`limit`](super::limit).
+    /// How many places are reserved for selected sends. It grows under the lock of the groups. Of a row with a limit it
+    /// is 1 for good, so that each send asks for room: see [`limit`](super::limit).
     pub reserved: AtomicUsize,
 }
 
@@ -227,7 +228,7 @@ impl Core {
         }
     }
 
-    /// What is in the queue's place, if it has capacity 0.
+    /// The rendezvous of a channel of capacity 0; None of any other channel.
     #[inline]
     pub fn rendezvous(&self) -> Option<&Rendezvous> {
         match &self.flavor {
@@ -435,7 +436,8 @@ impl Core {
         Ok(ManuallyDrop::into_inner(item))
     }
 
-    /// After the queue of this seat returned this code in place of an item: at its end tries again, if there is a next queue.
+    /// After the queue of this seat returned this code in place of an item: at its end tries again, if there is a next
+    /// queue.
     #[cold]
     fn take_further(&self, group: usize, code: u32, seat: SeatGuard) -> Try<Option<Item>> {
         match (code, &self.flavor) {

@@ -27,8 +27,8 @@ pub enum Waiting {
 }
 
 impl Waiting {
-    /// Tries, and stays in line; or stands in line, and tries again if there seems to be something. A future that is still in line
-    /// needs no second try: the notification that takes it out is to come.
+    /// Tries, and stays in line; or stands in line, and tries again if there seems to be something. A future that is
+    /// still in line needs no second try: the notification that takes it out is to come.
     fn poll_in_line<R>(
         &mut self,
         case: Case,

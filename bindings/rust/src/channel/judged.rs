@@ -75,7 +75,8 @@ fn send_all(mut lines: Lines, sender: &Sender<u64>, number: u64, count: u64) -> 
     lines.text
 }
 
-/// Takes until the channel is closed and empty. Returns how many items were taken, too. Every fourth try has a short time.
+/// Takes until the channel is closed and empty. Returns how many items were taken, too. Every fourth try has a short
+/// time.
 fn take_all(mut lines: Lines, receiver: &Receiver<u64>) -> (String, u64) {
     let says = |taken: &Result<u64, bool>| match taken {
         Ok(item) => format!(r#""take":{item}"#),
@@ -93,8 +94,8 @@ fn take_all(mut lines: Lines, receiver: &Receiver<u64>) -> (String, u64) {
     (lines.text, count)
 }
 
-/// The log of each group, of threads that pass items, where the channel is closed once all items were sent. A send that one group
-/// holds up isn't in the log of another one: of several groups, only the sends that were made are there.
+/// The log of each group, of threads that pass items, where the channel is closed once all items were sent. A send that
+/// one group holds up isn't in the log of another one: of several groups, only the sends that were made are there.
 fn record(channel: (Sender<u64>, Vec<Receiver<u64>>), count: u64) -> Vec<String> {
     let ((sender, receivers), start) = (&channel, Instant::now());
     thread::scope(|scope| {

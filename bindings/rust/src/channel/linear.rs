@@ -3,7 +3,8 @@
 //! sends and takes, with and without a time, closes, clones, drops, upgrades of weak handles, and selects
 //! over two channels. With capacity 0 a send and its take are one step, between the moments of both.
 //!
-//! Sends, takes and closes alone are also recorded as long logs, which `ccq judge` judges: see [`judged`](super::judged).
+//! Sends, takes and closes alone are also recorded as long logs, which `ccq judge` judges: see
+//! [`judged`](super::judged).
 use self::Outcome::*;
 use super::judged::{send, take};
 use super::rounds::rounds;
@@ -138,8 +139,8 @@ impl Model {
     }
 }
 
-/// Makes a call, and with it the take of what it sends, if the capacity is 0. Gives the bits of the calls that are made, if they return
-/// what they did.
+/// Makes a call, and with it the take of what it sends, if the capacity is 0. Gives the bits of the calls that are
+/// made, if they return what they did.
 fn make(calls: &[Call], call: usize, models: &mut [Model; 2]) -> Option<u128> {
     let (.., channel, outcome) = calls[call];
     let is_made = match outcome {
@@ -312,7 +313,8 @@ impl Own {
         })
     }
 
-    /// Four calls at random, of this number of kinds: those from 30 on are of the other channel, those from 34 on of selects.
+    /// Four calls at random, of this number of kinds: those from 30 on are of the other channel, those from 34 on of
+    /// selects.
     fn make_calls(&mut self, clock: &Clock, first: u32, kinds: usize) {
         clock.1.fetch_add(1, Ordering::SeqCst);
         while clock.1.load(Ordering::SeqCst) < THREADS {
@@ -343,8 +345,8 @@ impl Own {
 #[derive(Clone, Copy)]
 struct Runs {
     groups: usize,
-    /// How many items a queue accepts, and how many sends each of its senders begins, beside those that are moved over from the
-    /// queue before.
+    /// How many items a queue accepts, and how many sends each of its senders begins, beside those that are moved over
+    /// from the queue before.
     wear: (u64, u32),
     /// The capacity of a run's channel.
     capacity: fn(usize) -> usize,
@@ -437,7 +439,7 @@ impl Runs {
         assert!(is_linear(&all, start), "capacity {capacity}: {all:#?}");
     }
 
-    /// Lets four threads make their calls on each of so many channels, one after another.
+    /// Opens this number of channels, and has four threads make their calls on each, one channel after another.
     fn make(self, count: u64) {
         const BATCH: usize = 50;
         let kinds = self.other.map_or(30, |_| 60);

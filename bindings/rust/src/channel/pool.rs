@@ -366,11 +366,12 @@ impl Pool {
         self.seats().filter_map(|seat| self.try_seat(seat))
     }
 
-    /// Waits until each seat was free once. So whoever had a seat has counted what went through it; and whoever acquires a seat after
-    /// that sees what this thread did before.
+    /// Waits until each seat was free once. So whoever had a seat has counted what went through it; and whoever
+    /// acquires a seat after that sees what this thread did before. Returns true: a caller may have this call in place
+    /// of [`pause_for_holders`](Pool::pause_for_holders), which may return false.
     ///
-    /// It looks for the other seats after it saw the first one free. A thread that adds seats has the first one meanwhile. So a seat that
-    /// isn't looked at was added later, and what went through it came later.
+    /// It looks for the other seats after it saw the first one free. A thread that adds seats has the first one
+    /// meanwhile. So a seat that isn't looked at was added later, and what went through it came later.
     #[inline(never)]
     pub fn wait_for_holders(&self) -> bool {
         self.sees_each_free(|seat| self.wait_for(seat))

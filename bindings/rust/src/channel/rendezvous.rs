@@ -2,28 +2,29 @@
 //!
 //! It works without the queue, under locks of its own, and rests on nothing of the queue's proof.
 //!
-//! A call looks first whether one of the other side is posted, and meets that one; if there is none, it posts itself, by a
-//! [`Waiter`]. A call that was met is met by no other. A send of a thread or a task has its item with it, and gives the item to
-//! the take at once. A selected send has no item yet: it gives the item to the take that it has met when it is completed, or
-//! gives the take up when it is dropped. A thread that waits makes the polls of a task, and parks between two of them.
+//! A call looks first whether one of the other side is posted, and meets that one; if there is none, it posts itself,
+//! by a [`Waiter`]. A call that was met is met by no other. A send of a thread or a task has its item with it, and
+//! gives the item to the take at once. A selected send has no item yet: it gives the item to the take that it has met
+//! when it is completed, or gives the take up when it is dropped. A thread that waits makes the polls of a task, and
+//! parks between two of them.
 //!
 //! **None is missed.** A call looks for others and posts itself, in all the channels of its select, in one step: it
 //! has the locks of all of them. So of two that might meet, one is posted first, and the other one finds it. Before
 //! it goes on it takes itself off, and then looks whether somebody met it meanwhile.
 //!
-//! **None is met twice.** A waiter notes that it is met, under a lock ([`Waiter::try_meet`]); it may be posted in several
-//! channels. The item of a send is taken out of the one list in which it is.
+//! **None is met twice.** A waiter notes that it is met, under a lock ([`Waiter::try_meet`]); it may be posted in
+//! several channels. The item of a send is taken out of the one list in which it is.
 //!
-//! **Only the send may give a take up.** A take that a selected send has met, and a select of one, returns only
-//! once it has its item, also if its time is over before: so a selected send that is completed has a take. If the send gives the
-//! take up, the take is woken, and goes on: with the other operations of its select, and until its time is over. The take
-//! of a task may be dropped: its item goes to the next take.
+//! **Only the send may give a take up.** A take that a selected send has met, and a select of one, returns only once it
+//! has its item, also if its time is over before: so a selected send that is completed has a take. If the send gives
+//! the take up, the take is woken, and goes on: with the other operations of its select, and until its time is over.
+//! The take of a task may be dropped: its item goes to the next take.
 //!
 //! **A time that is over** hands the item back exactly if nobody took it: a send takes it off itself then.
 //!
 //! **A poll waits for nothing.** The take of a task is a waiter too. A waker is noted under the lock under which the
-//! poll looks at what the waker is to report, so that whoever changes that finds the waker. If a task is dropped, its item goes to
-//! the next take, or the channel keeps it for one, also after a close.
+//! poll looks at what the waker is to report, so that whoever changes that finds the waker. If a task is dropped, its
+//! item goes to the next take, or the channel keeps it for one, also after a close.
 //!
 //! **Those that only look** ([`Select::ready`](crate::Select::ready)) aren't posted. They wait in the lines of their sides, for which each
 //! post notifies: see [`event`](crate::event).
@@ -46,7 +47,8 @@ use std::time::Instant;
 /// The side of the takes.
 const TAKES: usize = 1;
 
-/// A call that is posted, until another one meets it. If that is a selected send, it is where a take waits for its item.
+/// A call that is posted, until another one meets it. If that is a selected send, it is where a take waits for its
+/// item.
 pub struct Waiter(Mutex<Waits>);
 
 struct Waits {
@@ -73,8 +75,8 @@ enum Got {
     Dropped,
 }
 
-/// Returns what this finds under the lock; or notes this waker. The waker that isn't noted, or isn't any more, is dropped once
-/// the lock is released.
+/// Returns what this finds under the lock; or notes this waker. The waker that isn't noted, or isn't any more, is
+/// dropped once the lock is released.
 fn poll_under_lock<R>(
     waiter: &Waiter,
     waker: &Waker,
@@ -186,7 +188,8 @@ impl Drop for Lists {
 }
 
 impl Lists {
-    /// Meets the first of the other side that no call has met. A send that has its item gives the item to the take, and wakes it.
+    /// Meets the first of the other side that no call has met. A send that has its item gives the item to the take, and
+    /// wakes it.
     fn meet(&mut self, side: usize, item: &mut Unsent, woken: &mut Option<Waker>) -> Option<Begun> {
         let returned = (side == TAKES).then(|| self.returned.pop_front());
         if let Some(item) = returned.flatten() {
@@ -239,7 +242,8 @@ impl<'a> Operation<'a> {
     }
 }
 
-/// Meets one that is posted for one of these operations, or posts this waiter for all. If one alone is a send, it may have its item.
+/// Meets one that is posted for one of these operations, or posts this waiter for all. If one alone is a send, it may
+/// have its item.
 pub fn meet_or_post(
     operations: &mut [Operation],
     waiter: &Arc<Waiter>,
@@ -338,8 +342,8 @@ impl Rendezvous {
         item.as_ref().map_or(Ok(()), |_| Err(NotSent::Closed))
     }
 
-    /// Gives an item whose take was dropped to the next take, or keeps it for one. Gives it back if it isn't sent yet, and
-    /// the channel is closed.
+    /// Gives an item whose take was dropped to the next take, or keeps it for one. Gives it back if it isn't sent yet,
+    /// and the channel is closed.
     fn hand_on(&self, item: Item, is_sent: bool) -> Unsent {
         let (mut item, mut woken) = (Some(item), None);
         let mut lists = lock(&self.0);
@@ -443,7 +447,8 @@ impl Core {
         }
     }
 
-    /// A task's call is no more: an item that its take got goes to the next one. Gives the item of a send, if nobody has it.
+    /// A task's call is no more: an item that its take got goes to the next one. Gives the item of a send, if nobody
+    /// has it.
     pub fn leave_list(
         &self,
         rendezvous: &Rendezvous,
@@ -463,8 +468,8 @@ impl Core {
         posted?.item
     }
 
-    /// One poll of a send: gives the item to a take, or posts it, and then looks whether it was taken. The item is put back if
-    /// the channel is closed.
+    /// One poll of a send: gives the item to a take, or posts it, and then looks whether it was taken. The item is put
+    /// back if the channel is closed.
     pub fn poll_posted(
         &self,
         rendezvous: &Rendezvous,

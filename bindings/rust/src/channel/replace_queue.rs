@@ -26,8 +26,8 @@ impl Core {
             .for_each(|it| self.end_replacing(it));
     }
 
-    /// Drops what lost groups haven't taken, and wakes those that wait for the room. The caller's item isn't sent yet, but this call
-    /// goes on for others: it doesn't panic.
+    /// Drops what lost groups haven't taken, and wakes those that wait for the room. The caller's item isn't sent yet,
+    /// but this call goes on for others: it doesn't panic.
     pub fn end_replacing(&self, left_by_lost: Vec<Item>) {
         ignore_panics(left_by_lost, drop);
         self.senders.line.notify_all(&mut Panics::default());

@@ -73,8 +73,8 @@ impl Core {
         finds_none_again(self.groups.of(group), look)
     }
 
-    /// Whether the last send found no room, and a look finds none now. Beside a take under way whose thread doesn't run the queue
-    /// is asked.
+    /// Whether the last send found no room, and a look finds none now. Beside a take under way whose thread doesn't run
+    /// the queue is asked.
     #[inline]
     pub fn finds_no_room(&self) -> bool {
         finds_none_again(&self.senders, || self.look_for_room())

@@ -40,7 +40,8 @@ use std::sync::{Mutex, MutexGuard};
 /// A list of fewer queues doesn't shrink.
 const FEW: usize = 64;
 
-/// The configurations of the queues of a row: that of the first one, and that of all others. A seat needs a pass of each.
+/// The configurations of the queues of a row: that of the first one, and that of all others. A seat needs a pass of
+/// each.
 pub type Shape = [Config; 2];
 
 /// A queue of the row.
@@ -276,7 +277,8 @@ impl Core {
         Ok(appends)
     }
 
-    /// Sends an item by this seat, in the queue of the seat or one behind it. The seat is held until the item is accepted.
+    /// Sends an item by this seat, in the queue of the seat or one behind it. The seat is held until the item is
+    /// accepted.
     #[cold]
     pub fn send_in_row<'a>(
         &'a self,
@@ -298,7 +300,8 @@ impl Core {
         Ok(())
     }
 
-    /// After the queue of this seat has ended: the seat goes on to the queue that its group is at. Returns whether there is one.
+    /// After the queue of this seat has ended: the seat goes on to the queue that its group is at. Returns whether
+    /// there is one.
     pub fn next_for_group(&self, row: &Row, group: usize, mut seat: SeatGuard) -> bool {
         let mut locked = row.lock();
         let next = locked.go_on(group, seat.pass().0.queue);

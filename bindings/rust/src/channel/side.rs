@@ -90,8 +90,8 @@ impl Core {
         if side.handles.fetch_update(order.0, order.1, another).is_ok() {
             return Some(core);
         }
-        // Another thread may be dropping the last one, which then wakes the side's line: this waits until all is done that
-        // comes of it. Nobody else waits there any more, so it takes away no notification.
+        // Another thread may be dropping the last one, which then wakes the side's line: this waits until all is done
+        // that comes of it. Nobody else waits there any more, so it takes away no notification.
         wait_without_end(&side.line, &FOR_OTHERS, || side.is_lost().then_some(()));
         drop(lock(&self.groups_lock));
         None
@@ -118,7 +118,8 @@ impl Core {
         sent.unwrap_or(Err(NotSent::Full))
     }
 
-    /// Tries a call of this side until it is done, or until this moment: then None. Between the tries it waits for notifications.
+    /// Tries a call of this side until it is done, or until this moment: then None. Between the tries it waits for
+    /// notifications.
     ///
     /// A thread that passed several items since its last wait is faster than the other side. If it tries again at
     /// once, both meet at each item, and wait for the same cache line. So it lets the other side go ahead.

@@ -23,8 +23,8 @@ pub struct Timer {
 }
 
 impl Timer {
-    /// Takes the item of a moment that has come; or gives None if none will come. The next one comes a period after it, or, if a whole period
-    /// has passed, after now.
+    /// Takes the item of a moment that has come; or gives None if none will come. The next one comes a period after it,
+    /// or, if a whole period has passed, after now.
     pub fn try_take(&self) -> Try<Option<Item>> {
         let mut due = lock(&self.due);
         let Some(at) = *due else {
