@@ -60,8 +60,8 @@ limit=600 step 'Rust: tests' cargo "${options[@]}" test
 limit=600 step 'Rust: tests with the feature strict' env CARGO_PROFILE_DEV_DEBUG=none "VAHEPITO_ROUNDS=${VAHEPITO_ROUNDS:-25}" cargo "${options[@]}" test "${chosen[@]}" --features strict -- "${searches[@]}"
 limit=600 step 'Rust: tests with the feature unproved' env CARGO_PROFILE_DEV_DEBUG=none "VAHEPITO_ROUNDS=${VAHEPITO_ROUNDS:-5}" cargo "${options[@]}" test "${chosen[@]}" --features unproved -- "${searches[@]}"
 mkdir "$room/logs"
-step 'Rust: calls over tiny queues and rows are recorded' env "VAHEPITO_LOGS=$room/logs" "VAHEPITO_ROUNDS=${VAHEPITO_ROUNDS:-50}" \
-    cargo "${options[@]}" test --lib judged -- --ignored
+step 'Rust: calls over tiny queues and rows are recorded' env "VAHEPITO_LOGS=$room/logs" \
+    "VAHEPITO_ROUNDS=${VAHEPITO_ROUNDS:-50}" cargo "${options[@]}" test --lib judged -- --ignored
 step 'Rust: the recorded calls are judged' "$top/tests/judged_rows.py" "$room/logs"
 step 'Rust: the recorder' cargo "${options[@]}" test --manifest-path record/Cargo.toml
 step 'Rust: the recorder with stops' cargo "${options[@]}" test --manifest-path record/Cargo.toml --all-features --lib

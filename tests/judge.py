@@ -12,8 +12,9 @@ failure, unless calls overlap by the skew, or meet at one time twice, where only
 though there is room: a fault that the program finds there has to leave no order of a queue with that capacity, and of a queue
 of one thread each such log has to be found. Without words it also records 80,000 calls each of this crate's channel, of
 std's, of crossbeam's and flume's where Debian's packages of them are, and of a queue with a fault, which has to be found. And
-it records a ring of one's own by a program in Rust and by one in C: as it is, also with stops, with a planted fault, which has to be found,
-while the program is killed, with a file that can't grow, and into a pipe. Logs in other forms are refused by their forms. `windows.py` has the windows of logs, `histories.py` those of other tools, and
+it records a ring of one's own by a program in Rust and by one in C: as it is, also with stops, with a planted fault,
+which has to be found, while the program is killed, with a file that can't grow, and into a pipe. Logs in other forms
+are refused by their forms. `windows.py` has the windows of logs, `histories.py` those of other tools, and
 `bench/judged/run.py --short` records the queues that this machine has.
 """
 
@@ -450,16 +451,19 @@ def judge_pipe(language, ring, log):
     right = True
     pipe = log.with_name("pipe")
     os.mkfifo(pipe)
-    for kind, items, seconds in [("right", "5000", 60), ("early", "5000", 60), *[("right", "1000000000", 0.2)] * 3]:
+    runs = [("right", "5000", "whole"), ("early", "5000", "whole"), *[("right", "1000000000", "early")] * 3]
+    for kind, items, ends in runs:
+        seconds = 60 if ends == "whole" else 0.2
         with subprocess.Popen([ring, pipe, kind, items], stdout=subprocess.DEVNULL) as run, pipe.open() as read:
             kill = threading.Timer(seconds, run.kill)
             kill.start()
             text = read.read()
             kill.cancel()
-        log.write_text(text if seconds == 60 else text + '{"ends":"early"}\n')
+        log.write_text(text if ends == "whole" else text + '{"ends":"early"}\n')
         said = judged_file(log)
         print(f"judge: the ring in {language}, {kind}, in a pipe, for {seconds} s at most: {said}", end="")
-        right &= text.endswith("\n") and (said.startswith("judge fault: ") if kind == "early" else is_clean(said, "whole" if seconds == 60 else "early"))
+        is_due = said.startswith("judge fault: ") if kind == "early" else is_clean(said, ends)
+        right &= text.endswith("\n") and is_due
     return right
 
 

@@ -6,7 +6,8 @@ Usage: tests/judged_rows.py FOLDER
 
 A log is of one group of receivers. Each log in the folder has to be clean, with its capacity if it has one. Then a
 fault is planted in each, which has to be found: the line of a take that returned an item goes (the item is lost), or
-stands a second time under another thread. The exit status is 0 if all that holds, and 77 if the program doesn't run here.
+stands a second time under another thread. The exit status is 0 if all that holds, and 77 if the program doesn't run
+here.
 """
 
 import random

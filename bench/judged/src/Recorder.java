@@ -1,4 +1,5 @@
-// Records the calls on any queue in Java: the lines of a log to be judged, in one file for each thread, or one pipe for all.
+// Records the calls on any queue in Java: the lines of a log to be judged, in one file for each thread, or in one pipe
+// for all.
 import static java.nio.file.StandardOpenOption.CREATE;
 import static java.nio.file.StandardOpenOption.TRUNCATE_EXISTING;
 import static java.nio.file.StandardOpenOption.WRITE;

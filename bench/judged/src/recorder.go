@@ -1,4 +1,5 @@
-// Records the calls on any queue in Go: the lines of a log to be judged, in one file for each thread, or one pipe for all.
+// Records the calls on any queue in Go: the lines of a log to be judged, in one file for each thread, or in one pipe
+// for all.
 package main
 
 import (

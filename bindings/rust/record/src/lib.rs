@@ -24,9 +24,9 @@
 //! lacks only what came after the last round. If a round is killed while it writes, the log is refused, by the line that begins
 //! with `!`.
 //!
-//! **A pipe**, as `mkfifo` makes it, gets whole lines of calls that have ended, and those of pending calls at the end. So if the
-//! program is killed, its log ends early: the pending calls aren't in it. If the reader has gone, nothing more is written. The
-//! pipe is closed when the log is finished and the recorders are dropped.
+//! **A pipe**, as `mkfifo` makes it, gets whole lines of calls that have ended, and those of pending calls at the end.
+//! So if the program is killed, its log ends early: the pending calls aren't in it. If the reader has gone, nothing
+//! more is written. The pipe is closed when the log is finished and the recorders are dropped.
 //!
 //! **Whether it is whole.** A write that fails and a limit that is reached end the log early: it stays as the last round left it,
 //! and [`Log::finish`] returns an [`Early`]. The last line of the file says so too: `{"ends":"whole"}` or `{"ends":"early"}`. The log of

@@ -281,7 +281,8 @@ fn kill_child(path: &PathBuf) {
     assert!(hangs);
 }
 
-/// Of a program that is killed all calls are there that ended before the last round, and no last line says that the log is whole.
+/// Of a program that is killed all calls are there that ended before the last round, and no last line says that the log
+/// is whole.
 #[test]
 fn a_killed_program_leaves_its_calls() {
     let path = path("killed");

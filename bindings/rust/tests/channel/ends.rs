@@ -1,5 +1,5 @@
-//! Work that may never come back: a thread of its own does the work. How busy the machine is doesn't matter: the work is
-//! given up if no thread of the process makes progress.
+//! Work that may never come back: a thread of its own does the work. How busy the machine is doesn't matter: the work
+//! is given up if no thread of the process makes progress.
 #[cfg(target_os = "linux")]
 use crate::spent::spent_by_all;
 use std::sync::mpsc::{self, RecvTimeoutError};
