@@ -62,10 +62,9 @@ impl Kind {
         Kind {
             words,
             is_boxed,
-            drop: if is_boxed {
-                drop_boxed::<T>
-            } else {
-                drop_inline::<T>
+            drop: match is_boxed {
+                true => drop_boxed::<T>,
+                false => drop_inline::<T>,
             },
             copy,
         }

@@ -536,9 +536,8 @@ impl Core {
             left_by_lost = self.replace_queue(None).unwrap_or_default();
         }
         let is_closed = side != SENDERS && self.is_closed();
-        let numbers = 1..=self.groups.len();
-        let lost = numbers.filter(|&it| is_closed && self.has_left(it));
-        let lost: Vec<_> = lost.collect();
+        let has_left = |it: &usize| is_closed && self.has_left(*it);
+        let lost: Vec<_> = (1..=self.groups.len()).filter(has_left).collect();
         drop(groups);
         let mut panics = Panics::default();
         self.notify_all(&mut panics);

@@ -55,10 +55,9 @@ impl Source {
 
 impl<T> Receiver<T> {
     /// Of items of one word the other words aren't copied.
-    const TAKE: fn(&Core, usize) -> Option<Item> = if Kind::is_one_word::<T>() {
-        Core::take_word
-    } else {
-        Core::take
+    const TAKE: fn(&Core, usize) -> Option<Item> = match Kind::is_one_word::<T>() {
+        true => Core::take_word,
+        false => Core::take,
     };
 
     /// An item of the channel.

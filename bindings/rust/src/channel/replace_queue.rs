@@ -21,9 +21,9 @@ impl Core {
         }
         let left_by_lost = self.replace_queue(Some(side));
         drop(groups);
-        left_by_lost
-            .into_iter()
-            .for_each(|it| self.end_replacing(it));
+        if let Some(left_by_lost) = left_by_lost {
+            self.end_replacing(left_by_lost);
+        }
     }
 
     /// Drops what lost groups haven't taken, and wakes those that wait for the room. The caller's item isn't sent yet,

@@ -140,7 +140,10 @@ impl Core {
         let found_none = &self.senders.found_none;
         found_none.store(room.is_err(), Ordering::Relaxed);
         let reserved = room.map_err(NotSent::from).and_then(|()| self.check_open());
-        reserved.inspect_err(|_| _ = self.reserved.fetch_sub(1, Ordering::SeqCst))
+        if reserved.is_err() {
+            self.reserved.fetch_sub(1, Ordering::SeqCst);
+        }
+        reserved
     }
 
     /// Gives back room that was reserved.

@@ -782,9 +782,9 @@ pub fn select_arms<'a, const N: usize>(
     time: Option<Duration>,
 ) -> Option<SelectedOperation<'a>> {
     let mut entries = arms.map(|Arm(entry, _)| entry);
-    (0..)
-        .zip(&mut entries)
-        .for_each(|(index, it)| it.index = index);
+    for (index, it) in entries.iter_mut().enumerate() {
+        it.index = index;
+    }
     // A moment beyond the clock's range never comes.
     let until = time.and_then(|time| Instant::now().checked_add(time));
     Turn::new(&mut entries, is_biased, Aim::Begin, until).select()
