@@ -36,8 +36,9 @@ from pathlib import Path
 sys.dont_write_bytecode = True
 HERE = Path(__file__).resolve().parent
 TOP = HERE.parent.parent
-sys.path.insert(0, str(TOP / "tools"))
+sys.path[:0] = [str(TOP / "tools"), str(HERE.parent)]
 from lanes import judge_lanes
+from packages import install
 
 SOURCES = HERE / "src"
 DOCUMENT = TOP / "docs/JUDGE.md"
@@ -208,19 +209,11 @@ def version(package):
     return (words[0] if package not in commands else words[1]) if words else None
 
 
-def install(programs):
-    """Installs what is missing, one package after another."""
+def install_for(programs):
+    """Installs what the queues of these programs are of, where it is missing."""
     packages = dict.fromkeys(queue.package for program in programs for queue in program.queues
                              if queue.package.startswith(("lib", "golang")))
-    missing = [package for package in packages if not version(package)]
-    if not missing or os.geteuid() != 0 or not shutil.which("apt-get"):
-        return
-    for package in missing:
-        command = ["apt-get", "install", "-y", "--no-install-recommends", "-o", "Acquire::Retries=0", package]
-        try:
-            subprocess.run(command, capture_output=True, timeout=300, check=False)
-        except subprocess.TimeoutExpired:
-            return
+    install([package for package in packages if not version(package)])
 
 
 def told(command, **options):
@@ -566,7 +559,7 @@ def main():
     # Sleeps of the programs are as short as they say: 50 microseconds less than usual.
     ctypes.CDLL(None).prctl(PR_SET_TIMERSLACK, 1, 0, 0, 0)
     if not options.short:
-        install(PROGRAMS)
+        install_for(PROGRAMS)
     results, right, skip = [], True, []
     for program in PROGRAMS:
         if options.only not in (None, program.language):

@@ -43,6 +43,7 @@ sys.path.insert(0, os.path.dirname(HERE))
 sys.dont_write_bytecode = True
 from busy import busy_processors
 from document import spread, write
+from packages import install
 from picture import draw
 
 OUT = os.path.join(HERE, "out")
@@ -66,15 +67,8 @@ def version(library):
     return next((text for text in found if text[0].isdigit()), None)
 
 
-def install():
-    missing = [f"librust-{library}-dev" for library in LIBRARIES if not version(library)]
-    if missing and os.geteuid() == 0 and shutil.which("apt-get"):
-        for package in missing:
-            command = ["apt-get", "install", "-y", "--no-install-recommends", "-o", "Acquire::Retries=0", package]
-            try:
-                subprocess.run(command, capture_output=True, timeout=300)
-            except subprocess.TimeoutExpired:
-                break
+def install_libraries():
+    install([f"librust-{library}-dev" for library in LIBRARIES if not version(library)])
     there = [library for library in LIBRARIES if version(library)]
     for library in LIBRARIES:
         if library not in there:
@@ -486,7 +480,7 @@ def build_in_c():
     spec = importlib.util.spec_from_file_location("judged", os.path.join(TOP, "bench", "judged", "run.py"))
     judged = sys.modules["judged"] = importlib.util.module_from_spec(spec)
     spec.loader.exec_module(judged)
-    judged.install([judged.C])
+    judged.install_for([judged.C])
     room, bindings = pathlib.Path(OUT, "c"), os.path.join(TOP, "bindings")
     room.mkdir(parents=True, exist_ok=True)
     queue = os.path.join(room, "vahepito_queue.o")
@@ -500,9 +494,9 @@ def build_in_c():
 
 
 def in_c(seconds):
-    """The rows of the table `c`, whose head has the load before and after."""
+    """The rows of the table `c`, whose head has what other processes took meanwhile."""
     program, names = build_in_c()
-    load = os.getloadavg()[0]
+    watch = Watch()
     queues = {name: (program, name, 64) for name in names}
     each, waits = lambda queue: True, lambda queue: queue in WAIT_IN_C
     shapes = {
@@ -513,10 +507,12 @@ def in_c(seconds):
         "one thread, ns a pair": ("alone", shape(1, 1), each),
     }
     times = timed(shapes, queues, seconds)
+    watch.round()
+    others = f"others: {watch.told()['others']:.2f} of {os.cpu_count()} processors"
     told = lambda it: "" if it is None else f"{short(it[1])} ({short(it[0])}–{short(it[2])})"
     cells = {key: told(quartiles({key: [[time] for time in of]}, key, 0)) for key, of in times.items()}
     rows = [[at, *(cells.get((at, name), "") for name in names)] for at in shapes]
-    return [[f"load {load:.2f}, {os.getloadavg()[0]:.2f}", *(IN_C[name] for name in names)], *rows]
+    return [[others, *(IN_C[name] for name in names)], *rows]
 
 
 # The pictures.
@@ -547,7 +543,7 @@ def main():
     else:
         if options.c:
             return write("c", in_c(options.seconds))
-        there = [] if options.steps else install()
+        there = [] if options.steps else install_libraries()
         programs = build(there)
         if options.busy:
             return write("busy", beside_busy(programs, options.seconds))
