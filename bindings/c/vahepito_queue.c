@@ -790,17 +790,21 @@ static uint32_t after_send(send_request *it, uint32_t seat, queue_part *part, ui
     return code;
 }
 
+/* The first call of a send by this sender. */
+static inline uint32_t first_send(vahepito_handle *pass, const uint64_t *words, size_t count, uint64_t *place) {
+    uint32_t served;
+    return count == 1 ? vahepito_try_send(pass, *words, place, &served)
+                      : vahepito_try_send_words(pass, words, count, place, &served);
+}
+
 /* A send at the last queue, in this seat: after a look at the counts, if there was no room. */
 static uint32_t send_by(send_request *it, uint32_t seat, queue_part *part) {
     vahepito_queue *const queue = it->queue;
-    uint32_t served;
     if ((__atomic_load_n(&queue->special, __ATOMIC_RELAXED) & WAS_FULL) != 0) {
         if (queue->has_bound && is_full_part(queue, part, seat)) return it->place = 0, VAHEPITO_FULL;
         (void)__atomic_fetch_and(&queue->special, ~(uint32_t)WAS_FULL, __ATOMIC_RELAXED);
     }
-    return after_send(
-        it, seat, part,
-        vahepito_try_send_words(pass_of(part, queue, 0, seat), it->words, it->count, &it->place, &served));
+    return after_send(it, seat, part, first_send(pass_of(part, queue, 0, seat), it->words, it->count, &it->place));
 }
 
 /* The same of this one call, in a seat that it takes. */
@@ -874,11 +878,21 @@ static uint32_t after_take(take_request *it, uint32_t seat, queue_part *part, ui
     return code;
 }
 
+/* The first call of a take by this receiver. An item of one word begins as an item of words does, and has its body
+ * where that has the count. */
+static inline uint32_t first_take(vahepito_handle *pass, bool is_one, vahepito_item *item, uint64_t *total) {
+    uint32_t served;
+    if (!is_one) return vahepito_try_take_words(pass, item, total, &served);
+    const uint32_t code = vahepito_try_take(pass, (vahepito_word_item *)(void *)item, total, &served);
+    if (code == VAHEPITO_GOT)
+        item->words[0] = item->count, item->count = 1, item->words[1] = item->words[2] = item->words[3] = 0;
+    return code;
+}
+
 /* A take at this queue, in this seat. */
 static uint32_t take_by(take_request *it, uint32_t seat, queue_part *part) {
     vahepito_handle *const pass = pass_of(part, it->queue, it->group, seat);
-    uint32_t served;
-    return after_take(it, seat, part, vahepito_try_take_words(pass, it->item, &it->total, &served));
+    return after_take(it, seat, part, first_take(pass, it->queue->words == 1, it->item, &it->total));
 }
 
 /* The same at the queue that the group is at, in a seat that it takes. */
@@ -1011,18 +1025,16 @@ static __attribute__((noinline)) uint32_t rest_of_send(send_request it, const st
 
 /* A send. Its first try is here, if the thread's own seat is free, and there is nothing special. */
 static inline __attribute__((always_inline)) uint32_t send_item(vahepito_queue *queue, const uint64_t *words,
-                                                                size_t count, bool is_one,
-                                                                const struct timespec *moment, uint64_t *place) {
+                                                                size_t count, const struct timespec *moment,
+                                                                uint64_t *place) {
     const size_t own = own_offset(queue);
     call_seat *const seat = seat_at(queue, own);
-    uint32_t code, served;
+    uint32_t code;
     uint64_t number;
     if (__builtin_expect(!seat_contends(seat) && try_seat(seat), 1)) {
         queue_part *const part = find_part(seat, &queue->last);
         if (__builtin_expect(__atomic_load_n(&queue->special, __ATOMIC_SEQ_CST) == 0, 1)) {
-            vahepito_handle *const pass = own_pass_of(part, queue, 0, own);
-            code = is_one ? vahepito_try_send(pass, *words, &number, &served)
-                          : vahepito_try_send_words(pass, words, count, &number, &served);
+            code = first_send(own_pass_of(part, queue, 0, own), words, count, &number);
             if (__builtin_expect(code == VAHEPITO_ACCEPTED, 1)) {
                 number += part->base;
                 give_seat_back(queue, seat);
@@ -1039,28 +1051,28 @@ static inline __attribute__((always_inline)) uint32_t send_item(vahepito_queue *
 }
 
 uint32_t vahepito_send(vahepito_queue *queue, uint64_t word, uint64_t *place) {
-    return send_item(queue, &word, 1, true, NULL, place);
+    return send_item(queue, &word, 1, NULL, place);
 }
 
 uint32_t vahepito_send_until(vahepito_queue *queue, uint64_t word, const struct timespec *moment, uint64_t *place) {
-    return send_item(queue, &word, 1, true, moment, place);
+    return send_item(queue, &word, 1, moment, place);
 }
 
 uint32_t vahepito_send_now(vahepito_queue *queue, uint64_t word, uint64_t *place) {
-    return send_item(queue, &word, 1, true, &no_wait, place);
+    return send_item(queue, &word, 1, &no_wait, place);
 }
 
 uint32_t vahepito_send_words(vahepito_queue *queue, const uint64_t *words, size_t count, uint64_t *place) {
-    return send_item(queue, words, count, false, NULL, place);
+    return send_item(queue, words, count, NULL, place);
 }
 
 uint32_t vahepito_send_words_until(vahepito_queue *queue, const uint64_t *words, size_t count,
                                    const struct timespec *moment, uint64_t *place) {
-    return send_item(queue, words, count, false, moment, place);
+    return send_item(queue, words, count, moment, place);
 }
 
 uint32_t vahepito_send_words_now(vahepito_queue *queue, const uint64_t *words, size_t count, uint64_t *place) {
-    return send_item(queue, words, count, false, &no_wait, place);
+    return send_item(queue, words, count, &no_wait, place);
 }
 
 /* How many calls of a batch are made in one seat. */
@@ -1131,7 +1143,7 @@ static inline __attribute__((always_inline)) uint32_t take_item(vahepito_queue *
                                                                 uint64_t *total) {
     const size_t own = own_offset(queue);
     call_seat *const seat = seat_at(queue, own);
-    uint32_t code = VAHEPITO_BAD_GROUPS, served;
+    uint32_t code = VAHEPITO_BAD_GROUPS;
     vahepito_item unused;
     uint64_t number;
     if (!item) item = &unused;
@@ -1139,14 +1151,8 @@ static inline __attribute__((always_inline)) uint32_t take_item(vahepito_queue *
         code = VAHEPITO_EMPTY;
         if (__builtin_expect(!seat_contends(seat) && try_seat(seat), 1)) {
             queue_part *const part = find_part(seat, &queue->at[group - 1]);
-            vahepito_handle *const pass = own_pass_of(part, queue, group, own);
-            const bool is_one = queue->words == 1;
-            /* An item of one word begins as an item of words does, and has its body where that has the count. */
-            code = is_one ? vahepito_try_take(pass, (vahepito_word_item *)(void *)item, &number, &served)
-                          : vahepito_try_take_words(pass, item, &number, &served);
+            code = first_take(own_pass_of(part, queue, group, own), queue->words == 1, item, &number);
             if (__builtin_expect(code == VAHEPITO_GOT, 1)) {
-                if (is_one)
-                    item->words[0] = item->count, item->count = 1, item->words[1] = item->words[2] = item->words[3] = 0;
                 item->place += part->base;
                 give_seat_back(queue, seat);
                 notify_room(queue);
