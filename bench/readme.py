@@ -33,7 +33,7 @@ def named(text, row):
     """A row's name, with the version that was measured."""
     if ROWS[row]:
         return ROWS[row]
-    version = re.search(rf"\b{row} ([\d.]*\d)", " ".join(text[text.index("The peers are"):].split()))
+    version = re.search(rf"The peers are .*?\b{row} ([\d.]*\d)", " ".join(text.split()))
     return f"{row} {version[1]}"
 
 
