@@ -1,8 +1,8 @@
 -- An order of a log is one of a log that says less of its calls.
-use Rattle.std.proofs.Common.{◌≡◌, ℕ, zero, suc, ◌+◌, ◌<◌, ◌≤◌, inl, inr, List, [], ◌∷◌, ◌++◌, length, Option, Some, None, IsSome, refl, sym, ap, ◌∙◌, subst, arith}
+use Rattle.std.proofs.Common.{◌≡◌, ℕ, suc, ◌+◌, ◌≤◌, inl, inr, List, [], ◌∷◌, ◌++◌, length, Option, Some, None, IsSome, refl, sym, ap, ◌∙◌, subst, arith}
 use Rattle.std.specs.List.{slice_get}
 use Rattle.cc_judge.specs.Names.{Act, Call, Step, Rules}
-use Rattle.cc_judge.specs.Order.{MayHaveDone, IsOrder, IsLinearizable}
+use Rattle.cc_judge.specs.Order.{MayHaveDone, IsOrder}
 use Rattle.cc_judge.specs.Faults.{Did, Differ}
 use Rattle.cc_judge.specs.Late.{LateLogsHaveNoFault, Weaker, WindowsAreLinearizable}
 use Rattle.cc_judge.proofs.Late.{late_logs_are_linearizable}
@@ -42,61 +42,6 @@ weaken rules calls loose order w o = record {
   closing = o.closing;
 }
 
--- ---- late logs
-
--- calls that began before the log, of which no more is known
-abbrev pub IsPast : List Call → Type 0
-IsPast past = (p : ℕ) (c : Call) → slice_get past p ≡ Some c → (c.begin ≡ 0) × (c.end ≡ None)
-
--- the log has a legal order with some calls before it that it lacks
-abbrev pub IsLateLinearizable : Rules → List Call → Type 0
-IsLateLinearizable rules calls = (past : List Call) × IsPast past × IsLinearizable rules (calls ++ past)
-
--- the same if each call is in the log that hadn't ended before a time
-abbrev pub IsPastBy : (head : ℕ) → List Call → Type 0
-IsPastBy head past = (p : ℕ) (c : Call) → slice_get past p ≡ Some c → (c.begin ≡ 0) × ((e : ℕ) × (c.end ≡ Some e) × (e < head))
-
-abbrev pub IsWindowLinearizable : (head : ℕ) → Rules → List Call → Type 0
-IsWindowLinearizable head rules calls = (past : List Call) × IsPastBy head past × IsLinearizable rules (calls ++ past)
-
-abbrev pub forgotten : List Call → List Call
-forgotten [] = []
-forgotten (c ∷ calls) = record { begin = 0; end = None; act = c.act } ∷ forgotten calls
-
-forgotten_past : (calls : List Call) → IsPast (forgotten calls)
-forgotten_past [] p c is = cc
-forgotten_past (x ∷ calls) zero c is = let e : c ≡ record { begin = 0; end = None; act = x.act } = cc in (ap (λ (y : Call). y.begin) e, ap (λ (y : Call). y.end) e)
-forgotten_past (x ∷ calls) (suc p) c is = forgotten_past calls p c is
-
-forgotten_weaker : (calls past : List Call) → Weaker (calls ++ past) (calls ++ forgotten past)
-forgotten_weaker [] [] = record { there = λ p c is. cc; back = λ p d is. cc }
-forgotten_weaker [] (x ∷ past) = record { there = there (forgotten_weaker [] past); back = back (forgotten_weaker [] past) }
-  where
-    there : Weaker past (forgotten past) → (p : ℕ) (c : Call) → slice_get (x ∷ past) p ≡ Some c → (d : Call) × (slice_get (forgotten (x ∷ past)) p ≡ Some d) × ((act : Act) → MayHaveDone c.act act → MayHaveDone d.act act)
-    there ih zero c is = let e : x ≡ c = cc in (record { begin = 0; end = None; act = x.act }, refl, λ act may. subst (λ (y : Call). MayHaveDone y.act act) (sym e) may)
-    there ih (suc p) c is = ih.there p c is
-
-    back : Weaker past (forgotten past) → (p : ℕ) (d : Call) → slice_get (forgotten (x ∷ past)) p ≡ Some d → (c : Call) × (slice_get (x ∷ past) p ≡ Some c) × (d.begin ≤ c.begin) × ((e : ℕ) → d.end ≡ Some e → (f : ℕ) × (c.end ≡ Some f) × (f ≤ e))
-    back ih zero d is =
-        let s : record { begin = 0; end = None; act = x.act } ≡ d = cc in
-        let b : 0 ≡ d.begin = ap (λ (y : Call). y.begin) s in
-        let n : None ≡ d.end = ap (λ (y : Call). y.end) s in
-        (x, refl, omega (arith, b), λ e ends. let clash : None ≡ Some e = n ∙ ends in cc)
-    back ih (suc p) d is = ih.back p d is
-forgotten_weaker (x ∷ calls) past = record { there = there (forgotten_weaker calls past); back = back (forgotten_weaker calls past) }
-  where
-    there : Weaker (calls ++ past) (calls ++ forgotten past) → (p : ℕ) (c : Call) → slice_get (x ∷ (calls ++ past)) p ≡ Some c → (d : Call) × (slice_get (x ∷ (calls ++ forgotten past)) p ≡ Some d) × ((act : Act) → MayHaveDone c.act act → MayHaveDone d.act act)
-    there ih zero c is = (c, is, λ act may. may)
-    there ih (suc p) c is = ih.there p c is
-
-    back : Weaker (calls ++ past) (calls ++ forgotten past) → (p : ℕ) (d : Call) → slice_get (x ∷ (calls ++ forgotten past)) p ≡ Some d → (c : Call) × (slice_get (x ∷ (calls ++ past)) p ≡ Some c) × (d.begin ≤ c.begin) × ((e : ℕ) → d.end ≡ Some e → (f : ℕ) × (c.end ≡ Some f) × (f ≤ e))
-    back ih zero d is = (d, is, omega arith, λ e ends. (e, ends, omega arith))
-    back ih (suc p) d is = ih.back p d is
-
--- a late log of a queue whose whole log has an order has one
-pub late_is_fair : (rules : Rules) (calls past : List Call) → IsLinearizable rules (calls ++ past) → IsLateLinearizable rules calls
-late_is_fair rules calls past o = (forgotten past, forgotten_past past, (o.0, weaken rules (calls ++ past) (calls ++ forgotten past) o.0 (forgotten_weaker calls past) o.1))
-
 -- ---- windows
 
 -- who sends in a log of which less is known sends in the log too
@@ -114,7 +59,6 @@ did_too : (calls loose : List Call) → Weaker calls loose → (p x : ℕ) → D
 did_too calls loose w p x d =
     let r = w.back p d.call d.call_is in
     let s = w.there p r.0 r.1 in
-    let both : Some s.0 ≡ Some d.call = sym s.1 ∙ d.call_is in
     let one : s.0 ≡ d.call = cc in
     let send : s.0.act ≡ Act.Send x = ap (λ (y : Call). y.act) one ∙ d.act_is in
     record { call = r.0; call_is = r.1; act_is = sends_too r.0.act x (λ act may. subst (λ (a : Act). MayHaveDone a act) send (s.2 act may)) }
@@ -142,10 +86,7 @@ no_longer (x ∷ xs) [] has = let r = has 0 x refl in let e : None ≡ Some r.0 
 no_longer (x ∷ xs) (y ∷ ys) has = let h = no_longer xs ys (λ p z is. has (suc p) z is) in omega (arith, h)
 
 alike : (calls loose : List Call) → Weaker calls loose → Alike calls loose
-alike calls loose w =
-    let a = no_longer calls loose (λ p c is. let r = w.there p c is in (r.0, r.1)) in
-    let b = no_longer loose calls (λ p d is. let r = w.back p d is in (r.0, r.1)) in
-    record { same = omega (arith, a, b) }
+alike calls loose w = grind (arith, no_longer)
 
 differ_too : (calls loose lacked : List Call) → Weaker (calls ++ lacked) (loose ++ lacked) → Differ (calls ++ lacked) → Differ (loose ++ lacked)
 differ_too calls loose lacked w differ item i j one other = differ item i j (did_too (calls ++ lacked) (loose ++ lacked) w i item one) (did_too (calls ++ lacked) (loose ++ lacked) w j item other)
