@@ -1,6 +1,6 @@
 -- A log with closes is one without: its calls are clipped to the moments that the close leaves them. Times are three times those of
 -- the log: a send that found the queue open ends by 3 D, the close is at 3 D + 1, and what found it closed begins after that.
-use Rattle.std.proofs.Common.{◌≡◌, ◌≢◌, ℕ, suc, ◌+◌, ◌*◌, ◌<◌, ◌≤◌, ◌⊎◌, inl, inr, Bool, true, false, List, [], ◌∷◌, Option, Some, None, IsSome, refl, sym, ap, ◌∙◌, subst, arith}
+use Rattle.std.proofs.Common.{◌≡◌, ◌≢◌, ℕ, suc, ◌+◌, ◌*◌, ◌<◌, ◌≤◌, ◌⊎◌, inl, inr, Bool, true, false, List, [], ◌∷◌, Some, None, IsSome, refl, sym, ap, ◌∙◌, subst, arith}
 use Rattle.std.specs.List.{slice_get}
 use Rattle.cc_judge.specs.Names.{Act, Call, Step, Tie, Rules}
 use Rattle.cc_judge.specs.Order.{MayHaveDone, EndsBefore, IsCall, HasStepOf, Allows, closed_after, Closes, RespectsLines, IsOrder, IsLinearizable, of_any_capacity}
@@ -25,24 +25,10 @@ WantsClosed _ = ⊥
 
 -- before the close and after it
 open_before : (act : Act) → (WantsClosed act → ⊥) → Allows false act × (closed_after false act ≡ false)
-open_before (Act.Send v) other = (refl, refl)
-open_before (Act.Took v) other = (tt, refl)
-open_before Act.FoundNone other = (tt, refl)
-open_before Act.Taking other = (tt, refl)
-open_before Act.Full other = (refl, refl)
-open_before Act.Closed other = absurd (other tt)
-open_before Act.Ended other = absurd (other tt)
-open_before Act.Close other = absurd (other tt)
+open_before act other = grind arith
 
 closed_then : (act : Act) → (WantsOpen act → ⊥) → Allows true act × (closed_after true act ≡ true)
-closed_then (Act.Send v) other = absurd (other tt)
-closed_then (Act.Took v) other = (tt, refl)
-closed_then Act.FoundNone other = (tt, refl)
-closed_then Act.Taking other = (tt, refl)
-closed_then Act.Full other = absurd (other tt)
-closed_then Act.Closed other = (refl, refl)
-closed_then Act.Ended other = (refl, refl)
-closed_then Act.Close other = (tt, refl)
+closed_then act other = grind arith
 
 all_after : (steps : List Step) → ((t : Step) → In t steps → WantsOpen t.act → ⊥) → Closes true steps
 all_after [] other = tt
@@ -74,24 +60,10 @@ pub record Clips (calls clipped : List Call) (shut close : ℕ) : Type 0 where
 module _ (rules : Rules) (calls clipped : List Call) (shut close : ℕ) (k : Clips calls clipped shut close) (order : List Step) (plain : Rules) (same_ties : plain.ties.items ≡ rules.ties.items) (o : IsOrder (of_any_capacity plain) clipped order) (quiet : Quiet clipped order) where
   -- what the log says of the call of a step, it did: but for takes
   said : (said did : Act) → MayHaveDone said did → (said ≡ Act.Taking) ⊎ (said ≡ did)
-  said (Act.Send v) did may = inr may
-  said (Act.Took v) did may = inr may
-  said Act.FoundNone did may = inr may
-  said Act.Taking did may = inl refl
-  said Act.Full did may = inr may
-  said Act.Closed did may = inr may
-  said Act.Ended did may = inr may
-  said Act.Close did may = inr may
+  said act did may = grind arith
 
   taking_did : (did : Act) → MayHaveDone Act.Taking did → (WantsOpen did → ⊥) × (WantsClosed did → ⊥) × (IsIdle did → ⊥)
-  taking_did (Act.Send v) may = cc
-  taking_did (Act.Took v) may = ((λ h. h), (λ h. h), (λ h. h))
-  taking_did Act.FoundNone may = ((λ h. h), (λ h. h), (λ h. h))
-  taking_did Act.Taking may = ((λ h. h), (λ h. h), (λ h. h))
-  taking_did Act.Full may = cc
-  taking_did Act.Closed may = cc
-  taking_did Act.Ended may = cc
-  taking_did Act.Close may = cc
+  taking_did did may = grind arith
 
   -- the call of a step that wants the queue open or closed did so
   did_of : (W : Act → Type 0) → ((did : Act) → MayHaveDone Act.Taking did → W did → ⊥) → (s : Step) → In s order → W s.act → (i : IsCall clipped s) × (i.call.act ≡ s.act)
@@ -99,10 +71,6 @@ module _ (rules : Rules) (calls clipped : List Call) (shut close : ℕ) (k : Cli
       let at = at_in s order within in
       let i = o.each at.0 s at.1 in
       (i, elim (said i.call.act s.act i.may) [ inr same ↦ same | inl taking ↦ absurd (no_take s.act (subst (λ (a : Act). MayHaveDone a s.act) taking i.may) wants) ])
-
-  end_of : (e : Option ℕ) → IsSome e → (n : ℕ) × (e ≡ Some n)
-  end_of None some = cc
-  end_of (Some n) some = (n, refl)
 
   the_close : HasStepOf order close
   the_close = o.whole close k.closes_at.0.call k.closes_at.0.call_is (subst IsSome (sym k.closes_at.2) refl)
@@ -116,9 +84,7 @@ module _ (rules : Rules) (calls clipped : List Call) (shut close : ℕ) (k : Cli
 
   c_call : (i : IsCall clipped c_step) → i.call ≡ k.closes_at.0.call
   unfolding c_step
-  c_call i =
-      let both : Some i.call ≡ Some k.closes_at.0.call = sym i.call_is ∙ ap (slice_get clipped) the_close.place_is ∙ k.closes_at.0.call_is in
-      cc
+  c_call i = grind arith
 
   c_act : c_step.act ≡ Act.Close
   c_act =
@@ -164,8 +130,6 @@ module _ (rules : Rules) (calls clipped : List Call) (shut close : ℕ) (k : Cli
       let wants_said : WantsOpen r.0.call.act = subst WantsOpen (sym r.1) wants in
       let ended = has_ended t.act t.place r.0.call r.0.call_is r.1 wants (λ idle. quiet t within idle r.0.call r.0.call_is) in
       let by = k.open_by t.place r.0.call r.0.call_is wants_said ended in
-      let begins = k.closes_at.1 in
-      let low = by.2 in
       o.in_time at.0 at.1 c_step t at.2 at.3 at.4 (record {
         one = r.0.call;
         other = k.closes_at.0.call;
@@ -173,18 +137,11 @@ module _ (rules : Rules) (calls clipped : List Call) (shut close : ℕ) (k : Cli
         one_is = r.0.call_is;
         other_is = ap (slice_get clipped) the_close.place_is ∙ k.closes_at.0.call_is;
         ended = by.1;
-        before = omega (arith, begins, low);
+        before = omega arith;
       })
 
   ends_more : (a b : ℕ) → EndsBefore calls a b → EndsBefore clipped a b
-  ends_more a b e =
-      let one = k.there a e.one e.one_is in
-      let other = k.there b e.other e.other_is in
-      let f = one.4 e.end e.ended in
-      let less = e.before in
-      let low = other.3 in
-      let high = f.2 in
-      record { one = one.0; other = other.0; end = f.0; one_is = one.1; other_is = other.1; ended = f.1; before = omega (arith, less, low, high) }
+  ends_more a b e = grind arith
 
   -- an order of the clipped log is one of the log, with its closes
   pub unclip : IsOrder (of_any_capacity rules) calls order
@@ -208,15 +165,8 @@ module _ (rules : Rules) (calls clipped : List Call) (shut close : ℕ) (k : Cli
     closing = λ judged. by_close order c_step c_in c_act not_before not_after;
   }
     where
-      none_some : (e : Option ℕ) → e ≡ None → IsSome e → ⊥
-      none_some None is some = cc
-      none_some (Some n) is some = cc
-
       not_idle : (s : Step) → In s order → (i : IsCall clipped s) → IsIdle i.call.act → i.call.end ≡ None → ⊥
-      not_idle s within i idle open_end = elim (said i.call.act s.act i.may) [
-        | inl taking ↦ subst IsIdle taking idle
-        | inr same ↦ none_some i.call.end open_end (quiet s within (subst IsIdle same idle) i.call i.call_is)
-      ]
+      not_idle s within i idle open_end = grind arith
 
 -- Complete, with closes: if the clipped log has none of the faults, the log has a legal order.
 pub complete_closed : (rules : Rules) (calls clipped : List Call) (shut close : ℕ) → rules.ties.items ≡ [] → Clips calls clipped shut close → Differ clipped → Ready clipped → IsLinearizable (of_any_capacity rules) calls
@@ -233,25 +183,8 @@ never_closed (x ∷ steps) other =
     let o = open_before x.act (other x (inl refl)) in
     (o.0, subst (λ (b : Bool). Closes b steps) (sym o.1) (never_closed steps (λ s within. other s (inr within))))
 
-taking_closed : (did : Act) → MayHaveDone Act.Taking did → WantsClosed did → ⊥
-taking_closed (Act.Send v) may wants = wants
-taking_closed (Act.Took v) may wants = wants
-taking_closed Act.FoundNone may wants = wants
-taking_closed Act.Taking may wants = wants
-taking_closed Act.Full may wants = wants
-taking_closed Act.Closed may wants = cc
-taking_closed Act.Ended may wants = cc
-taking_closed Act.Close may wants = cc
-
 wants_said : (said did : Act) → MayHaveDone said did → WantsClosed did → said ≡ did
-wants_said (Act.Send v) did may wants = may
-wants_said (Act.Took v) did may wants = may
-wants_said Act.FoundNone did may wants = may
-wants_said Act.Taking did may wants = absurd (taking_closed did may wants)
-wants_said Act.Full did may wants = may
-wants_said Act.Closed did may wants = may
-wants_said Act.Ended did may wants = may
-wants_said Act.Close did may wants = may
+wants_said said did may wants = grind arith
 
 -- Complete, if the closes that the log has haven't returned, and no call shows the queue closed.
 pub complete_open : (rules : Rules) (calls : List Call) → rules.ties.items ≡ [] → Differ calls → Ready calls → ((p : ℕ) (c : Call) → slice_get calls p ≡ Some c → WantsClosed c.act → IsIdle c.act × (IsSome c.end → ⊥)) → IsLinearizable (of_any_capacity rules) calls

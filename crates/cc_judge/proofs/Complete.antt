@@ -17,14 +17,7 @@ IsIdle Act.Close = Unit {0}
 IsIdle _ = ⊥
 
 idle_does : (held : List ℕ) (act : Act) → IsIdle act → Does None held act held
-idle_does held (Act.Send item) idle = absurd idle
-idle_does held (Act.Took item) idle = absurd idle
-idle_does held Act.FoundNone idle = absurd idle
-idle_does held Act.Taking idle = absurd idle
-idle_does held Act.Full idle = (refl, tt)
-idle_does held Act.Closed idle = refl
-idle_does held Act.Ended idle = absurd idle
-idle_does held Act.Close idle = refl
+idle_does held act idle = grind arith
 
 -- such a step at a moment
 pub record Idle : Type 0 where
@@ -160,21 +153,7 @@ abbrev pub Quiet : List Call → List Step → Type 0
 Quiet calls order = (s : Step) → In s order → IsIdle s.act → (c : Call) → slice_get calls s.place ≡ Some c → IsSome c.end
 
 idle_said : (said did : Act) → MayHaveDone said did → IsIdle did → IsIdle said
-idle_said (Act.Send v) did may idle = subst IsIdle (sym may) idle
-idle_said (Act.Took v) did may idle = subst IsIdle (sym may) idle
-idle_said Act.FoundNone did may idle = subst IsIdle (sym may) idle
-idle_said Act.Taking (Act.Send v) may idle = idle
-idle_said Act.Taking (Act.Took v) may idle = idle
-idle_said Act.Taking Act.FoundNone may idle = idle
-idle_said Act.Taking Act.Taking may idle = idle
-idle_said Act.Taking Act.Full may idle = cc
-idle_said Act.Taking Act.Closed may idle = cc
-idle_said Act.Taking Act.Ended may idle = idle
-idle_said Act.Taking Act.Close may idle = cc
-idle_said Act.Full did may idle = tt
-idle_said Act.Closed did may idle = tt
-idle_said Act.Ended did may idle = subst IsIdle (sym may) idle
-idle_said Act.Close did may idle = tt
+idle_said said did may idle = grind arith
 
 -- Complete: if none of the items was overtaken, the log has a legal order (of a log without closes, and with no calls that only
 -- their lines order).

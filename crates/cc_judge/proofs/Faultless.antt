@@ -47,11 +47,8 @@ ready_plain rules calls written fine = record {
           r.2,
           λ q within.
               let w = r.3 q within in
-              let both : Some w.0.call ≡ Some w.1.call = sym w.0.call_is ∙ w.1.call_is in
               let one : w.0.call ≡ w.1.call = cc in
-              let begins : w.0.call.begin ≡ w.1.call.begin = ap (λ (c : Call). c.begin) one in
-              let by = w.1.by in
-              record { taking = w.0; begun = omega (arith, begins, by) },
+              record { taking = w.0; begun = grind arith },
         )
 
 -- ---- a list of calls that are each chosen for one
@@ -105,44 +102,13 @@ tripled_from None q f t is = let clash : None ≡ Some f = sym t ∙ is in cc
 tripled_from (Some e) q f t is = let both : Some f ≡ Some (3 * e + 2) = sym is ∙ t in (e, refl, (cc))
 
 not_plain_open : (act : Act) → IsPlain act → WantsOpen act → ⊥
-not_plain_open (Act.Send v) plain wants = plain
-not_plain_open (Act.Took v) plain wants = wants
-not_plain_open Act.FoundNone plain wants = wants
-not_plain_open Act.Taking plain wants = wants
-not_plain_open Act.Full plain wants = plain
-not_plain_open Act.Closed plain wants = plain
-not_plain_open Act.Ended plain wants = plain
-not_plain_open Act.Close plain wants = plain
+not_plain_open act plain wants = grind arith
 
 not_plain_closed : (act : Act) → IsPlain act → WantsClosed act → ⊥
-not_plain_closed (Act.Send v) plain wants = plain
-not_plain_closed (Act.Took v) plain wants = wants
-not_plain_closed Act.FoundNone plain wants = wants
-not_plain_closed Act.Taking plain wants = wants
-not_plain_closed Act.Full plain wants = plain
-not_plain_closed Act.Closed plain wants = plain
-not_plain_closed Act.Ended plain wants = plain
-not_plain_closed Act.Close plain wants = plain
-
-not_open_closed : (act : Act) → WantsOpen act → WantsClosed act → ⊥
-not_open_closed (Act.Send v) opens closes = closes
-not_open_closed (Act.Took v) opens closes = closes
-not_open_closed Act.FoundNone opens closes = closes
-not_open_closed Act.Taking opens closes = closes
-not_open_closed Act.Full opens closes = closes
-not_open_closed Act.Closed opens closes = opens
-not_open_closed Act.Ended opens closes = opens
-not_open_closed Act.Close opens closes = opens
+not_plain_closed act plain wants = grind arith
 
 shows_closed : (act : Act) → WantsClosed act → ShowsClosed act
-shows_closed (Act.Send v) wants = absurd wants
-shows_closed (Act.Took v) wants = absurd wants
-shows_closed Act.FoundNone wants = absurd wants
-shows_closed Act.Taking wants = absurd wants
-shows_closed Act.Full wants = absurd wants
-shows_closed Act.Closed wants = inr (inl refl)
-shows_closed Act.Ended wants = inr (inr refl)
-shows_closed Act.Close wants = inl refl
+shows_closed act wants = grind arith
 
 pub record Keeps (c d : Call) : Type 0 where
   act : d.act ≡ c.act
@@ -215,8 +181,6 @@ module _ (rules : Rules) (calls : List Call) (differ : Differ calls) (written : 
 
   opens_some : (p : ℕ) (c : Call) (e : ℕ) → slice_get calls p ≡ Some c → WantsOpen c.act → c.end ≡ Some e → WasOpen calls p → ((item : ℕ) → c.act ≡ Act.Send item → WasAccepted calls p item) → (d : Call) × Opens calls shut p c d
   opens_some p c e is wants ends open_then accepted =
-      let b = open_by_then p c is open_then in
-      let t = written.timed p c e is ends in
       elim (cases_lt e shut) [
         | inl less ↦ (
           record { begin = 3 * c.begin; end = Some (3 * e + 2); act = c.act },
@@ -227,7 +191,7 @@ module _ (rules : Rules) (calls : List Call) (differ : Differ calls) (written : 
             f = 3 * e + 2;
             end = refl;
             by = omega (arith, less);
-            from = omega (arith, t);
+            from = omega (arith, written.timed p c e is ends);
             ended = λ g is_g. let both : Some e ≡ Some g = sym ends ∙ is_g in let same : e ≡ g = cc in omega (arith, same);
             why = inr (e, ends, refl);
             accepted = accepted;
@@ -242,7 +206,7 @@ module _ (rules : Rules) (calls : List Call) (differ : Differ calls) (written : 
             f = 3 * shut;
             end = refl;
             by = omega arith;
-            from = omega (arith, b);
+            from = omega (arith, open_by_then p c is open_then);
             ended = λ g is_g. let both : Some e ≡ Some g = sym ends ∙ is_g in let same : e ≡ g = cc in omega (arith, same, not_less);
             why = inl refl;
             accepted = accepted;
@@ -280,10 +244,8 @@ module _ (rules : Rules) (calls : List Call) (differ : Differ calls) (written : 
   closing p c is wants = elim (nat_cases p close) [
     | inr other ↦ let d = shuts p c is wants other in (d.0, inr (inr (inr (inl d.1))))
     | inl same ↦
-        let both : Some c ≡ Some dc.call = sym is ∙ ap (slice_get calls) same ∙ dc.call_is in
         let one : c ≡ dc.call = cc in
-        let begins : c.begin ≡ dc.call.begin = ap (λ (x : Call). x.begin) one in
-        (record { begin = 3 * shut + 1; end = Some (3 * shut + 1); act = Act.Close }, inr (inr (inr (inr (record { place = same; was = ap (λ (x : Call). x.act) one ∙ dc.act_is; act = refl; began = omega (arith, begins, c_by); begin = refl; end = refl })))))
+        (record { begin = 3 * shut + 1; end = Some (3 * shut + 1); act = Act.Close }, inr (inr (inr (inr (record { place = same; was = ap (λ (x : Call). x.act) one ∙ dc.act_is; act = refl; began = grind (arith, c_by); begin = refl; end = refl })))))
   ]
 
   sends : (p : ℕ) (c : Call) (item : ℕ) → slice_get calls p ≡ Some c → c.act ≡ Act.Send item → (d : Call) × Clip calls shut close p c d
@@ -300,7 +262,6 @@ module _ (rules : Rules) (calls : List Call) (differ : Differ calls) (written : 
       | inr untaken ↦
           let d = drop p c wants open_end (λ v v_is accepted. elim accepted [
             | inl r ↦
-                let both : Some r.call ≡ Some c = sym r.call_is ∙ is in
                 let one : r.call ≡ c = cc in
                 none_some c.end open_end (subst (λ (x : Call). IsSome x.end) one r.ended)
             | inr t ↦
@@ -408,39 +369,19 @@ module _ (rules : Rules) (calls : List Call) (differ : Differ calls) (written : 
   -- ---- it is clipped by the close
 
   low : (p : ℕ) (c d : Call) → Clip calls shut close p c d → 3 * c.begin ≤ d.begin
-  low p c d (inl k) = let b = k.begin in omega (arith, b)
-  low p c d (inr (inl k)) = let b = k.begin in omega (arith, b)
-  low p c d (inr (inr (inl k))) = let b = k.begin in omega (arith, b)
-  low p c d (inr (inr (inr (inl k)))) = k.begin
-  low p c d (inr (inr (inr (inr k)))) = let b = k.begin in let s = k.began in omega (arith, b, s)
+  low p c d clip = grind arith
 
   high : (p : ℕ) (c d : Call) → slice_get calls p ≡ Some c → Clip calls shut close p c d → (e : ℕ) → c.end ≡ Some e → (f : ℕ) × (d.end ≡ Some f) × (f ≤ 3 * e + 2)
-  high p c d is (inl k) e ends = (3 * e + 2, tripled_some c.end d.end e k.ends ends, omega arith)
-  high p c d is (inr (inl k)) e ends = (k.f, k.end, k.ended e ends)
-  high p c d is (inr (inr (inl k))) e ends = let clash : None ≡ Some e = sym k.was_open ∙ ends in cc
-  high p c d is (inr (inr (inr (inl k)))) e ends = (3 * e + 2, tripled_some c.end d.end e k.ends ends, omega arith)
-  high p c d is (inr (inr (inr (inr k)))) e ends = let s = ends_after p c e is (subst WantsClosed (sym k.was) tt) ends in (3 * shut + 1, k.end, omega (arith, s))
+  high p c d is clip e ends = grind (arith, ends_after, tripled_some)
 
   open_by : (p : ℕ) (c d : Call) → Clip calls shut close p c d → WantsOpen d.act → IsSome d.end → (f : ℕ) × (d.end ≡ Some f) × (f ≤ 3 * shut)
-  open_by p c d (inl k) wants ended = absurd (not_plain_open c.act k.plain (subst WantsOpen k.act wants))
-  open_by p c d (inr (inl k)) wants ended = (k.f, k.end, k.by)
-  open_by p c d (inr (inr (inl k))) wants ended = absurd (none_some d.end k.end ended)
-  open_by p c d (inr (inr (inr (inl k)))) wants ended = absurd (not_open_closed c.act (subst WantsOpen k.act wants) k.wants)
-  open_by p c d (inr (inr (inr (inr k)))) wants ended = absurd (subst WantsOpen k.act wants)
+  open_by p c d clip wants ended = grind arith
 
   closed_from : (p : ℕ) (c d : Call) → Clip calls shut close p c d → p ≢ close → WantsClosed d.act → 3 * shut + 1 < d.begin
-  closed_from p c d (inl k) other wants = absurd (not_plain_closed c.act k.plain (subst WantsClosed k.act wants))
-  closed_from p c d (inr (inl k)) other wants = absurd (not_open_closed c.act k.wants (subst WantsClosed k.act wants))
-  closed_from p c d (inr (inr (inl k))) other wants = absurd (subst WantsClosed k.act wants)
-  closed_from p c d (inr (inr (inr (inl k)))) other wants = let f = k.from in omega (arith, f)
-  closed_from p c d (inr (inr (inr (inr k)))) other wants = absurd (other k.place)
+  closed_from p c d clip other wants = grind arith
 
   back_act : (p : ℕ) (c d : Call) → Clip calls shut close p c d → (d.act ≡ c.act) ⊎ (IsIdle d.act × (d.end ≡ None))
-  back_act p c d (inl k) = inl k.act
-  back_act p c d (inr (inl k)) = inl k.act
-  back_act p c d (inr (inr (inl k))) = inr (subst IsIdle (sym k.act) tt, k.end)
-  back_act p c d (inr (inr (inr (inl k)))) = inl k.act
-  back_act p c d (inr (inr (inr (inr k)))) = inl (k.act ∙ sym k.was)
+  back_act p c d clip = grind arith
 
   the_close : (c : Call) → slice_get chosen.ds close ≡ Some c → Clip calls shut close close dc.call c → (d : Did chosen.ds close Act.Close) × (d.call.begin ≡ 3 * shut + 1) × (d.call.end ≡ Some (3 * shut + 1))
   the_close c is (inl k) = absurd (subst IsPlain dc.act_is k.plain)
@@ -469,36 +410,12 @@ module _ (rules : Rules) (calls : List Call) (differ : Differ calls) (written : 
   -- ---- it has none of the faults
 
   timed_clip : (p : ℕ) (c d : Call) → slice_get calls p ≡ Some c → Clip calls shut close p c d → (f : ℕ) → d.end ≡ Some f → d.begin ≤ f
-  timed_clip p c d is (inl k) f ends =
-      let e = tripled_from c.end d.end f k.ends ends in
-      let t = written.timed p c e.0 is e.1 in
-      let b = k.begin in
-      let s = e.2 in
-      omega (arith, t, b, s)
-  timed_clip p c d is (inr (inl k)) f ends =
-      let both : Some k.f ≡ Some f = sym k.end ∙ ends in
-      let same : k.f ≡ f = cc in
-      let from = k.from in
-      let b = k.begin in
-      omega (arith, same, from, b)
-  timed_clip p c d is (inr (inr (inl k))) f ends = let clash : None ≡ Some f = sym k.end ∙ ends in cc
-  timed_clip p c d is (inr (inr (inr (inl k)))) f ends =
-      let e = tripled_from c.end d.end f k.ends ends in
-      let t = written.timed p c e.0 is e.1 in
-      let after = ends_after p c e.0 is k.wants e.1 in
-      let s = e.2 in
-      elim k.least [ inl b ↦ omega (arith, b, t, s) | inr b ↦ omega (arith, b, after, s) ]
-  timed_clip p c d is (inr (inr (inr (inr k)))) f ends =
-      let both : Some (3 * shut + 1) ≡ Some f = sym k.end ∙ ends in
-      let same : 3 * shut + 1 ≡ f = cc in
-      let b = k.begin in
-      omega (arith, b, same)
+  timed_clip p c d is clip f ends = grind (arith, ends_after, tripled_from)
 
   -- a send of the clipped log that ended before three times a time was done before that
   sent_by : (p item time f : ℕ) (d : Did Clipped p (Act.Send item)) → d.call.end ≡ Some f → f < 3 * time → SentBy rules calls p item time
   sent_by p item time f d ends early =
       let s = send_old item p d in
-      let both : Some s.opens.f ≡ Some f = sym s.opens.end ∙ ends in
       let same : s.opens.f ≡ f = cc in
       record {
         sent = s.old;
@@ -521,10 +438,9 @@ module _ (rules : Rules) (calls : List Call) (differ : Differ calls) (written : 
   enough_clip m n sent began are before after xs once each =
       let r = are xs once (λ y within.
       let l = each y within in
-      let early = l.early in
       record {
         item = l.item;
-        sent_by = sent_by y l.item m l.end l.sent l.ended (omega (arith, early, before));
+        sent_by = sent_by y l.item m l.end l.sent l.ended (omega (arith, before));
         untaken = λ t d. l.untaken t (plain_new (Act.Took l.item) tt t d).0;
       }) in (
         r.0,
@@ -533,12 +449,8 @@ module _ (rules : Rules) (calls : List Call) (differ : Differ calls) (written : 
         λ q within.
             let v = r.3 q within in
             let n_new = plain_new Act.Taking tt q v.0 in
-            let both : Some v.0.call ≡ Some v.1.call = sym v.0.call_is ∙ v.1.call_is in
             let one : v.0.call ≡ v.1.call = cc in
-            let begins : v.0.call.begin ≡ v.1.call.begin = ap (λ (c : Call). c.begin) one in
-            let by = v.1.by in
-            let b = n_new.1 in
-            record { taking = n_new.0; begun = omega (arith, begins, by, b, after) },
+            record { taking = n_new.0; begun = grind (arith, after) },
       )
 
   took_ends : (item p : ℕ) (d : Did calls p (Act.Took item)) → (e : ℕ) × (d.call.end ≡ Some e)
@@ -549,14 +461,7 @@ module _ (rules : Rules) (calls : List Call) (differ : Differ calls) (written : 
 
   -- which call ended before which in the clipped log
   did_first : (a b : ℕ) (act other : Act) (da : Did Clipped a act) (db : Did Clipped b other) (e : EndsBefore Clipped a b) → (da.call.end ≡ Some e.end) × (e.end < db.call.begin)
-  did_first a b act other da db e =
-      let one : Some e.one ≡ Some da.call = sym e.one_is ∙ da.call_is in
-      let two : Some e.other ≡ Some db.call = sym e.other_is ∙ db.call_is in
-      let one_is : e.one ≡ da.call = cc in
-      let two_is : e.other ≡ db.call = cc in
-      let begins : e.other.begin ≡ db.call.begin = ap (λ (c : Call). c.begin) two_is in
-      let before = e.before in
-      (ap (λ (c : Call). c.end) (sym one_is) ∙ e.ended, omega (arith, begins, before))
+  did_first a b act other da db e = grind arith
 
   took_first : (a b item : ℕ) (act : Act) (da : Did Clipped a (Act.Took item)) (db : Did Clipped b act) (ob : Did calls b act) → db.call.begin ≡ 3 * ob.call.begin → EndsBefore Clipped a b → EndsBefore calls a b
   took_first a b item act da db ob begins e =
@@ -572,14 +477,11 @@ module _ (rules : Rules) (calls : List Call) (differ : Differ calls) (written : 
       let f = did_first a b (Act.Send one) (Act.Send other) da db e in
       let s = send_old one a da in
       let t = send_old other b db in
-      let both : Some s.opens.f ≡ Some e.end = sym s.opens.end ∙ f.0 in
       let same : s.opens.f ≡ e.end = cc in
       let before = f.1 in
       let begins = t.opens.begin in
-      let from = t.opens.from in
-      let by = t.opens.by in
       elim s.opens.why [
-        | inl late ↦ absurd (omega (arith, late, same, before, begins, from, by))
+        | inl late ↦ absurd (omega (arith, late, same, before, begins))
         | inr g ↦ let is = g.2 in record { one = s.old.call; other = t.old.call; end = g.0; one_is = s.old.call_is; other_is = t.old.call_is; ended = g.1; before = omega (arith, is, same, before, begins) }
       ]
 
@@ -626,13 +528,10 @@ module _ (rules : Rules) (calls : List Call) (differ : Differ calls) (written : 
           let o = plain_old Act.FoundNone tt call (record { call = c; call_is = is; act_is = act }) in
           let e = tripled_from o.old.call.end c.end f o.ends ends in
           let r = fine.empty call o.old.call e.0 o.old.call_is (inl o.old.act_is) e.1 in
-          let b = o.begin in
-          let low_r = r.1 in
-          let high_r = r.2 in
           let is_f = e.2 in (
             3 * r.0,
-            omega (arith, b, low_r),
-            omega (arith, high_r, is_f),
+            omega arith,
+            omega (arith, is_f),
             (λ send take item g s s_ends early t.
                 let ot = took_old item take t in
                 let by = r.3 send take item (sent_by send item r.0 g s s_ends early) ot.old in
@@ -653,9 +552,7 @@ module _ (rules : Rules) (calls : List Call) (differ : Differ calls) (written : 
             omega arith,
             (λ send take item g s s_ends early t.
                 let ot = took_old item take t in
-                let by = h.0 take item ot.old in
-                let tb = ot.begin in
-                omega (arith, by, tb, is_f)),
+                omega (arith, h.0 take item ot.old, is_f)),
             enough_clip (suc e.0) e.0 f f h.1 (omega (arith, is_f)) (omega (arith, is_f)),
           )
 
@@ -676,21 +573,10 @@ abbrev pub ShownAt : List Call → ℕ → ℕ → Type 0
 ShownAt calls p e = (v : WasClosed calls p) × (v.returned.call.end ≡ Some e)
 
 one_shown : (calls : List Call) (p e f : ℕ) → ShownAt calls p e → ShownAt calls p f → e ≡ f
-one_shown calls p e f a b =
-    let both : Some a.0.returned.call ≡ Some b.0.returned.call = sym a.0.returned.call_is ∙ b.0.returned.call_is in
-    let one : a.0.returned.call ≡ b.0.returned.call = cc in
-    let ends : Some e ≡ Some f = sym a.1 ∙ ap (λ (c : Call). c.end) one ∙ b.1 in
-    cc
+one_shown calls p e f a b = grind arith
 
 wants_closed : (act : Act) → WantsClosed act ⊎ (ShowsClosed act → ⊥)
-wants_closed (Act.Send v) = inr (λ s. elim s [ inl e ↦ cc | inr t ↦ elim t [ inl e ↦ cc | inr e ↦ cc ] ])
-wants_closed (Act.Took v) = inr (λ s. elim s [ inl e ↦ cc | inr t ↦ elim t [ inl e ↦ cc | inr e ↦ cc ] ])
-wants_closed Act.FoundNone = inr (λ s. elim s [ inl e ↦ cc | inr t ↦ elim t [ inl e ↦ cc | inr e ↦ cc ] ])
-wants_closed Act.Taking = inr (λ s. elim s [ inl e ↦ cc | inr t ↦ elim t [ inl e ↦ cc | inr e ↦ cc ] ])
-wants_closed Act.Full = inr (λ s. elim s [ inl e ↦ cc | inr t ↦ elim t [ inl e ↦ cc | inr e ↦ cc ] ])
-wants_closed Act.Closed = inl tt
-wants_closed Act.Ended = inl tt
-wants_closed Act.Close = inl tt
+wants_closed act = grind arith
 
 shown_at : (calls : List Call) (p : ℕ) → ((e : ℕ) × ShownAt calls p e) ⊎ ((e : ℕ) → ShownAt calls p e → ⊥)
 shown_at calls p = elim (call_at calls p) [
@@ -707,7 +593,6 @@ shown_at calls p = elim (call_at calls p) [
       | inl wants ↦ elim (end_cases c.end) [
         | inl e ↦ inl (e.0, (record { act = c.act; shows = shows_closed c.act wants; returned = record { call = c; call_is = is; act_is = refl; ended = some_is c.end e.0 e.1 } }, e.1))
         | inr open_end ↦ inr (λ e s.
-            let both : Some s.0.returned.call ≡ Some c = sym s.0.returned.call_is ∙ is in
             let one : s.0.returned.call ≡ c = cc in
             none_some c.end open_end (subst (λ (x : Call). IsSome x.end) one s.0.returned.ended))
       ]

@@ -32,9 +32,7 @@ record Origin (f : Step → Option ℕ) (steps : List Step) (s : Step) : Type 0 
   act_is : s.act ≡ step.act
 
 put_in : (o : Option ℕ) (act : Act) (rest : List Step) (s : Step) → In s (put o act rest) → ((o ≡ Some s.place) × (s.act ≡ act)) ⊎ In s rest
-put_in None act rest s within = inr within
-put_in (Some place) act rest s (inl here) = inl (ap (λ (x : Step). Some x.place) here, ap (λ (x : Step). x.act) (sym here))
-put_in (Some place) act rest s (inr later) = inr later
+put_in o act rest s within = grind arith
 
 origin : (f : Step → Option ℕ) (steps : List Step) (s : Step) → In s (moved f steps) → Origin f steps s
 origin f [] s within = absurd within
@@ -52,9 +50,7 @@ record Origins (f : Step → Option ℕ) (steps : List Step) (s t : Step) : Type
   other_goes : f other ≡ Some t.place
 
 put_before : (o : Option ℕ) (act : Act) (rest : List Step) (s t : Step) → Before s t (put o act rest) → ((o ≡ Some s.place) × In t rest) ⊎ Before s t rest
-put_before None act rest s t first = inr first
-put_before (Some place) act rest s t (inl here) = inl (ap (λ (x : Step). Some x.place) here.0, here.1)
-put_before (Some place) act rest s t (inr later) = inr later
+put_before o act rest s t first = grind arith
 
 origins : (f : Step → Option ℕ) (steps : List Step) (s t : Step) → Before s t (moved f steps) → Origins f steps s t
 origins f [] s t first = absurd first
@@ -157,25 +153,11 @@ first_close [] = None
 first_close (s ∷ steps) = if_close s.act s.place (first_close steps)
 
 close_or_not : (act : Act) → (act ≡ Act.Close) ⊎ (act ≢ Act.Close)
-close_or_not (Act.Send v) = inr (λ is. cc)
-close_or_not (Act.Took v) = inr (λ is. cc)
-close_or_not Act.FoundNone = inr (λ is. cc)
-close_or_not Act.Taking = inr (λ is. cc)
-close_or_not Act.Full = inr (λ is. cc)
-close_or_not Act.Closed = inr (λ is. cc)
-close_or_not Act.Ended = inr (λ is. cc)
-close_or_not Act.Close = inl refl
+close_or_not act = grind arith
 
 -- another call doesn't close the queue
 no_close : (act : Act) → act ≢ Act.Close → (closed : Bool) (place : ℕ) (later : Option ℕ) → (closed_after closed act ≡ closed) × (if_close act place later ≡ later)
-no_close (Act.Send v) not closed place later = (refl, refl)
-no_close (Act.Took v) not closed place later = (refl, refl)
-no_close Act.FoundNone not closed place later = (refl, refl)
-no_close Act.Taking not closed place later = (refl, refl)
-no_close Act.Full not closed place later = (refl, refl)
-no_close Act.Closed not closed place later = (refl, refl)
-no_close Act.Ended not closed place later = (refl, refl)
-no_close Act.Close not closed place later = absurd (not refl)
+no_close act not closed place later = grind arith
 
 put_closes : (o : Option ℕ) (closed : Bool) (act : Act) (rest : List Step) → Allows closed act → Closes (closed_after closed act) rest → (o ≡ None → closed_after closed act ≡ closed) → Closes closed (put o act rest)
 put_closes None closed act rest allows closes same = subst (λ (b : Bool). Closes b rest) (same refl) closes
@@ -261,120 +243,23 @@ record Shut (calls : List Call) (items : ℕ) (first : Option ℕ) (s : Step) (q
   first_is : first ≡ Some s.place
   spot_is : q ≡ spot calls items items
 
-when_some : (b : Bool) (p q : ℕ) → when b p ≡ Some q → (b ≡ true) × (q ≡ p)
-when_some true p q is = (refl, (let e : p ≡ q = cc in sym e))
-when_some false p q is = cc
-
-when_none : (b : Bool) (p : ℕ) → when b p ≡ None → b ≡ false
-when_none true p is = cc
-when_none false p is = refl
-
-own_same : (calls : List Call) (items : ℕ) (act : Act) (place q : ℕ) → own calls items act place ≡ Some q → q ≡ place
-own_same calls items (Act.Send v) place q is = (when_some (counts calls items v) place q is).1
-own_same calls items (Act.Took v) place q is = (when_some (counts calls items v) place q is).1
-own_same calls items Act.FoundNone place q is = let e : place ≡ q = cc in sym e
-own_same calls items Act.Taking place q is = let e : place ≡ q = cc in sym e
-own_same calls items Act.Full place q is = let e : place ≡ q = cc in sym e
-own_same calls items Act.Closed place q is = let e : place ≡ q = cc in sym e
-own_same calls items Act.Ended place q is = let e : place ≡ q = cc in sym e
-own_same calls items Act.Close place q is = let e : place ≡ q = cc in sym e
-
-if_first_some : (first : Option ℕ) (place p q : ℕ) → if_first first place p ≡ Some q → (first ≡ Some place) × (q ≡ p)
-if_first_some None place p q is = cc
-if_first_some (Some f) place p q is = by (nat_cases f place) is
-  where
-    by : (d : (f ≡ place) ⊎ (f ≢ place)) → if_same d p ≡ Some q → (Some f ≡ Some place) × (q ≡ p)
-    by (inl same) e = (ap Some same, (let r : p ≡ q = cc in sym r))
-    by (inr other) e = cc
-
-if_first_none : (first : Option ℕ) (place p : ℕ) → if_first first place p ≡ None → first ≡ Some place → ⊥
-if_first_none None place p is e = cc
-if_first_none (Some f) place p is e = by (nat_cases f place) is
-  where
-    by : (d : (f ≡ place) ⊎ (f ≢ place)) → if_same d p ≡ None → ⊥
-    by (inl same) none = cc
-    by (inr other) none = let r : f ≡ place = cc in other r
-
-lacked_goes : (calls : List Call) (items : ℕ) (first : Option ℕ) (act : Act) (place q : ℕ) → of_lacked calls items first act place ≡ Some q
-    → ((x : ℕ) × Moves act x × (counts calls items x ≡ true) × (q ≡ spot calls items x)) ⊎ ((act ≡ Act.Close) × (first ≡ Some place) × (q ≡ spot calls items items))
-lacked_goes calls items first (Act.Send v) place q is = let r = when_some (counts calls items v) (spot calls items v) q is in inl (v, inl refl, r.0, r.1)
-lacked_goes calls items first (Act.Took v) place q is = let r = when_some (counts calls items v) (spot calls items v) q is in inl (v, inr refl, r.0, r.1)
-lacked_goes calls items first Act.FoundNone place q is = cc
-lacked_goes calls items first Act.Taking place q is = cc
-lacked_goes calls items first Act.Full place q is = cc
-lacked_goes calls items first Act.Closed place q is = cc
-lacked_goes calls items first Act.Ended place q is = cc
-lacked_goes calls items first Act.Close place q is = let r = if_first_some first place (spot calls items items) q is in inr (refl, r.0, r.1)
-
 goes_by : (calls : List Call) (items : ℕ) (first : Option ℕ) (s : Step) (q : ℕ) (d : (s.place < length calls) ⊎ (length calls ≤ s.place)) → fate_by calls items first s d ≡ Some q
     → Mine calls s q ⊎ Item calls items s q ⊎ Shut calls items first s q
-goes_by calls items first s q (inl mine) is = inl (record { mine = mine; same = own_same calls items s.act s.place q is })
-goes_by calls items first s q (inr lacked) is = elim (lacked_goes calls items first s.act s.place q is) [
-  | inl item ↦ inr (inl (record { lacked = lacked; item = item.0; moves = item.1; counted = item.2; spot_is = item.3 }))
-  | inr shut ↦ inr (inr (record { lacked = lacked; close = shut.0; first_is = shut.1; spot_is = shut.2 }))
-]
+goes_by calls items first s q d is = grind arith
 
 goes : (calls : List Call) (items : ℕ) (first : Option ℕ) (s : Step) (q : ℕ) → fate calls items first s ≡ Some q → Mine calls s q ⊎ Item calls items s q ⊎ Shut calls items first s q
 goes calls items first s q is = goes_by calls items first s q (cases_lt s.place (length calls)) is
 
-same_item : (act : Act) (v x : ℕ) → (act ≡ Act.Send v) ⊎ (act ≡ Act.Took v) → Moves act x → v ≡ x
-same_item act v x (inl a) (inl b) = let e : Act.Send v ≡ Act.Send x = sym a ∙ b in cc
-same_item act v x (inl a) (inr b) = let e : Act.Send v ≡ Act.Took x = sym a ∙ b in cc
-same_item act v x (inr a) (inl b) = let e : Act.Took v ≡ Act.Send x = sym a ∙ b in cc
-same_item act v x (inr a) (inr b) = let e : Act.Took v ≡ Act.Took x = sym a ∙ b in cc
-
-own_stays : (calls : List Call) (items : ℕ) (act : Act) (place q x : ℕ) → own calls items act place ≡ Some q → Moves act x → counts calls items x ≡ true
-own_stays calls items act place q x is (inl a) = (when_some (counts calls items x) place q (subst (λ (y : Act). own calls items y place ≡ Some q) a is)).0
-own_stays calls items act place q x is (inr a) = (when_some (counts calls items x) place q (subst (λ (y : Act). own calls items y place ≡ Some q) a is)).0
-
-lacked_stays : (calls : List Call) (items : ℕ) (first : Option ℕ) (act : Act) (place q x : ℕ) → of_lacked calls items first act place ≡ Some q → Moves act x → counts calls items x ≡ true
-lacked_stays calls items first act place q x is (inl a) = (when_some (counts calls items x) (spot calls items x) q (subst (λ (y : Act). of_lacked calls items first y place ≡ Some q) a is)).0
-lacked_stays calls items first act place q x is (inr a) = (when_some (counts calls items x) (spot calls items x) q (subst (λ (y : Act). of_lacked calls items first y place ≡ Some q) a is)).0
-
-own_goes : (calls : List Call) (items : ℕ) (act : Act) (place x : ℕ) → own calls items act place ≡ None → Moves act x → counts calls items x ≡ false
-own_goes calls items act place x is (inl a) = when_none (counts calls items x) place (subst (λ (y : Act). own calls items y place ≡ None) a is)
-own_goes calls items act place x is (inr a) = when_none (counts calls items x) place (subst (λ (y : Act). own calls items y place ≡ None) a is)
-
-lacked_gone : (calls : List Call) (items : ℕ) (first : Option ℕ) (act : Act) (place x : ℕ) → of_lacked calls items first act place ≡ None → Moves act x → counts calls items x ≡ false
-lacked_gone calls items first act place x is (inl a) = when_none (counts calls items x) (spot calls items x) (subst (λ (y : Act). of_lacked calls items first y place ≡ None) a is)
-lacked_gone calls items first act place x is (inr a) = when_none (counts calls items x) (spot calls items x) (subst (λ (y : Act). of_lacked calls items first y place ≡ None) a is)
-
 sorts : (calls : List Call) (items : ℕ) (first : Option ℕ) → Sorts (fate calls items first) (counts calls items)
-sorts calls items first = record { stays = λ s q x is moves. stays s q x (cases_lt s.place (length calls)) is moves; goes = λ s x is moves. gone s x (cases_lt s.place (length calls)) is moves }
-  where
-    stays : (s : Step) (q x : ℕ) (d : (s.place < length calls) ⊎ (length calls ≤ s.place)) → fate_by calls items first s d ≡ Some q → Moves s.act x → counts calls items x ≡ true
-    stays s q x (inl mine) is moves = own_stays calls items s.act s.place q x is moves
-    stays s q x (inr lacked) is moves = lacked_stays calls items first s.act s.place q x is moves
-
-    gone : (s : Step) (x : ℕ) (d : (s.place < length calls) ⊎ (length calls ≤ s.place)) → fate_by calls items first s d ≡ None → Moves s.act x → counts calls items x ≡ false
-    gone s x (inl mine) is moves = own_goes calls items s.act s.place x is moves
-    gone s x (inr lacked) is moves = lacked_gone calls items first s.act s.place x is moves
+sorts calls items first = grind arith
 
 -- the first close is kept
 keeps_close : (calls : List Call) (items : ℕ) (first : Option ℕ) (s : Step) → fate calls items first s ≡ None → s.act ≡ Act.Close → first ≡ Some s.place → ⊥
-keeps_close calls items first s is close at = by (cases_lt s.place (length calls)) is
-  where
-    by : (d : (s.place < length calls) ⊎ (length calls ≤ s.place)) → fate_by calls items first s d ≡ None → ⊥
-    by (inl mine) none = let e : Some s.place ≡ None = subst (λ (a : Act). own calls items a s.place ≡ None) close none in cc
-    by (inr lacked) none = if_first_none first s.place (spot calls items items) (subst (λ (a : Act). of_lacked calls items first a s.place ≡ None) close none) at
+keeps_close calls items first s is close at = grind arith
 
 -- a step of the log with an item that counts, or none, is kept as it is
 keeps_own : (calls : List Call) (items : ℕ) (first : Option ℕ) (s : Step) → s.place < length calls → ((x : ℕ) → Moves s.act x → counts calls items x ≡ true) → fate calls items first s ≡ Some s.place
-keeps_own calls items first s less counted = by (cases_lt s.place (length calls))
-  where
-    here : (act : Act) → ((x : ℕ) → Moves act x → counts calls items x ≡ true) → own calls items act s.place ≡ Some s.place
-    here (Act.Send v) c = ap (λ (b : Bool). when b s.place) (c v (inl refl))
-    here (Act.Took v) c = ap (λ (b : Bool). when b s.place) (c v (inr refl))
-    here Act.FoundNone c = refl
-    here Act.Taking c = refl
-    here Act.Full c = refl
-    here Act.Closed c = refl
-    here Act.Ended c = refl
-    here Act.Close c = refl
-
-    by : (d : (s.place < length calls) ⊎ (length calls ≤ s.place)) → fate_by calls items first s d ≡ Some s.place
-    by (inl mine) = here s.act counted
-    by (inr lacked) = absurd (omega (arith, less, lacked))
+keeps_own calls items first s less counted = grind arith
 
 -- ---- the calls of the log
 
@@ -436,9 +321,7 @@ or_second true b is not = cc
 or_second false b is not = is
 
 or_first : (a b : Bool) → (a || b) ≡ true → b ≡ false → a ≡ true
-or_first true b is not = refl
-or_first false true is not = cc
-or_first false false is not = is
+or_first a b is not = grind arith
 
 not_both : (b : Bool) → b ≡ true → b ≡ false → ⊥
 not_both true is_so is_not = cc
@@ -477,8 +360,7 @@ sent_lacked whole part calls lacked items order g s x within behind act = elim (
   | inl is_so ↦
       let d = sender calls items x is_so in
       let same : d.0 ≡ s.place = g.differ x d.0 s.place (did_front calls lacked d.0 (Act.Send x) d.1) (sent_in_log whole (calls ++ lacked) order g.is s x within act) in
-      let less = did_below calls d.0 (Act.Send x) d.1 in
-      absurd (omega (arith, same, less, behind))
+      absurd (omega (arith, same, did_below calls d.0 (Act.Send x) d.1, behind))
 ]
 
 took_lacked : (whole part : Rules) (calls lacked : List Call) (items : ℕ) (order : List Step) → Part whole part calls lacked items order → (s : Step) (x : ℕ) → In s order → length calls ≤ s.place → s.act ≡ Act.Took x → is_taken calls items x ≡ false
@@ -489,8 +371,7 @@ took_lacked whole part calls lacked items order g s x within behind act = elim (
       let t = step_of whole (calls ++ lacked) order g.is d.0 d.1.call (Act.Took x) (get_front calls lacked d.0 d.1.call d.1.call_is) d.1.act_is (λ e. cc) (g.sound.returned d.0 x d.1) in
       let one : t.step ≡ s = one_take whole (calls ++ lacked) order g.is g.differ x t.step s t.within within t.act_is act in
       let same : d.0 ≡ s.place = sym t.place_is ∙ ap (λ (y : Step). y.place) one in
-      let less = did_below calls d.0 (Act.Took x) d.1 in
-      absurd (omega (arith, same, less, behind))
+      absurd (omega (arith, same, did_below calls d.0 (Act.Took x) d.1, behind))
 ]
 
 lacks_of : (whole part : Rules) (calls lacked : List Call) (items : ℕ) (order : List Step) → Part whole part calls lacked items order → (s : Step) (x : ℕ) → In s order → length calls ≤ s.place → Moves s.act x → counts calls items x ≡ true → Lacks calls items s x
@@ -570,18 +451,12 @@ fates_apart whole part calls lacked items order g s t q r first s_goes t_goes sa
     by (inr (inl a)) (inr (inr b)) = item_shut s a.item q (before_first s t order first) a.lacked a.moves a.counted a.spot_is (same ∙ b.spot_is)
     by (inr (inr a)) (inr (inl b)) = item_shut t b.item r (before_second s t order first) b.lacked b.moves b.counted b.spot_is (sym same ∙ a.spot_is)
     by (inr (inr a)) (inr (inr b)) =
-        let both : Some s.place ≡ Some t.place = sym a.first_is ∙ b.first_is in
         let one : s.place ≡ t.place = cc in
         apart whole (calls ++ lacked) order g.is s t first one
 
 -- a step that goes to the place of a call of the log is of that call
 goes_own : (calls : List Call) (items : ℕ) (first : Option ℕ) (s : Step) (q : ℕ) → fate calls items first s ≡ Some q → q < length calls → s.place ≡ q
-goes_own calls items first s q is less = by (goes calls items first s q is)
-  where
-    by : Mine calls s q ⊎ Item calls items s q ⊎ Shut calls items first s q → s.place ≡ q
-    by (inl a) = sym a.same
-    by (inr (inl a)) = let e = a.spot_is in absurd (omega (arith, less, e))
-    by (inr (inr a)) = let e = a.spot_is in absurd (omega (arith, less, e))
+goes_own calls items first s q is less = grind arith
 
 -- ---- the calls that a late log may lack
 
@@ -609,8 +484,7 @@ padded_item closes calls items x c less is =
 padded_close : (closes : Bool) (calls : List Call) (items : ℕ) → closes ≡ true → slice_get (padded true closes calls items) (spot calls items items) ≡ Some (early Act.Close)
 padded_close closes calls items is_so =
     let all = calls ++ pads calls items items in
-    let sum = length-append calls (pads calls items items) in
-    let at : spot calls items items ≡ length all + 0 = omega (arith, sum) in
+    let at : spot calls items items ≡ length all + 0 = omega (arith, length-append calls (pads calls items items)) in
     ap (slice_get (padded true closes calls items)) at ∙ get_behind all (early_close closes) 0 ∙ ap (λ (b : Bool). slice_get (early_close b) 0) is_so
 
 -- ---- the order
@@ -657,7 +531,6 @@ own_counts whole part calls lacked items order g s c within at ended x (inr act)
   | inl took ↦ or_right (is_sent calls items x) (is_taken calls items x) (taken_mark calls items s.place x g.sound (did_within calls lacked s.place (Act.Took x) took (slice_get_within calls s.place c at)))
   | inr taking ↦
       let d = did_within calls lacked s.place Act.Taking taking (slice_get_within calls s.place c at) in
-      let both : Some d.call ≡ Some c = sym d.call_is ∙ at in
       let one : d.call ≡ c = cc in
       absurd (no_end c.end (sym (ap (λ (y : Call). y.end) one) ∙ g.sound.waits s.place d) ended)
 ]

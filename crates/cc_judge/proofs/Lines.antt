@@ -1,5 +1,5 @@
 -- The order of the lines of one thread, checked by the places of the steps.
-use Rattle.std.proofs.Common.{◌≡◌, ℕ, ◌+◌, ◌<◌, ◌≤◌, inl, inr, List, [], length, get_or, Option, Some, None, sym, ap, ◌∙◌, subst, arith}
+use Rattle.std.proofs.Common.{◌≡◌, ℕ, ◌+◌, ◌<◌, ◌≤◌, List, [], length, get_or, Option, Some, sym, ap, ◌∙◌, subst, arith}
 use Rattle.std.specs.List.{slice_get}
 use Rattle.std.proofs.lemmas.Option.{slice_get_within}
 use Rattle.cc_judge.specs.Names.{Step, Tie, Entry}
@@ -13,17 +13,8 @@ abbrev pub PlacedTo : List Step → List (Option ℕ) → (upto : ℕ) → Type 
 PlacedTo order table upto = (k : ℕ) (s : Step) → k < upto → slice_get order k ≡ Some s → slice_get table s.place ≡ Some (Some k)
 
 pub placed_on : (order : List Step) (before after : List (Option ℕ)) (i : ℕ) (d : Step) → Enters before (get_or order i d).place i after Entry.New → PlacedTo order before i → PlacedTo order after (i + 1)
-placed_on order before after i d enters so_far k s below is = elim (below_or_at order i k d s below is) [
-  | inl less ↦
-      let had : slice_get before s.place ≡ Some (Some k) = so_far k s less is in
-      elim (nat_cases s.place (get_or order i d).place) [
-        | inl same ↦ let both : Some (Some k) ≡ Some None = sym had ∙ ap (slice_get before) same ∙ enters.0 in cc
-        | inr apart ↦ subst (λ (l : List (Option ℕ)). slice_get l s.place ≡ Some (Some k)) (sym enters.1) (set_elsewhere before (get_or order i d).place s.place (Some i) apart ∙ had)
-      ]
-  | inr here ↦
-      let put : slice_get after (get_or order i d).place ≡ Some (Some i) = subst (λ (l : List (Option ℕ)). slice_get l (get_or order i d).place ≡ Some (Some i)) (sym enters.1) (set_at before (get_or order i d).place None (Some i) enters.0) in
-      ap (slice_get after) (ap (λ (x : Step). x.place) here.1) ∙ put ∙ ap (λ (n : ℕ). Some (Some n)) (sym here.0)
-]
+placed_on order before after i d enters so_far k s below is =
+    grind (arith, below_or_at, nat_cases, set_at, set_elsewhere)
 
 pub placed_end : (order : List Step) (table : List (Option ℕ)) (i : ℕ) → length order ≤ i → PlacedTo order table i → HasPlaces order table
 placed_end order table i end so_far k s is = let within : k < length order = slice_get_within order k s is in so_far k s (omega (arith, within, end)) is

@@ -1,5 +1,5 @@
 -- Lists of calls with a time each, one call further, and sorted.
-use Rattle.std.proofs.Common.{◌≡◌, ◌≢◌, ℕ, zero, suc, ◌+◌, ◌<◌, ◌≤◌, ◌⊎◌, inl, inr, Bool, List, [], ◌∷◌, ◌++◌, length, get_or, Option, Some, None, Contains, IsPermutation, refl, sym, ap, ◌∙◌, subst, arith}
+use Rattle.std.proofs.Common.{◌≡◌, ℕ, zero, suc, ◌+◌, ◌<◌, ◌≤◌, ◌⊎◌, inl, inr, Bool, List, [], ◌∷◌, ◌++◌, length, get_or, Option, Some, None, Contains, IsPermutation, refl, sym, ap, ◌∙◌, subst, arith}
 use Rattle.std.specs.List.{slice_get, IsDistinct}
 use Rattle.std.specs.List.Sorted.{IsNonDecreasingBy}
 use Rattle.std.specs.Prelude.{eqb}
@@ -7,7 +7,6 @@ use Rattle.std.proofs.lemmas.Bool.{cases_lt, eqb-false, ne_eqb}
 use Rattle.std.proofs.lemmas.Map.Keys.{apart_from_distinct, IsDistinct-from_apart, IsDistinct-IsPermutation}
 use Rattle.std.proofs.lemmas.List.Sorted.{Contains-permutation, IsPermutation-sym}
 use Rattle.std.proofs.lemmas.Option.{get_or_from_slice_get, slice_get-get_or, slice_get_within}
-use Rattle.cc_judge.proofs.Turns.{nat_cases}
 
 -- ---- elements by their places
 
@@ -55,10 +54,7 @@ same_call x y = eqb x.1 y.1
 
 flips : (x y : ℕ × ℕ) → same_call x y ≡ same_call y x
 unfolding same_call
-flips x y = elim (nat_cases x.1 y.1) [
-  | inl same ↦ ap (λ (n : ℕ). eqb n y.1) same ∙ ap (eqb y.1) (sym same)
-  | inr apart ↦ ne_eqb x.1 y.1 apart ∙ sym (ne_eqb y.1 x.1 (λ same. apart (sym same)))
-]
+flips x y = grind arith
 
 to_distinct : (xs : List (ℕ × ℕ)) → Apart xs → IsDistinct same_call xs
 unfolding same_call
@@ -96,22 +92,8 @@ module _ (Since : ℕ → Option ℕ → Type 0) where
     pub all : (y : ℕ) → y < upto → Since y None ⊎ ((k t : ℕ) × (slice_get list k ≡ Some (t, y)))
     pub apart : Apart list
 
-  pub list_first : ListTo [] 0
-  list_first = record { each = λ k t y is. cc (is); past = λ k t y is. cc (is); all = λ y below. absurd (omega (arith, below)); apart = λ j k t u y is other. cc (is) }
-
   pub list_skip : (list : List (ℕ × ℕ)) (i : ℕ) → Since i None → ListTo list i → ListTo list (i + 1)
-  list_skip list i none so_far = record {
-    each = so_far.each;
-    past = λ k t y is. omega (arith, so_far.past k t y is);
-    all = λ y below. elim (nat_cases y i) [
-      | inl here ↦ inl (subst (λ (n : ℕ). Since n None) (sym here) none)
-      | inr other ↦ so_far.all y (less_of y i below other)
-    ];
-    apart = so_far.apart;
-  }
-    where
-      less_of : (y i : ℕ) → y < i + 1 → y ≢ i → y < i
-      less_of y i below other = elim (cases_lt y i) [ inl less ↦ less | inr not_less ↦ absurd (other (omega (arith, below, not_less))) ]
+  list_skip list i none so_far = grind arith
 
   pub list_more : (list : List (ℕ × ℕ)) (i time : ℕ) → Since i (Some time) → ListTo list i → ListTo (list ++ (time, i) ∷ []) (i + 1)
   list_more list i time some so_far = record { each = each; past = past; all = all; apart = apart }

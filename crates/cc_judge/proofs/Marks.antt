@@ -42,30 +42,10 @@ pub record Marker (mark : List Bool → Act → List Bool) (done : ℕ → Act) 
   pub own : (x y : ℕ) → done x ≡ done y → x ≡ y
 
 pub marks_sent : Marker mark_sent Act.Send
-marks_sent = record { split = by; own = λ x y is. cc }
-  where
-    by : (marks : List Bool) (act : Act) → ((mark_sent marks act ≡ marks) × ((x : ℕ) → act ≢ Act.Send x)) ⊎ ((x : ℕ) × (act ≡ Act.Send x) × (mark_sent marks act ≡ slice_set marks x true))
-    by marks (Act.Send v) = inr (v, refl, refl)
-    by marks (Act.Took v) = inl (refl, λ x is. cc)
-    by marks Act.FoundNone = inl (refl, λ x is. cc)
-    by marks Act.Taking = inl (refl, λ x is. cc)
-    by marks Act.Full = inl (refl, λ x is. cc)
-    by marks Act.Closed = inl (refl, λ x is. cc)
-    by marks Act.Ended = inl (refl, λ x is. cc)
-    by marks Act.Close = inl (refl, λ x is. cc)
+marks_sent = grind arith
 
 pub marks_taken : Marker mark_taken Act.Took
-marks_taken = record { split = by; own = λ x y is. cc }
-  where
-    by : (marks : List Bool) (act : Act) → ((mark_taken marks act ≡ marks) × ((x : ℕ) → act ≢ Act.Took x)) ⊎ ((x : ℕ) × (act ≡ Act.Took x) × (mark_taken marks act ≡ slice_set marks x true))
-    by marks (Act.Send v) = inl (refl, λ x is. cc)
-    by marks (Act.Took v) = inr (v, refl, refl)
-    by marks Act.FoundNone = inl (refl, λ x is. cc)
-    by marks Act.Taking = inl (refl, λ x is. cc)
-    by marks Act.Full = inl (refl, λ x is. cc)
-    by marks Act.Closed = inl (refl, λ x is. cc)
-    by marks Act.Ended = inl (refl, λ x is. cc)
-    by marks Act.Close = inl (refl, λ x is. cc)
+marks_taken = grind arith
 
 set_known : (marks : List Bool) (v x : ℕ) (b : Bool) → slice_get marks x ≡ Some b → (c : Bool) × (slice_get (slice_set marks v true) x ≡ Some c) × (x ≡ v → c ≡ true) × (b ≡ true → c ≡ true)
 set_known marks v x b is = elim (nat_cases x v) [
@@ -154,8 +134,7 @@ lacks_rises sent taken (suc j) x c less is =
     elim (nat_cases x j) [
       | inl same ↦
           let here : length (lacks sent taken j) ≡ 1 = ap length (subst (λ (k : ℕ). lacks sent taken k ≡ c ∷ []) same is) in
-          let even : length (padding sent taken x) ≡ length (padding sent taken j) = ap (λ (k : ℕ). length (padding sent taken k)) same in
-          omega (arith, sum, here, even)
+          grind (arith, sum, here)
       | inr other ↦ let h = lacks_rises sent taken j x c (omega (arith, less, other)) is in omega (arith, sum, h)
     ]
 
@@ -171,10 +150,7 @@ one_early act zero c is = early_is act c (cc)
 one_early act (suc j) c is = cc
 
 lacking_early : (a b : Bool) (x j : ℕ) (c : Call) → slice_get (lacking a b x) j ≡ Some c → IsEarly c
-lacking_early false true x j c is = one_early (Act.Send x) j c is
-lacking_early true false x j c is = one_early Act.Taking j c is
-lacking_early false false x j c is = cc
-lacking_early true true x j c is = cc
+lacking_early a b x j c is = grind arith
 
 pub padding_early : (sent taken : List Bool) (items j : ℕ) (c : Call) → slice_get (padding sent taken items) j ≡ Some c → IsEarly c
 padding_early sent taken zero j c is = cc

@@ -1,5 +1,5 @@
 -- Each fault leaves a log without a legal order.
-use Rattle.std.proofs.Common.{◌≡◌, ◌≢◌, ℕ, false, inl, inr, List, Option, Some, sym, ap, ◌∙◌, subst, ◌⊎◌}
+use Rattle.std.proofs.Common.{◌≡◌, ◌≢◌, ℕ, false, inl, inr, List, Option, sym, ap, ◌∙◌, subst, ◌⊎◌, arith}
 use Rattle.cc_judge.specs.Names.{Act, Call, Rules, Step, Stay, Kind, Fault}
 use Rattle.cc_judge.specs.Order.{EndsBefore, IsOrder}
 use Rattle.cc_judge.specs.Faults.{Differ, NeverSent, TakenBeforeSent, TakenTwice, ShowsClosed, WasOpen, Reopened, ClosedEarly}
@@ -43,12 +43,7 @@ open_step rules calls send order differ o (inr sent) =
     (s.step, s.within, s.place_is, inl (s.item, s.act_is))
 
 wants_other : (act : Act) → ShowsClosed act → WantsOpen act → ⊥
-wants_other act (inl shows) (inl sends) = let e : Act.Close ≡ Act.Send sends.0 = sym shows ∙ sends.1 in cc
-wants_other act (inl shows) (inr full) = let e : Act.Close ≡ Act.Full = sym shows ∙ full in cc
-wants_other act (inr (inl shows)) (inl sends) = let e : Act.Closed ≡ Act.Send sends.0 = sym shows ∙ sends.1 in cc
-wants_other act (inr (inl shows)) (inr full) = let e : Act.Closed ≡ Act.Full = sym shows ∙ full in cc
-wants_other act (inr (inr shows)) (inl sends) = let e : Act.Ended ≡ Act.Send sends.0 = sym shows ∙ sends.1 in cc
-wants_other act (inr (inr shows)) (inr full) = let e : Act.Ended ≡ Act.Full = sym shows ∙ full in cc
+wants_other act shows wants = grind arith
 
 pub reopened : (rules : Rules) (calls : List Call) (closed send : ℕ) (order : List Step) → Differ calls → Reopened rules calls closed send → IsOrder rules calls order → ⊥
 reopened rules calls closed send order differ f o =
@@ -92,5 +87,4 @@ no_order rules calls (Fault.TooMany call sends) differ stands (order, o) = too_m
 -- no item is sent twice in a log whose sends have a table
 pub differ : (calls : List Call) (table : List (Option ℕ)) → IsTable calls Kind.Send table → Differ calls
 differ calls table is item i j one other =
-    let both : Some (Some i) ≡ Some (Some j) = sym (is.all i item one) ∙ is.all j item other in
-    cc
+    cc (sym (is.all i item one) ∙ is.all j item other)

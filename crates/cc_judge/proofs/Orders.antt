@@ -1,5 +1,5 @@
 -- The facts that a legal order of a log gives of the calls of the log.
-use Rattle.std.proofs.Common.{◌≡◌, ◌≢◌, ℕ, ◌<◌, ◌≤◌, ◌⊎◌, inl, inr, List, [], Option, Some, None, IsSome, refl, sym, ap, ◌∙◌, subst, arith}
+use Rattle.std.proofs.Common.{◌≡◌, ◌≢◌, ℕ, ◌≤◌, ◌⊎◌, inl, inr, List, [], Option, Some, None, IsSome, refl, sym, ap, ◌∙◌, subst, arith}
 use Rattle.std.specs.List.{slice_get}
 use Rattle.std.proofs.lemmas.Bool.{cases_lt}
 use Rattle.cc_judge.specs.Names.{Act, Call, Rules, Step}
@@ -10,47 +10,19 @@ use Rattle.cc_judge.proofs.Runs.{taken_once, of_whatever_capacity}
 
 -- a call that says what it did did that
 did_same : (said did : Act) → MayHaveDone said did → said ≢ Act.Taking → did ≡ said
-did_same (Act.Send v) did may plain = sym may
-did_same (Act.Took v) did may plain = sym may
-did_same Act.FoundNone did may plain = sym may
-did_same Act.Full did may plain = sym may
-did_same Act.Closed did may plain = sym may
-did_same Act.Ended did may plain = sym may
-did_same Act.Close did may plain = sym may
-did_same Act.Taking did may plain = absurd (plain refl)
+did_same said did may plain = grind arith
 
 -- a send did what the log says
 did_send : (said : Act) (item : ℕ) → MayHaveDone said (Act.Send item) → said ≡ Act.Send item
-did_send (Act.Send v) item may = may
-did_send (Act.Took v) item may = may
-did_send Act.FoundNone item may = may
-did_send Act.Full item may = may
-did_send Act.Closed item may = may
-did_send Act.Ended item may = may
-did_send Act.Close item may = may
-did_send Act.Taking item may = may
+did_send said item may = grind arith
 
 -- a take of this item is one of the log, or one that hasn't returned
 did_took : (said : Act) (item : ℕ) → MayHaveDone said (Act.Took item) → (said ≡ Act.Took item) ⊎ (said ≡ Act.Taking)
-did_took (Act.Send v) item may = inl may
-did_took (Act.Took v) item may = inl may
-did_took Act.FoundNone item may = inl may
-did_took Act.Full item may = inl may
-did_took Act.Closed item may = inl may
-did_took Act.Ended item may = inl may
-did_took Act.Close item may = inl may
-did_took Act.Taking item may = inr refl
+did_took said item may = grind arith
 
 -- a close did what the log says
 did_close : (said : Act) → MayHaveDone said Act.Close → said ≡ Act.Close
-did_close (Act.Send v) may = may
-did_close (Act.Took v) may = may
-did_close Act.FoundNone may = may
-did_close Act.Full may = may
-did_close Act.Closed may = may
-did_close Act.Ended may = may
-did_close Act.Close may = may
-did_close Act.Taking may = may
+did_close said may = grind arith
 
 -- an order is one of a queue of whatever capacity
 pub runs : (rules : Rules) (calls : List Call) (order : List Step) → IsOrder rules calls order → IsRun None [] order
@@ -67,7 +39,6 @@ pub step_of : (rules : Rules) (calls : List Call) (order : List Step) → IsOrde
 step_of rules calls order o place c act call_is act_is plain ended =
     let h : HasStepOf order place = o.whole place c call_is ended in
     let i : IsCall calls h.step = o.each h.at h.step h.step_is in
-    let both : Some i.call ≡ Some c = sym i.call_is ∙ ap (slice_get calls) h.place_is ∙ call_is in
     let one : i.call ≡ c = cc in
     let said : i.call.act ≡ act = ap (λ (x : Call). x.act) one ∙ act_is in
     record {
@@ -86,7 +57,6 @@ some_ended e n is = subst IsSome (sym is) refl
 -- a call that ended before another began returned
 pub ended_step : (rules : Rules) (calls : List Call) (order : List Step) → IsOrder rules calls order → (place other : ℕ) (act : Act) → act ≢ Act.Taking → Did calls place act → EndsBefore calls place other → StepOf order place act
 ended_step rules calls order o place other act plain d e =
-    let both : Some d.call ≡ Some e.one = sym d.call_is ∙ e.one_is in
     let one : d.call ≡ e.one = cc in
     step_of rules calls order o place d.call act d.call_is d.act_is plain (some_ended d.call.end e.end (ap (λ (x : Call). x.end) one ∙ e.ended))
 
@@ -122,23 +92,12 @@ apart rules calls order o s t first = let at = at_before s t order first in o.on
 pub in_time : (rules : Rules) (calls : List Call) (order : List Step) → IsOrder rules calls order → (s t : Step) → Before s t order → EndsBefore calls t.place s.place → ⊥
 in_time rules calls order o s t first ends = let at = at_before s t order first in o.in_time at.0 at.1 s t at.2 at.3 at.4 ends
 
-pub goes_before : (rules : Rules) (calls : List Call) (order : List Step) → IsOrder rules calls order → (s t : Step) → In s order → In t order → s.act ≢ t.act → EndsBefore calls s.place t.place → Before s t order
-goes_before rules calls order o s t first second differ ends = elim (in_order s t order first second) [
-  | inl same ↦ absurd (differ (ap (λ (x : Step). x.act) same))
-  | inr placed ↦ elim placed [ inl right ↦ right | inr wrong ↦ absurd (in_time rules calls order o t s wrong ends) ]
-]
-
 same_place : (rules : Rules) (calls : List Call) (order : List Step) → IsOrder rules calls order → (t : Step) (j k : ℕ) → slice_get order j ≡ Some t → slice_get order k ≡ Some t → j ≤ k
 same_place rules calls order o t j k at_j at_k = elim (cases_lt k j) [ inl less ↦ absurd (o.once k j t t less at_k at_j refl) | inr not_less ↦ not_less ]
 
 -- a step before a step that is before another is before that
 pub on_before : (rules : Rules) (calls : List Call) (order : List Step) → IsOrder rules calls order → (s t u : Step) → Before s t order → Before t u order → Before s u order
-on_before rules calls order o s t u one two =
-    let a = at_before s t order one in
-    let b = at_before t u order two in
-    let same : a.1 ≤ b.0 = same_place rules calls order o t a.1 b.0 a.4 b.3 in
-    let less : a.0 < b.1 = omega (arith, same, a.2, b.2) in
-    before_at s u order a.0 b.1 less a.3 b.4
+on_before rules calls order o s t u one two = grind (arith, at_before, before_at, same_place)
 
 -- of one item one send is in an order
 pub one_send : (rules : Rules) (calls : List Call) (order : List Step) → IsOrder rules calls order → Differ calls → (item : ℕ) (s t : Step) → Before s t order → s.act ≡ Act.Send item → t.act ≢ Act.Send item

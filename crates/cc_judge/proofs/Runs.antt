@@ -1,7 +1,7 @@
 -- The facts that the run of one queue gives of the order of its calls: an item is taken after it was sent, at most as
 -- often as it was sent, after each that was sent before it; and none is found only after the takes of all that were
 -- sent.
-use Rattle.std.proofs.Common.{◌≡◌, ◌≢◌, ℕ, ◌⊎◌, inl, inr, List, [], ◌∷◌, ◌++◌, Option, None, refl, sym, ap, ◌∙◌, subst}
+use Rattle.std.proofs.Common.{◌≡◌, ◌≢◌, ℕ, ◌⊎◌, inl, inr, List, [], ◌∷◌, ◌++◌, Option, None, refl, sym, ap, ◌∙◌, subst, arith}
 use Rattle.cc_judge.specs.Names.{Act, Step}
 use Rattle.cc_judge.specs.Order.{Does, IsRun}
 use Rattle.cc_judge.specs.Faults.{FindsNone}
@@ -21,25 +21,11 @@ first x t steps act is within = record { step = x; before = inl (refl, within); 
 
 -- what the queue holds after a step was held before it, or was sent by it
 pub from_where : (held next : List ℕ) (act : Act) (item : ℕ) → Does None held act next → In item next → In item held ⊎ (act ≡ Act.Send item)
-from_where held next (Act.Send v) item does within = elim (in_snoc item v held (subst (In item) does.0 within)) [ inl old ↦ inl old | inr new ↦ inr (ap Act.Send new) ]
-from_where held next (Act.Took v) item does within = inl (subst (In item) (sym does) (inr within))
-from_where held next Act.FoundNone item does within = absurd (subst (In item) does.1 within)
-from_where held next Act.Taking item does within = absurd does
-from_where held next Act.Full item does within = inl (subst (In item) does.0 within)
-from_where held next Act.Closed item does within = inl (subst (In item) does within)
-from_where held next Act.Ended item does within = absurd (subst (In item) does.1 within)
-from_where held next Act.Close item does within = inl (subst (In item) does within)
+from_where held next act item does within = grind (arith, in_snoc)
 
 -- what the queue holds is held after a step too, unless the step took it
 pub to_where : (held next : List ℕ) (act : Act) (item : ℕ) → Does None held act next → In item held → In item next ⊎ (act ≡ Act.Took item)
-to_where held next (Act.Send v) item does within = inl (subst (In item) (sym does.0) (in_more item v held within))
-to_where held next (Act.Took v) item does within = elim (subst (In item) does within) [ inl here ↦ inr (ap Act.Took here) | inr rest ↦ inl rest ]
-to_where held next Act.FoundNone item does within = absurd (subst (In item) does.0 within)
-to_where held next Act.Taking item does within = absurd does
-to_where held next Act.Full item does within = inl (subst (In item) (sym does.0) within)
-to_where held next Act.Closed item does within = inl (subst (In item) (sym does) within)
-to_where held next Act.Ended item does within = absurd (subst (In item) does.0 within)
-to_where held next Act.Close item does within = inl (subst (In item) (sym does) within)
+to_where held next act item does within = grind (arith, in_more)
 
 pub takes_front : (held next : List ℕ) (act : Act) (item : ℕ) → Does None held act next → act ≡ Act.Took item → In item held
 takes_front held next act item does is = let d : Does None held (Act.Took item) next = subst (λ (a : Act). Does None held a next) is does in subst (In item) (sym d) (inl refl)
@@ -97,17 +83,7 @@ ahead_last a b (x ∷ xs) none = inr (λ same. none (inl same), ahead_last a b x
 
 -- after a step it is still so, unless the step took a; and b was not taken
 ahead_on : (held next : List ℕ) (act : Act) (a b : ℕ) → Does None held act next → Ahead a b held → a ≢ b → (Ahead a b next ⊎ (act ≡ Act.Took a)) × (act ≢ Act.Took b)
-ahead_on held next (Act.Send v) a b does ahead apart = (inl (subst (Ahead a b) (sym does.0) (ahead_more a b v held ahead)), λ e. cc)
-ahead_on held next (Act.Took v) a b does ahead apart = elim (subst (Ahead a b) does ahead) [
-  | inl here ↦ (inr (ap Act.Took here), λ (e : Act.Took v ≡ Act.Took b). let w : v ≡ b = cc in apart (sym here ∙ w))
-  | inr rest ↦ (inl rest.1, λ (e : Act.Took v ≡ Act.Took b). let w : v ≡ b = cc in rest.0 w)
-]
-ahead_on held next Act.FoundNone a b does ahead apart = absurd (subst (Ahead a b) does.0 ahead)
-ahead_on held next Act.Taking a b does ahead apart = absurd does
-ahead_on held next Act.Full a b does ahead apart = (inl (subst (Ahead a b) (sym does.0) ahead), λ e. cc)
-ahead_on held next Act.Closed a b does ahead apart = (inl (subst (Ahead a b) (sym does) ahead), λ e. cc)
-ahead_on held next Act.Ended a b does ahead apart = absurd (subst (Ahead a b) does.0 ahead)
-ahead_on held next Act.Close a b does ahead apart = (inl (subst (Ahead a b) (sym does) ahead), λ e. cc)
+ahead_on held next act a b does ahead apart = grind (arith, ahead_more)
 
 ahead_taken : (held : List ℕ) (steps : List Step) (t : Step) (a b : ℕ) → IsRun None held steps → Ahead a b held → a ≢ b → In t steps → t.act ≡ Act.Took b → Earlier steps t (Act.Took a)
 ahead_taken held [] t a b run ahead apart within is = absurd within
@@ -121,7 +97,6 @@ pub first_taken_first : (held : List ℕ) (steps : List Step) (s t : Step) (a b 
 first_taken_first held [] s t a b run none sending taking sent not_before apart took = absurd sending
 first_taken_first held (x ∷ steps) s t a b run none (inl here) (inl there) sent not_before apart took =
     let one : s ≡ t = sym here ∙ there in
-    let clash : Act.Send a ≡ Act.Took b = sym sent ∙ ap (λ (y : Step). y.act) one ∙ took in
     cc
 first_taken_first held (x ∷ steps) s t a b run none (inl here) (inr taking) sent not_before apart took =
     let put = sends_last held run.0 x.act a run.1 (ap (λ (y : Step). y.act) here ∙ sent) in
@@ -160,14 +135,7 @@ pub record Single (item : ℕ) (held : List ℕ) (steps : List Step) : Type 0 wh
   pub one : (s t : Step) → Before s t steps → s.act ≡ Act.Send item → t.act ≢ Act.Send item
 
 kept_once : (held next : List ℕ) (act : Act) (item : ℕ) → Does None held act next → AtMostOnce item held → (act ≡ Act.Send item → In item held → ⊥) → AtMostOnce item next
-kept_once held next (Act.Send v) item does once apart = subst (AtMostOnce item) (sym does.0) (once_more item v held once (λ new. apart (ap Act.Send new)))
-kept_once held next (Act.Took v) item does once apart = (subst (AtMostOnce item) does once).1
-kept_once held next Act.FoundNone item does once apart = subst (AtMostOnce item) (sym does.1) tt
-kept_once held next Act.Taking item does once apart = absurd does
-kept_once held next Act.Full item does once apart = subst (AtMostOnce item) (sym does.0) once
-kept_once held next Act.Closed item does once apart = subst (AtMostOnce item) (sym does) once
-kept_once held next Act.Ended item does once apart = subst (AtMostOnce item) (sym does.1) tt
-kept_once held next Act.Close item does once apart = subst (AtMostOnce item) (sym does) once
+kept_once held next act item does once apart = grind (arith, once_more)
 
 pub single_next : (item : ℕ) (held next : List ℕ) (x : Step) (steps : List Step) → Does None held x.act next → Single item held (x ∷ steps) → Single item next steps
 single_next item held next x steps does single = record {
@@ -180,9 +148,7 @@ single_next item held next x steps does single = record {
 }
 
 pub gone : (held next : List ℕ) (act : Act) (item : ℕ) → Does None held act next → AtMostOnce item held → act ≡ Act.Took item → In item next → ⊥
-gone held next act item does once is within =
-    let d : held ≡ item ∷ next = subst (λ (a : Act). Does None held a next) is does in
-    (subst (AtMostOnce item) d once).0 refl within
+gone held next act item does once is within = grind arith
 
 taken_once_from : (held : List ℕ) (steps : List Step) (s t : Step) (item : ℕ) → IsRun None held steps → Single item held steps → Before s t steps → s.act ≡ Act.Took item → t.act ≢ Act.Took item
 taken_once_from held [] s t item run single order took again = absurd order
@@ -198,14 +164,7 @@ taken_once steps s t item run one order = taken_once_from [] steps s t item run 
 -- ---- a queue of a capacity answers as one of whatever capacity
 
 pub loosened : (capacity : Option ℕ) (held next : List ℕ) (act : Act) → Does capacity held act next → Does None held act next
-loosened capacity held next (Act.Send v) does = (does.0, tt)
-loosened capacity held next (Act.Took v) does = does
-loosened capacity held next Act.FoundNone does = does
-loosened capacity held next Act.Taking does = does
-loosened capacity held next Act.Full does = (does.0, tt)
-loosened capacity held next Act.Closed does = does
-loosened capacity held next Act.Ended does = does
-loosened capacity held next Act.Close does = does
+loosened capacity held next act does = grind arith
 
 pub of_whatever_capacity : (capacity : Option ℕ) (held : List ℕ) (steps : List Step) → IsRun capacity held steps → IsRun None held steps
 of_whatever_capacity capacity held [] run = tt

@@ -75,8 +75,7 @@ module _ (calls : List Call) (p item : ℕ) (dp : Did calls p Act.Taking) where
   which q act d = elim (nat_cases q p) [
     | inr other ↦ inl (record { old = record { call = d.call; call_is = sym (there calls p item q other) ∙ d.call_is; act_is = d.act_is }; call_is = refl })
     | inl same ↦
-        let both : Some d.call ≡ Some gave.call = sym d.call_is ∙ ap (slice_get (give calls p item)) same ∙ gave.call_is in
-        let one : d.call ≡ gave.call = cc in
+        let one : d.call ≡ gave.call = cc (sym d.call_is ∙ ap (slice_get (give calls p item)) same ∙ gave.call_is) in
         inr (record { place = same; act_is = sym d.act_is ∙ ap (λ (c : Call). c.act) one; begin = ap (λ (c : Call). c.begin) one; end = ap (λ (c : Call). c.end) one })
   ]
 
@@ -93,18 +92,12 @@ module _ (calls : List Call) (p item : ℕ) (dp : Did calls p Act.Taking) where
   times q c is = elim (nat_cases q p) [
     | inr other ↦ (c, sym (there calls p item q other) ∙ is, refl, refl)
     | inl same ↦
-        let both : Some c ≡ Some gave.call = sym is ∙ ap (slice_get (give calls p item)) same ∙ gave.call_is in
-        let one : c ≡ gave.call = cc in
+        let one : c ≡ gave.call = cc (sym is ∙ ap (slice_get (give calls p item)) same ∙ gave.call_is) in
         (dp.call, ap (slice_get calls) same ∙ dp.call_is, ap (λ (x : Call). x.begin) one, ap (λ (x : Call). x.end) one)
   ]
 
   ends_old : (a b : ℕ) → EndsBefore (give calls p item) a b → EndsBefore calls a b
-  ends_old a b e =
-      let one = times a e.one e.one_is in
-      let other = times b e.other e.other_is in
-      let s = other.2 in
-      let t = e.before in
-      record { one = one.0; other = other.0; end = e.end; one_is = one.1; other_is = other.1; ended = sym one.3 ∙ e.ended; before = omega (arith, s, t) }
+  ends_old a b e = grind (arith, times)
 
   weaker : Weaker (give calls p item) calls
   unfolding gave
@@ -119,10 +112,8 @@ module _ (calls : List Call) (p item : ℕ) (dp : Did calls p Act.Taking) where
     back = λ q d is. elim (nat_cases q p) [
       | inr other ↦ (d, there calls p item q other ∙ is, omega arith, λ e ends. (e, ends, omega arith))
       | inl same ↦
-          let both : Some d ≡ Some dp.call = sym is ∙ ap (slice_get calls) same ∙ dp.call_is in
           let one : d ≡ dp.call = cc in
-          let b : d.begin ≡ dp.call.begin = ap (λ (x : Call). x.begin) one in
-          (gave.call, ap (slice_get (give calls p item)) same ∙ gave.call_is, omega (arith, b), λ e ends. (e, sym (ap (λ (x : Call). x.end) one) ∙ ends, omega arith))
+          (gave.call, ap (slice_get (give calls p item)) same ∙ gave.call_is, grind arith, λ e ends. (e, sym (ap (λ (x : Call). x.end) one) ∙ ends, omega arith))
     ];
   }
 
@@ -248,7 +239,6 @@ module _ (calls : List Call) (differ : Differ calls) (ready : Ready calls) (p : 
           untaken = λ t d. l.untaken t (new_of calls p item dp t (Act.Took l.item) d (λ is. cc));
         },
         λ same.
-            let acts : Act.Send l.item ≡ Act.Send item = one_act calls x (Act.Send l.item) (Act.Send item) (subst (λ (q : ℕ). Did calls q (Act.Send l.item)) same o.old) dx in
             let items : item ≡ l.item = cc in
             l.untaken p (subst (λ (v : ℕ). Did (give calls p item) p (Act.Took v)) items (gave calls p item dp)),
       )
@@ -261,10 +251,9 @@ module _ (calls : List Call) (differ : Differ calls) (ready : Ready calls) (p : 
       let f = l.0.early in
       let r = enough (x ∷ y ∷ xs) (outside, once) all in
       let b = but p (length (y ∷ xs)) r.0 r.1 r.2 in
-      let len = b.len in
       let was = r.1 in (
         b.zs,
-        omega (arith, len, was),
+        omega (arith, was),
         b.once,
         λ q within.
             let w = r.3 q (b.within q within) in
@@ -287,11 +276,7 @@ module _ (calls : List Call) (differ : Differ calls) (ready : Ready calls) (p : 
 
   -- a call that ended before another began, had that not returned
   never_ends : (a b : ℕ) (act : Act) (d : Did calls a act) → d.call.end ≡ None → EndsBefore calls a b → ⊥
-  never_ends a b act d none e =
-      let both : Some d.call ≡ Some e.one = sym d.call_is ∙ e.one_is in
-      let one : d.call ≡ e.one = cc in
-      let clash : None ≡ Some e.end = sym none ∙ ap (λ (c : Call). c.end) one ∙ e.ended in
-      cc
+  never_ends a b act d none e = grind arith
 
   ready_given : Ready (give calls p item)
   ready_given = record {
@@ -379,11 +364,9 @@ module _ (calls : List Call) (differ : Differ calls) (ready : Ready calls) (p : 
               let begins : s.call.begin ≡ a.other.begin = ap (λ (c : Call). c.begin) same_s in
               let l = x_ends s1 s2 one (send_old s1 one ds1).old n.act_is a in
               let r = by_then s.call.begin b.end (ready.enough s2 t2 other b.end s o2.old (ap (λ (c : Call). c.end) same_t ∙ b.ended)) (omega (arith, l, begins)) in
-              let both3 : Some b.other ≡ Some dp.call = sym b.other_is ∙ ap (slice_get calls) n.place ∙ dp.call_is in
               let same_p : b.other ≡ dp.call = cc in
-              let p_begins : b.other.begin ≡ dp.call.begin = ap (λ (c : Call). c.begin) same_p in
               let t = b.before in
-              omega (arith, r, p_begins, t)
+              grind (arith, r, t)
         ]
       ]
 
@@ -397,9 +380,7 @@ module _ (calls : List Call) (differ : Differ calls) (ready : Ready calls) (p : 
             let one : sy.call ≡ a.one = cc in
             let l = earliest y v a.end sy (ap (λ (c : Call). c.end) one ∙ a.ended) (λ u d. untaken2 u (new_of calls p item dp u (Act.Took v) d (λ is. cc))) in
             let s2_old = (send_old s2 other s_2).old in
-            let acts : Act.Took other ≡ Act.Took item = n.act_is in
             let same : other ≡ item = cc in
-            let both2 : Some a.other ≡ Some s2_old.call = sym a.other_is ∙ s2_old.call_is in
             let same_s : a.other ≡ s2_old.call = cc in
             let begins : a.other.begin ≡ s2_old.call.begin = ap (λ (c : Call). c.begin) same_s in
             late_end y s2 other same s2_old a.end l (omega (arith, a.before, begins))
@@ -409,11 +390,8 @@ module _ (calls : List Call) (differ : Differ calls) (ready : Ready calls) (p : 
           late_end y s2 other same s e l b =
               let s_item : Did calls s2 (Act.Send item) = subst (λ (w : ℕ). Did calls s2 (Act.Send w)) same s in
               let place : s2 ≡ x = differ item s2 x s_item dx in
-              let both : Some s.call ≡ Some dx.call = sym s.call_is ∙ ap (slice_get calls) place ∙ dx.call_is in
               let one : s.call ≡ dx.call = cc in
-              let begins : s.call.begin ≡ dx.call.begin = ap (λ (c : Call). c.begin) one in
-              let t = ready.timed x dx.call end dx.call_is ended in
-              omega (arith, l, b, begins, t)
+              grind (arith, l, b, ready.timed x dx.call end dx.call_is ended)
 
 differ_given : (calls : List Call) (p item : ℕ) (dp : Did calls p Act.Taking) → Differ calls → Differ (give calls p item)
 differ_given calls p item dp differ v i j di dj = differ v i j (old_of calls p item dp i (Act.Send v) di (λ is. cc)).old (old_of calls p item dp j (Act.Send v) dj (λ is. cc)).old
@@ -451,13 +429,10 @@ module _ (calls : List Call) (ready : Ready calls) (done : IsDone calls) where
     | inr untaken ↦ elim (end_cases t.call.end) [
       | inr open_end ↦ absurd (ready.last first second take one other f untaken s t open_end ends)
       | inl e ↦
-          let both : Some f.call ≡ Some ends.one = sym f.call_is ∙ ends.one_is in
           let one_is : f.call ≡ ends.one = cc in
-          let both2 : Some s.call ≡ Some ends.other = sym s.call_is ∙ ends.other_is in
           let other_is : s.call ≡ ends.other = cc in
-          let begins : s.call.begin ≡ ends.other.begin = ap (λ (c : Call). c.begin) other_is in
           let b = ends.before in
-          absurd (no_left s.call.begin e.0 first (ready.enough second take other e.0 s t e.1) (record { item = one; sent = f; end = ends.end; ended = ap (λ (c : Call). c.end) one_is ∙ ends.ended; early = omega (arith, begins, b); untaken = untaken }))
+          absurd (no_left s.call.begin e.0 first (ready.enough second take other e.0 s t e.1) (record { item = one; sent = f; end = ends.end; ended = ap (λ (c : Call). c.end) one_is ∙ ends.ended; early = grind (arith, b); untaken = untaken }))
     ]
   ]
 
@@ -495,14 +470,7 @@ call_at (c ∷ calls) zero = inl (c, refl)
 call_at (c ∷ calls) (suc q) = call_at calls q
 
 is_taking : (act : Act) → (act ≡ Act.Taking) ⊎ (act ≢ Act.Taking)
-is_taking (Act.Send v) = inr (λ is. cc)
-is_taking (Act.Took v) = inr (λ is. cc)
-is_taking Act.FoundNone = inr (λ is. cc)
-is_taking Act.Taking = inl refl
-is_taking Act.Full = inr (λ is. cc)
-is_taking Act.Closed = inr (λ is. cc)
-is_taking Act.Ended = inr (λ is. cc)
-is_taking Act.Close = inr (λ is. cc)
+is_taking act = grind arith
 
 is_send : (act : Act) → ((item : ℕ) × (act ≡ Act.Send item)) ⊎ ((item : ℕ) → act ≢ Act.Send item)
 is_send (Act.Send v) = inl (v, refl)
@@ -559,7 +527,6 @@ quiet_given calls p item dp order each quiet s within idle c is =
     let at = at_in s order within in
     let call = each at.0 s at.1 in
     let t = times calls p item dp s.place call.call call.call_is in
-    let both : Some t.0 ≡ Some c = sym t.1 ∙ is in
     let one : t.0 ≡ c = cc in
     subst (λ (x : Call). IsSome x.end) one (subst IsSome t.3 (quiet s within idle call.call call.call_is))
 

@@ -1,5 +1,5 @@
 -- A queue that was closed stays so: which steps come before which by that.
-use Rattle.std.proofs.Common.{◌≡◌, ◌≢◌, ℕ, ◌⊎◌, inl, inr, List, [], ◌∷◌, Bool, true, false, refl, sym, ap, ◌∙◌, subst}
+use Rattle.std.proofs.Common.{◌≡◌, ◌≢◌, ℕ, ◌⊎◌, inl, inr, List, [], ◌∷◌, Bool, true, false, refl, sym, subst, arith}
 use Rattle.cc_judge.specs.Names.{Act, Call, Rules, Step}
 use Rattle.cc_judge.specs.Order.{Allows, Closes, closed_after, IsOrder}
 use Rattle.cc_judge.specs.Faults.{Differ, ShowsClosed, WasClosed, WasAccepted}
@@ -16,25 +16,15 @@ open_then closed act allows (inl sent) = subst (λ (a : Act). Allows closed a) s
 open_then closed act allows (inr full) = subst (λ (a : Act). Allows closed a) full allows
 
 stays_closed : (act : Act) → closed_after true act ≡ true
-stays_closed (Act.Send v) = refl
-stays_closed (Act.Took v) = refl
-stays_closed Act.FoundNone = refl
-stays_closed Act.Taking = refl
-stays_closed Act.Full = refl
-stays_closed Act.Closed = refl
-stays_closed Act.Ended = refl
-stays_closed Act.Close = refl
+stays_closed act = grind arith
 
 shows_after : (closed : Bool) (act : Act) → Allows closed act → ShowsClosed act → closed_after closed act ≡ true
-shows_after closed act allows (inl close) = ap (closed_after closed) close
-shows_after closed act allows (inr (inl answered)) = ap (closed_after closed) answered ∙ subst (λ (a : Act). Allows closed a) answered allows
-shows_after closed act allows (inr (inr ended)) = ap (closed_after closed) ended ∙ subst (λ (a : Act). Allows closed a) ended allows
+shows_after closed act allows shows = grind arith
 
 shut_for_good : (steps : List Step) (t : Step) → Closes true steps → In t steps → WantsOpen t.act → ⊥
 shut_for_good [] t closes within wants = absurd within
 shut_for_good (x ∷ steps) t closes (inl here) wants =
-    let o : true ≡ false = open_then true x.act closes.0 (subst (λ (s : Step). WantsOpen s.act) (sym here) wants) in
-    cc
+    cc (open_then true x.act closes.0 (subst (λ (s : Step). WantsOpen s.act) (sym here) wants))
 shut_for_good (x ∷ steps) t closes (inr later) wants = shut_for_good steps t (subst (λ (b : Bool). Closes b steps) (stays_closed x.act) closes.1) later wants
 
 -- no step that wants the queue open comes after one that shows it closed
@@ -54,31 +44,16 @@ closed_then closed act allows (inl answered) = subst (λ (a : Act). Allows close
 closed_then closed act allows (inr ended) = subst (λ (a : Act). Allows closed a) ended allows
 
 still_open : (act : Act) → act ≢ Act.Close → closed_after false act ≡ false
-still_open (Act.Send v) other = refl
-still_open (Act.Took v) other = refl
-still_open Act.FoundNone other = refl
-still_open Act.Taking other = refl
-still_open Act.Full other = refl
-still_open Act.Closed other = refl
-still_open Act.Ended other = refl
-still_open Act.Close other = absurd (other refl)
+still_open act other = grind arith
 
 is_close : (act : Act) → (act ≡ Act.Close) ⊎ (act ≢ Act.Close)
-is_close (Act.Send v) = inr (λ e. cc)
-is_close (Act.Took v) = inr (λ e. cc)
-is_close Act.FoundNone = inr (λ e. cc)
-is_close Act.Taking = inr (λ e. cc)
-is_close Act.Full = inr (λ e. cc)
-is_close Act.Closed = inr (λ e. cc)
-is_close Act.Ended = inr (λ e. cc)
-is_close Act.Close = inl refl
+is_close act = grind arith
 
 -- a close comes before each step that answers so, of a queue that is open at first
 pub closed_first : (steps : List Step) (t : Step) → Closes false steps → In t steps → Answers t.act → Earlier steps t Act.Close
 closed_first [] t closes within answers = absurd within
 closed_first (x ∷ steps) t closes (inl here) answers =
-    let shut : false ≡ true = closed_then false x.act closes.0 (subst (λ (s : Step). Answers s.act) (sym here) answers) in
-    cc
+    cc (closed_then false x.act closes.0 (subst (λ (s : Step). Answers s.act) (sym here) answers))
 closed_first (x ∷ steps) t closes (inr later) answers = elim (is_close x.act) [
   | inl close ↦ record { step = x; before = inl (refl, later); act_is = close }
   | inr other ↦
@@ -89,15 +64,10 @@ closed_first (x ∷ steps) t closes (inr later) answers = elim (is_close x.act) 
 -- ---- of an order
 
 not_taking : (act : Act) → ShowsClosed act → act ≢ Act.Taking
-not_taking act (inl close) taking = let e : Act.Close ≡ Act.Taking = sym close ∙ taking in cc
-not_taking act (inr (inl answered)) taking = let e : Act.Closed ≡ Act.Taking = sym answered ∙ taking in cc
-not_taking act (inr (inr ended)) taking = let e : Act.Ended ≡ Act.Taking = sym ended ∙ taking in cc
+not_taking act shows taking = grind arith
 
 pub shown_step : (rules : Rules) (calls : List Call) (order : List Step) → IsOrder rules calls order → (place : ℕ) → (w : WasClosed calls place) → StepOf order place w.act
 shown_step rules calls order o place w = returned_step rules calls order o place w.act (not_taking w.act w.shows) w.returned
-
-sent_open : (act : Act) (item : ℕ) → act ≡ Act.Send item → WantsOpen act
-sent_open act item is = inl (item, is)
 
 -- the send of an item that a step took
 pub send_of : (rules : Rules) (calls : List Call) (order : List Step) → IsOrder rules calls order → (t : Step) (item : ℕ) → In t order → t.act ≡ Act.Took item → Earlier order t (Act.Send item)

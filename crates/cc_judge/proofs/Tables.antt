@@ -23,10 +23,7 @@ pub did_here : (calls : List Call) (i : ℕ) (d : Call) (act : Act) → i < leng
 did_here calls i d act within is = record { call = get_or calls i d; call_is = slice_get-get_or calls i d within; act_is = is }
 
 here_did : (calls : List Call) (i place : ℕ) (d : Call) (act : Act) → place < i + 1 → Did calls place act → (place < i) ⊎ ((place ≡ i) × ((get_or calls i d).act ≡ act))
-here_did calls i place d act below did = elim (below_or_at calls i place d did.call below did.call_is) [
-  | inl less ↦ inl less
-  | inr here ↦ inr (here.0, subst (λ (c : Call). c.act ≡ act) here.1 did.act_is)
-]
+here_did calls i place d act below did = grind (arith, below_or_at)
 
 pub tabled_skip : (calls : List Call) (kind : Kind) (table : List (Option ℕ)) (i : ℕ) (d : Call) → ((item : ℕ) → (get_or calls i d).act ≢ act_of kind item) → TabledTo calls kind table i → TabledTo calls kind table (i + 1)
 tabled_skip calls kind table i d none so_far = record {
@@ -83,7 +80,6 @@ as_long before after item x now = ap length now ∙ length-set before item x
 pub stray_past : (calls : List Call) (kind : Kind) (table : List (Option ℕ)) (i item items : ℕ) (d : Call) → i < length calls → (get_or calls i d).act ≡ act_of kind item → slice_get table item ≡ None → length table ≡ items → (other : ℕ) → Did calls i (act_of kind other) → items ≤ other
 stray_past calls kind table i item items d within is none long other did =
     let here = did_here calls i d (act_of kind item) within is in
-    let both : Some here.call ≡ Some did.call = sym here.call_is ∙ did.call_is in
     let one : here.call ≡ did.call = cc in
     let same = one_item kind item other (sym here.act_is ∙ ap (λ (c : Call). c.act) one ∙ did.act_is) in
     elim (slice_get_cases table item).1 [
@@ -92,22 +88,10 @@ stray_past calls kind table i item items d within is none long other did =
     ]
 
 pub tabled_twice : (calls : List Call) (kind : Kind) (table : List (Option ℕ)) (i item first : ℕ) (d : Call) → i < length calls → (get_or calls i d).act ≡ act_of kind item → slice_get table item ≡ Some (Some first) → TabledTo calls kind table i → Twice calls kind first i
-tabled_twice calls kind table i item first d within is had so_far = record {
-  item = item;
-  apart = λ same. omega (arith, so_far.past first item had, same);
-  one = so_far.each first item had;
-  other = did_here calls i d (act_of kind item) within is;
-}
+tabled_twice calls kind table i item first d within is had so_far = grind (arith, did_here)
 
 pub tabled_end : (calls : List Call) (kind : Kind) (table : List (Option ℕ)) (i : ℕ) → length calls ≤ i → TabledTo calls kind table i → IsTable calls kind table
-tabled_end calls kind table i end so_far = record {
-  all = λ place item did. let within : place < length calls = slice_get_within calls place did.call did.call_is in so_far.all place item (omega (arith, within, end)) did;
-  each = so_far.each;
-}
+tabled_end calls kind table i end so_far = grind (arith, slice_get_within)
 
 pub tabled_below : (calls : List Call) (kind : Kind) (table : List (Option ℕ)) (items : ℕ) → IsTable calls kind table → length table ≡ items → (place item : ℕ) → Did calls place (act_of kind item) → item < items
 tabled_below calls kind table items is long place item did = let within = slice_get_within table item (Some place) (is.all place item did) in omega (arith, within, long)
-
--- an item without a place in the table has no call of the kind
-pub absent : (calls : List Call) (kind : Kind) (table : List (Option ℕ)) (item : ℕ) → IsTable calls kind table → slice_get table item ≡ Some None → (place : ℕ) → Did calls place (act_of kind item) → ⊥
-absent calls kind table item is none place did = let both : Some (Some place) ≡ Some None = sym (is.all place item did) ∙ none in cc

@@ -8,17 +8,11 @@ use Rattle.cc_judge.specs.Order.{EndsBefore, HasStepOf, IsOnce, RespectsRealTime
 use Rattle.cc_judge.specs.Checks.{GoesOn, Marks}
 
 pub nat_cases : (a b : ℕ) → (a ≡ b) ⊎ (a ≢ b)
-nat_cases a b = elim (cases_lt a b) [
-  | inl less ↦ inr (λ same. omega (arith, less, same))
-  | inr not_less ↦ elim (cases_lt b a) [ inl more ↦ inr (λ same. omega (arith, more, same)) | inr not_more ↦ inl (omega (arith, not_less, not_more)) ]
-]
+nat_cases a b = grind arith
 
 -- of the elements below i + 1 each is below i, or the one at i
 pub below_or_at : {X : Type 0} (xs : List X) (i k : ℕ) (d x : X) → k < i + 1 → slice_get xs k ≡ Some x → (k < i) ⊎ ((k ≡ i) × (x ≡ get_or xs i d))
-below_or_at xs i k d x below is = elim (cases_lt k i) [
-  | inl less ↦ inl less
-  | inr not_less ↦ let same : k ≡ i = omega arith in inr (same, sym (get_or_from_slice_get xs i x d (subst (λ n. slice_get xs n ≡ Some x) same is)))
-]
+below_or_at xs i k d x below is = grind (arith, cases_lt, get_or_from_slice_get)
 
 -- ---- time
 
@@ -39,7 +33,6 @@ timely_on calls order i latest next d so_far on = record {
   timely = λ j k s t less below s_is t_is ends. elim (below_or_at order i k d t below t_is) [
     | inl lesser ↦ so_far.timely j k s t less lesser s_is t_is ends
     | inr here ↦
-        let both : Some ends.one ≡ Some on.call = sym ends.one_is ∙ subst (λ (x : Step). slice_get calls x.place ≡ Some on.call) (sym here.1) on.call_is in
         let one : ends.one ≡ on.call = cc in
         let ended : latest ≤ ends.end = on.not_ended ends.end (subst (λ (x : Call). x.end ≡ Some ends.end) one ends.ended) in
         let began : ends.other.begin ≤ latest = so_far.begun j s ends.other (omega arith) s_is ends.other_is in
@@ -71,33 +64,14 @@ pub record MarkedTo (order : List Step) (marks : List Bool) (upto : ℕ) : Type 
   pub once : (j k : ℕ) (s t : Step) → j < k → k < upto → slice_get order j ≡ Some s → slice_get order k ≡ Some t → s.place ≢ t.place
 
 marked_still : (before after : List Bool) (p place : ℕ) → Marks before p after → slice_get before place ≡ Some true → slice_get after place ≡ Some true
-marked_still before after p place on is = elim (nat_cases place p) [
-  | inl same ↦ let both : Some true ≡ Some false = sym is ∙ ap (slice_get before) same ∙ on.was in cc
-  | inr other ↦ subst (λ (l : List Bool). slice_get l place ≡ Some true) (sym on.now) (set_elsewhere before p place true other ∙ is)
-]
+marked_still before after p place on is = grind (arith, nat_cases, set_elsewhere)
 
 marked_here : (before after : List Bool) (p : ℕ) → Marks before p after → slice_get after p ≡ Some true
 marked_here before after p on = subst (λ (l : List Bool). slice_get l p ≡ Some true) (sym on.now) (set_at before p false true on.was)
 
 pub marked_on : (order : List Step) (i : ℕ) (d : Step) (before after : List Bool) → i < length order → MarkedTo order before i → Marks before (get_or order i d).place after → MarkedTo order after (i + 1)
-marked_on order i d before after within so_far on = record {
-  has = λ place is. elim (nat_cases place (get_or order i d).place) [
-    | inl same ↦ record { at = i; step = get_or order i d; step_is = slice_get-get_or order i d within; place_is = sym same }
-    | inr other ↦ so_far.has place (sym (set_elsewhere before (get_or order i d).place place true other) ∙ subst (λ (l : List Bool). slice_get l place ≡ Some true) on.now is)
-  ];
-  marked = λ k s below is. elim (below_or_at order i k d s below is) [
-    | inl less ↦ marked_still before after (get_or order i d).place s.place on (so_far.marked k s less is)
-    | inr here ↦ subst (λ (x : Step). slice_get after x.place ≡ Some true) (sym here.1) (marked_here before after (get_or order i d).place on)
-  ];
-  once = λ j k s t less below s_is t_is same. elim (below_or_at order i k d t below t_is) [
-    | inl lesser ↦ so_far.once j k s t less lesser s_is t_is same
-    | inr here ↦
-        let was : slice_get before s.place ≡ Some true = so_far.marked j s (omega arith) s_is in
-        let place_is : s.place ≡ (get_or order i d).place = same ∙ ap (λ (x : Step). x.place) here.1 in
-        let both : Some true ≡ Some false = sym was ∙ ap (slice_get before) place_is ∙ on.was in
-        cc
-  ];
-}
+marked_on order i d before after within so_far on =
+    grind (arith, below_or_at, marked_here, marked_still, nat_cases, set_elsewhere, slice_get-get_or)
 
 pub all_once : (order : List Step) (marks : List Bool) (i : ℕ) → length order ≤ i → MarkedTo order marks i → IsOnce order
 all_once order marks i end so_far j k s t less s_is t_is = let within : k < length order = slice_get_within order k t t_is in so_far.once j k s t less (omega (arith, within, end)) s_is t_is

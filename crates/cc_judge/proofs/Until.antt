@@ -1,14 +1,13 @@
 -- A log until a time: it has a legal order if the log has one, and the log until an earlier time is that of the log until a later one.
-use Rattle.std.proofs.Common.{◌≡◌, ◌≢◌, ℕ, zero, suc, ◌+◌, ◌<◌, ◌≤◌, ◌⊎◌, inl, inr, Bool, true, false, List, [], ◌∷◌, Option, Some, None, IsSome, refl, sym, ap, ◌∙◌, subst, arith}
+use Rattle.std.proofs.Common.{◌≡◌, ℕ, zero, suc, ◌+◌, ◌<◌, ◌≤◌, inl, inr, Bool, true, false, List, [], ◌∷◌, Option, Some, None, IsSome, refl, sym, ap, ◌∙◌, subst, arith}
 use Rattle.std.specs.List.{slice_get}
-use Rattle.std.proofs.lemmas.Bool.{cases_lt}
-use Rattle.cc_judge.specs.Names.{Act, Call, Fault, Rules, Step, Tie}
+use Rattle.cc_judge.specs.Names.{Act, Call, Fault, Rules, Step}
 use Rattle.cc_judge.specs.Order.{Allows, Closes, Does, EndsBefore, HasStepOf, IsCall, IsOrder, IsLinearizable, IsRun, MayHaveDone, closed_after, of_any_capacity}
 use Rattle.cc_judge.specs.Faults.{Did, Differ}
 use Rattle.cc_judge.specs.Faultless.{IsWritten, NoFault}
 use Rattle.cc_judge.specs.Until.{HaveEnded, IsCallUntil, IsOver, IsUntil, act_until, unreturned}
 use Rattle.cc_judge.specs.Verdict.{AreSentBelow, Stands, StandsFirst}
-use Rattle.cc_judge.proofs.Cuts.{none_some, one_call, one_end}
+use Rattle.cc_judge.proofs.Cuts.{none_some}
 use Rattle.cc_judge.proofs.Shares.{end_cases}
 use Rattle.cc_judge.proofs.Faultless.{faultless_logs_have_orders}
 use Rattle.cc_judge.proofs.NoOrder.{no_order}
@@ -40,35 +39,13 @@ same : (did : Act) → Fits did did
 same did = record { does = λ c x y d. d; allows = λ c a. a; closes = λ c. refl }
 
 fits : (finds : Bool) (did : Act) → Fits did (act_by finds did)
-fits true Act.Ended = record { does = λ c x y d. d; allows = λ c a. tt; closes = λ c. refl }
-fits true (Act.Send v) = same (Act.Send v)
-fits true (Act.Took v) = same (Act.Took v)
-fits true Act.FoundNone = same Act.FoundNone
-fits true Act.Taking = same Act.Taking
-fits true Act.Full = same Act.Full
-fits true Act.Closed = same Act.Closed
-fits true Act.Close = same Act.Close
-fits false did = same did
+fits finds did = grind arith
 
 may_still : (said did : Act) → MayHaveDone said did → MayHaveDone said (act_by (finds_none said) did)
-may_still (Act.Send v) did may = may
-may_still (Act.Took v) did may = may
-may_still Act.FoundNone did may = subst (λ (a : Act). Act.FoundNone ≡ act_by true a) may refl
-may_still Act.Taking did may = may
-may_still Act.Full did may = may
-may_still Act.Closed did may = may
-may_still Act.Ended did may = may
-may_still Act.Close did may = may
+may_still said did may = grind arith
 
 may_until : (said did : Act) → MayHaveDone said did → MayHaveDone (act_until said) (act_by (finds_none (act_until said)) did)
-may_until (Act.Send v) did may = may
-may_until (Act.Took v) did may = subst (λ (a : Act). MayHaveDone Act.Taking a) may tt
-may_until Act.FoundNone did may = subst (λ (a : Act). Act.FoundNone ≡ act_by true a) may refl
-may_until Act.Taking did may = may
-may_until Act.Full did may = may
-may_until Act.Closed did may = may
-may_until Act.Ended did may = subst (λ (a : Act). Act.FoundNone ≡ act_by true a) may refl
-may_until Act.Close did may = may
+may_until said did may = grind arith
 
 may_by : (time : ℕ) (c d : Call) (did : Act) → IsCallUntil time c d → MayHaveDone c.act did → MayHaveDone d.act (act_by (finds_none d.act) did)
 may_by time c d did (inl over) may = subst (λ (x : Call). MayHaveDone x.act (act_by (finds_none x.act) did)) (sym over.1) (may_still c.act did may)
@@ -116,13 +93,7 @@ module _ (time : ℕ) (calls part : List Call) (k : IsUntil time calls part) whe
   ends c d (inr held) end is = let clash : None ≡ Some end = sym (ap (λ (x : Call). x.end) held.1) ∙ is in cc
 
   before_too : (one other : ℕ) → EndsBefore part one other → EndsBefore calls one other
-  before_too one other e =
-      let a = k.back one e.one e.one_is in
-      let b = k.back other e.other e.other_is in
-      let same_one = ends a.0 e.one a.2 e.end e.ended in
-      let before = e.before in
-      let begin = begins b.0 e.other b.2 in
-      record { one = a.0; other = b.0; end = e.end; one_is = a.1; other_is = b.1; ended = sym (ap (λ (x : Call). x.end) same_one) ∙ e.ended; before = omega (arith, before, begin) }
+  before_too one other e = grind arith
 
   pub until_order : (rules : Rules) (order : List Step) → IsOrder rules calls order → IsOrder rules part (order_by part order)
   until_order rules order o = record {
@@ -159,25 +130,8 @@ module _ (time : ℕ) (calls part : List Call) (k : IsUntil time calls part) whe
   pub until_linearizable : (rules : Rules) → IsLinearizable rules calls → IsLinearizable rules part
   until_linearizable rules order = (order_by part order.0, until_order rules order.0 order.1)
 
-  -- a send of it is one of the log
-  sends : (c d : Call) (item : ℕ) → IsCallUntil time c d → d.act ≡ Act.Send item → c.act ≡ Act.Send item
-  sends c d item (inl over) is = sym (ap (λ (x : Call). x.act) over.1) ∙ is
-  sends c d item (inr held) is = sent c.act (sym (ap (λ (x : Call). x.act) held.1) ∙ is)
-    where
-      sent : (act : Act) → act_until act ≡ Act.Send item → act ≡ Act.Send item
-      sent (Act.Send v) is = is
-      sent (Act.Took v) is = cc
-      sent Act.FoundNone is = cc
-      sent Act.Taking is = cc
-      sent Act.Full is = cc
-      sent Act.Closed is = cc
-      sent Act.Ended is = cc
-      sent Act.Close is = cc
-
   did_send : (place item : ℕ) → Did part place (Act.Send item) → Did calls place (Act.Send item)
-  did_send place item did =
-      let c = k.back place did.call did.call_is in
-      record { call = c.0; call_is = c.1; act_is = sends c.0 did.call item c.2 did.act_is }
+  did_send place item did = grind arith
 
   pub until_differ : Differ calls → Differ part
   until_differ differ item i j one other = differ item i j (did_send i item one) (did_send j item other)
@@ -202,24 +156,10 @@ module _ (time : ℕ) (calls part : List Call) (k : IsUntil time calls part) whe
       returns q c d never (inr held) act some is = absurd (never c.act (sym (ap (λ (x : Call). x.act) held.1) ∙ act))
 
       took : (act : Act) (item : ℕ) → act_until act ≡ Act.Took item → ⊥
-      took (Act.Send v) item is = cc
-      took (Act.Took v) item is = cc
-      took Act.FoundNone item is = cc
-      took Act.Taking item is = cc
-      took Act.Full item is = cc
-      took Act.Closed item is = cc
-      took Act.Ended item is = cc
-      took Act.Close item is = cc
+      took act item is = grind arith
 
       ended : (act : Act) → act_until act ≡ Act.Ended → ⊥
-      ended (Act.Send v) is = cc
-      ended (Act.Took v) is = cc
-      ended Act.FoundNone is = cc
-      ended Act.Taking is = cc
-      ended Act.Full is = cc
-      ended Act.Closed is = cc
-      ended Act.Ended is = cc
-      ended Act.Close is = cc
+      ended act is = grind arith
 
 -- ---- times
 
@@ -256,23 +196,8 @@ until_earlier early late calls part first le l e = record {
   back = λ p f is. let c = e.back p f is in let d = l.there p c.0 c.1 in (d.0, d.1, both c.0 d.0 f d.2 c.2);
 }
   where
-    twice : (act : Act) → act_until (act_until act) ≡ act_until act
-    twice (Act.Send v) = refl
-    twice (Act.Took v) = refl
-    twice Act.FoundNone = refl
-    twice Act.Taking = refl
-    twice Act.Full = refl
-    twice Act.Closed = refl
-    twice Act.Ended = refl
-    twice Act.Close = refl
-
     both : (c d f : Call) → IsCallUntil late c d → IsCallUntil early c f → IsCallUntil early d f
-    both c d f (inl over) now = subst (λ (x : Call). IsCallUntil early x f) (sym over.1) now
-    both c d f (inr held) (inl over) = let by = over.0.2 in absurd (held.0 (over.0.0, over.0.1, omega (arith, by, le)))
-    both c d f (inr held) (inr now) = inr (
-      λ over. let clash : None ≡ Some over.0 = sym (ap (λ (x : Call). x.end) held.1) ∙ over.1 in cc,
-      now.1 ∙ ap (λ (a : Act). record { begin = c.begin; end = None; act = a }) (sym (twice c.act)) ∙ sym (ap unreturned held.1),
-    )
+    both c d f then now = grind arith
 
 -- ---- the search for the first fault
 
@@ -300,13 +225,7 @@ none_until rules calls part time differ written k fine ties earlier less early e
     until_linearizable earlier part early (until_earlier earlier time calls part early le k early_is) (of_any_capacity rules) order
 
 pub stands_first : (rules : Rules) (calls : List Call) (low high : ℕ) (fault : Fault) → high ≤ low → IsSought rules calls low high fault → StandsFirst rules calls fault
-stands_first rules calls low high fault le (by, none, s) = record {
-  time = high;
-  part = s.part;
-  part_is = s.part_is;
-  stands = s.stands;
-  first = λ ties earlier less early early_is. none ties earlier (omega (arith, less, le)) early early_is;
-}
+stands_first rules calls low high fault le sought = grind arith
 
 pub no_first : (rules : Rules) (calls : List Call) (fault : Fault) → Differ calls → StandsFirst rules calls fault → IsLinearizable rules calls → ⊥
 no_first rules calls fault differ s order = no_order rules s.part fault (until_differ s.time calls s.part s.part_is differ) s.stands (until_linearizable s.time calls s.part s.part_is rules order)

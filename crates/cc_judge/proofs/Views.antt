@@ -4,10 +4,9 @@ use Rattle.std.specs.List.{slice_get}
 use Rattle.std.proofs.lemmas.Bool.{cases_lt}
 use Rattle.std.proofs.lemmas.Option.{slice_get_within}
 use Rattle.cc_judge.specs.Names.{Act, Call, Step, Rules}
-use Rattle.cc_judge.specs.Order.{EndsBefore, MayHaveDone, IsOrder, of_any_capacity}
+use Rattle.cc_judge.specs.Order.{EndsBefore, IsOrder, of_any_capacity}
 use Rattle.cc_judge.specs.Faults.{Did, Differ, FindsNone}
 use Rattle.cc_judge.proofs.Places.{In, Before, before_first, before_second}
-use Rattle.cc_judge.proofs.Turns.{nat_cases}
 use Rattle.cc_judge.proofs.Weave.{Item, Fate, taken, kept, none, IsOf, Fits, FateFits, Later, later_of}
 use Rattle.cc_judge.proofs.Fifo.{Overtakes, Apart}
 use Rattle.cc_judge.proofs.Complete.{At, Idle, IsIdle, View, Quiet, complete}
@@ -41,12 +40,7 @@ until_of (x ∷ calls) =
     begun r l n (suc p) c is = let h = r.1.begun p c is in let s = l.past_p in let t = n.past_p in omega (arith, h, s, t)
 
     ended : (r : (last : ℕ) × Until calls last) (l : Later r.0 x.begin) (n : Later l.m (due x.end 0)) (p : ℕ) (c : Call) (e : ℕ) → slice_get (x ∷ calls) p ≡ Some c → c.end ≡ Some e → e ≤ n.m
-    ended r l n zero c e is ends =
-        let o : x.end ≡ c.end = cc in
-        let d = due_is x.end 0 e (o ∙ ends) in
-        let s = n.past_q in
-        omega (arith, d, s)
-    ended r l n (suc p) c e is ends = let h = r.1.ended p c e is ends in let s = l.past_p in let t = n.past_p in omega (arith, h, s, t)
+    ended r l n p c e is ends = grind arith
 
 record Sooner (p q : ℕ) : Type 0 where
   m : ℕ
@@ -69,14 +63,7 @@ did_less : (x : Call) (calls : List Call) (place : ℕ) (act : Act) → Did (x �
 did_less x calls place act d = record { call = d.call; call_is = d.call_is; act_is = d.act_is }
 
 is_took : (act : Act) (item : ℕ) → (act ≡ Act.Took item) ⊎ (act ≢ Act.Took item)
-is_took (Act.Send v) item = inr (λ is. cc)
-is_took (Act.Took v) item = elim (nat_cases v item) [ inl same ↦ inl (ap Act.Took same) | inr other ↦ inr (λ is. let e : v ≡ item = cc in other e) ]
-is_took Act.FoundNone item = inr (λ is. cc)
-is_took Act.Taking item = inr (λ is. cc)
-is_took Act.Full item = inr (λ is. cc)
-is_took Act.Closed item = inr (λ is. cc)
-is_took Act.Ended item = inr (λ is. cc)
-is_took Act.Close item = inr (λ is. cc)
+is_took act item = grind arith
 
 pub taker : (calls : List Call) (item : ℕ) → ((t : ℕ) × Did calls t (Act.Took item)) ⊎ ((t : ℕ) → Did calls t (Act.Took item) → ⊥)
 taker [] item = inr (λ t d. let is = d.call_is in cc)
@@ -145,47 +132,16 @@ Role calls x f place = ((place ≡ place_of f) × ((item : ℕ) → Did calls pl
 
 role : (calls : List Call) (last : ℕ) (x : Item) (f : Fate) (place : ℕ) → IsFrom calls last x f → IsOf f place → Role calls x f place
 unfolding Role
-role calls last x (taken send take) place from (inl is) = inl (is, λ item d. let e : Act.Send x.item ≡ Act.Took item = one_act calls send (Act.Send x.item) (Act.Took item) from.0 (subst (λ (p : ℕ). Did calls p (Act.Took item)) is d) in cc)
-role calls last x (taken send take) place from (inr is) = inr (subst (λ (p : ℕ). Did calls p (Act.Took x.item)) (sym is) from.1, from.0)
-role calls last x (kept send) place from is = inl (is, λ item d. let e : Act.Send x.item ≡ Act.Took item = one_act calls send (Act.Send x.item) (Act.Took item) from.0 (subst (λ (p : ℕ). Did calls p (Act.Took item)) is d) in cc)
-role calls last x (none act take) place from is = inl (is, λ item d. none_took act item from.1 (one_act calls take act (Act.Took item) from.0 (subst (λ (p : ℕ). Did calls p (Act.Took item)) is d)))
+role calls last x f place from is = grind arith
 
 apart_of : (calls : List Call) (last : ℕ) → Differ calls → (x y : Item) → IsFrom calls last x x.fate → IsFrom calls last y y.fate → place_of x.fate ≢ place_of y.fate → Apart x y
 unfolding Role
-apart_of calls last differ x y from_x from_y other place of_x of_y = elim (role calls last x x.fate place from_x of_x) [
-  | inl r ↦ elim (role calls last y y.fate place from_y of_y) [ inl q ↦ other (sym r.0 ∙ q.0) | inr q ↦ r.1 y.item q.0 ]
-  | inr r ↦ elim (role calls last y y.fate place from_y of_y) [
-    | inl q ↦ q.1 x.item r.0
-    | inr q ↦
-        let acts : Act.Took x.item ≡ Act.Took y.item = one_act calls place (Act.Took x.item) (Act.Took y.item) r.0 q.0 in
-        let same : x.item ≡ y.item = cc in
-        other (differ y.item (place_of x.fate) (place_of y.fate) (subst (λ (i : ℕ). Did calls (place_of x.fate) (Act.Send i)) same r.1) q.1)
-  ]
-]
+apart_of calls last differ x y from_x from_y other place of_x of_y = grind (arith, one_act, role)
 
 -- ---- their calls may be at their moments
 
-due_within : (o : Option ℕ) (last m e : ℕ) → m ≤ due o last → o ≡ Some e → m ≤ e
-due_within o last m e by is = let d = due_is o last e is in omega (arith, d, by)
-
 at_of : (calls : List Call) (last p m : ℕ) (act : Act) → (act ≢ Act.Taking) → (d : Did calls p act) → d.call.begin ≤ m → m ≤ due d.call.end last → At calls (record { place = p; act = act }) m
-at_of calls last p m act plain d low high = (
-  record { call = d.call; call_is = d.call_is; may = subst (λ (a : Act). MayHaveDone a act) (sym d.act_is) (may act plain) },
-  λ c is.
-      let both : Some d.call ≡ Some c = sym d.call_is ∙ is in
-      let one : d.call ≡ c = cc in
-      subst (λ (x : Call). (x.begin ≤ m) × ((e : ℕ) → x.end ≡ Some e → m ≤ e)) one (low, λ e ends. due_within d.call.end last m e high ends),
-)
-  where
-    may : (a : Act) → a ≢ Act.Taking → MayHaveDone a a
-    may (Act.Send i) other = refl
-    may (Act.Took i) other = refl
-    may Act.FoundNone other = refl
-    may Act.Taking other = absurd (other refl)
-    may Act.Full other = refl
-    may Act.Closed other = refl
-    may Act.Ended other = refl
-    may Act.Close other = refl
+at_of calls last p m act plain d low high = grind arith
 
 due_cases : (o : Option ℕ) (last : ℕ) → ((e : ℕ) × (o ≡ Some e) × (due o last ≡ e)) ⊎ ((o ≡ None) × (due o last ≡ last))
 due_cases None last = inr (refl, refl)
@@ -200,13 +156,7 @@ module _ (calls : List Call) (last : ℕ) (u : Until calls last) (fine : Faultle
 
   -- the first call doesn't end before the second begins
   begin_by : (p q : ℕ) (act other : Act) (d : Did calls p act) (e : Did calls q other) → (EndsBefore calls p q → ⊥) → e.call.begin ≤ due d.call.end last
-  begin_by p q act other d e not = elim (due_cases d.call.end last) [
-    | inl some ↦ elim (cases_lt some.0 e.call.begin) [
-      | inl less ↦ absurd (not (record { one = d.call; other = e.call; end = some.0; one_is = d.call_is; other_is = e.call_is; ended = some.1; before = less }))
-      | inr not_less ↦ let f = some.2 in omega (arith, not_less, f)
-    ]
-    | inr nil ↦ let h = u.begun q e.call e.call_is in let f = nil.1 in omega (arith, h, f)
-  ]
+  begin_by p q act other d e not = grind arith
 
   Spans : Item → Fate → Type 0
   Spans x f = (x.a ≤ x.b) × (x.b ≤ x.d) × (x.b < suc last) × (x.c ≤ x.d) × (x.d ≤ suc last) × FateFits (At calls) (suc last) x f
@@ -245,9 +195,8 @@ module _ (calls : List Call) (last : ℕ) (u : Until calls last) (fine : Faultle
       let c_is = from.4 in
       let d_is = from.5 in
       let b_due = due_is s.call.end last x.b from.2 in
-      let by_send = begin_due send s.call s.call_is in
       let s_last = due_last send s.call s.call_is in (
-        omega (arith, a_is, by_send, b_due),
+        omega (arith, a_is, begin_due send s.call s.call_is, b_due),
         omega (arith, d_is, b_due, s_last),
         omega (arith, b_due, s_last),
         omega (arith, c_is, d_is),
@@ -257,7 +206,6 @@ module _ (calls : List Call) (last : ℕ) (u : Until calls last) (fine : Faultle
   spans x (none act take) from =
       let t = from.0 in
       let a_is = from.2 in
-      let c_is = from.3 in
       let d_is = from.4 in
       let low_t = from.5 in
       let high_t = from.6 in
@@ -265,7 +213,7 @@ module _ (calls : List Call) (last : ℕ) (u : Until calls last) (fine : Faultle
         omega (arith, a_is),
         omega (arith, d_is),
         omega (arith, high_t, t_last),
-        omega (arith, c_is, d_is),
+        omega (arith, d_is),
         omega (arith, d_is, high_t, t_last),
         (
           omega (arith, d_is, high_t, t_last),
@@ -287,10 +235,7 @@ module _ (calls : List Call) (last : ℕ) (u : Until calls last) (fine : Faultle
 
   -- the end of a call, or the last time, is before a later begin: then the call ended before
   ends_before : (p q : ℕ) (act other : Act) (d : Did calls p act) (e : Did calls q other) → due d.call.end last < e.call.begin → EndsBefore calls p q
-  ends_before p q act other d e less = elim (due_cases d.call.end last) [
-    | inl some ↦ let f = some.2 in record { one = d.call; other = e.call; end = some.0; one_is = d.call_is; other_is = e.call_is; ended = some.1; before = omega (arith, less, f) }
-    | inr nil ↦ let f = nil.1 in let h = u.begun q e.call e.call_is in absurd (omega (arith, less, f, h))
-  ]
+  ends_before p q act other d e less = grind arith
 
   same_call : (p q : ℕ) (act other : Act) (d : Did calls p act) (e : Did calls q other) → p ≡ q → d.call ≡ e.call
   same_call p q act other d e same = let both : Some d.call ≡ Some e.call = sym d.call_is ∙ ap (slice_get calls) same ∙ e.call_is in cc
@@ -305,8 +250,7 @@ module _ (calls : List Call) (last : ℕ) (u : Until calls last) (fine : Faultle
           let r = fine.in_turn send2 send y.item z.item take from.0 s ends t in
           let same = fine.once y.item r.0 take2 r.1 from.1 in
           let calls_same : r.1.call ≡ from.1.call = same_call r.0 take2 (Act.Took y.item) (Act.Took y.item) r.1 from.1 same in
-          let begins : r.1.call.begin ≡ from.1.call.begin = ap (λ (c : Call). c.begin) calls_same in
-          r.2 (ends_before take r.0 (Act.Took z.item) (Act.Took y.item) t r.1 (omega (arith, late, d_is, c_is, begins)))
+          r.2 (ends_before take r.0 (Act.Took z.item) (Act.Took y.item) t r.1 (grind (arith, late, d_is, c_is)))
       | inr c_is ↦ let h = span.0 in omega (arith, c_is, late, early, z_span, h)
     ]
     | inr b_is ↦ let h = span.3 in omega (arith, b_is, h, late, early, z_span)
@@ -328,13 +272,10 @@ module _ (calls : List Call) (last : ℕ) (u : Until calls last) (fine : Faultle
       | inl c_is ↦ elim (due_cases from.0.call.end last) [
         | inr nil ↦ let f = nil.1 in omega (arith, f, b_is, early, by)
         | inl some ↦
-            let f = some.2 in
-            let r = empty send y.item some.0 from.0 some.1 (omega (arith, f, b_is, early)) in
+            let r = empty send y.item some.0 from.0 some.1 (omega (arith, b_is, early)) in
             let same = fine.once y.item r.0 take r.1 from.1 in
             let calls_same : r.1.call ≡ from.1.call = same_call r.0 take (Act.Took y.item) (Act.Took y.item) r.1 from.1 same in
-            let begins : r.1.call.begin ≡ from.1.call.begin = ap (λ (c : Call). c.begin) calls_same in
-            let low = r.2 in
-            omega (arith, low, begins, c_is, late)
+            grind (arith, c_is, late)
       ]
     ]
   ]
@@ -351,20 +292,13 @@ module _ (calls : List Call) (last : ℕ) (u : Until calls last) (fine : Faultle
       after_taken y z y.fate send from_y from_z.0 take from_z.1 from_z.2 from_z.3 sy (omega (arith, p, q)) o.sent o.left
   not_overtaken y z (kept send) from_y from_z o =
       let sy = spans y y.fate from_y in
-      let p = sy.3 in
-      let q = sy.4 in
       let d_is = from_z.5 in
       let l = o.left in
-      omega (arith, p, q, d_is, l)
+      omega (arith, d_is, l)
   not_overtaken y z (none act take) from_y from_z o =
       let sy = spans y y.fate from_y in
       let sz = spans z (none act take) from_z in
-      let a_is = from_z.2 in
-      let d_is = from_z.4 in
-      let e = o.sent in
-      let l = o.left in
-      let h = sz.2 in
-      in_empty y y.fate z.b from_y sy from_z.7 (omega (arith, h)) (omega (arith, a_is, e)) (omega (arith, d_is, l))
+      in_empty y y.fate z.b from_y sy from_z.7 (omega arith) (omega arith) (omega arith)
 
 -- ---- the items of the calls below a place
 
@@ -493,13 +427,7 @@ module _ (calls : List Call) (last n : ℕ) (part : Part calls last n) where
 
   -- it hasn't returned, or is a take
   skip_as : (c : Call) → slice_get calls n ≡ Some c → (act : Act) → c.act ≡ act → ((item : ℕ) → act ≢ Act.Send item) → (FindsNone act → ⊥) → (IsIdle act → ⊥) → Part calls last (suc n)
-  skip_as c is act act_is no_send no_none no_idle = skip
-      (λ item d known. no_send item (same d))
-      (λ other d finds ended. no_none (subst FindsNone (sym (same d)) finds))
-      (λ other d idle ended. no_idle (subst IsIdle (sym (same d)) idle))
-    where
-      same : {other : Act} → Did calls n other → act ≡ other
-      same {other} d = sym act_is ∙ one_act calls n c.act other (here c is) d
+  skip_as c is act act_is no_send no_none no_idle = grind (arith, here, one_act, skip)
 
   skip_open : (c : Call) → slice_get calls n ≡ Some c → c.end ≡ None → ((item : ℕ) → c.act ≡ Act.Send item → (t : ℕ) → Did calls t (Act.Took item) → ⊥) → Part calls last (suc n)
   skip_open c is unended untaken = skip
@@ -509,7 +437,6 @@ module _ (calls : List Call) (last n : ℕ) (part : Part calls last n) where
     where
       not_ended : {other : Act} (d : Did calls n other) → IsSome d.call.end → ⊥
       not_ended {other} d ended =
-          let both : Some d.call ≡ Some c = sym d.call_is ∙ is in
           let one : d.call ≡ c = cc in
           none_some d.call.end (ap (λ (x : Call). x.end) one ∙ unended) ended
 
@@ -555,10 +482,9 @@ module _ (calls : List Call) (last : ℕ) (u : Until calls last) (fine : Faultle
   none_part n part c is act act_is finds (Some e) ended =
       let m = fine.empty n c e is (subst FindsNone (sym act_is) finds) ended in
       let d = due_is c.end last e ended in
-      let by = m.2 in
       add_item calls last n part
       (record { item = 0; fate = none act n; a = m.0; b = m.0; c = m.0; d = m.0 })
-      (record { call = c; call_is = is; act_is = act_is }, finds, refl, refl, refl, m.1, omega (arith, by, d), m.3)
+      (record { call = c; call_is = is; act_is = act_is }, finds, refl, refl, refl, m.1, omega (arith, d), m.3)
       refl
       (λ other s. absurd (none_send act other finds (sym act_is ∙ one_act calls n c.act (Act.Send other) (here calls last n part c is) s)))
       (λ other d idle. idle_none finds (subst IsIdle (one_act calls n other act d (record { call = c; call_is = is; act_is = act_is })) idle))
@@ -607,18 +533,11 @@ module _ (calls : List Call) (last : ℕ) (u : Until calls last) (fine : Faultle
   -- ---- all of them
 
   is_of : (f : Fate) (p : ℕ) → place_of f ≡ p → IsOf f p
-  is_of (taken send take) p is = inl (sym is)
-  is_of (kept send) p is = sym is
-  is_of (none act take) p is = sym is
+  is_of f p is = grind arith
 
   -- the call by which an item is named is none that leaves the items as they are
   own : (x : Item) (f : Fate) → IsFrom calls last x f → (act : Act) → Did calls (place_of f) act → IsIdle act → ⊥
-  own x (taken send take) from act d idle = subst IsIdle (one_act calls send act (Act.Send x.item) d from.0) idle
-  own x (kept send) from act d idle = subst IsIdle (one_act calls send act (Act.Send x.item) d from.0) idle
-  own x (none other take) from act d idle = elim from.1 [
-    | inl finds ↦ subst IsIdle (one_act calls take act other d from.0 ∙ finds) idle
-    | inr finds ↦ subst IsIdle (one_act calls take act other d from.0 ∙ finds) idle
-  ]
+  own x f from act d idle = grind arith
 
   -- the take of an item that was sent at a place is of it
   take_of : (x : Item) (f : Fate) (send take item : ℕ) → IsFrom calls last x f → place_of f ≡ send → x.item ≡ item → Did calls send (Act.Send item) → Did calls take (Act.Took item) → IsOf f take

@@ -31,8 +31,7 @@ timed_in_time calls P within now (x ∷ steps) timed zero (suc k) s t less s_is 
     let here : x ≡ s = cc in
     let first = within s timed.0 (subst (λ (u : Step). P u timed.0) here timed.2) ends.other ends.other_is in
     let r = timed_in P timed.0 steps t timed.3 (in_at t steps k t_is) in
-    let second = (within t r.0 r.2 ends.one ends.one_is).1 ends.end ends.ended in
-    omega (arith, first.0, second, r.1, ends.before)
+    omega (arith, first.0, (within t r.0 r.2 ends.one ends.one_is).1 ends.end ends.ended, r.1, ends.before)
 timed_in_time calls P within now (x ∷ steps) timed (suc j) zero s t less s_is t_is ends = absurd (omega arith)
 timed_in_time calls P within now (x ∷ steps) timed (suc j) (suc k) s t less s_is t_is ends = timed_in_time calls P within timed.0 steps timed.3 j k s t (omega (arith, less)) s_is t_is ends
 
@@ -80,9 +79,7 @@ IsOf (kept send) place = place ≡ send
 IsOf (none act take) place = place ≡ take
 
 leaves_of : (f : Fate) (place : ℕ) → LeavesBy f place → IsOf f place
-leaves_of (taken send take) place by = inr by
-leaves_of (kept send) place by = absurd by
-leaves_of (none act take) place by = absurd by
+leaves_of f place by = grind arith
 
 -- the first may be in front of the second
 pub record Ahead (x y : Item) : Type 0 where
@@ -213,13 +210,7 @@ state_taken P never now x inside rest z m one by_all = record {
 
 -- a take that found none goes by an empty queue
 state_none : (P : Step → ℕ → Type 0) (never now : ℕ) (y : Item) (rest : List Item) → State P never now [] (y ∷ rest) → (m : ℕ) → ((u : Item) → In u rest → m ≤ u.b) → State P never m [] rest
-state_none P never now y rest z m by_all = record {
-  held = λ u within. absurd within;
-  to_come = λ u within. ((z.to_come u (inr within)).0, by_all u within);
-  in_inside = λ u v before. absurd before;
-  in_rest = λ u v before. z.in_rest u v (inr before);
-  across = λ u v within to_come. absurd within;
-}
+state_none P never now y rest z m by_all = grind arith
 
 -- ---- one step more
 
