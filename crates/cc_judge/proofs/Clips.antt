@@ -38,9 +38,7 @@ all_after (x ∷ steps) other =
 
 by_close : (steps : List Step) (c : Step) → In c steps → c.act ≡ Act.Close → ((s : Step) → Before s c steps → WantsClosed s.act → ⊥) → ((t : Step) → Before c t steps → WantsOpen t.act → ⊥) → Closes false steps
 by_close [] c within close before after = absurd within
-by_close (x ∷ steps) c (inl same) close before after =
-    let act : x.act ≡ Act.Close = ap (λ (s : Step). s.act) same ∙ close in
-    subst (λ (a : Act). Allows false a × Closes (closed_after false a) steps) (sym act) (tt, all_after steps (λ t within. after t (inl (same, within))))
+by_close (x ∷ steps) c (inl same) close before after = grind (arith, all_after)
 by_close (x ∷ steps) c (inr later) close before after =
     let o = open_before x.act (before x (inl (refl, later))) in
     (o.0, subst (λ (b : Bool). Closes b steps) (sym o.1) (by_close steps c later close (λ s first. before s (inr first)) (λ t first. after t (inr first))))
@@ -112,14 +110,9 @@ module _ (rules : Rules) (calls clipped : List Call) (shut close : ℕ) (k : Cli
       })
 
   has_ended : (act : Act) → (p : ℕ) (d : Call) → slice_get clipped p ≡ Some d → d.act ≡ act → WantsOpen act → (IsIdle act → IsSome d.end) → IsSome d.end
-  has_ended (Act.Send v) p d is act_is wants idle = k.sends_end p v (record { call = d; call_is = is; act_is = act_is })
-  has_ended (Act.Took v) p d is act_is wants idle = absurd wants
-  has_ended Act.FoundNone p d is act_is wants idle = absurd wants
-  has_ended Act.Taking p d is act_is wants idle = absurd wants
-  has_ended Act.Full p d is act_is wants idle = idle tt
-  has_ended Act.Closed p d is act_is wants idle = absurd wants
-  has_ended Act.Ended p d is act_is wants idle = absurd wants
-  has_ended Act.Close p d is act_is wants idle = absurd wants
+  has_ended act p d is act_is wants idle =
+      let sends : (v : ℕ) → d.act ≡ Act.Send v → IsSome d.end = λ v e. k.sends_end p v (record { call = d; call_is = is; act_is = e }) in
+      grind arith
 
   not_after : (t : Step) → Before c_step t order → WantsOpen t.act → ⊥
   unfolding c_step

@@ -11,15 +11,11 @@ use Rattle.cc_judge.specs.Counts.{SentBy, AreEnough}
 use Rattle.cc_judge.specs.Faultless.{IsWritten, NoFault, FaultlessLogsHaveOrders}
 use Rattle.cc_judge.proofs.Turns.{nat_cases}
 use Rattle.cc_judge.proofs.Complete.{IsIdle}
-use Rattle.cc_judge.proofs.Views.{one_act, taker}
+use Rattle.cc_judge.proofs.Views.{none_some, one_act, taker}
 use Rattle.cc_judge.proofs.Shares.{LeastAt, least_at, end_cases, call_at, completeness}
 use Rattle.cc_judge.proofs.Clips.{WantsOpen, WantsClosed, Clips, complete_closed, complete_open}
 
 -- ---- what a log without closes needs
-
-none_some : (o : Option ℕ) → o ≡ None → IsSome o → ⊥
-none_some None is some = cc
-none_some (Some n) is some = cc
 
 pub ready_plain : (rules : Rules) (calls : List Call) → IsWritten calls → NoFault rules calls → Ready calls
 ready_plain rules calls written fine = record {
@@ -319,25 +315,17 @@ module _ (rules : Rules) (calls : List Call) (differ : Differ calls) (written : 
 
   plain_old : (act : Act) → IsPlain act → (p : ℕ) (d : Did Clipped p act) → Plainly act p d
   unfolding Clipped
-  plain_old act plain p d = let r = chosen.back p d.call d.call_is in of_clip r.0 r.1 r.2
-    where
-      of_clip : (c : Call) → slice_get calls p ≡ Some c → Clip calls shut close p c d.call → Plainly act p d
-      of_clip c is (inl k) = record { old = record { call = c; call_is = is; act_is = sym k.act ∙ d.act_is }; begin = k.begin; ends = k.ends }
-      of_clip c is (inr (inl k)) = absurd (not_plain_open act plain (subst WantsOpen (sym k.act ∙ d.act_is) k.wants))
-      of_clip c is (inr (inr (inl k))) = absurd (subst IsPlain (sym d.act_is ∙ k.act) plain)
-      of_clip c is (inr (inr (inr (inl k)))) = absurd (not_plain_closed act plain (subst WantsClosed (sym k.act ∙ d.act_is) k.wants))
-      of_clip c is (inr (inr (inr (inr k)))) = absurd (subst IsPlain (sym d.act_is ∙ k.act) plain)
+  plain_old act plain p d =
+      let r = chosen.back p d.call d.call_is in
+      let k : Keeps r.0 d.call = grind arith in
+      record { old = record { call = r.0; call_is = r.1; act_is = sym k.act ∙ d.act_is }; begin = k.begin; ends = k.ends }
 
   plain_new : (act : Act) → IsPlain act → (p : ℕ) (d : Did calls p act) → (n : Did Clipped p act) × (n.call.begin ≡ 3 * d.call.begin)
   unfolding Clipped
-  plain_new act plain p d = let r = chosen.there p d.call d.call_is in of_clip r.0 r.1 r.2
-    where
-      of_clip : (c : Call) → slice_get chosen.ds p ≡ Some c → Clip calls shut close p d.call c → (n : Did Clipped p act) × (n.call.begin ≡ 3 * d.call.begin)
-      of_clip c is (inl k) = (record { call = c; call_is = is; act_is = k.act ∙ d.act_is }, k.begin)
-      of_clip c is (inr (inl k)) = absurd (not_plain_open act plain (subst WantsOpen d.act_is k.wants))
-      of_clip c is (inr (inr (inl k))) = absurd (not_plain_open act plain (subst WantsOpen d.act_is k.wants))
-      of_clip c is (inr (inr (inr (inl k)))) = absurd (not_plain_closed act plain (subst WantsClosed d.act_is k.wants))
-      of_clip c is (inr (inr (inr (inr k)))) = absurd (subst IsPlain (sym d.act_is ∙ k.was) plain)
+  plain_new act plain p d =
+      let r = chosen.there p d.call d.call_is in
+      let k : Keeps d.call r.0 = grind arith in
+      (record { call = r.0; call_is = r.1; act_is = k.act ∙ d.act_is }, k.begin)
 
   -- a send is there, which was accepted
   record Sent (item p : ℕ) (d : Did Clipped p (Act.Send item)) : Type 0 where
@@ -346,14 +334,10 @@ module _ (rules : Rules) (calls : List Call) (differ : Differ calls) (written : 
 
   send_old : (item p : ℕ) (d : Did Clipped p (Act.Send item)) → Sent item p d
   unfolding Clipped
-  send_old item p d = let r = chosen.back p d.call d.call_is in of_clip r.0 r.1 r.2
-    where
-      of_clip : (c : Call) → slice_get calls p ≡ Some c → Clip calls shut close p c d.call → Sent item p d
-      of_clip c is (inl k) = absurd (subst IsPlain (sym k.act ∙ d.act_is) k.plain)
-      of_clip c is (inr (inl k)) = record { old = record { call = c; call_is = is; act_is = sym k.act ∙ d.act_is }; opens = k }
-      of_clip c is (inr (inr (inl k))) = let clash : Act.Full ≡ Act.Send item = sym k.act ∙ d.act_is in cc
-      of_clip c is (inr (inr (inr (inl k)))) = absurd (subst WantsClosed (sym k.act ∙ d.act_is) k.wants)
-      of_clip c is (inr (inr (inr (inr k)))) = let clash : Act.Close ≡ Act.Send item = sym k.act ∙ d.act_is in cc
+  send_old item p d =
+      let r = chosen.back p d.call d.call_is in
+      let k : Opens calls shut p r.0 d.call = grind arith in
+      record { old = record { call = r.0; call_is = r.1; act_is = sym k.act ∙ d.act_is }; opens = k }
 
   send_new : (item p : ℕ) (d : Did calls p (Act.Send item)) → WasAccepted calls p item → Did Clipped p (Act.Send item)
   unfolding Clipped
@@ -384,11 +368,9 @@ module _ (rules : Rules) (calls : List Call) (differ : Differ calls) (written : 
   back_act p c d clip = grind arith
 
   the_close : (c : Call) → slice_get chosen.ds close ≡ Some c → Clip calls shut close close dc.call c → (d : Did chosen.ds close Act.Close) × (d.call.begin ≡ 3 * shut + 1) × (d.call.end ≡ Some (3 * shut + 1))
-  the_close c is (inl k) = absurd (subst IsPlain dc.act_is k.plain)
-  the_close c is (inr (inl k)) = absurd (subst WantsOpen dc.act_is k.wants)
-  the_close c is (inr (inr (inl k))) = absurd (subst WantsOpen dc.act_is k.wants)
-  the_close c is (inr (inr (inr (inl k)))) = absurd (k.other refl)
-  the_close c is (inr (inr (inr (inr k)))) = (record { call = c; call_is = is; act_is = k.act }, k.begin, k.end)
+  the_close c is clip =
+      let k : IsTheClose shut close close dc.call c = grind arith in
+      (record { call = c; call_is = is; act_is = k.act }, k.begin, k.end)
 
   clips : Clips calls Clipped shut close
   unfolding Clipped
@@ -404,8 +386,7 @@ module _ (rules : Rules) (calls : List Call) (differ : Differ calls) (written : 
   }
     where
       ended : (c d : Call) → ((e : ℕ) × (c.end ≡ Some e)) ⊎ (c.end ≡ None) → IsSome c.end → ((e : ℕ) → c.end ≡ Some e → (f : ℕ) × (d.end ≡ Some f) × (f ≤ 3 * e + 2)) → IsSome d.end
-      ended c d (inl e) some by = let f = by e.0 e.1 in some_is d.end f.0 f.1
-      ended c d (inr open_end) some by = absurd (none_some c.end open_end some)
+      ended c d cases some by = grind arith
 
   -- ---- it has none of the faults
 
@@ -454,7 +435,7 @@ module _ (rules : Rules) (calls : List Call) (differ : Differ calls) (written : 
       )
 
   took_ends : (item p : ℕ) (d : Did calls p (Act.Took item)) → (e : ℕ) × (d.call.end ≡ Some e)
-  took_ends item p d = elim (end_cases d.call.end) [ inl e ↦ e | inr none ↦ absurd (none_some d.call.end none (written.took p item d)) ]
+  took_ends item p d = grind (arith, written.took p item d)
 
   accepted_of : (send take item : ℕ) → Did calls send (Act.Send item) → Did calls take (Act.Took item) → WasAccepted calls send item
   accepted_of send take item s t = inr (take, record { item = item; sent = s; took = record { call = t.call; call_is = t.call_is; act_is = t.act_is; ended = written.took take item t } })
@@ -486,11 +467,9 @@ module _ (rules : Rules) (calls : List Call) (differ : Differ calls) (written : 
       ]
 
   ended_old : (p : ℕ) (c d : Call) → slice_get calls p ≡ Some c → Clip calls shut close p c d → d.act ≡ Act.Ended → (o : Did calls p Act.Ended) × Tripled o.call.end d.end
-  ended_old p c d is (inl k) act = absurd (subst IsPlain (sym k.act ∙ act) k.plain)
-  ended_old p c d is (inr (inl k)) act = absurd (subst WantsOpen (sym k.act ∙ act) k.wants)
-  ended_old p c d is (inr (inr (inl k))) act = let clash : Act.Full ≡ Act.Ended = sym k.act ∙ act in cc
-  ended_old p c d is (inr (inr (inr (inl k)))) act = (record { call = c; call_is = is; act_is = sym k.act ∙ act }, k.ends)
-  ended_old p c d is (inr (inr (inr (inr k)))) act = let clash : Act.Close ≡ Act.Ended = sym k.act ∙ act in cc
+  ended_old p c d is clip act =
+      let k : (c.act ≡ Act.Ended) × Tripled c.end d.end = grind arith in
+      (record { call = c; call_is = is; act_is = k.0 }, k.1)
 
   ready : Ready Clipped
   unfolding Clipped
@@ -619,14 +598,9 @@ module _ (rules : Rules) (calls : List Call) (ties : rules.ties.items ≡ []) (d
       ]
 
       unclosed : (p : ℕ) (c : Call) → slice_get calls p ≡ Some c → (a : Act) → c.act ≡ a → WantsClosed c.act → IsIdle c.act × (IsSome c.end → ⊥)
-      unclosed p c is (Act.Send v) act wants = absurd (subst WantsClosed act wants)
-      unclosed p c is (Act.Took v) act wants = absurd (subst WantsClosed act wants)
-      unclosed p c is Act.FoundNone act wants = absurd (subst WantsClosed act wants)
-      unclosed p c is Act.Taking act wants = absurd (subst WantsClosed act wants)
-      unclosed p c is Act.Full act wants = absurd (subst WantsClosed act wants)
-      unclosed p c is Act.Closed act wants = (subst IsIdle (sym act) tt, not_ended p c is wants)
-      unclosed p c is Act.Ended act wants = absurd (not_ended p c is wants (written.ended p (record { call = c; call_is = is; act_is = act })))
-      unclosed p c is Act.Close act wants = (subst IsIdle (sym act) tt, not_ended p c is wants)
+      unclosed p c is a act wants =
+          let ended : c.act ≡ Act.Ended → IsSome c.end = λ e. written.ended p (record { call = c; call_is = is; act_is = e }) in
+          grind (arith, not_ended p c is wants)
 
   by_closes : (closes : Bool) → rules.closes ≡ closes → IsLinearizable (of_any_capacity rules) calls
   by_closes false open_then = completeness rules calls ties open_then differ (ready_plain rules calls written fine)

@@ -53,18 +53,18 @@ source x xs spans none =
 
 -- ---- the list without an element
 
-pub without : (x : Item) (xs : List Item) → In x xs → List Item
+unfoldable pub without : {X : Type 0} (x : X) (xs : List X) → In x xs → List X
 without x [] h = []
 without x (y ∷ xs) (inl here) = xs
 without x (y ∷ xs) (inr later) = y ∷ without x xs later
 
-without_length : (x : Item) (xs : List Item) (h : In x xs) → length (without x xs h) + 1 ≡ length xs
+pub without_length : {X : Type 0} (x : X) (xs : List X) (h : In x xs) → length (without x xs h) + 1 ≡ length xs
 unfolding without
 without_length x [] h = absurd h
 without_length x (y ∷ xs) (inl here) = omega arith
 without_length x (y ∷ xs) (inr later) = let e = without_length x xs later in omega (arith, e)
 
-from_without : (x z : Item) (xs : List Item) (h : In x xs) → In z (without x xs h) → In z xs
+pub from_without : {X : Type 0} (x z : X) (xs : List X) (h : In x xs) → In z (without x xs h) → In z xs
 unfolding without
 from_without x z [] h within = absurd h
 from_without x z (y ∷ xs) (inl here) within = inr within

@@ -4,6 +4,7 @@ use Rattle.std.proofs.Common.{◌≡◌, ◌≢◌, ℕ, ◌<◌, ◌≤◌, ◌
 use Rattle.std.specs.Prelude.{unwrap_or, replicate}
 use Rattle.std.specs.List.{slice_get}
 use Rattle.std.proofs.lemmas.Bool.{cases_lt}
+use Rattle.std.proofs.lemmas.List.{append-nil}
 use Rattle.std.proofs.lemmas.Option.{slice_get_within}
 use Rattle.cc_judge.specs.Names.{Act, Call, Rules, Step}
 use Rattle.cc_judge.specs.Order.{Allows, Closes, Does, IsCall, IsOfLog, IsOnce, IsOrder, IsRun, IsWhole, MayHaveDone, RespectsLines, RespectsRealTime, closed_after}
@@ -94,33 +95,13 @@ only_snoc : (k : ℕ → Bool) (xs : List ℕ) (x : ℕ) → only k (xs ++ x ∷
 only_snoc k [] x = refl
 only_snoc k (y ∷ xs) x = ap (add_if (k y) y) (only_snoc k xs x) ∙ add_more (k y) y (only k xs) (add_if (k x) x [])
 
-append_none : (xs : List ℕ) → xs ++ [] ≡ xs
-append_none [] = refl
-append_none (x ∷ xs) = ap (λ (l : List ℕ). x ∷ l) (append_none xs)
-
 -- a call with an item that counts does the same with the items that count alone
 does_kept : (k : ℕ → Bool) (held next : List ℕ) (act : Act) → Does None held act next → ((x : ℕ) → Moves act x → k x ≡ true) → Does None (only k held) act (only k next)
-does_kept k held next (Act.Send v) does counts =
-    (ap (only k) does.0 ∙ only_snoc k held v ∙ ap (λ (b : Bool). only k held ++ add_if b v []) (counts v (inl refl)), tt)
-does_kept k held next (Act.Took v) does counts = ap (only k) does ∙ ap (λ (b : Bool). add_if b v (only k next)) (counts v (inr refl))
-does_kept k held next Act.FoundNone does counts = (ap (only k) does.0, ap (only k) does.1)
-does_kept k held next Act.Taking does counts = absurd does
-does_kept k held next Act.Full does counts = (ap (only k) does.0, tt)
-does_kept k held next Act.Closed does counts = ap (only k) does
-does_kept k held next Act.Ended does counts = (ap (only k) does.0, ap (only k) does.1)
-does_kept k held next Act.Close does counts = ap (only k) does
+does_kept k held next act does counts = grind (arith, only_snoc, append-nil)
 
 -- and any other call changes nothing of these
 does_nothing : (k : ℕ → Bool) (held next : List ℕ) (act : Act) → Does None held act next → ((x : ℕ) → Moves act x → k x ≡ false) → only k next ≡ only k held
-does_nothing k held next (Act.Send v) does counts =
-    ap (only k) does.0 ∙ only_snoc k held v ∙ ap (λ (b : Bool). only k held ++ add_if b v []) (counts v (inl refl)) ∙ append_none (only k held)
-does_nothing k held next (Act.Took v) does counts = sym (ap (only k) does ∙ ap (λ (b : Bool). add_if b v (only k next)) (counts v (inr refl)))
-does_nothing k held next Act.FoundNone does counts = ap (only k) does.1 ∙ sym (ap (only k) does.0)
-does_nothing k held next Act.Taking does counts = absurd does
-does_nothing k held next Act.Full does counts = ap (only k) does.0
-does_nothing k held next Act.Closed does counts = ap (only k) does
-does_nothing k held next Act.Ended does counts = ap (only k) does.1 ∙ sym (ap (only k) does.0)
-does_nothing k held next Act.Close does counts = ap (only k) does
+does_nothing k held next act does counts = grind (arith, only_snoc, append-nil)
 
 -- of the items that count all steps are kept, and of the others none
 record Sorts (f : Step → Option ℕ) (k : ℕ → Bool) : Type 0 where
@@ -328,8 +309,7 @@ not_both true is_so is_not = cc
 not_both false is_so is_not = cc
 
 no_end : (o : Option ℕ) → o ≡ None → IsSome o → ⊥
-no_end None is some = cc
-no_end (Some e) is some = cc
+no_end o none some = grind arith
 
 -- ---- steps that go to other places
 

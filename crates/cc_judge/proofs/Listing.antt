@@ -7,6 +7,7 @@ use Rattle.std.proofs.lemmas.Bool.{cases_lt, eqb-false, ne_eqb}
 use Rattle.std.proofs.lemmas.Map.Keys.{apart_from_distinct, IsDistinct-from_apart, IsDistinct-IsPermutation}
 use Rattle.std.proofs.lemmas.List.Sorted.{Contains-permutation, IsPermutation-sym}
 use Rattle.std.proofs.lemmas.Option.{get_or_from_slice_get, slice_get-get_or, slice_get_within}
+use Rattle.cc_judge.proofs.Marks.{get_front, get_last}
 
 -- ---- elements by their places
 
@@ -27,22 +28,14 @@ pushed_at (z ∷ xs) x y zero is = inl is
 pushed_at (z ∷ xs) x y (suc k) is = elim (pushed_at xs x y k is) [ inl had ↦ inl had | inr last ↦ inr (ap suc last.0, last.1) ]
 
 pub at_pushed : {X : Type 0} (xs : List X) (x y : X) (k : ℕ) → slice_get xs k ≡ Some y → slice_get (xs ++ x ∷ []) k ≡ Some y
-at_pushed [] x y k is = absurd (cc (is))
-at_pushed (z ∷ xs) x y zero is = is
-at_pushed (z ∷ xs) x y (suc k) is = at_pushed xs x y k is
+at_pushed xs x y k is = get_front xs (x ∷ []) k y is
 
 pub last_pushed : {X : Type 0} (xs : List X) (x : X) → slice_get (xs ++ x ∷ []) (length xs) ≡ Some x
-last_pushed [] x = refl
-last_pushed (z ∷ xs) x = last_pushed xs x
+last_pushed xs x = get_last xs x
 
 -- a sorted list by its places
 pub rises : {X : Type 0} (n : X → ℕ) (xs : List X) (j k : ℕ) (x y : X) → IsNonDecreasingBy n xs → j ≤ k → slice_get xs j ≡ Some x → slice_get xs k ≡ Some y → n x ≤ n y
-rises {X = X} n xs j k x y up le x_is y_is =
-    let within : k < length xs = slice_get_within xs k y y_is in
-    let at_j : get_or xs j x ≡ x = get_or_from_slice_get xs j x x x_is in
-    let at_k : get_or xs k x ≡ y = get_or_from_slice_get xs k y x y_is in
-    let le_n : n (get_or xs j x) ≤ n (get_or xs k x) = up j k x le within in
-    subst (λ (p : X × X). n p.0 ≤ n p.1) (λ i. (at_j i, at_k i)) le_n
+rises {X = X} n xs j k x y up le x_is y_is = grind (arith, get_or_from_slice_get, slice_get_within)
 
 -- ---- no call is in a list twice
 
@@ -76,10 +69,7 @@ apart_sorted xs ys same apart j k t u y j_is k_is =
     let distinct = IsDistinct-IsPermutation same_call flips xs ys same (to_distinct xs apart) in
     elim (cases_lt j k) [
       | inl less ↦ absurd (distinct_less ys j k t u y distinct j_is k_is less)
-      | inr not_less ↦ elim (cases_lt k j) [
-        | inl more ↦ absurd (distinct_less ys k j u t y distinct k_is j_is more)
-        | inr not_more ↦ omega (arith, not_less, not_more)
-      ]
+      | inr not_less ↦ grind (arith, cases_lt, distinct_less)
     ]
 
 -- ---- of each call of which more is known one entry

@@ -25,10 +25,7 @@ get_behind (x ∷ xs) ys j = ap (slice_get (x ∷ (xs ++ ys))) (let e : length (
 pub get_split : {X : Type 0} (xs ys : List X) (k : ℕ) (z : X) → slice_get (xs ++ ys) k ≡ Some z → (slice_get xs k ≡ Some z) ⊎ ((j : ℕ) × (k ≡ length xs + j) × (slice_get ys j ≡ Some z))
 get_split [] ys k z is = inr (k, omega arith, is)
 get_split (x ∷ xs) ys zero z is = inl is
-get_split (x ∷ xs) ys (suc k) z is = elim (get_split xs ys k z is) [
-  | inl front ↦ inl front
-  | inr behind ↦ inr (behind.0, (let e = behind.1 in omega (arith, e)), behind.2)
-]
+get_split (x ∷ xs) ys (suc k) z is = grind (arith, get_split xs ys k z is)
 
 pub get_last : {X : Type 0} (xs : List X) (z : X) → slice_get (xs ++ z ∷ []) (length xs) ≡ Some z
 get_last [] z = refl

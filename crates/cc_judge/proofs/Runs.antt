@@ -35,10 +35,8 @@ takes_front held next act item does is = let d : Does None held (Act.Took item) 
 pub sent_before : (held : List ℕ) (steps : List Step) (t : Step) (item : ℕ) → IsRun None held steps → In t steps → t.act ≡ Act.Took item → In item held ⊎ Earlier steps t (Act.Send item)
 sent_before held [] t item run within is = absurd within
 sent_before held (x ∷ steps) t item run (inl here) is = inl (takes_front held run.0 x.act item run.1 (ap (λ (s : Step). s.act) here ∙ is))
-sent_before held (x ∷ steps) t item run (inr rest) is = elim (sent_before run.0 steps t item run.2 rest is) [
-  | inl old ↦ elim (from_where held run.0 x.act item run.1 old) [ inl older ↦ inl older | inr sent ↦ inr (first x t steps (Act.Send item) sent rest) ]
-  | inr e ↦ inr (later x t steps (Act.Send item) e)
-]
+sent_before held (x ∷ steps) t item run (inr rest) is =
+    grind (arith, first, from_where, later, sent_before run.0 steps t item run.2 rest is)
 
 -- ---- after the send of an item none is found only if the item was taken between
 
@@ -48,8 +46,7 @@ none_held held next act does (inr none) = (subst (λ (a : Act). Does None held a
 
 held_taken : (held : List ℕ) (steps : List Step) (t : Step) (item : ℕ) → IsRun None held steps → In item held → In t steps → FindsNone t.act → Earlier steps t (Act.Took item)
 held_taken held [] t item run has within is = absurd within
-held_taken held (x ∷ steps) t item run has (inl here) is =
-    absurd (subst (In item) (none_held held run.0 x.act run.1 (subst (λ (s : Step). FindsNone s.act) (sym here) is)) has)
+held_taken held (x ∷ steps) t item run has (inl here) is = grind (arith, none_held)
 held_taken held (x ∷ steps) t item run has (inr rest) is = elim (to_where held run.0 x.act item run.1 has) [
   | inl still ↦ later x t steps (Act.Took item) (held_taken run.0 steps t item run.2 still rest is)
   | inr took ↦ first x t steps (Act.Took item) took rest
@@ -61,8 +58,7 @@ sends_last held next act item does is = (subst (λ (a : Act). Does None held a n
 pub taken_before_none : (held : List ℕ) (steps : List Step) (s t : Step) (item : ℕ) → IsRun None held steps → Before s t steps → s.act ≡ Act.Send item → FindsNone t.act → Earlier steps t (Act.Took item)
 taken_before_none held [] s t item run order sent none = absurd order
 taken_before_none held (x ∷ steps) s t item run (inl here) sent none =
-    let put = sends_last held run.0 x.act item run.1 (ap (λ (y : Step). y.act) here.0 ∙ sent) in
-    later x t steps (Act.Took item) (held_taken run.0 steps t item run.2 (subst (In item) (sym put) (in_last item held)) here.1 none)
+    grind (arith, held_taken, in_last, later, sends_last)
 taken_before_none held (x ∷ steps) s t item run (inr rest) sent none = later x t steps (Act.Took item) (taken_before_none run.0 steps s t item run.2 rest sent none)
 
 -- ---- of two items the one that was sent first is taken first
@@ -95,12 +91,9 @@ ahead_taken held (x ∷ steps) t a b run ahead apart (inr rest) is = elim (ahead
 
 pub first_taken_first : (held : List ℕ) (steps : List Step) (s t : Step) (a b : ℕ) → IsRun None held steps → (In b held → ⊥) → In s steps → In t steps → s.act ≡ Act.Send a → ((u : Step) → Before u s steps → u.act ≢ Act.Send b) → a ≢ b → t.act ≡ Act.Took b → Earlier steps t (Act.Took a)
 first_taken_first held [] s t a b run none sending taking sent not_before apart took = absurd sending
-first_taken_first held (x ∷ steps) s t a b run none (inl here) (inl there) sent not_before apart took =
-    let one : s ≡ t = sym here ∙ there in
-    cc
+first_taken_first held (x ∷ steps) s t a b run none (inl here) (inl there) sent not_before apart took = grind arith
 first_taken_first held (x ∷ steps) s t a b run none (inl here) (inr taking) sent not_before apart took =
-    let put = sends_last held run.0 x.act a run.1 (ap (λ (y : Step). y.act) here ∙ sent) in
-    later x t steps (Act.Took a) (ahead_taken run.0 steps t a b run.2 (subst (Ahead a b) (sym put) (ahead_last a b held none)) apart taking took)
+    grind (arith, ahead_last, ahead_taken, later, sends_last)
 first_taken_first held (x ∷ steps) s t a b run none (inr sending) (inl there) sent not_before apart took =
     absurd (none (takes_front held run.0 x.act b run.1 (ap (λ (y : Step). y.act) there ∙ took)))
 first_taken_first held (x ∷ steps) s t a b run none (inr sending) (inr taking) sent not_before apart took =
@@ -123,10 +116,8 @@ AtMostOnce a (x ∷ xs) = (x ≡ a → In a xs → ⊥) × AtMostOnce a xs
 
 once_more : (a y : ℕ) (xs : List ℕ) → AtMostOnce a xs → (y ≡ a → In a xs → ⊥) → AtMostOnce a (xs ++ y ∷ [])
 once_more a y [] once apart = ((λ same within. within), tt)
-once_more a y (x ∷ xs) once apart = (
-  (λ same within. elim (in_snoc a y xs within) [ inl old ↦ once.0 same old | inr new ↦ apart new (inl same) ]),
-  once_more a y xs once.1 (λ new within. apart new (inr within)),
-)
+once_more a y (x ∷ xs) once apart =
+    grind (arith, in_snoc, once_more a y xs once.1 (λ new within. apart new (inr within)))
 
 -- of an item that is held no send is left, and at most one send is
 pub record Single (item : ℕ) (held : List ℕ) (steps : List Step) : Type 0 where
@@ -153,9 +144,7 @@ gone held next act item does once is within = grind arith
 taken_once_from : (held : List ℕ) (steps : List Step) (s t : Step) (item : ℕ) → IsRun None held steps → Single item held steps → Before s t steps → s.act ≡ Act.Took item → t.act ≢ Act.Took item
 taken_once_from held [] s t item run single order took again = absurd order
 taken_once_from held (x ∷ steps) s t item run single (inl here) took again =
-    let is : x.act ≡ Act.Took item = ap (λ (y : Step). y.act) here.0 ∙ took in
-    let had : In item held = takes_front held run.0 x.act item run.1 is in
-    not_taken run.0 steps t item run.2 (gone held run.0 x.act item run.1 single.once is) (λ u later. single.no_more had u (inr later)) here.1 again
+    grind (arith, gone, later, not_taken, takes_front)
 taken_once_from held (x ∷ steps) s t item run single (inr rest) took again = taken_once_from run.0 steps s t item run.2 (single_next item held run.0 x steps run.1 single) rest took again
 
 pub taken_once : (steps : List Step) (s t : Step) (item : ℕ) → IsRun None [] steps → ((u v : Step) → Before u v steps → u.act ≡ Act.Send item → v.act ≢ Act.Send item) → Before s t steps → s.act ≡ Act.Took item → t.act ≢ Act.Took item

@@ -8,8 +8,9 @@ use Rattle.cc_judge.specs.Order.{EndsBefore, MayHaveDone, IsOfLog, IsOrder, IsLi
 use Rattle.cc_judge.specs.Faults.{Did, Differ, FindsNone}
 use Rattle.cc_judge.proofs.Places.{In, at_in}
 use Rattle.cc_judge.proofs.Turns.{nat_cases}
+use Rattle.cc_judge.proofs.Fifo.{without, without_length, from_without}
 use Rattle.cc_judge.specs.Complete.{Once, IsLeft, IsWaiting, Enough, Ready}
-use Rattle.cc_judge.proofs.Views.{Faultless, faultless_has_order, taker, one_call, one_act, none_took}
+use Rattle.cc_judge.proofs.Views.{none_some, Faultless, faultless_has_order, taker, one_call, one_act, none_took}
 use Rattle.cc_judge.proofs.Complete.{Quiet}
 use Rattle.cc_judge.specs.Late.{Weaker}
 use Rattle.cc_judge.proofs.Weaker.{weaken}
@@ -47,12 +48,7 @@ waiting (c ∷ calls) = waiting_of c.act + waiting calls
 fewer_wait : (calls : List Call) (p item : ℕ) → Did calls p Act.Taking → waiting (give calls p item) < waiting calls
 unfolding give waiting waiting_of
 fewer_wait [] p item d = let is = d.call_is in cc
-fewer_wait (c ∷ calls) zero item d =
-    let is = d.call_is in
-    let same : c ≡ d.call = cc in
-    let act : c.act ≡ Act.Taking = ap (λ (x : Call). x.act) same ∙ d.act_is in
-    let one : waiting_of c.act ≡ 1 = ap waiting_of act in
-    omega (arith, one)
+fewer_wait (c ∷ calls) zero item d = grind arith
 fewer_wait (c ∷ calls) (suc p) item d = let h = fewer_wait calls p item (record { call = d.call; call_is = d.call_is; act_is = d.act_is }) in omega (arith, h)
 
 module _ (calls : List Call) (p item : ℕ) (dp : Did calls p Act.Taking) where
@@ -119,24 +115,6 @@ module _ (calls : List Call) (p item : ℕ) (dp : Did calls p Act.Taking) where
 
 -- ---- lists of places
 
-pub without : (q : ℕ) (xs : List ℕ) → In q xs → List ℕ
-without q [] h = []
-without q (x ∷ xs) (inl is) = xs
-without q (x ∷ xs) (inr later) = x ∷ without q xs later
-
-without_length : (q : ℕ) (xs : List ℕ) (h : In q xs) → length (without q xs h) + 1 ≡ length xs
-unfolding without
-without_length q [] h = absurd h
-without_length q (x ∷ xs) (inl is) = omega arith
-without_length q (x ∷ xs) (inr later) = let e = without_length q xs later in omega (arith, e)
-
-from_without : (q r : ℕ) (xs : List ℕ) (h : In q xs) → In r (without q xs h) → In r xs
-unfolding without
-from_without q r [] h within = absurd h
-from_without q r (x ∷ xs) (inl is) within = inr within
-from_without q r (x ∷ xs) (inr later) (inl same) = inl same
-from_without q r (x ∷ xs) (inr later) (inr more) = inr (from_without q r xs later more)
-
 once_without : (q : ℕ) (xs : List ℕ) (h : In q xs) → Once xs → Once (without q xs h)
 unfolding without
 once_without q [] h once = absurd h
@@ -152,10 +130,7 @@ not_without q (x ∷ xs) (inr later) once (inr more) = not_without q xs later on
 
 is_in : (q : ℕ) (xs : List ℕ) → In q xs ⊎ (In q xs → ⊥)
 is_in q [] = inr (λ h. h)
-is_in q (x ∷ xs) = elim (nat_cases x q) [
-  | inl same ↦ inl (inl same)
-  | inr other ↦ elim (is_in q xs) [ inl within ↦ inl (inr within) | inr outside ↦ inr (λ h. elim h [ inl same ↦ other same | inr more ↦ outside more ]) ]
-]
+is_in q (x ∷ xs) = grind (arith, nat_cases, is_in q xs)
 
 -- of one place more than wanted all but one aren't this one
 record But (q : ℕ) (ys : List ℕ) : Type 0 where
@@ -405,10 +380,6 @@ pub end_cases : (o : Option ℕ) → ((e : ℕ) × (o ≡ Some e)) ⊎ (o ≡ No
 end_cases None = inr refl
 end_cases (Some e) = inl (e, refl)
 
-not_some : (o : Option ℕ) → o ≡ None → IsSome o → ⊥
-not_some None is some = cc
-not_some (Some e) is some = cc
-
 module _ (calls : List Call) (ready : Ready calls) (done : IsDone calls) where
   no_left : (sent began y : ℕ) → Enough calls sent began → IsLeft calls sent y → ⊥
   unfolding IsDone
@@ -439,7 +410,7 @@ module _ (calls : List Call) (ready : Ready calls) (done : IsDone calls) where
   faultless : Faultless calls
   faultless = record {
     timed = ready.timed;
-    waits = λ p c is act ended. not_some c.end (ready.waits p (record { call = c; call_is = is; act_is = act })) ended;
+    waits = λ p c is act ended. none_some c.end (ready.waits p (record { call = c; call_is = is; act_is = act })) ended;
     sent = ready.sent;
     once = ready.once;
     after = ready.after;

@@ -1,5 +1,5 @@
 -- A queue that was closed stays so: which steps come before which by that.
-use Rattle.std.proofs.Common.{◌≡◌, ◌≢◌, ℕ, ◌⊎◌, inl, inr, List, [], ◌∷◌, Bool, true, false, refl, sym, subst, arith}
+use Rattle.std.proofs.Common.{◌≡◌, ◌≢◌, ℕ, ◌⊎◌, inl, inr, List, [], ◌∷◌, Bool, true, false, refl, subst, arith}
 use Rattle.cc_judge.specs.Names.{Act, Call, Rules, Step}
 use Rattle.cc_judge.specs.Order.{Allows, Closes, closed_after, IsOrder}
 use Rattle.cc_judge.specs.Faults.{Differ, ShowsClosed, WasClosed, WasAccepted}
@@ -23,16 +23,13 @@ shows_after closed act allows shows = grind arith
 
 shut_for_good : (steps : List Step) (t : Step) → Closes true steps → In t steps → WantsOpen t.act → ⊥
 shut_for_good [] t closes within wants = absurd within
-shut_for_good (x ∷ steps) t closes (inl here) wants =
-    cc (open_then true x.act closes.0 (subst (λ (s : Step). WantsOpen s.act) (sym here) wants))
+shut_for_good (x ∷ steps) t closes (inl here) wants = grind (arith, open_then)
 shut_for_good (x ∷ steps) t closes (inr later) wants = shut_for_good steps t (subst (λ (b : Bool). Closes b steps) (stays_closed x.act) closes.1) later wants
 
 -- no step that wants the queue open comes after one that shows it closed
 pub not_after : (closed : Bool) (steps : List Step) (s t : Step) → Closes closed steps → Before s t steps → ShowsClosed s.act → WantsOpen t.act → ⊥
 not_after closed [] s t closes first shows wants = absurd first
-not_after closed (x ∷ steps) s t closes (inl here) shows wants =
-    let shut : closed_after closed x.act ≡ true = shows_after closed x.act closes.0 (subst (λ (y : Step). ShowsClosed y.act) (sym here.0) shows) in
-    shut_for_good steps t (subst (λ (b : Bool). Closes b steps) shut closes.1) here.1 wants
+not_after closed (x ∷ steps) s t closes (inl here) shows wants = grind (arith, shows_after, shut_for_good)
 not_after closed (x ∷ steps) s t closes (inr later) shows wants = not_after (closed_after closed x.act) steps s t closes.1 later shows wants
 
 -- it was answered that the queue is closed
@@ -52,8 +49,7 @@ is_close act = grind arith
 -- a close comes before each step that answers so, of a queue that is open at first
 pub closed_first : (steps : List Step) (t : Step) → Closes false steps → In t steps → Answers t.act → Earlier steps t Act.Close
 closed_first [] t closes within answers = absurd within
-closed_first (x ∷ steps) t closes (inl here) answers =
-    cc (closed_then false x.act closes.0 (subst (λ (s : Step). Answers s.act) (sym here) answers))
+closed_first (x ∷ steps) t closes (inl here) answers = grind (arith, closed_then)
 closed_first (x ∷ steps) t closes (inr later) answers = elim (is_close x.act) [
   | inl close ↦ record { step = x; before = inl (refl, later); act_is = close }
   | inr other ↦

@@ -1,5 +1,5 @@
 -- An element of a list that is read at an index, one turn of a loop further.
-use Rattle.std.proofs.Common.{◌≡◌, ◌≢◌, ℕ, zero, suc, ◌+◌, ◌<◌, ◌≤◌, ◌⊎◌, inl, inr, List, [], ◌∷◌, length, get_or, Bool, true, false, Some, refl, sym, ap, ◌∙◌, subst, arith}
+use Rattle.std.proofs.Common.{◌≡◌, ◌≢◌, ℕ, zero, suc, ◌+◌, ◌<◌, ◌≤◌, ◌⊎◌, inl, inr, List, [], ◌∷◌, length, get_or, Bool, true, false, Some, refl, sym, ap, subst, arith}
 use Rattle.std.specs.List.{slice_get, slice_set}
 use Rattle.std.proofs.lemmas.Bool.{cases_lt}
 use Rattle.std.proofs.lemmas.Option.{get_or_from_slice_get, slice_get-get_or, slice_get_within}
@@ -23,13 +23,7 @@ pub record TimelyTo (calls : List Call) (order : List Step) (upto latest : ℕ) 
 
 pub timely_on : (calls : List Call) (order : List Step) (i latest next : ℕ) (d : Step) → TimelyTo calls order i latest → GoesOn calls (get_or order i d).place latest next → TimelyTo calls order (i + 1) next
 timely_on calls order i latest next d so_far on = record {
-  begun = λ k s c below s_is c_is. elim (below_or_at order i k d s below s_is) [
-    | inl less ↦ omega (arith, so_far.begun k s c less s_is c_is, on.earlier)
-    | inr here ↦
-        let both : Some c ≡ Some on.call = sym c_is ∙ subst (λ (x : Step). slice_get calls x.place ≡ Some on.call) (sym here.1) on.call_is in
-        let one : c ≡ on.call = cc in
-        subst (λ (x : Call). x.begin ≤ next) (sym one) on.begun
-  ];
+  begun = λ k s c below s_is c_is. grind (arith, below_or_at);
   timely = λ j k s t less below s_is t_is ends. elim (below_or_at order i k d t below t_is) [
     | inl lesser ↦ so_far.timely j k s t less lesser s_is t_is ends
     | inr here ↦

@@ -79,8 +79,7 @@ run_by part capacity held (s ∷ order) run = (run.0, (fits (finds_of (slice_get
 closes_by : (part : List Call) (closed : Bool) (order : List Step) → Closes closed order → Closes closed (order_by part order)
 closes_by part closed [] closes = tt
 closes_by part closed (s ∷ order) closes =
-    let f = fits (finds_of (slice_get part s.place)) s.act in
-    (f.allows closed closes.0, subst (λ (b : Bool). Closes b (order_by part order)) (f.closes closed) (closes_by part (closed_after closed s.act) order closes.1))
+    grind (arith, fits, closes_by part (closed_after closed s.act) order closes.1)
 
 module _ (time : ℕ) (calls part : List Call) (k : IsUntil time calls part) where
   -- what the log until the time has of a call that returned, the log has
@@ -103,19 +102,13 @@ module _ (time : ℕ) (calls part : List Call) (k : IsUntil time calls part) whe
         let d = k.there s.0.place i.call i.call_is in
         let may = subst (λ (f : Option Call). MayHaveDone d.0.act (act_by (finds_of f) s.0.act)) (sym d.1) (may_by time i.call d.0 s.0.act d.2 i.may) in
         subst (IsCall part) s.2 (record { call = d.0; call_is = d.1; may = may });
-    once = λ j n s t less s_is t_is.
-        let a = of_order part order j s s_is in
-        let b = of_order part order n t t_is in
-        λ one. o.once j n a.0 b.0 less a.1 b.1 (ap (λ (x : Step). x.place) a.2 ∙ one ∙ sym (ap (λ (x : Step). x.place) b.2));
+    once = grind (arith, of_order);
     whole = λ place d is ended. has place d is ended;
     in_time = λ j n s t less s_is t_is before.
         let a = of_order part order j s s_is in
         let b = of_order part order n t t_is in
         o.in_time j n a.0 b.0 less a.1 b.1 (subst (λ (p : ℕ). EndsBefore calls b.0.place p) (sym (ap (λ (x : Step). x.place) a.2)) (subst (λ (p : ℕ). EndsBefore calls p s.place) (sym (ap (λ (x : Step). x.place) b.2)) (before_too t.place s.place before)));
-    in_line = λ i tie tie_is j n s t less s_is t_is later.
-        let a = of_order part order j s s_is in
-        let b = of_order part order n t t_is in
-        λ earlier. o.in_line i tie tie_is j n a.0 b.0 less a.1 b.1 (ap (λ (x : Step). x.place) a.2 ∙ later) (ap (λ (x : Step). x.place) b.2 ∙ earlier);
+    in_line = grind (arith, of_order);
     legal = run_by part rules.capacity [] order o.legal;
     closing = λ judged. closes_by part false order (o.closing judged);
   }
@@ -168,14 +161,10 @@ pub until_end : (time : ℕ) (calls : List Call) → IsWritten calls → HaveEnd
 until_end time calls written ended = record { there = λ p c is. (c, is, whole p c is); back = λ p c is. (c, is, whole p c is) }
   where
     plain : (p : ℕ) (c : Call) → slice_get calls p ≡ Some c → c.end ≡ None → (act : Act) → c.act ≡ act → c.act ≡ act_until c.act
-    plain p c is none (Act.Send v) act = act ∙ sym (ap act_until act)
-    plain p c is none (Act.Took v) act = absurd (none_some c.end none (written.took p v (record { call = c; call_is = is; act_is = act })))
-    plain p c is none Act.FoundNone act = act ∙ sym (ap act_until act)
-    plain p c is none Act.Taking act = act ∙ sym (ap act_until act)
-    plain p c is none Act.Full act = act ∙ sym (ap act_until act)
-    plain p c is none Act.Closed act = act ∙ sym (ap act_until act)
-    plain p c is none Act.Ended act = absurd (none_some c.end none (written.ended p (record { call = c; call_is = is; act_is = act })))
-    plain p c is none Act.Close act = act ∙ sym (ap act_until act)
+    plain p c is none a act =
+        let took : (v : ℕ) → c.act ≡ Act.Took v → IsSome c.end = λ v e. written.took p v (record { call = c; call_is = is; act_is = e }) in
+        let ended : c.act ≡ Act.Ended → IsSome c.end = λ e. written.ended p (record { call = c; call_is = is; act_is = e }) in
+        grind arith
 
     same_call : (c : Call) → c.end ≡ None → c.act ≡ act_until c.act → c ≡ unreturned c
     same_call c none act = ap (λ (e : Option ℕ). record { begin = c.begin; end = e; act = c.act }) none ∙ ap (λ (a : Act). record { begin = c.begin; end = None; act = a }) act

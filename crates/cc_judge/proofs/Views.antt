@@ -2,7 +2,7 @@
 use Rattle.std.proofs.Common.{◌≡◌, ◌≢◌, ℕ, zero, suc, ◌<◌, ◌≤◌, ◌⊎◌, inl, inr, false, List, [], ◌∷◌, length, Option, Some, None, IsSome, refl, sym, ap, ◌∙◌, subst, arith}
 use Rattle.std.specs.List.{slice_get}
 use Rattle.std.proofs.lemmas.Bool.{cases_lt}
-use Rattle.std.proofs.lemmas.Option.{slice_get_within}
+use Rattle.std.proofs.lemmas.Option.{slice_get_cases, slice_get_within}
 use Rattle.cc_judge.specs.Names.{Act, Call, Step, Rules}
 use Rattle.cc_judge.specs.Order.{EndsBefore, IsOrder, of_any_capacity}
 use Rattle.cc_judge.specs.Faults.{Did, Differ, FindsNone}
@@ -316,9 +316,8 @@ record Part (calls : List Call) (last n : ℕ) : Type 0 where
   nones : (p : ℕ) (act : Act) → p < n → (d : Did calls p act) → FindsNone act → IsSome d.call.end → (x : Item) × In x xs × (place_of x.fate ≡ p)
   others : (p : ℕ) (act : Act) → p < n → (d : Did calls p act) → IsIdle act → IsSome d.call.end → (i : Idle) × In i idles × (i.step.place ≡ p)
 
-none_some : (o : Option ℕ) → o ≡ None → IsSome o → ⊥
-none_some None is some = cc
-none_some (Some e) is some = cc
+pub none_some : (o : Option ℕ) → o ≡ None → IsSome o → ⊥
+none_some o open_end some = grind arith
 
 below_or_here : (p n : ℕ) → p < suc n → (p < n) ⊎ (p ≡ n)
 below_or_here p n less = elim (cases_lt p n) [ inl lower ↦ inl lower | inr not_less ↦ inr (omega (arith, less, not_less)) ]
@@ -330,10 +329,7 @@ module _ (calls : List Call) (last n : ℕ) (part : Part calls last n) where
     idles = part.idles;
     from = λ y within. elim within [ inl same ↦ subst (λ (z : Item). IsFrom calls last z z.fate) same from | inr more ↦ part.from y more ];
     below = λ y within. elim within [ inl same ↦ let e : place_of x.fate ≡ place_of y.fate = ap (λ (z : Item). place_of z.fate) same in omega (arith, e, place) | inr more ↦ let l = part.below y more in omega (arith, l) ];
-    apart = λ y z before. elim before [
-      | inl first ↦ λ same. let e : place_of x.fate ≡ place_of y.fate = ap (λ (w : Item). place_of w.fate) first.0 in let l = part.below z first.1 in omega (arith, e, place, same, l)
-      | inr more ↦ part.apart y z more
-    ];
+    apart = λ y z before. grind arith;
     idle_from = part.idle_from;
     idle_ended = part.idle_ended;
     idle_below = λ i within. let l = part.idle_below i within in omega (arith, l);
@@ -363,10 +359,7 @@ module _ (calls : List Call) (last n : ℕ) (part : Part calls last n) where
       | inl same ↦ subst (λ (j : Idle). IsIdle j.step.act × (d : Did calls j.step.place j.step.act) × (j.moment ≡ d.call.begin)) same (idle, record { call = c; call_is = is; act_is = refl }, refl)
       | inr more ↦ part.idle_from i more
     ];
-    idle_ended = λ i within. elim within [
-      | inl same ↦ λ d d_is. let at : n ≡ i.step.place = ap (λ (j : Idle). j.step.place) same in let both : Some c ≡ Some d = sym is ∙ ap (slice_get calls) at ∙ d_is in let one : c ≡ d = cc in subst (λ (x : Call). IsSome x.end) one done
-      | inr more ↦ part.idle_ended i more
-    ];
+    idle_ended = λ i within. grind arith;
     idle_below = λ i within. elim within [ inl same ↦ let e : n ≡ i.step.place = ap (λ (j : Idle). j.step.place) same in omega (arith, e) | inr more ↦ let l = part.idle_below i more in omega (arith, l) ];
     idle_apart = λ i j before. elim before [
       | inl first ↦ λ same. let e : n ≡ i.step.place = ap (λ (k : Idle). k.step.place) first.0 in let l = part.idle_below j first.1 in omega (arith, e, same, l)
@@ -436,14 +429,10 @@ module _ (calls : List Call) (last n : ℕ) (part : Part calls last n) where
       (λ other d idle ended. not_ended d ended)
     where
       not_ended : {other : Act} (d : Did calls n other) → IsSome d.call.end → ⊥
-      not_ended {other} d ended =
-          let one : d.call ≡ c = cc in
-          none_some d.call.end (ap (λ (x : Call). x.end) one ∙ unended) ended
+      not_ended {other} d ended = grind (arith, none_some)
 
 pub get_at : (calls : List Call) (n : ℕ) → n < length calls → (c : Call) × (slice_get calls n ≡ Some c)
-get_at [] n less = absurd (omega (arith, less))
-get_at (x ∷ calls) zero less = (x, refl)
-get_at (x ∷ calls) (suc n) less = get_at calls n (omega (arith, less))
+get_at calls n less = grind (arith, slice_get_cases calls n)
 
 module _ (calls : List Call) (last : ℕ) (u : Until calls last) (fine : Faultless calls) where
   -- a send whose item a call took

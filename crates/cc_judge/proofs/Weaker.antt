@@ -46,14 +46,7 @@ weaken rules calls loose order w o = record {
 
 -- who sends in a log of which less is known sends in the log too
 sends_too : (said : Act) (x : ℕ) → ((act : Act) → MayHaveDone said act → Act.Send x ≡ act) → said ≡ Act.Send x
-sends_too (Act.Send v) x may = sym (may (Act.Send v) refl)
-sends_too (Act.Took v) x may = sym (may (Act.Took v) refl)
-sends_too Act.FoundNone x may = sym (may Act.FoundNone refl)
-sends_too Act.Taking x may = let e : Act.Send x ≡ Act.FoundNone = may Act.FoundNone tt in cc
-sends_too Act.Full x may = sym (may Act.Full refl)
-sends_too Act.Closed x may = sym (may Act.Closed refl)
-sends_too Act.Ended x may = sym (may Act.Ended refl)
-sends_too Act.Close x may = sym (may Act.Close refl)
+sends_too said x may = grind (arith, may said, may Act.FoundNone)
 
 did_too : (calls loose : List Call) → Weaker calls loose → (p x : ℕ) → Did loose p (Act.Send x) → Did calls p (Act.Send x)
 did_too calls loose w p x d =

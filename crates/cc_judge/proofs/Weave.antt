@@ -1,5 +1,5 @@
 -- From an order of the items, as the queue holds them, to a legal order of the calls.
-use Rattle.std.proofs.Common.{◌≡◌, ◌≢◌, ℕ, zero, suc, ◌+◌, ◌<◌, ◌≤◌, ◌⊎◌, inl, inr, List, [], ◌∷◌, ◌++◌, length, Some, None, refl, sym, ap, ◌∙◌, subst, arith}
+use Rattle.std.proofs.Common.{◌≡◌, ◌≢◌, ℕ, zero, suc, ◌+◌, ◌<◌, ◌≤◌, ◌⊎◌, inl, inr, List, [], ◌∷◌, ◌++◌, length, Some, None, refl, sym, ap, subst, arith}
 use Rattle.std.specs.List.{slice_get}
 use Rattle.std.proofs.lemmas.Bool.{cases_lt}
 use Rattle.cc_judge.specs.Names.{Act, Call, Step}
@@ -219,12 +219,7 @@ take_woven P never now x inside rest send take m z fate later may v = record {
   steps = takes take x.item ∷ v.steps;
   run = (items inside, refl, v.run);
   timed = (m, later, may, v.timed);
-  leave = λ u within place by. elim within [
-    | inl same ↦
-        let f : u.fate ≡ taken send take = ap (λ (w : Item). w.fate) (sym same) ∙ fate in
-        here (takes take x.item) v.steps place (subst (λ (g : Fate). LeavesBy g place) f by)
-    | inr more ↦ further (takes take x.item) v.steps place (v.leave u more place by)
-  ];
+  leave = λ u within place by. grind (arith, further, here);
   all = λ y within place is. further (takes take x.item) v.steps place (v.all y within place is);
   only = λ s within. elim within [
     | inl same ↦ inl (x, inl refl, leaves_x s.place (ap (λ (t : Step). t.place) (sym same)))
@@ -248,13 +243,7 @@ put_woven P never now inside y rest send m z fate of stays later may v = record 
   run = (items inside ++ y.item ∷ [], (refl, tt), subst (λ (held : List ℕ). IsRun None held v.steps) (items_snoc inside y) v.run);
   timed = (m, later, may, v.timed);
   leave = λ x within place by. further (sends send y.item) v.steps place (v.leave x (in_more x y inside within) place by);
-  all = λ u within place is. elim within [
-    | inl same ↦ elim (fate place (subst (λ (w : Item). IsOf w.fate place) (sym same) is)) [
-      | inl first ↦ here (sends send y.item) v.steps place first
-      | inr by ↦ further (sends send y.item) v.steps place (v.leave y (in_last y inside) place by)
-    ]
-    | inr more ↦ further (sends send y.item) v.steps place (v.all u more place is)
-  ];
+  all = λ u within place is. grind (arith, further, here, in_last);
   only = λ s within. elim within [
     | inl same ↦ inr (y, inl refl, subst (IsOf y.fate) (ap (λ (t : Step). t.place) same) of)
     | inr more ↦ elim (v.only s more) [
@@ -287,12 +276,7 @@ none_woven P never now y rest act take m z fate finds later may v = record {
   run = ([], none_does act finds, v.run);
   timed = (m, later, may, v.timed);
   leave = λ x within place by. absurd within;
-  all = λ u within place is. elim within [
-    | inl same ↦
-        let f : u.fate ≡ none act take = ap (λ (w : Item). w.fate) (sym same) ∙ fate in
-        here (record { place = take; act = act }) v.steps place (subst (λ (g : Fate). IsOf g place) f is)
-    | inr more ↦ further (record { place = take; act = act }) v.steps place (v.all u more place is)
-  ];
+  all = λ u within place is. grind (arith, further, here);
   only = λ s within. elim within [
     | inl same ↦ inr (y, inl refl, is_y s.place (ap (λ (t : Step). t.place) (sym same)))
     | inr more ↦ elim (v.only s more) [ inl u ↦ absurd u.1 | inr u ↦ inr (u.0, inr u.1, u.2) ]
