@@ -111,7 +111,8 @@ module _ (rules : Rules) (calls clipped : List Call) (shut close : ℕ) (k : Cli
 
   has_ended : (act : Act) → (p : ℕ) (d : Call) → slice_get clipped p ≡ Some d → d.act ≡ act → WantsOpen act → (IsIdle act → IsSome d.end) → IsSome d.end
   has_ended act p d is act_is wants idle =
-      let sends : (v : ℕ) → d.act ≡ Act.Send v → IsSome d.end = λ v e. k.sends_end p v (record { call = d; call_is = is; act_is = e }) in
+      let sends : (v : ℕ) → d.act ≡ Act.Send v → IsSome d.end =
+      λ v e. k.sends_end p v (record { call = d; call_is = is; act_is = e }) in
       grind arith
 
   not_after : (t : Step) → Before c_step t order → WantsOpen t.act → ⊥

@@ -97,12 +97,6 @@ tripled_from : (o q : Option ℕ) (f : ℕ) → Tripled o q → q ≡ Some f →
 tripled_from None q f t is = let clash : None ≡ Some f = sym t ∙ is in cc
 tripled_from (Some e) q f t is = let both : Some f ≡ Some (3 * e + 2) = sym is ∙ t in (e, refl, (cc))
 
-not_plain_open : (act : Act) → IsPlain act → WantsOpen act → ⊥
-not_plain_open act plain wants = grind arith
-
-not_plain_closed : (act : Act) → IsPlain act → WantsClosed act → ⊥
-not_plain_closed act plain wants = grind arith
-
 shows_closed : (act : Act) → WantsClosed act → ShowsClosed act
 shows_closed act wants = grind arith
 
@@ -175,58 +169,41 @@ module _ (rules : Rules) (calls : List Call) (differ : Differ calls) (written : 
   drop : (p : ℕ) (c : Call) → WantsOpen c.act → c.end ≡ None → ((item : ℕ) → c.act ≡ Act.Send item → WasAccepted calls p item → ⊥) → (d : Call) × Drops calls p c d
   drop p c wants ends refused = (record { begin = 3 * c.begin; end = None; act = Act.Full }, record { act = refl; wants = wants; begin = refl; was_open = ends; end = refl; refused = refused })
 
+  opens_at : (p : ℕ) (c : Call) (f : ℕ) → WantsOpen c.act → f ≤ 3 * shut → 3 * c.begin ≤ f
+      → ((e : ℕ) → c.end ≡ Some e → f ≤ 3 * e + 2) → (f ≡ 3 * shut) ⊎ ((e : ℕ) × (c.end ≡ Some e) × (f ≡ 3 * e + 2))
+      → ((item : ℕ) → c.act ≡ Act.Send item → WasAccepted calls p item) → (d : Call) × Opens calls shut p c d
+  opens_at p c f wants by from ended why accepted = (
+    record { begin = 3 * c.begin; end = Some f; act = c.act },
+    record {
+      act = refl;
+      wants = wants;
+      begin = refl;
+      f = f;
+      end = refl;
+      by = by;
+      from = from;
+      ended = ended;
+      why = why;
+      accepted = accepted;
+    },
+  )
+
   opens_some : (p : ℕ) (c : Call) (e : ℕ) → slice_get calls p ≡ Some c → WantsOpen c.act → c.end ≡ Some e → WasOpen calls p → ((item : ℕ) → c.act ≡ Act.Send item → WasAccepted calls p item) → (d : Call) × Opens calls shut p c d
   opens_some p c e is wants ends open_then accepted =
+      let by = open_by_then p c is open_then in
+      let timed = written.timed p c e is ends in
       elim (cases_lt e shut) [
-        | inl less ↦ (
-          record { begin = 3 * c.begin; end = Some (3 * e + 2); act = c.act },
-          record {
-            act = refl;
-            wants = wants;
-            begin = refl;
-            f = 3 * e + 2;
-            end = refl;
-            by = omega (arith, less);
-            from = omega (arith, written.timed p c e is ends);
-            ended = λ g is_g. let both : Some e ≡ Some g = sym ends ∙ is_g in let same : e ≡ g = cc in omega (arith, same);
-            why = inr (e, ends, refl);
-            accepted = accepted;
-          },
-        )
-        | inr not_less ↦ (
-          record { begin = 3 * c.begin; end = Some (3 * shut); act = c.act },
-          record {
-            act = refl;
-            wants = wants;
-            begin = refl;
-            f = 3 * shut;
-            end = refl;
-            by = omega arith;
-            from = omega (arith, open_by_then p c is open_then);
-            ended = λ g is_g. let both : Some e ≡ Some g = sym ends ∙ is_g in let same : e ≡ g = cc in omega (arith, same, not_less);
-            why = inl refl;
-            accepted = accepted;
-          },
-        )
+        | inl less ↦
+            opens_at p c (3 * e + 2) wants (omega arith) (omega arith) (λ g is_g. grind arith) (inr (e, ends, refl))
+            accepted
+        | inr not_less ↦
+            opens_at p c (3 * shut) wants (omega arith) (omega arith) (λ g is_g. grind arith) (inl refl) accepted
       ]
 
   opens_none : (p : ℕ) (c : Call) → slice_get calls p ≡ Some c → WantsOpen c.act → c.end ≡ None → WasOpen calls p → ((item : ℕ) → c.act ≡ Act.Send item → WasAccepted calls p item) → (d : Call) × Opens calls shut p c d
   opens_none p c is wants ends open_then accepted =
-      let b = open_by_then p c is open_then in (
-        record { begin = 3 * c.begin; end = Some (3 * shut); act = c.act },
-        record {
-          act = refl;
-          wants = wants;
-          begin = refl;
-          f = 3 * shut;
-          end = refl;
-          by = omega arith;
-          from = omega (arith, b);
-          ended = λ g is_g. let clash : None ≡ Some g = sym ends ∙ is_g in cc;
-          why = inl refl;
-          accepted = accepted;
-        },
-      )
+      let by = open_by_then p c is open_then in
+      opens_at p c (3 * shut) wants (omega arith) (omega arith) (λ g is_g. grind arith) (inl refl) accepted
 
   shuts : (p : ℕ) (c : Call) → slice_get calls p ≡ Some c → WantsClosed c.act → p ≢ close → (d : Call) × Shuts shut close p c d
   shuts p c is wants other =
@@ -318,7 +295,11 @@ module _ (rules : Rules) (calls : List Call) (differ : Differ calls) (written : 
   plain_old act plain p d =
       let r = chosen.back p d.call d.call_is in
       let k : Keeps r.0 d.call = grind arith in
-      record { old = record { call = r.0; call_is = r.1; act_is = sym k.act ∙ d.act_is }; begin = k.begin; ends = k.ends }
+      record {
+        old = record { call = r.0; call_is = r.1; act_is = sym k.act ∙ d.act_is };
+        begin = k.begin;
+        ends = k.ends;
+      }
 
   plain_new : (act : Act) → IsPlain act → (p : ℕ) (d : Did calls p act) → (n : Did Clipped p act) × (n.call.begin ≡ 3 * d.call.begin)
   unfolding Clipped
@@ -599,7 +580,8 @@ module _ (rules : Rules) (calls : List Call) (ties : rules.ties.items ≡ []) (d
 
       unclosed : (p : ℕ) (c : Call) → slice_get calls p ≡ Some c → (a : Act) → c.act ≡ a → WantsClosed c.act → IsIdle c.act × (IsSome c.end → ⊥)
       unclosed p c is a act wants =
-          let ended : c.act ≡ Act.Ended → IsSome c.end = λ e. written.ended p (record { call = c; call_is = is; act_is = e }) in
+          let ended : c.act ≡ Act.Ended → IsSome c.end =
+          λ e. written.ended p (record { call = c; call_is = is; act_is = e }) in
           grind (arith, not_ended p c is wants)
 
   by_closes : (closes : Bool) → rules.closes ≡ closes → IsLinearizable (of_any_capacity rules) calls

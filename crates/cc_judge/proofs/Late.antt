@@ -13,7 +13,7 @@ use Rattle.cc_judge.specs.Late.{AreOfPart, IsSound, LateLogsAreLinearizable, ear
 use Rattle.cc_judge.proofs.Places.{In, Before, before_first, before_second, in_at, at_in, at_before, before_at}
 use Rattle.cc_judge.proofs.Turns.{nat_cases}
 use Rattle.cc_judge.proofs.Orders.{apart, in_log, in_time, one_send, one_take, runs, sent_in_log, step_of, took_in_log}
-use Rattle.cc_judge.proofs.Marks.{IsEarly, get_behind, get_front, get_split, get_within, is_some_true, lacks, lacks_at, lacks_rises, marked, marks_sent, marks_taken, none_is_marked, none_marked, one_early, only_marked, padding_early}
+use Rattle.cc_judge.proofs.Marks.{IsEarly, get_behind, get_front, get_split, get_within, is_some_true, lacks, lacks_at, lacks_rises, marked, marks_sent, marks_taken, none_is_marked, none_marked, only_marked, padding_early}
 
 -- ---- a list of steps of which some go to other places, and some aren't kept
 
@@ -61,8 +61,7 @@ origins f (x ∷ steps) s t first = elim (put_before (f x) x.act (moved f steps)
 ]
 
 in_put : (o : Option ℕ) (act : Act) (rest : List Step) (s : Step) → In s rest → In s (put o act rest)
-in_put None act rest s within = within
-in_put (Some place) act rest s within = inr within
+in_put o act rest s within = grind arith
 
 here_put : (o : Option ℕ) (act : Act) (rest : List Step) (q : ℕ) → o ≡ Some q → In (record { place = q; act = act }) (put o act rest)
 here_put o act rest q is = subst (λ (x : Option ℕ). In (record { place = q; act = act }) (put x act rest)) (sym is) (inl refl)
@@ -88,8 +87,7 @@ only k [] = []
 only k (x ∷ xs) = add_if (k x) x (only k xs)
 
 add_more : (b : Bool) (x : ℕ) (rest more : List ℕ) → add_if b x (rest ++ more) ≡ add_if b x rest ++ more
-add_more true x rest more = refl
-add_more false x rest more = refl
+add_more b x rest more = grind arith
 
 only_snoc : (k : ℕ → Bool) (xs : List ℕ) (x : ℕ) → only k (xs ++ x ∷ []) ≡ only k xs ++ add_if (k x) x []
 only_snoc k [] x = refl
@@ -141,8 +139,7 @@ no_close : (act : Act) → act ≢ Act.Close → (closed : Bool) (place : ℕ) (
 no_close act not closed place later = grind arith
 
 put_closes : (o : Option ℕ) (closed : Bool) (act : Act) (rest : List Step) → Allows closed act → Closes (closed_after closed act) rest → (o ≡ None → closed_after closed act ≡ closed) → Closes closed (put o act rest)
-put_closes None closed act rest allows closes same = subst (λ (b : Bool). Closes b rest) (same refl) closes
-put_closes (Some place) closed act rest allows closes same = (allows, closes)
+put_closes o closed act rest allows closes same = grind arith
 
 -- a queue that is closed stays so; one that isn't is closed by a step that is kept
 moved_closes : (f : Step → Option ℕ) (first : Option ℕ) → ((s : Step) → f s ≡ None → s.act ≡ Act.Close → first ≡ Some s.place → ⊥)
@@ -287,26 +284,22 @@ taker calls items x is = elim (only_marked mark_taken Act.Took marks_taken calls
 ]
 
 true_or_false : (b : Bool) → (b ≡ true) ⊎ (b ≡ false)
-true_or_false true = inl refl
-true_or_false false = inr refl
+true_or_false b = grind arith
 
 or_left : (a b : Bool) → a ≡ true → (a || b) ≡ true
 or_left a b is = ap (λ (c : Bool). c || b) is
 
 or_right : (a b : Bool) → b ≡ true → (a || b) ≡ true
-or_right true b is = refl
-or_right false b is = is
+or_right a b is = grind arith
 
 or_second : (a b : Bool) → (a || b) ≡ true → a ≡ false → b ≡ true
-or_second true b is not = cc
-or_second false b is not = is
+or_second a b is not = grind arith
 
 or_first : (a b : Bool) → (a || b) ≡ true → b ≡ false → a ≡ true
 or_first a b is not = grind arith
 
 not_both : (b : Bool) → b ≡ true → b ≡ false → ⊥
-not_both true is_so is_not = cc
-not_both false is_so is_not = cc
+not_both b is_so is_not = grind arith
 
 no_end : (o : Option ℕ) → o ≡ None → IsSome o → ⊥
 no_end o none some = grind arith
@@ -318,8 +311,7 @@ first_if true order = first_close order
 first_if false order = None
 
 first_some : (b : Bool) (order : List Step) (p : ℕ) → first_if b order ≡ Some p → b ≡ true
-first_some true order p is = refl
-first_some false order p is = cc
+first_some b order p is = grind arith
 
 abbrev goes_to : Rules → List Call → (items : ℕ) → List Step → Step → Option ℕ
 goes_to part calls items order s = fate calls items (first_if part.closes order) s
@@ -441,8 +433,7 @@ goes_own calls items first s q is less = grind arith
 -- ---- the calls that a late log may lack
 
 close_early : (b : Bool) (j : ℕ) (c : Call) → slice_get (early_close b) j ≡ Some c → IsEarly c
-close_early true j c is = one_early Act.Close j c is
-close_early false j c is = cc
+close_early b j c is = grind arith
 
 padded_split : (closes : Bool) (calls : List Call) (items p : ℕ) (c : Call) → slice_get (padded true closes calls items) p ≡ Some c → (slice_get calls p ≡ Some c) ⊎ IsEarly c
 padded_split closes calls items p c is = elim (get_split (calls ++ pads calls items items) (early_close closes) p c is) [

@@ -106,8 +106,7 @@ none_is_marked (suc n) zero is = cc
 none_is_marked (suc n) (suc x) is = none_is_marked n x is
 
 pub is_some_true : (o : Option Bool) → unwrap_or o false ≡ true → o ≡ Some true
-is_some_true None is = cc
-is_some_true (Some b) is = ap Some is
+is_some_true o is = grind arith
 
 -- ---- places of what is lacking
 
@@ -143,8 +142,7 @@ pub early_is : (act : Act) (c : Call) → early act ≡ c → IsEarly c
 early_is act c is = (ap (λ (y : Call). y.begin) (sym is), ap (λ (y : Call). y.end) (sym is))
 
 pub one_early : (act : Act) (j : ℕ) (c : Call) → slice_get (early act ∷ []) j ≡ Some c → IsEarly c
-one_early act zero c is = early_is act c (cc)
-one_early act (suc j) c is = cc
+one_early act j c is = grind arith
 
 lacking_early : (a b : Bool) (x j : ℕ) (c : Call) → slice_get (lacking a b x) j ≡ Some c → IsEarly c
 lacking_early a b x j c is = grind arith

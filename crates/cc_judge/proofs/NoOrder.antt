@@ -59,8 +59,7 @@ reopened rules calls closed send order differ f o =
     ]
 
 answers_return : (act : Act) → ((act ≡ Act.Closed) ⊎ (act ≡ Act.Ended)) → act ≢ Act.Taking
-answers_return act (inl answered) taking = let e : Act.Closed ≡ Act.Taking = sym answered ∙ taking in cc
-answers_return act (inr ended) taking = let e : Act.Ended ≡ Act.Taking = sym ended ∙ taking in cc
+answers_return act answers taking = grind arith
 
 pub closed_early : (rules : Rules) (calls : List Call) (call : ℕ) (order : List Step) → ClosedEarly rules calls call → IsOrder rules calls order → ⊥
 closed_early rules calls call order f o =

@@ -12,8 +12,7 @@ abbrev pub WantsOpen : Act → Type 0
 WantsOpen act = ((item : ℕ) × (act ≡ Act.Send item)) ⊎ (act ≡ Act.Full)
 
 open_then : (closed : Bool) (act : Act) → Allows closed act → WantsOpen act → closed ≡ false
-open_then closed act allows (inl sent) = subst (λ (a : Act). Allows closed a) sent.1 allows
-open_then closed act allows (inr full) = subst (λ (a : Act). Allows closed a) full allows
+open_then closed act allows wants = grind arith
 
 stays_closed : (act : Act) → closed_after true act ≡ true
 stays_closed act = grind arith
@@ -37,8 +36,7 @@ abbrev pub Answers : Act → Type 0
 Answers act = (act ≡ Act.Closed) ⊎ (act ≡ Act.Ended)
 
 closed_then : (closed : Bool) (act : Act) → Allows closed act → Answers act → closed ≡ true
-closed_then closed act allows (inl answered) = subst (λ (a : Act). Allows closed a) answered allows
-closed_then closed act allows (inr ended) = subst (λ (a : Act). Allows closed a) ended allows
+closed_then closed act allows answers = grind arith
 
 still_open : (act : Act) → act ≢ Act.Close → closed_after false act ≡ false
 still_open act other = grind arith

@@ -15,8 +15,7 @@ pub record TabledTo (calls : List Call) (kind : Kind) (table : List (Option ℕ)
   pub past : (place item : ℕ) → slice_get table item ≡ Some (Some place) → place < upto
 
 one_item : (kind : Kind) (item other : ℕ) → act_of kind item ≡ act_of kind other → item ≡ other
-one_item Kind.Send item other same = cc
-one_item Kind.Take item other same = cc
+one_item kind item other same = grind arith
 
 -- the call at i, as a loop reads it
 pub did_here : (calls : List Call) (i : ℕ) (d : Call) (act : Act) → i < length calls → (get_or calls i d).act ≡ act → Did calls i act

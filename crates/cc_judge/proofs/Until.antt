@@ -48,8 +48,7 @@ may_until : (said did : Act) → MayHaveDone said did → MayHaveDone (act_until
 may_until said did may = grind arith
 
 may_by : (time : ℕ) (c d : Call) (did : Act) → IsCallUntil time c d → MayHaveDone c.act did → MayHaveDone d.act (act_by (finds_none d.act) did)
-may_by time c d did (inl over) may = subst (λ (x : Call). MayHaveDone x.act (act_by (finds_none x.act) did)) (sym over.1) (may_still c.act did may)
-may_by time c d did (inr held) may = subst (λ (x : Call). MayHaveDone x.act (act_by (finds_none x.act) did)) (sym held.1) (may_until c.act did may)
+may_by time c d did until may = grind arith
 
 abbrev pub finds_of : Option Call → Bool
 finds_of None = false
@@ -84,12 +83,10 @@ closes_by part closed (s ∷ order) closes =
 module _ (time : ℕ) (calls part : List Call) (k : IsUntil time calls part) where
   -- what the log until the time has of a call that returned, the log has
   begins : (c d : Call) → IsCallUntil time c d → d.begin ≡ c.begin
-  begins c d (inl over) = ap (λ (x : Call). x.begin) over.1
-  begins c d (inr held) = ap (λ (x : Call). x.begin) held.1
+  begins c d until = grind arith
 
   ends : (c d : Call) → IsCallUntil time c d → (end : ℕ) → d.end ≡ Some end → d ≡ c
-  ends c d (inl over) end is = over.1
-  ends c d (inr held) end is = let clash : None ≡ Some end = sym (ap (λ (x : Call). x.end) held.1) ∙ is in cc
+  ends c d until end is = grind arith
 
   before_too : (one other : ℕ) → EndsBefore part one other → EndsBefore calls one other
   before_too one other e = grind arith
@@ -162,8 +159,10 @@ until_end time calls written ended = record { there = λ p c is. (c, is, whole p
   where
     plain : (p : ℕ) (c : Call) → slice_get calls p ≡ Some c → c.end ≡ None → (act : Act) → c.act ≡ act → c.act ≡ act_until c.act
     plain p c is none a act =
-        let took : (v : ℕ) → c.act ≡ Act.Took v → IsSome c.end = λ v e. written.took p v (record { call = c; call_is = is; act_is = e }) in
-        let ended : c.act ≡ Act.Ended → IsSome c.end = λ e. written.ended p (record { call = c; call_is = is; act_is = e }) in
+        let took : (v : ℕ) → c.act ≡ Act.Took v → IsSome c.end =
+        λ v e. written.took p v (record { call = c; call_is = is; act_is = e }) in
+        let ended : c.act ≡ Act.Ended → IsSome c.end =
+        λ e. written.ended p (record { call = c; call_is = is; act_is = e }) in
         grind arith
 
     same_call : (c : Call) → c.end ≡ None → c.act ≡ act_until c.act → c ≡ unreturned c

@@ -24,8 +24,7 @@ due None last = last
 due (Some e) last = e
 
 due_is : (o : Option ℕ) (last e : ℕ) → o ≡ Some e → due o last ≡ e
-due_is None last e is = cc
-due_is (Some f) last e is = cc
+due_is o last e is = grind arith
 
 until_of : (calls : List Call) → (last : ℕ) × Until calls last
 until_of [] = (0, record { begun = λ p c is. cc; ended = λ p c e is ends. cc })
@@ -119,12 +118,10 @@ place_of (none act take) = take
 -- ---- they have no call in common
 
 pub none_send : (act : Act) (item : ℕ) → FindsNone act → act ≡ Act.Send item → ⊥
-none_send act item (inl is) send = let e : Act.FoundNone ≡ Act.Send item = sym is ∙ send in cc
-none_send act item (inr is) send = let e : Act.Ended ≡ Act.Send item = sym is ∙ send in cc
+none_send act item finds send = grind arith
 
 pub none_took : (act : Act) (item : ℕ) → FindsNone act → act ≡ Act.Took item → ⊥
-none_took act item (inl is) took = let e : Act.FoundNone ≡ Act.Took item = sym is ∙ took in cc
-none_took act item (inr is) took = let e : Act.Ended ≡ Act.Took item = sym is ∙ took in cc
+none_took act item finds took = grind arith
 
 -- the call is the one that the item is named by, and no take of an item, or it took the item
 Role : (calls : List Call) → Item → Fate → (place : ℕ) → Type 0
@@ -144,8 +141,7 @@ at_of : (calls : List Call) (last p m : ℕ) (act : Act) → (act ≢ Act.Taking
 at_of calls last p m act plain d low high = grind arith
 
 due_cases : (o : Option ℕ) (last : ℕ) → ((e : ℕ) × (o ≡ Some e) × (due o last ≡ e)) ⊎ ((o ≡ None) × (due o last ≡ last))
-due_cases None last = inr (refl, refl)
-due_cases (Some e) last = inl (e, refl, refl)
+due_cases o last = grind arith
 
 module _ (calls : List Call) (last : ℕ) (u : Until calls last) (fine : Faultless calls) where
   due_last : (p : ℕ) (c : Call) → slice_get calls p ≡ Some c → due c.end last ≤ last

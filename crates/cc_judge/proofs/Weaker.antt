@@ -9,8 +9,7 @@ use Rattle.cc_judge.proofs.Late.{late_logs_are_linearizable}
 use Rattle.cc_judge.proofs.Marks.{get_behind, get_front, get_split}
 
 some_of : (o : Option ℕ) → IsSome o → (e : ℕ) × (o ≡ Some e)
-some_of None some = cc
-some_of (Some e) some = (e, refl)
+some_of o some = grind arith
 
 is_some : (o : Option ℕ) (e : ℕ) → o ≡ Some e → IsSome o
 is_some o e is = subst IsSome (sym is) refl

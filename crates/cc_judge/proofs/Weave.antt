@@ -267,8 +267,7 @@ put_woven P never now inside y rest send m z fate of stays later may v = record 
 }
 
 none_does : (act : Act) → FindsNone act → Does None [] act []
-none_does act (inl is) = subst (λ (a : Act). Does None [] a []) (sym is) (refl, refl)
-none_does act (inr is) = subst (λ (a : Act). Does None [] a []) (sym is) (refl, refl)
+none_does act finds = grind arith
 
 none_woven : (P : Step → ℕ → Type 0) (never now : ℕ) (y : Item) (rest : List Item) (act : Act) (take m : ℕ) → State P never now [] (y ∷ rest) → y.fate ≡ none act take → FindsNone act → now ≤ m → P (record { place = take; act = act }) m → Woven P m [] rest → Woven P now [] (y ∷ rest)
 none_woven P never now y rest act take m z fate finds later may v = record {
