@@ -5,7 +5,7 @@ use Rattle.std.proofs.lemmas.Bool.{cases_lt}
 use Rattle.cc_judge.specs.Names.{Act, Call, Step, Rules}
 use Rattle.cc_judge.specs.Order.{EndsBefore, IsCall, IsOrder}
 use Rattle.cc_judge.specs.Faults.{Did, Differ, ShowsClosed, BeganBy, FindsNone}
-use Rattle.cc_judge.specs.Complete.{In}
+use Rattle.cc_judge.specs.Faults.{In}
 use Rattle.cc_judge.specs.Counts.{SentBy, IsLeftBy, MoreLeft, IsInside, TookOver, LeftBehind, NeverEmpty, EndedWithItems, CountsHaveNoOrder}
 use Rattle.cc_judge.proofs.Places.{Before, before_first, in_order, at_in, at_before, before_at}
 use Rattle.cc_judge.proofs.Turns.{nat_cases}

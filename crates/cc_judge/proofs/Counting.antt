@@ -1,38 +1,20 @@
 -- Sends and takes in lists are counted: as many, or more.
-use Rattle.std.proofs.Common.{◌≡◌, ℕ, zero, suc, ◌<◌, ◌≤◌, inl, inr, List, [], ◌∷◌, length, Some, refl, sym, ap, ◌∙◌, subst, arith}
+use Rattle.std.proofs.Common.{◌≡◌, ℕ, zero, suc, ◌+◌, ◌<◌, ◌≤◌, inl, inr, List, [], ◌∷◌, ◌++◌, length, Some, refl, sym, ap, subst, arith}
 use Rattle.std.specs.List.{slice_get}
-use Rattle.std.proofs.lemmas.Bool.{cases_lt}
 use Rattle.cc_judge.specs.Names.{Call, Rules}
-use Rattle.cc_judge.specs.Complete.{In, Once}
-use Rattle.cc_judge.specs.Counts.{MoreLeft, AreEnough, HasLefts, HasWaits, AreFirst, CountsAreRight}
-use Rattle.cc_judge.proofs.Fewer.{once_another}
-
--- the numbers below one
-below : ℕ → List ℕ
-below zero = []
-below (suc n) = n ∷ below n
-
-below_length : (n : ℕ) → length (below n) ≡ n
-unfolding below
-below_length zero = refl
-below_length (suc n) = ap suc (below_length n)
-
-in_below : (n k : ℕ) → k < n → In k (below n)
-unfolding below
-in_below zero k less = absurd (omega (arith, less))
-in_below (suc n) k less = elim (cases_lt k n) [ inl lower ↦ inr (in_below n k lower) | inr not_lower ↦ inl (omega (arith, less, not_lower)) ]
+use Rattle.cc_judge.specs.Faults.{In, Once}
+use Rattle.cc_judge.specs.Counts.{AreEnough, AreFirst, CountsAreRight, HasTimes, IsLeftBy, MoreLeft, Upto, WaitsBy}
+use Rattle.cc_judge.specs.Room.{AreAll}
+use Rattle.cc_judge.proofs.Fewer.{are_in}
+use Rattle.cc_judge.proofs.Listing.{Apart}
+use Rattle.cc_judge.proofs.Places.{in_last, in_more, in_snoc}
+use Rattle.cc_judge.proofs.Turns.{nat_cases}
 
 -- the places of the first elements
 pub heads : List (ℕ × ℕ) → ℕ → List ℕ
 heads [] n = []
 heads (x ∷ xs) zero = []
 heads (x ∷ xs) (suc n) = x.1 ∷ heads xs n
-
-pub heads_most : (xs : List (ℕ × ℕ)) (n : ℕ) → length (heads xs n) ≤ n
-unfolding heads
-heads_most [] n = omega arith
-heads_most (x ∷ xs) zero = omega arith
-heads_most (x ∷ xs) (suc n) = let h = heads_most xs n in omega (arith, h)
 
 pub heads_length : (xs : List (ℕ × ℕ)) (n : ℕ) → n ≤ length xs → length (heads xs n) ≡ n
 unfolding heads
@@ -54,9 +36,6 @@ at_heads (x ∷ xs) zero k t q less is = absurd (omega (arith, less))
 at_heads (x ∷ xs) (suc n) zero t q less is = let e : x ≡ (t, q) = cc in inl (ap (λ (p : ℕ × ℕ). p.1) e)
 at_heads (x ∷ xs) (suc n) (suc k) t q less is = inr (at_heads xs n k t q (omega (arith, less)) is)
 
-abbrev Apart : List (ℕ × ℕ) → Type 0
-Apart xs = (j k t u q : ℕ) → slice_get xs j ≡ Some (t, q) → slice_get xs k ≡ Some (u, q) → j ≡ k
-
 pub heads_once : (xs : List (ℕ × ℕ)) (n : ℕ) → Apart xs → Once (heads xs n)
 unfolding heads
 heads_once [] n apart = tt
@@ -66,62 +45,97 @@ heads_once (x ∷ xs) (suc n) apart = (
   heads_once xs n (λ j k t u q j_is k_is. let e = apart (suc j) (suc k) t u q j_is k_is in omega (arith, e)),
 )
 
--- ---- of lists without doubles one is no longer than what it is sent to
+-- it holds of so many places
+pub record Counted (P : ℕ → Type 0) (number : ℕ) : Type 0 where
+  pub places : List ℕ
+  pub long : length places ≡ number
+  pub are : AreAll P places
 
-abbrev At : (xs : List (ℕ × ℕ)) (n s k : ℕ) → Type 0
-At xs n s k = (t : ℕ) × (slice_get xs k ≡ Some (t, s)) × (k < n)
+pub counted : (P : (time place : ℕ) → Type 0) (list : List (ℕ × ℕ)) (number time : ℕ) → HasTimes P list → AreFirst list number time → Counted (P time) number
+counted P list number time l first = record {
+  places = heads list number;
+  long = heads_length list number first.within;
+  are = record {
+    once = heads_once list number l.apart;
+    each = λ p within. let h = heads_at list number p within in (l.each h.0 h.1 p h.3).0 time (first.first h.0 h.1 p h.2 h.3);
+    all = λ p holds. let a = l.all p time holds in at_heads list number a.0 a.1 p (first.rest a.0 a.1 p a.2 a.3) a.2;
+  };
+}
 
-one_pair : (x y : ℕ × ℕ) → Some x ≡ Some y → x ≡ y
-one_pair x y same = cc
+module _ (rules : Rules) (calls : List Call) (lefts waits : List (ℕ × ℕ)) (left wait sent began : ℕ) (l : HasTimes (IsLeftBy rules calls) lefts) (w : HasTimes (Upto (WaitsBy calls)) waits) (first_left : AreFirst lefts left sent) (first_wait : AreFirst waits wait (suc began)) where
+  enough_counted : left ≤ wait → AreEnough rules calls sent began
+  enough_counted by sends once each =
+      let c = counted (IsLeftBy rules calls) lefts left sent l first_left in
+      let few = are_in sends c.places once (λ s within. c.are.all s (each s within)) in
+      let fits = first_wait.within in (
+        heads waits (length sends),
+        heads_length waits (length sends) (omega (arith, few, c.long, by, fits)),
+        heads_once waits (length sends) w.apart,
+        λ take within.
+            let r = heads_at waits (length sends) take within in
+            let less = r.2 in
+            let early = first_wait.first r.0 r.1 take (omega (arith, less, few, c.long, by)) r.3 in
+            (w.each r.0 r.1 take r.3).0 (suc began) early,
+      )
 
-at_own : (xs : List (ℕ × ℕ)) (n s t k : ℕ) → At xs n s k → At xs n t k → s ≡ t
-at_own xs n s t k a b = ap (λ (p : ℕ × ℕ). p.1) (one_pair (a.0, s) (b.0, t) (sym a.1 ∙ b.1))
-
--- places without doubles that are each in a list at a number below n are no more than n
-no_more : (xs : List (ℕ × ℕ)) (n : ℕ) (sends : List ℕ) → Once sends → ((s : ℕ) → In s sends → (k : ℕ) × At xs n s k) → length sends ≤ n
-no_more xs n sends once each = elim (cases_lt n (length sends)) [
-  | inr not_less ↦ not_less
-  | inl less ↦
-      let long = below_length n in
-      let a = once_another (At xs n) (λ k. ⊥) sends (below n) once (omega (arith, long, less)) each (at_own xs n) (λ s k within at. inl (in_below n k at.2)) in
-      absurd a.more
-]
-
-enough_counted : (rules : Rules) (calls : List Call) (lefts waits : List (ℕ × ℕ)) (left wait sent began : ℕ) → HasLefts rules calls lefts → HasWaits calls waits → AreFirst lefts left sent → AreFirst waits wait (suc began) → left ≤ wait → AreEnough rules calls sent began
-enough_counted rules calls lefts waits left wait sent began l w first_left first_wait by sends once each =
-    let few : length sends ≤ left = no_more lefts left sends once (λ s within. let r = l.all s sent (each s within) in (r.0, (r.1, r.2, first_left.rest r.0 r.1 s r.2 r.3))) in
-    let fits = first_wait.within in (
-      heads waits (length sends),
-      heads_length waits (length sends) (omega (arith, few, by, fits)),
-      heads_once waits (length sends) w.apart,
-      λ take within.
-          let r = heads_at waits (length sends) take within in
-          let less = r.2 in
-          let early = first_wait.first r.0 r.1 take (omega (arith, less, few, by)) r.3 in
-          w.each r.0 r.1 take r.3 began (omega (arith, early)),
-    )
-
-more_counted : (rules : Rules) (calls : List Call) (lefts waits : List (ℕ × ℕ)) (left wait sent began : ℕ) → HasLefts rules calls lefts → HasWaits calls waits → AreFirst lefts left sent → AreFirst waits wait (suc began) → wait < left → MoreLeft rules calls sent began
-more_counted rules calls lefts waits left wait sent began l w first_left first_wait by =
-    let many = heads_length lefts left first_left.within in
-    let few = heads_most waits wait in
-    record {
-      sends = heads lefts left;
-      apart = heads_once lefts left l.apart;
-      each = λ send within. let r = heads_at lefts left send within in l.each r.0 r.1 send r.3 sent (first_left.first r.0 r.1 send r.2 r.3);
-      takes = heads waits wait;
-      all = λ take waiting. let r = w.all take began waiting in let by_then = r.3 in at_heads waits wait r.0 r.1 take (first_wait.rest r.0 r.1 take r.2 (omega (arith, by_then))) r.2;
-      more = omega (arith, many, few, by);
-    }
+  more_counted : wait < left → MoreLeft rules calls sent began
+  more_counted by =
+      let c = counted (IsLeftBy rules calls) lefts left sent l first_left in
+      let d = counted (Upto (WaitsBy calls)) waits wait (suc began) w first_wait in
+      record {
+        sends = c.places;
+        apart = c.are.once;
+        each = c.are.each;
+        takes = d.places;
+        all = d.are.all;
+        more = omega (arith, c.long, d.long, by);
+      }
 
 -- enough takes for all leave none over
 not_both : (rules : Rules) (calls : List Call) (sent began : ℕ) → AreEnough rules calls sent began → MoreLeft rules calls sent began → ⊥
 not_both rules calls sent began enough m =
     let r = enough m.sends m.apart m.each in
-    let long = r.1 in
-    let more = m.more in
-    let a = once_another (λ (p q : ℕ). p ≡ q) (λ q. ⊥) r.0 m.takes r.2 (omega (arith, long, more)) (λ p within. (p, refl)) (λ p q s one other. one ∙ sym other) (λ p q within same. inl (subst (λ (x : ℕ). In x m.takes) same (m.all p (r.3 p within)))) in
-    a.more
+    let few = are_in r.0 m.takes r.2 (λ p within. m.all p (r.3 p within)) in
+    omega (arith, few, r.1, m.more)
 
 pub counts_are_right : CountsAreRight
-counts_are_right = record { enough = enough_counted; more = more_counted; not_both = not_both }
+counts_are_right = record {
+  enough = λ rules calls lefts waits left wait sent began l w first_left first_wait by. enough_counted rules calls lefts waits left wait sent began l w first_left first_wait by;
+  more = λ rules calls lefts waits left wait sent began l w first_left first_wait by. more_counted rules calls lefts waits left wait sent began l w first_left first_wait by;
+  not_both = not_both;
+}
+
+-- ---- the places of which it holds, one after another
+
+pub record AllTo (P : ℕ → Type 0) (places : List ℕ) (upto : ℕ) : Type 0 where
+  pub once : Once places
+  pub past : (p : ℕ) → In p places → p < upto
+  pub each : (p : ℕ) → In p places → P p
+  pub all : (p : ℕ) → p < upto → P p → In p places
+
+module _ (P : ℕ → Type 0) (places : List ℕ) (i : ℕ) (so_far : AllTo P places i) where
+  pub all_skip : (P i → ⊥) → AllTo P places (i + 1)
+  all_skip none = record {
+    once = so_far.once;
+    past = λ p within. let less = so_far.past p within in omega (arith, less);
+    each = so_far.each;
+    all = λ p below holds. elim (nat_cases p i) [ inl here ↦ absurd (none (subst P here holds)) | inr other ↦ so_far.all p (omega (arith, below, other)) holds ];
+  }
+
+  pub all_more : P i → AllTo P (places ++ i ∷ []) (i + 1)
+  all_more holds = record {
+    once = snoc_once places i so_far.once (λ within. let less = so_far.past i within in omega (arith, less));
+    past = λ p within. elim (in_snoc p i places within) [ inl had ↦ let less = so_far.past p had in omega (arith, less) | inr last ↦ omega (arith, last) ];
+    each = λ p within. elim (in_snoc p i places within) [ inl had ↦ so_far.each p had | inr last ↦ subst P last holds ];
+    all = λ p below it. elim (nat_cases p i) [
+      | inl here ↦ subst (λ (q : ℕ). In q (places ++ i ∷ [])) (sym here) (in_last i places)
+      | inr other ↦ in_more p i places (so_far.all p (omega (arith, below, other)) it)
+    ];
+  }
+    where
+      snoc_once : (xs : List ℕ) (y : ℕ) → Once xs → (In y xs → ⊥) → Once (xs ++ y ∷ [])
+      snoc_once [] y once apart = ((λ none. none), tt)
+      snoc_once (x ∷ xs) y once apart = ((λ within. elim (in_snoc x y xs within) [ inl had ↦ once.0 had | inr last ↦ apart (inl (sym last)) ]), snoc_once xs y once.1 (λ within. apart (inr within)))
+
+  pub all_of : (number : ℕ) → number ≤ i → ((p : ℕ) → P p → p < number) → AreAll P places
+  all_of number end within = record { once = so_far.once; each = so_far.each; all = λ p holds. let less = within p holds in so_far.all p (omega (arith, less, end)) holds }

@@ -5,10 +5,10 @@ use Rattle.std.proofs.lemmas.Bool.{cases_lt}
 use Rattle.cc_judge.specs.Names.{Act, Call, Rules, Step}
 use Rattle.cc_judge.specs.Order.{EndsBefore, IsCall, Does, IsRun, IsOrder}
 use Rattle.cc_judge.specs.Faults.{Returned, Differ, EndedBy, FewerAt, NotFull}
-use Rattle.cc_judge.proofs.Places.{In, Before, before_first, before_second, in_order, in_at}
+use Rattle.cc_judge.proofs.Places.{In, Before, before_first, before_second, in_order}
 use Rattle.cc_judge.proofs.Runs.{Earlier, Single, AtMostOnce, later, first, from_where, takes_front, gone, single_next, loosened}
 use Rattle.cc_judge.proofs.Orders.{returned_step, sent_in_log, in_log, in_time, on_before, one_send, apart}
-use Rattle.cc_judge.proofs.Fewer.{Once, once_another}
+use Rattle.cc_judge.proofs.Fewer.{Once, are_in}
 
 -- no step is in the list twice
 abbrev pub NoneTwice : List Step → Type 0
@@ -147,10 +147,6 @@ all_once : (xs : List ℕ) → ((item : ℕ) → AtMostOnce item xs) → Once xs
 all_once [] once = tt
 all_once (x ∷ xs) once = ((once x).0 refl, all_once xs (λ item. (once item).1))
 
-no_room : (xs may : List ℕ) → Once xs → length may < length xs → ((x : ℕ) → In x xs → In x may) → ⊥
-no_room xs may once shorter each =
-    (once_another (λ s p. s ≡ p) (λ p. ⊥) xs may once shorter (λ s within. (s, refl)) (λ s t p one two. one ∙ sym two) (λ s p within same. inl (subst (λ (x : ℕ). In x may) same (each s within)))).more
-
 -- ---- of an order
 
 module _ (rules : Rules) (calls : List Call) (call : ℕ) (order : List Step) (differ : Differ calls) (f : NotFull rules calls call) (o : IsOrder rules calls order) where
@@ -229,11 +225,12 @@ not_full rules calls call order differ f o =
       | inr e ↦
           let sent = sent_in_log rules calls order o e.step item (before_first e.step t.step order e.before) e.act_is in
           elim (fewer.others e.step.place item sent (record { call = sent.call; call_is = sent.call_is; by = l.each e.step item sent.call e.before e.act_is sent.call_is })) [
-            | inl within ↦ in_at item fewer.may within.0 within.1
+            | inl within ↦ within
             | inr taken ↦
                 let u = returned_step rules calls order o taken.0 (Act.Took item) (λ is. cc) taken.1 in
                 let ended : EndedBy calls u.step.place l.time = subst (λ (p : ℕ). EndedBy calls p l.time) (sym u.place_is) taken.2 in
                 absurd (h.untaken item has u.step (taken_first rules calls call order f o t.step t.place_is t.within t.act_is l u.step item u.within u.act_is ended) u.act_is)
           ]
     ] in
-    no_room h.items fewer.may (all_once h.items h.once) (omega (arith, h.many, fewer.fewer)) each
+    let few = are_in h.items fewer.may (all_once h.items h.once) each in
+    omega (arith, few, h.many, fewer.fewer)

@@ -290,7 +290,7 @@ pub untaken_more : (rules : Rules) (calls : List Call) (lists : Lists) (sends : 
 untaken_more rules calls lists sends at x l is so_far k other other_is = elim (pushed_at sends x.1 other k other_is) [
   | inl had ↦ so_far k other had
   | inr last ↦
-      let left = l.lefts.each at x.0 x.1 is (suc x.0) (omega (arith)) in
+      let left = (l.lefts.each at x.0 x.1 is).0 (suc x.0) (omega (arith)) in
       subst (IsUntaken calls) (sym last.1) (record { item = left.item; sent = left.sent_by.sent; untaken = left.untaken })
 ]
 

@@ -10,6 +10,8 @@ pub mod Lines
 pub mod Shut
 pub mod Full
 pub mod Many
+pub mod Crowding
+pub mod Knowing
 pub mod Sweeping
 pub mod Judging
 pub mod Deciding

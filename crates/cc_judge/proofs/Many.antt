@@ -1,19 +1,14 @@
 -- A queue never holds more items than its capacity.
-use Rattle.std.proofs.Common.{◌≡◌, ℕ, suc, ◌+◌, ◌<◌, ◌≤◌, ◌⊎◌, inl, inr, List, [], ◌∷◌, length, length-append, Bool, true, false, Option, Some, None, IsSome, refl, sym, ap, ◌∙◌, subst, arith}
+use Rattle.std.proofs.Common.{◌≡◌, ℕ, suc, ◌+◌, ◌<◌, ◌≤◌, ◌⊎◌, inl, inr, List, [], ◌∷◌, length, length-append, Option, Some, IsSome, refl, sym, ap, ◌∙◌, subst, arith}
 use Rattle.std.specs.List.{slice_get}
 use Rattle.cc_judge.specs.Names.{Act, Call, Rules, Step}
 use Rattle.cc_judge.specs.Order.{Does, IsRun, IsOrder}
-use Rattle.cc_judge.specs.Faults.{Did, Returned, Differ, IsRising, IsIn, EndedAt, BeganAfter, MoreAt, TooMany}
-use Rattle.cc_judge.specs.Checks.{LeavesAfter, Stays, WaitBy}
-use Rattle.cc_judge.specs.Names.{Kind}
-use Rattle.cc_judge.specs.Table.{IsTable}
-use Rattle.cc_judge.proofs.Places.{In, Before, before_first, in_order, in_at, at_in, in_last}
+use Rattle.cc_judge.specs.Faults.{Did, Returned, Differ, EndedBy, MoreAt, TooMany}
+use Rattle.cc_judge.proofs.Places.{In, Before, before_first, in_order, in_last}
 use Rattle.cc_judge.proofs.Runs.{to_where, sends_last, loosened}
 use Rattle.cc_judge.proofs.Orders.{StepOf, step_of, returned_step, took_in_log, in_time, on_before, one_take, apart}
-use Rattle.cc_judge.proofs.Fewer.{rising_once, once_another}
+use Rattle.cc_judge.proofs.Fewer.{once_another}
 use Rattle.cc_judge.proofs.Full.{NoneTwice, none_twice_later, none_before}
-use Rattle.cc_judge.proofs.Turns.{nat_cases}
-use Rattle.std.proofs.lemmas.Option.{slice_get_within}
 
 -- ---- what the queue holds after a step
 
@@ -209,7 +204,7 @@ module _ (rules : Rules) (calls : List Call) (order : List Step) (o : IsOrder ru
       let items : b.0 ≡ a.0 = cc in
       differ a.0 s t a.1 (subst (λ (i : ℕ). Did calls t (Act.Send i)) items b.1)
 
-  ended_step : (send item time : ℕ) → Did calls send (Act.Send item) → EndedAt calls send time → StepOf order send (Act.Send item)
+  ended_step : (send item time : ℕ) → Did calls send (Act.Send item) → EndedBy calls send time → StepOf order send (Act.Send item)
   ended_step send item time did e =
       let both : Some did.call ≡ Some e.call = sym did.call_is ∙ e.call_is in
       let one : did.call ≡ e.call = cc in
@@ -234,9 +229,8 @@ module _ (rules : Rules) (calls : List Call) (order : List Step) (o : IsOrder ru
   module _ (sends : List ℕ) (capacity time : ℕ) (is : rules.capacity ≡ Some capacity) (m : MoreAt calls sends capacity time) where
     steps_of : (s : ℕ) → In s sends → (item : ℕ) × StepOf order s (Act.Send item)
     steps_of s within =
-        let at = at_in s sends within in
-        let e = m.each at.0 s at.1 in
-        (e.0, ended_step s e.0 time e.1 e.2)
+        let e = m.each s within in
+        (e.0, ended_step s e.0 (suc time) e.1 e.2)
 
     last : Last order sends
     last =
@@ -249,12 +243,11 @@ module _ (rules : Rules) (calls : List Call) (order : List Step) (o : IsOrder ru
     -- a step until the last send that took the item of a send is of one of the takes
     taken_by : (send item : ℕ) → In send sends → Did calls send (Act.Send item) → (u : Step) → Until u last.step order → In u order → u.act ≡ Act.Took item → In u.place m.takes
     taken_by send item within did u until there took =
-        let at = at_in send sends within in
-        let here = at_in last.step.place sends last.place in
-        let e = m.each here.0 last.step.place here.1 in
-        elim (m.others at.0 send item u.place at.1 did may) [
-          | inl has ↦ in_at u.place m.takes has.0 has.1
-          | inr late ↦ absurd (begun last.step u last.item item e.2.end time e.2.call late.call last.act_is took until e.2.call_is e.2.ended e.2.by late.call_is late.after)
+        let e = m.each last.step.place last.place in
+        let by = e.2.by in
+        elim (m.others send item u.place within did may) [
+          | inl has ↦ has
+          | inr late ↦ absurd (begun last.step u last.item item e.2.end time e.2.call late.call last.act_is took until e.2.call_is e.2.ended (omega (arith, by)) late.call_is late.after)
         ]
       where
         may : Did calls u.place (Act.Took item) ⊎ (Did calls u.place Act.Taking × ((i : ℕ) → Returned calls i (Act.Took item) → ⊥))
@@ -276,9 +269,8 @@ module _ (rules : Rules) (calls : List Call) (order : List Step) (o : IsOrder ru
     somewhere : (send : ℕ) → In send sends → (number : ℕ) × (Where after.items m.takes send number × In number (evens_and_odds m.takes after.items))
     somewhere send within =
         let l = last.each send within in
-        let at = at_in send sends within in
-        let e = m.each at.0 send at.1 in
-        let s = ended_step send e.0 time e.1 e.2 in
+        let e = m.each send within in
+        let s = ended_step send e.0 (suc time) e.1 e.2 in
         let same = one_step l.1 s.step (until_in l.1 l.4) s.within (l.2 ∙ sym s.place_is) in
         let sent : l.1.act ≡ Act.Send e.0 = ap (λ (x : Step). x.act) same ∙ s.act_is in
         elim (after.new e.0 l.1 l.4 sent) [
@@ -296,105 +288,7 @@ module _ (rules : Rules) (calls : List Call) (order : List Step) (o : IsOrder ru
     overfull =
         let sum = both_length m.takes after.items in
         let fewer : length (evens_and_odds m.takes after.items) < length sends = omega (arith, sum, after.few, m.more) in
-        (once_another (λ send number. Where after.items m.takes send number × In number (evens_and_odds m.takes after.items)) (λ number. ⊥) sends (evens_and_odds m.takes after.items) (rising_once sends m.apart) fewer somewhere (λ s t number a b. one_where after.items m.takes s t number a.0 b.0) (λ s number within a. inl a.1)).more
+        (once_another (λ send number. Where after.items m.takes send number × In number (evens_and_odds m.takes after.items)) (λ number. ⊥) sends (evens_and_odds m.takes after.items) m.apart fewer somewhere (λ s t number a b. one_where after.items m.takes s t number a.0 b.0) (λ s number within a. inl a.1)).more
 
 pub too_many : (rules : Rules) (calls : List Call) (call : ℕ) (sends : List ℕ) (order : List Step) → Differ calls → TooMany rules calls call sends → IsOrder rules calls order → ⊥
 too_many rules calls call sends order differ f o = overfull rules calls order o differ sends f.capacity f.end f.capacity_is f.held
-
--- ---- as it is checked
-
-same_item : (calls : List Call) (send item other : ℕ) → Did calls send (Act.Send item) → Did calls send (Act.Send other) → item ≡ other
-same_item calls send item other one two =
-    let both : Some one.call ≡ Some two.call = sym one.call_is ∙ two.call_is in
-    let call : one.call ≡ two.call = cc in
-    let acts : Act.Send item ≡ Act.Send other = sym one.act_is ∙ ap (λ (c : Call). c.act) call ∙ two.act_is in
-    cc
-
-pub leaves_taken : (calls : List Call) (table : List (Option ℕ)) (item take time : ℕ) (left : Bool) → IsTable calls Kind.Take table → slice_get table item ≡ Some (Some take) → Returned calls take (Act.Took item) → BeganAfter calls take time → LeavesAfter calls item time left
-leaves_taken calls table item take time left tabled has took after = record {
-  either = inl (
-    take,
-    took,
-    λ t did.
-        let both : Some (Some t) ≡ Some (Some take) = sym (tabled.all t item did) ∙ has in
-        let same : take ≡ t = cc in
-        subst (λ (p : ℕ). BeganAfter calls p time) same after,
-  );
-}
-
-pub leaves_left : (calls : List Call) (table : List (Option ℕ)) (item time : ℕ) (left : Bool) → IsTable calls Kind.Take table → slice_get table item ≡ Some None → left ≡ true → LeavesAfter calls item time left
-leaves_left calls table item time left tabled none is = record {
-  either = inr (is, λ t did. let both : Some (Some t) ≡ Some None = sym (tabled.all t item did) ∙ none in cc);
-}
-
--- of the takes so far that haven't returned this many began by the time
-pub record WaitTo (calls : List Call) (time number upto : ℕ) : Type 0 where
-  pub takes : List ℕ
-  pub as_many : length takes ≡ number
-  pub others : (take : ℕ) → take < upto → Did calls take Act.Taking → IsIn take takes ⊎ BeganAfter calls take time
-
-pub wait_skip : (calls : List Call) (time number i : ℕ) → (Did calls i Act.Taking → BeganAfter calls i time) → WaitTo calls time number i → WaitTo calls time number (i + 1)
-wait_skip calls time number i past w = record {
-  takes = w.takes;
-  as_many = w.as_many;
-  others = λ take below did. elim (nat_cases take i) [
-    | inl same ↦ inr (subst (λ (p : ℕ). BeganAfter calls p time) (sym same) (past (subst (λ (p : ℕ). Did calls p Act.Taking) same did)))
-    | inr apart ↦ w.others take (omega (arith, below, apart)) did
-  ];
-}
-
-pub wait_one : (calls : List Call) (time number more i : ℕ) → more ≡ number + 1 → WaitTo calls time number i → WaitTo calls time more (i + 1)
-wait_one calls time number more i is w = record {
-  takes = i ∷ w.takes;
-  as_many = omega (arith, w.as_many, is);
-  others = λ take below did. elim (nat_cases take i) [
-    | inl same ↦ inl (0, ap Some (sym same))
-    | inr apart ↦ elim (w.others take (omega (arith, below, apart)) did) [ inl has ↦ inl (suc has.0, has.1) | inr after ↦ inr after ]
-  ];
-}
-
-pub wait_end : (calls : List Call) (time number i : ℕ) → length calls ≤ i → WaitTo calls time number i → WaitBy calls time number
-wait_end calls time number i end w = record {
-  takes = w.takes;
-  as_many = w.as_many;
-  others = λ take did. let within : take < length calls = slice_get_within calls take did.call did.call_is in w.others take (omega (arith, within, end)) did;
-}
-
-pub more_taken : (calls : List Call) (sends : List ℕ) (number time : ℕ) → IsRising sends → ((k send : ℕ) → slice_get sends k ≡ Some send → Stays calls send time false) → number < length sends → MoreAt calls sends number time
-more_taken calls sends number time rising stay more = record {
-  apart = rising;
-  each = λ k send is. let s = stay k send is in (s.item, s.sent, s.ended);
-  takes = [];
-  more = omega (arith, more);
-  others = λ k send item take is did may.
-      let s = stay k send is in
-      let same = same_item calls send s.item item s.sent did in
-      elim s.leaves.either [
-        | inr left ↦ absurd (cc (left.0))
-        | inl by ↦ elim may [
-          | inl took ↦ inr (by.2 take (subst (λ (i : ℕ). Did calls take (Act.Took i)) (sym same) took))
-          | inr taking ↦ absurd (taking.1 by.0 (subst (λ (i : ℕ). Returned calls by.0 (Act.Took i)) same by.1))
-        ]
-      ];
-}
-
-pub more_left : (calls : List Call) (sends : List ℕ) (number takes time : ℕ) → IsRising sends → ((k send : ℕ) → slice_get sends k ≡ Some send → Stays calls send time true) → WaitBy calls time takes → number + takes < length sends → MoreAt calls sends number time
-more_left calls sends number takes time rising stay w more = record {
-  apart = rising;
-  each = λ k send is. let s = stay k send is in (s.item, s.sent, s.ended);
-  takes = w.takes;
-  more = omega (arith, more, w.as_many);
-  others = λ k send item take is did may.
-      let s = stay k send is in
-      let same = same_item calls send s.item item s.sent did in
-      elim s.leaves.either [
-        | inr left ↦ elim may [
-          | inl took ↦ absurd (left.1 take (subst (λ (i : ℕ). Did calls take (Act.Took i)) (sym same) took))
-          | inr taking ↦ w.others take taking.0
-        ]
-        | inl by ↦ elim may [
-          | inl took ↦ inr (by.2 take (subst (λ (i : ℕ). Did calls take (Act.Took i)) (sym same) took))
-          | inr taking ↦ absurd (taking.1 by.0 (subst (λ (i : ℕ). Returned calls by.0 (Act.Took i)) same by.1))
-        ]
-      ];
-}

@@ -5,10 +5,10 @@ use Rattle.std.proofs.lemmas.Bool.{cases_lt}
 use Rattle.std.proofs.lemmas.Option.{slice_get_within}
 use Rattle.cc_judge.specs.Names.{Act, Call, Fault, Rules, Tie, Verdict}
 use Rattle.cc_judge.specs.Order.{IsLinearizable, of_any_capacity}
-use Rattle.cc_judge.specs.Room.{FullsArePossible}
+use Rattle.cc_judge.specs.Room.{KeepsRoom}
 use Rattle.cc_judge.specs.Faults.{Did, Differ}
 use Rattle.cc_judge.specs.Faultless.{IsWritten, NoFault}
-use Rattle.cc_judge.specs.Sweeps.{AreSorted}
+use Rattle.cc_judge.specs.Counts.{AreSorted}
 use Rattle.cc_judge.specs.Cuts.{IsEarlier, IsLater, MeetAt, AreLone, AreMeetings, AreApart, AreShort, MayBeCut, AreMarked, AreEach, CutBy, CutCall, IsCut, AreWithoutTies, begin_part, end_part, place_of}
 use Rattle.cc_judge.specs.Verdict.{AreSentBelow, StandsFirst, IsVerdict}
 use Rattle.cc_judge.proofs.Turns.{nat_cases, set_at, set_elsewhere}
@@ -292,7 +292,7 @@ pub fault_so : (rules : Rules) (calls : List Call) (fault : Fault) → Differ ca
 fault_so rules calls fault differ s = (inl s, no_first rules calls fault differ s)
 
 -- a log with an order that was found
-pub clean_so : (rules : Rules) (calls : List Call) → IsLinearizable (of_any_capacity rules) calls → NoFault rules calls × FullsArePossible rules calls → IsVerdict rules calls Verdict.Clean
+pub clean_so : (rules : Rules) (calls : List Call) → IsLinearizable (of_any_capacity rules) calls → NoFault rules calls × KeepsRoom rules calls → IsVerdict rules calls Verdict.Clean
 clean_so rules calls order fine = (order, inl fine.1)
 
 module _ (rules plain : Rules) (calls cut : List Call) (differ : Differ calls) (written : IsWritten calls) (may : MayBeCut calls rules.ties.items) (k : IsCut rules.ties.items calls cut) (same : AreWithoutTies rules plain) where
@@ -305,5 +305,5 @@ module _ (rules plain : Rules) (calls cut : List Call) (differ : Differ calls) (
   cut_order : NoFault plain cut → IsLinearizable (of_any_capacity rules) calls
   cut_order fine = cut_logs_are_exact.sound (of_any_capacity rules) (of_any_capacity plain) calls cut (record { capacity = refl; closes = same.closes; none = same.none }) (lone calls rules.ties.items may) k (faultless_logs_have_orders plain cut same.none (cut_differ rules.ties.items calls cut may k differ) (written_cut rules.ties.items calls cut may k written) fine)
 
-  pub cut_clean : NoFault plain cut × FullsArePossible plain cut → IsVerdict rules calls Verdict.Clean
-  cut_clean fine = (cut_order fine.0, inr (record { plain = plain; same = same; cut = cut; may = may; cut_is = k; possible = fine.1 }))
+  pub cut_clean : NoFault plain cut × KeepsRoom plain cut → IsVerdict rules calls Verdict.Clean
+  cut_clean fine = (cut_order fine.0, inr (record { plain = plain; same = same; cut = cut; may = may; cut_is = k; keeps = fine.1 }))

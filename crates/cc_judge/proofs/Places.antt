@@ -1,7 +1,7 @@
 -- Elements of a list, and which of two comes first.
 use Rattle.std.proofs.Common.{◌≡◌, ℕ, zero, suc, ◌<◌, ◌⊎◌, inl, inr, List, [], ◌∷◌, ◌++◌, Some, refl, sym, ap, ◌∙◌, arith}
 use Rattle.std.specs.List.{slice_get}
-pub use Rattle.cc_judge.specs.Complete.{In}
+pub use Rattle.cc_judge.specs.Faults.{In}
 
 -- the first element is before the second
 abbrev pub Before : {X : Type 0} → X → X → List X → Type 0

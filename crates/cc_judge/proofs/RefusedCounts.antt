@@ -3,7 +3,7 @@ use Rattle.std.proofs.Common.{◌≡◌, ℕ, zero, suc, ◌<◌, ◌≤◌, tru
 use Rattle.std.specs.List.{slice_get}
 use Rattle.cc_judge.specs.Names.{Act, Call, Rules}
 use Rattle.cc_judge.specs.Faults.{Did}
-use Rattle.cc_judge.specs.Complete.{In, Once}
+use Rattle.cc_judge.specs.Faults.{In, Once}
 use Rattle.cc_judge.specs.Counts.{SentBy, IsLeftBy, WaitsBy, MoreLeft, AreEnough, NeverEmpty}
 use Rattle.cc_judge.specs.Refused.{call, waiting, handed}
 use Rattle.cc_judge.specs.Cuts.{MeetAt, MayBeCut, CutCall}

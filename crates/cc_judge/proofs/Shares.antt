@@ -5,11 +5,11 @@ use Rattle.std.proofs.lemmas.Bool.{cases_lt}
 use Rattle.std.proofs.lemmas.Option.{slice_get_within}
 use Rattle.cc_judge.specs.Names.{Act, Call, Step, Rules}
 use Rattle.cc_judge.specs.Order.{EndsBefore, MayHaveDone, IsOfLog, IsOrder, IsLinearizable, of_any_capacity}
-use Rattle.cc_judge.specs.Faults.{Did, Differ, FindsNone}
+use Rattle.cc_judge.specs.Faults.{Did, Differ, FindsNone, Once}
 use Rattle.cc_judge.proofs.Places.{In, at_in}
 use Rattle.cc_judge.proofs.Turns.{nat_cases}
 use Rattle.cc_judge.proofs.Fifo.{without, without_length, from_without}
-use Rattle.cc_judge.specs.Complete.{Once, IsLeft, IsWaiting, Enough, Ready}
+use Rattle.cc_judge.specs.Complete.{IsLeft, IsWaiting, Enough, Ready}
 use Rattle.cc_judge.proofs.Views.{none_some, Faultless, faultless_has_order, taker, one_call, one_act, none_took}
 use Rattle.cc_judge.proofs.Complete.{Quiet}
 use Rattle.cc_judge.specs.Late.{Weaker}

@@ -8,11 +8,11 @@ use Rattle.std.proofs.lemmas.Option.{get_or_from_slice_get, slice_get-get_or, sl
 use Rattle.cc_judge.specs.Names.{Act, Call, Rules, Index, Lists, Reach, Shut, Spell}
 use Rattle.cc_judge.specs.Faults.{Did, Returned, Passed, WasAccepted, WasClosed, EndedBy}
 use Rattle.cc_judge.specs.Table.{IsIndex}
-use Rattle.cc_judge.specs.Counts.{SentBy, IsShutOut, IsLeftBy, MoreLeft, AreEnough, StayedOn, IsInside, HasLefts, HasWaits, AreFirst}
+use Rattle.cc_judge.specs.Counts.{SentBy, IsShutOut, IsLeftBy, MoreLeft, AreEnough, StayedOn, IsInside, AreFirst, AreSorted, Since, Upto, WaitsBy}
 use Rattle.cc_judge.specs.Faultless.{IsWritten}
-use Rattle.cc_judge.specs.Sweeps.{EndsAt, IsOpen, IsShutAt, IsSooner, IsDone, IsDoneBy, AreSorted, LeftSince, WaitSince, IsSpell, IsSpellOf, SpellAt, AreSpells, IsLater, AreLatest, AreLists, IsLatestIn, IsLast, IsLatest, AreEnoughIf, AreTaken, LeftsReach, Reaches, HasEndedIf}
+use Rattle.cc_judge.specs.Sweeps.{EndsAt, IsOpen, IsShutAt, IsSooner, IsDone, IsDoneBy, IsSpell, IsSpellOf, SpellAt, AreSpells, IsLater, AreLatest, AreLists, IsLatestIn, IsLast, IsLatest, AreEnoughIf, AreTaken, LeftsReach, Reaches, HasEndedIf}
 use Rattle.cc_judge.proofs.Counting.{counts_are_right}
-use Rattle.cc_judge.proofs.Listing.{ListOf, some_is, contains_at, at_contains, pushed_at, at_pushed, last_pushed, rises}
+use Rattle.cc_judge.proofs.Listing.{some_is, contains_at, at_contains, pushed_at, at_pushed, last_pushed, rises}
 
 -- ---- when the queue was closed
 
@@ -145,14 +145,14 @@ left_ended rules calls later place left = elim left.sent_by.done [
         let both : Act.Send item ≡ Act.Send other = sym a.act_is ∙ ap (λ (c : Call). c.act) same ∙ b.act_is in
         cc
 
-pub left_none : (rules : Rules) (calls : List Call) (place : ℕ) → ((item end : ℕ) (call : Call) → slice_get calls place ≡ Some call → call.act ≡ Act.Send item → call.end ≡ Some end → ((take : ℕ) → Did calls take (Act.Took item) → ⊥) → ⊥) → LeftSince rules calls place None
+pub left_none : (rules : Rules) (calls : List Call) (place : ℕ) → ((item end : ℕ) (call : Call) → slice_get calls place ≡ Some call → call.act ≡ Act.Send item → call.end ≡ Some end → ((take : ℕ) → Did calls take (Act.Took item) → ⊥) → ⊥) → Since (IsLeftBy rules calls) place None
 left_none rules calls place none later left =
     let e = left_ended rules calls later place left in
     let sent = left.sent_by.sent in
     let same : e.1.0 ≡ sent.call = some_is e.1.0 sent.call (sym e.1.1 ∙ sent.call_is) in
     none left.item e.0 sent.call sent.call_is sent.act_is (sym (ap (λ (c : Call). c.end) same) ∙ e.1.2) left.untaken
 
-pub left_some : (rules : Rules) (calls : List Call) (shut : Option Shut) (place item end time : ℕ) (call : Call) → IsShutAt rules calls shut → slice_get calls place ≡ Some call → call.act ≡ Act.Send item → call.end ≡ Some end → ((take : ℕ) → Did calls take (Act.Took item) → ⊥) → IsDone end shut time → LeftSince rules calls place (Some time)
+pub left_some : (rules : Rules) (calls : List Call) (shut : Option Shut) (place item end time : ℕ) (call : Call) → IsShutAt rules calls shut → slice_get calls place ≡ Some call → call.act ≡ Act.Send item → call.end ≡ Some end → ((take : ℕ) → Did calls take (Act.Took item) → ⊥) → IsDone end shut time → Since (IsLeftBy rules calls) place (Some time)
 left_some rules calls shut place item end time call at is act ends untaken done =
     let sent : Did calls place (Act.Send item) = record { call = call; call_is = is; act_is = act } in
     let ended : EndsAt calls place end = (call, is, ends) in (
@@ -166,44 +166,33 @@ untaken_by calls index item indexed none take took = none take (indexed.takes.al
 pub taken_left : (calls : List Call) (index : Index) (send take item other : ℕ) → IsIndex calls index → Act.Send item ≡ Act.Send other → slice_get index.takes.items other ≡ Some (Some take) → ((t : ℕ) → Did calls t (Act.Took item) → ⊥) → ⊥
 taken_left calls index send take item other indexed both tabled untaken = let same : item ≡ other = cc in untaken take (subst (λ (n : ℕ). Did calls take (Act.Took n)) (sym same) (indexed.takes.each take other tabled))
 
-pub wait_some : (calls : List Call) (place : ℕ) (call : Call) → slice_get calls place ≡ Some call → call.act ≡ Act.Taking → WaitSince calls place (Some call.begin)
-wait_some calls place call is act = (
-  λ later le. (record { call = call; call_is = is; act_is = act }, record { call = call; call_is = is; by = le }),
-  λ later waits. let by = waits.1.by in let same : waits.1.call ≡ call = some_is waits.1.call call (sym waits.1.call_is ∙ is) in subst (λ (c : Call). c.begin ≤ later) same by,
-)
+-- what holds by a time and later holds before a later one
+pub since_upto : (P : (time place : ℕ) → Type 0) (place from : ℕ) → ((time : ℕ) → from ≤ time → P time place) → ((time : ℕ) → P time place → from ≤ time) → Since (Upto P) place (Some from)
+since_upto P place from after before = (after_of, before_of)
+  where
+    after_of : (time : ℕ) → from < time → Upto P time place
+    after_of zero less = absurd (omega (arith, less))
+    after_of (suc time) less = after time (omega (arith, less))
 
-pub has_lefts : (rules : Rules) (calls : List Call) (list : List (ℕ × ℕ)) → ListOf (LeftSince rules calls) list (length calls) → HasLefts rules calls list
-has_lefts rules calls list l = record {
-  each = λ k t y is later less. (l.each k t y is).0 later less;
-  all = λ y later left.
-      let within = slice_get_within calls y left.sent_by.sent.call left.sent_by.sent.call_is in
-      elim (l.all y within) [
-        | inl none ↦ absurd (none later left)
-        | inr had ↦ (had.0, had.1, had.2, (l.each had.0 had.1 y had.2).1 later left)
-      ];
-  apart = λ j k t u y j_is k_is. l.apart j k t u y j_is k_is;
-}
+    before_of : (time : ℕ) → Upto P time place → from < time
+    before_of zero none = absurd none
+    before_of (suc time) holds = let le = before time holds in omega (arith, le)
 
-pub has_waits : (calls : List Call) (list : List (ℕ × ℕ)) → ListOf (WaitSince calls) list (length calls) → HasWaits calls list
-has_waits calls list l = record {
-  each = λ k t y is later le. (l.each k t y is).0 later le;
-  all = λ y later waits.
-      let within = slice_get_within calls y waits.0.call waits.0.call_is in
-      elim (l.all y within) [
-        | inl none ↦ absurd (none later waits)
-        | inr had ↦ (had.0, had.1, had.2, (l.each had.0 had.1 y had.2).1 later waits)
-      ];
-  apart = λ j k t u y j_is k_is. l.apart j k t u y j_is k_is;
-}
+pub upto_none : (P : (time place : ℕ) → Type 0) (place : ℕ) → ((time : ℕ) → P time place → ⊥) → Since (Upto P) place None
+upto_none P place none zero holds = holds
+upto_none P place none (suc time) holds = none time holds
+
+pub wait_some : (calls : List Call) (place : ℕ) (call : Call) → slice_get calls place ≡ Some call → call.act ≡ Act.Taking → Since (Upto (WaitsBy calls)) place (Some call.begin)
+wait_some calls place call is act = since_upto (WaitsBy calls) place call.begin (λ later le. (record { call = call; call_is = is; act_is = act }, record { call = call; call_is = is; by = le })) (λ later waits. let by = waits.1.by in let same : waits.1.call ≡ call = some_is waits.1.call call (sym waits.1.call_is ∙ is) in subst (λ (c : Call). c.begin ≤ later) same by)
 
 -- ---- items that were taken
 
-took_one : (calls : List Call) (index : Index) → IsIndex calls index → (item t u : ℕ) → Did calls t (Act.Took item) → Did calls u (Act.Took item) → t ≡ u
+pub took_one : (calls : List Call) (index : Index) → IsIndex calls index → (item t u : ℕ) → Did calls t (Act.Took item) → Did calls u (Act.Took item) → t ≡ u
 took_one calls index indexed item t u a b =
     let both : Some (Some t) ≡ Some (Some u) = sym (indexed.takes.all t item a) ∙ indexed.takes.all u item b in
     cc
 
-sent_one : (calls : List Call) (place item other : ℕ) → Did calls place (Act.Send item) → Did calls place (Act.Send other) → item ≡ other
+pub sent_one : (calls : List Call) (place item other : ℕ) → Did calls place (Act.Send item) → Did calls place (Act.Send other) → item ≡ other
 sent_one calls place item other a b =
     let same : a.call ≡ b.call = some_is a.call b.call (sym a.call_is ∙ b.call_is) in
     let both : Act.Send item ≡ Act.Send other = sym a.act_is ∙ ap (λ (c : Call). c.act) same ∙ b.act_is in
@@ -408,8 +397,8 @@ none_taken rules calls sent began none send take item by took = absurd (none sen
 -- ---- enough takes
 
 pub enough_so : (rules : Rules) (calls : List Call) (lists : Lists) (left wait sent began : ℕ) (few : Bool) → AreLists rules calls lists → (AreSorted lists.lefts.items → AreFirst lists.lefts.items left sent) → (AreSorted lists.waits.items → AreFirst lists.waits.items wait (suc began)) → (few ≡ true → left ≤ wait) → (few ≡ false → wait < left) → AreEnoughIf rules calls sent began few
-enough_so rules calls lists left wait sent began true l lefts waits few more = counts_are_right.enough rules calls lists.lefts.items lists.waits.items left wait sent began l.lefts l.waits (lefts l.lefts_sorted) (waits l.waits_sorted) (few refl)
-enough_so rules calls lists left wait sent began false l lefts waits few more = counts_are_right.more rules calls lists.lefts.items lists.waits.items left wait sent began l.lefts l.waits (lefts l.lefts_sorted) (waits l.waits_sorted) (more refl)
+enough_so rules calls lists left wait sent began true l lefts waits few more = counts_are_right.enough rules calls lists.lefts.items lists.waits.items left wait sent began l.lefts l.waits (lefts l.lefts.sorted) (waits l.waits.sorted) (few refl)
+enough_so rules calls lists left wait sent began false l lefts waits few more = counts_are_right.more rules calls lists.lefts.items lists.waits.items left wait sent began l.lefts l.waits (lefts l.lefts.sorted) (waits l.waits.sorted) (more refl)
 
 -- ---- how long items stay
 
@@ -449,8 +438,8 @@ first_exists (x ∷ xs) time up = elim (cases_lt x.0 time) [
 -- what is left at a time is left later, and if of the takes no more than `few` begin by then
 more_later : (rules : Rules) (calls : List Call) (lists : Lists) (left time later : ℕ) → AreLists rules calls lists → AreFirst lists.lefts.items left time → time ≤ later → ((n : ℕ) → AreFirst lists.waits.items n (suc later) → n < left) → MoreLeft rules calls later later
 more_later rules calls lists left time later l lefts le few =
-    let l_count = first_exists lists.lefts.items later l.lefts_sorted in
-    let w_count = first_exists lists.waits.items (suc later) l.waits_sorted in
+    let l_count = first_exists lists.lefts.items later l.lefts.sorted in
+    let w_count = first_exists lists.waits.items (suc later) l.waits.sorted in
     let less = few w_count.0 w_count.1 in
     let most : left ≤ l_count.0 = grows l_count.0 l_count.1 in
     counts_are_right.more rules calls lists.lefts.items lists.waits.items l_count.0 w_count.0 later later l.lefts l.waits l_count.1 w_count.1 (omega (arith, less, most))
@@ -468,17 +457,17 @@ more_later rules calls lists left time later l lefts le few =
     ]
 
 pub left_until : (rules : Rules) (calls : List Call) (lists : Lists) (left wait time next place : ℕ) → AreLists rules calls lists → (AreSorted lists.lefts.items → AreFirst lists.lefts.items left time) → wait < left → slice_get lists.waits.items (left - 1) ≡ Some (next, place) → (later : ℕ) → time ≤ later → later < next → MoreLeft rules calls later later
-left_until rules calls lists left wait time next place l lefts more is later le less = more_later rules calls lists left time later l (lefts l.lefts_sorted) le (λ n f. elim (cases_lt n left) [
+left_until rules calls lists left wait time next place l lefts more is later le less = more_later rules calls lists left time later l (lefts l.lefts.sorted) le (λ n f. elim (cases_lt n left) [
   | inl lower ↦ lower
   | inr not_lower ↦ let early = f.first (left - 1) next place (omega (arith, not_lower, more)) is in absurd (omega (arith, early, less))
 ])
 
 pub left_forever : (rules : Rules) (calls : List Call) (lists : Lists) (left wait time : ℕ) → AreLists rules calls lists → (AreSorted lists.lefts.items → AreFirst lists.lefts.items left time) → wait < left → length lists.waits.items ≤ left - 1 → (later : ℕ) → time ≤ later → MoreLeft rules calls later later
-left_forever rules calls lists left wait time l lefts more past later le = more_later rules calls lists left time later l (lefts l.lefts_sorted) le (λ n f. let within = f.within in omega (arith, within, past, more))
+left_forever rules calls lists left wait time l lefts more past later le = more_later rules calls lists left time later l (lefts l.lefts.sorted) le (λ n f. let within = f.within in omega (arith, within, past, more))
 
 -- a take that begun by the time is one of the first
 pub begun_first : (rules : Rules) (calls : List Call) (lists : Lists) (left wait time next place : ℕ) → AreLists rules calls lists → (AreSorted lists.waits.items → AreFirst lists.waits.items wait (suc time)) → wait < left → slice_get lists.waits.items (left - 1) ≡ Some (next, place) → next ≤ time → ⊥
-begun_first rules calls lists left wait time next place l waits more is le = let lower = (waits l.waits_sorted).rest (left - 1) next place is (omega (arith, le)) in omega (arith, lower, more)
+begun_first rules calls lists left wait time next place l waits more is le = let lower = (waits l.waits.sorted).rest (left - 1) next place is (omega (arith, le)) in omega (arith, lower, more)
 
 -- an item that was taken stays until its take begins
 pub stayed_on : (rules : Rules) (calls : List Call) (sent began : ℕ) (s : Spell) → IsWritten calls → IsSpell rules calls s → s.from < sent → began < s.until → StayedOn rules calls sent began
@@ -535,7 +524,7 @@ past_of xs k none = elim (cases_lt k (length xs)) [
 ]
 
 pub lefts_enough : (rules : Rules) (calls : List Call) (lists : Lists) (left wait time : ℕ) → AreLists rules calls lists → (AreSorted lists.lefts.items → AreFirst lists.lefts.items left time) → (AreSorted lists.waits.items → AreFirst lists.waits.items wait (suc time)) → left ≤ wait → AreEnough rules calls time time
-lefts_enough rules calls lists left wait time l lefts waits few = counts_are_right.enough rules calls lists.lefts.items lists.waits.items left wait time time l.lefts l.waits (lefts l.lefts_sorted) (waits l.waits_sorted) few
+lefts_enough rules calls lists left wait time l lefts waits few = counts_are_right.enough rules calls lists.lefts.items lists.waits.items left wait time time l.lefts l.waits (lefts l.lefts.sorted) (waits l.waits.sorted) few
 
 -- with the items that are left too
 pub reach_taken : (rules : Rules) (calls : List Call) (time : ℕ) (s : Spell) (reach : Reach) → IsLast rules calls time s → s.until ≤ time → LeftsReach rules calls time reach → Reaches rules calls time reach

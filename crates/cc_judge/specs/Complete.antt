@@ -1,18 +1,8 @@
 -- When a log has a legal order: exactly what the judge looks for.
-use Rattle.std.specs.Prelude.{◌≡◌, ℕ, ◌<◌, ◌≤◌, ◌⊎◌, false, List, [], ◌∷◌, length, Some, None, slice_get}
+use Rattle.std.specs.Prelude.{◌≡◌, ℕ, ◌<◌, ◌≤◌, false, List, [], length, Some, None, slice_get}
 use Rattle.cc_judge.specs.Names.{Act, Call, Rules}
 use Rattle.cc_judge.specs.Order.{EndsBefore, IsLinearizable, of_any_capacity}
-use Rattle.cc_judge.specs.Faults.{Did, Differ, FindsNone}
-
--- the element is in the list
-abbrev pub In : {X : Type 0} → X → List X → Type 0
-In s [] = ⊥
-In s (x ∷ xs) = (x ≡ s) ⊎ In s xs
-
--- no element is in the list twice
-abbrev pub Once : List ℕ → Type 0
-Once [] = Unit {0}
-Once (x ∷ xs) = (In x xs → ⊥) × Once xs
+use Rattle.cc_judge.specs.Faults.{Did, Differ, FindsNone, In, Once}
 
 -- the send ended before the time, and no call took its item
 pub record IsLeft (calls : List Call) (time send : ℕ) : Type 0 where

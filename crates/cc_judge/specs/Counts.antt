@@ -1,9 +1,9 @@
 -- The faults that count: at a time more items are left than takes that may have them.
-use Rattle.std.specs.Prelude.{◌≡◌, ◌≢◌, ℕ, suc, ◌<◌, ◌≤◌, ◌⊎◌, true, List, length, Some, slice_get}
+use Rattle.std.specs.Prelude.{◌≡◌, ◌≢◌, ℕ, zero, suc, ◌<◌, ◌≤◌, ◌⊎◌, true, List, length, Option, Some, None, slice_get}
+use Rattle.std.specs.List.Sorted.{IsNonDecreasingBy}
 use Rattle.cc_judge.specs.Names.{Act, Call, Rules}
 use Rattle.cc_judge.specs.Order.{EndsBefore, IsLinearizable}
-use Rattle.cc_judge.specs.Faults.{Did, Differ, Returned, Passed, WasAccepted, WasClosed, EndedBy, BeganBy, BeganAfter, FindsNone}
-use Rattle.cc_judge.specs.Complete.{In, Once}
+use Rattle.cc_judge.specs.Faults.{Did, Differ, Returned, Passed, WasAccepted, WasClosed, EndedBy, BeganBy, BeganAfter, FindsNone, In, Once}
 
 -- ---- the items that are left, and the takes that may have them
 
@@ -59,17 +59,25 @@ IsInside rules calls sent began = StayedOn rules calls sent began ⊎ MoreLeft r
 
 -- ---- lists of them, with times
 
--- The list has the sends of the items that are left, each once. With each it has the time after which the send was done.
-pub record HasLefts (rules : Rules) (calls : List Call) (lefts : List (ℕ × ℕ)) : Type 0 where
-  pub each : (k time send : ℕ) → slice_get lefts k ≡ Some (time, send) → (later : ℕ) → time < later → IsLeftBy rules calls later send
-  pub all : (send later : ℕ) → IsLeftBy rules calls later send → (k time : ℕ) × (slice_get lefts k ≡ Some (time, send)) × (time < later)
-  pub apart : (j k time other send : ℕ) → slice_get lefts j ≡ Some (time, send) → slice_get lefts k ≡ Some (other, send) → j ≡ k
+-- it holds of the place after this time, and not before; or never
+abbrev pub Since : (P : (time place : ℕ) → Type 0) → (place : ℕ) → Option ℕ → Type 0
+Since P place None = (time : ℕ) → P time place → ⊥
+Since P place (Some from) = ((time : ℕ) → from < time → P time place) × ((time : ℕ) → P time place → from < time)
 
--- The list has the takes that haven't returned, each once. With each it has the time at which the take began.
-pub record HasWaits (calls : List Call) (waits : List (ℕ × ℕ)) : Type 0 where
-  pub each : (k time take : ℕ) → slice_get waits k ≡ Some (time, take) → (later : ℕ) → time ≤ later → WaitsBy calls later take
-  pub all : (take later : ℕ) → WaitsBy calls later take → (k time : ℕ) × (slice_get waits k ≡ Some (time, take)) × (time ≤ later)
-  pub apart : (j k time other take : ℕ) → slice_get waits j ≡ Some (time, take) → slice_get waits k ≡ Some (other, take) → j ≡ k
+-- it held by the time before
+abbrev pub Upto : (P : (time place : ℕ) → Type 0) → (time place : ℕ) → Type 0
+Upto P zero place = ⊥
+Upto P (suc time) place = P time place
+
+abbrev pub AreSorted : List (ℕ × ℕ) → Type 0
+AreSorted xs = IsNonDecreasingBy (λ (x : ℕ × ℕ). x.0) xs
+
+-- The sorted list has each place of which it holds at a time, once. With each it has the time after which it holds.
+pub record HasTimes (P : (time place : ℕ) → Type 0) (list : List (ℕ × ℕ)) : Type 0 where
+  pub each : (k time place : ℕ) → slice_get list k ≡ Some (time, place) → Since P place (Some time)
+  pub all : (place later : ℕ) → P later place → (k time : ℕ) × (slice_get list k ≡ Some (time, place)) × (time < later)
+  pub apart : (j k time other place : ℕ) → slice_get list j ≡ Some (time, place) → slice_get list k ≡ Some (other, place) → j ≡ k
+  pub sorted : AreSorted list
 
 -- the first elements, this many, are those below the time
 pub record AreFirst (xs : List (ℕ × ℕ)) (number time : ℕ) : Type 0 where
@@ -130,6 +138,6 @@ pub record CountsHaveNoOrder : Type 0 where
 -- The law: lists of the sends and the takes, of which the first ones are counted up to a time, show that more are left, or that takes
 -- are enough; and both isn't so.
 pub record CountsAreRight : Type 0 where
-  pub enough : (rules : Rules) (calls : List Call) (lefts waits : List (ℕ × ℕ)) (left wait sent began : ℕ) → HasLefts rules calls lefts → HasWaits calls waits → AreFirst lefts left sent → AreFirst waits wait (suc began) → left ≤ wait → AreEnough rules calls sent began
-  pub more : (rules : Rules) (calls : List Call) (lefts waits : List (ℕ × ℕ)) (left wait sent began : ℕ) → HasLefts rules calls lefts → HasWaits calls waits → AreFirst lefts left sent → AreFirst waits wait (suc began) → wait < left → MoreLeft rules calls sent began
+  pub enough : (rules : Rules) (calls : List Call) (lefts waits : List (ℕ × ℕ)) (left wait sent began : ℕ) → HasTimes (IsLeftBy rules calls) lefts → HasTimes (Upto (WaitsBy calls)) waits → AreFirst lefts left sent → AreFirst waits wait (suc began) → left ≤ wait → AreEnough rules calls sent began
+  pub more : (rules : Rules) (calls : List Call) (lefts waits : List (ℕ × ℕ)) (left wait sent began : ℕ) → HasTimes (IsLeftBy rules calls) lefts → HasTimes (Upto (WaitsBy calls)) waits → AreFirst lefts left sent → AreFirst waits wait (suc began) → wait < left → MoreLeft rules calls sent began
   pub not_both : (rules : Rules) (calls : List Call) (sent began : ℕ) → AreEnough rules calls sent began → MoreLeft rules calls sent began → ⊥

@@ -1,7 +1,7 @@
 -- Two calls that only their lines order: their log is cut between them, so that their times order them.
 use Rattle.std.specs.Prelude.{◌≡◌, ◌≢◌, ℕ, ◌+◌, ◌*◌, ◌<◌, ◌≤◌, ◌⊎◌, Bool, true, false, List, [], Some, None, IsSome, slice_get}
 use Rattle.cc_judge.specs.Names.{Call, Rules, Tie}
-use Rattle.cc_judge.specs.Sweeps.{AreSorted}
+use Rattle.cc_judge.specs.Counts.{AreSorted}
 use Rattle.cc_judge.specs.Order.{EndsBefore, IsLinearizable}
 
 -- the call at this place is the earlier of two that only their lines order, or the later

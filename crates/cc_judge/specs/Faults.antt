@@ -1,6 +1,6 @@
 -- The faults of a log: patterns, each of which leaves it without a legal order. Those of items that were overtaken or left are in
 -- Counts.
-use Rattle.std.specs.Prelude.{◌≡◌, ◌≢◌, ℕ, ◌+◌, ◌<◌, ◌≤◌, ◌⊎◌, List, true, length, Some, IsSome, slice_get}
+use Rattle.std.specs.Prelude.{◌≡◌, ◌≢◌, ℕ, suc, ◌+◌, ◌<◌, ◌≤◌, ◌⊎◌, List, [], ◌∷◌, true, length, Some, IsSome, slice_get}
 use Rattle.cc_judge.specs.Names.{Act, Call, Rules}
 use Rattle.cc_judge.specs.Order.{EndsBefore}
 
@@ -60,12 +60,14 @@ abbrev pub WasAccepted : List Call → (send item : ℕ) → Type 0
 WasAccepted calls send item = Returned calls send (Act.Send item) ⊎ ((take : ℕ) × Passed calls send take)
 
 -- the element is in the list
-abbrev pub IsIn : ℕ → List ℕ → Type 0
-IsIn x xs = (k : ℕ) × (slice_get xs k ≡ Some x)
+abbrev pub In : {X : Type 0} → X → List X → Type 0
+In s [] = ⊥
+In s (x ∷ xs) = (x ≡ s) ⊎ In s xs
 
--- each element is past those before it
-abbrev pub IsRising : List ℕ → Type 0
-IsRising xs = (j k x y : ℕ) → j < k → slice_get xs j ≡ Some x → slice_get xs k ≡ Some y → x < y
+-- no element is in the list twice
+abbrev pub Once : List ℕ → Type 0
+Once [] = Unit {0}
+Once (x ∷ xs) = (In x xs → ⊥) × Once xs
 
 -- a take found none, whether or not the queue was closed
 abbrev pub FindsNone : Act → Type 0
@@ -108,7 +110,7 @@ pub record EndedBy (calls : List Call) (place time : ℕ) : Type 0 where
 pub record FewerAt (calls : List Call) (number time : ℕ) : Type 0 where
   pub may : List ℕ
   pub fewer : length may < number
-  pub others : (send item : ℕ) → Did calls send (Act.Send item) → BeganBy calls send time → IsIn item may ⊎ ((take : ℕ) × Returned calls take (Act.Took item) × EndedBy calls take time)
+  pub others : (send item : ℕ) → Did calls send (Act.Send item) → BeganBy calls send time → In item may ⊎ ((take : ℕ) × Returned calls take (Act.Took item) × EndedBy calls take time)
 
 -- a send found the queue full, and at each of its times fewer items than it holds may have been in it
 pub record NotFull (rules : Rules) (calls : List Call) (call : ℕ) : Type 0 where
@@ -119,14 +121,6 @@ pub record NotFull (rules : Rules) (calls : List Call) (call : ℕ) : Type 0 whe
   pub full : (one : Call) × (slice_get calls call ≡ Some one) × (one.act ≡ Act.Full) × (one.begin ≡ begin) × (one.end ≡ Some end)
   pub at_begin : FewerAt calls capacity begin
   pub at_sends : (send item : ℕ) (one : Call) → slice_get calls send ≡ Some one → one.act ≡ Act.Send item → begin ≤ one.begin → one.begin ≤ end → FewerAt calls capacity one.begin
-
--- the call at this place had ended at this time
-pub record EndedAt (calls : List Call) (place time : ℕ) : Type 0 where
-  pub call : Call
-  pub call_is : slice_get calls place ≡ Some call
-  pub end : ℕ
-  pub ended : call.end ≡ Some end
-  pub by : end ≤ time
 
 -- the call at this place began after this time
 pub record BeganAfter (calls : List Call) (place time : ℕ) : Type 0 where
@@ -141,11 +135,11 @@ MayHaveTaken calls take item = Did calls take (Act.Took item) ⊎ (Did calls tak
 -- These sends had ended at a time, and they are more than a number and some takes together. Each other call that may have taken one of
 -- their items began after that time. So more of their items than the number were in the queue then.
 pub record MoreAt (calls : List Call) (sends : List ℕ) (number time : ℕ) : Type 0 where
-  pub apart : IsRising sends
-  pub each : (k send : ℕ) → slice_get sends k ≡ Some send → (item : ℕ) × Did calls send (Act.Send item) × EndedAt calls send time
+  pub apart : Once sends
+  pub each : (send : ℕ) → In send sends → (item : ℕ) × Did calls send (Act.Send item) × EndedBy calls send (suc time)
   pub takes : List ℕ
   pub more : number + length takes < length sends
-  pub others : (k send item take : ℕ) → slice_get sends k ≡ Some send → Did calls send (Act.Send item) → MayHaveTaken calls take item → IsIn take takes ⊎ BeganAfter calls take time
+  pub others : (send item take : ℕ) → In send sends → Did calls send (Act.Send item) → MayHaveTaken calls take item → In take takes ⊎ BeganAfter calls take time
 
 -- when a call had ended, more of the items of these sends were in the queue than it holds
 pub record TooMany (rules : Rules) (calls : List Call) (call : ℕ) (sends : List ℕ) : Type 0 where

@@ -10,7 +10,10 @@ pub use Rattle.cc_judge.specs.declared.table.Found.{Found}
 pub use Rattle.cc_judge.specs.declared.table.Entry.{Entry}
 pub use Rattle.cc_judge.specs.declared.faults.Index.{Index}
 pub use Rattle.cc_judge.specs.declared.room.Rooms.{Rooms}
+pub use Rattle.cc_judge.specs.declared.overfull.Held.{Held}
+pub use Rattle.cc_judge.specs.declared.overfull.Crowd.{Crowd}
 pub use Rattle.cc_judge.specs.declared.shutting.Shut.{Shut}
+pub use Rattle.cc_judge.specs.declared.lists.Known.{Known}
 pub use Rattle.cc_judge.specs.declared.lists.Spell.{Spell}
 pub use Rattle.cc_judge.specs.declared.lists.Lists.{Lists}
 pub use Rattle.cc_judge.specs.declared.sweeps.Reach.{Reach}

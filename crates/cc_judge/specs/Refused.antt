@@ -1,12 +1,14 @@
 -- Refused claims: for each kind of mistake a small log, and a claim about it that the clause doesn't admit.
 use Rattle.std.specs.Prelude.{◌≡◌, ℕ, List, [], ◌∷◌, Option, Some, None, true, false, slice_get}
-use Rattle.cc_judge.specs.Names.{Act, Call, Rules}
+use Rattle.cc_judge.specs.Names.{Act, Call, Fault, Lists, Rules, Spell}
 use Rattle.cc_judge.specs.Order.{Does, Allows, IsOrder}
 use Rattle.cc_judge.specs.Faults.{Passed, TakenBeforeSent, TakenTwice, WasClosed, ClosedEarly, MoreAt}
 use Rattle.cc_judge.specs.Counts.{TookOver}
 use Rattle.cc_judge.specs.Late.{judged_capacity, padded}
 use Rattle.cc_judge.specs.Checks.{GoesOn, IsKept}
-use Rattle.cc_judge.specs.Room.{FullsArePossible}
+use Rattle.cc_judge.specs.Room.{FullsArePossible, ItemsFit}
+use Rattle.cc_judge.specs.Sweeps.{IsPassedLast}
+use Rattle.cc_judge.specs.Verdict.{StandsFirst}
 
 -- a claim that doesn't hold
 abbrev pub Refused : Type 0 → Type 0
@@ -35,6 +37,21 @@ closed = call 0 1 Act.Close ∷ call 2 3 Act.Closed ∷ []
 abbrev pub full_early : List Call
 full_early = call 0 3 Act.Full ∷ call 4 5 (Act.Send 0) ∷ []
 
+-- two items are sent, and no call takes them
+abbrev pub crowded : List Call
+crowded = call 0 1 (Act.Send 0) ∷ call 2 3 (Act.Send 1) ∷ []
+
+-- two takes of items that no call sent
+abbrev pub strays : List Call
+strays = call 0 1 (Act.Took 7) ∷ call 10 11 (Act.Took 8) ∷ []
+
+-- two items that were in the queue from 5 until 20
+abbrev pub one_item : Spell
+one_item = record { from = 1; until = 30; send = 0; take = 2 }
+
+abbrev pub next_item : Spell
+next_item = record { from = 3; until = 40; send = 1; take = 3 }
+
 -- a table in which the item has a place, and one in which each of two calls has its step, the later first
 abbrev pub placed : List (Option ℕ)
 placed = Some 0 ∷ []
@@ -49,9 +66,12 @@ pub record RefusedClaims : Type 0 where
   pub close_before_a_late_log_forgotten : Refused (padded true true [] 0 ≡ [])
   pub closed_early_beside_a_close : (rules : Rules) → Refused (ClosedEarly rules closed 1)
   pub ended_while_open : Refused (Allows false Act.Ended)
+  pub first_item_passed_named : (rules : Rules) (calls : List Call) (lists : Lists) → lists.spells.items ≡ one_item ∷ next_item ∷ [] → Refused (IsPassedLast rules calls lists 5 20 one_item)
   pub full_before_a_send_began : (rules : Rules) → rules.capacity ≡ Some 1 → Refused (FullsArePossible rules full_early)
+  pub last_fault_named : (rules : Rules) → rules.ties.items ≡ [] → Refused (StandsFirst rules strays (Fault.NeverSent 1))
   pub late_log_judged_by_a_capacity : Refused (judged_capacity true (Some 1) ≡ Some 1)
   pub lines_turned_round : Refused (IsKept turned record { earlier = 0; later = 1 })
+  pub more_items_than_room : (rules : Rules) → rules.capacity ≡ Some 1 → Refused (ItemsFit rules crowded)
   pub never_sent_of_a_sent_item : Refused (slice_get placed 0 ≡ Some None)
   pub none_beside_an_item : Refused (Does None (7 ∷ []) Act.FoundNone (7 ∷ []))
   pub overtaken_in_one_go : (take later : ℕ) → Refused (TookOver beside 0 take 1 later)

@@ -1,40 +1,50 @@
--- How many items may be in the queue at a time: as many as more sends began by then than takes ended before.
-use Rattle.std.specs.Prelude.{◌≡◌, ℕ, ◌<◌, ◌≤◌, ◌⊎◌, suc, List, length, Option, Some, None, slice_get}
-use Rattle.cc_judge.specs.Names.{Act, Call, Rooms, Rules}
-use Rattle.cc_judge.specs.Faults.{BeganBy, Did, Differ, EndedBy, FewerAt, NotFull, Returned}
-use Rattle.cc_judge.specs.Sweeps.{AreSorted}
+-- How many items may be in the queue at a time: as many as more sends began by then than takes ended before. How many are for certain.
+use Rattle.std.specs.Prelude.{◌≡◌, ℕ, ◌<◌, ◌≤◌, ◌⊎◌, suc, Bool, true, false, List, length, Option, Some, None, slice_get}
+use Rattle.cc_judge.specs.Names.{Act, Call, Crowd, Held, Known, Rooms, Rules}
+use Rattle.cc_judge.specs.Faults.{BeganBy, Did, Differ, EndedBy, FewerAt, In, MoreAt, NotFull, Once, Returned}
+use Rattle.cc_judge.specs.Counts.{HasTimes, IsLeftBy, Upto, WaitsBy}
+use Rattle.cc_judge.specs.Faultless.{IsWritten}
 
--- the send at this place began at this time
-abbrev pub BegunSince : List Call → (place : ℕ) → Option ℕ → Type 0
-BegunSince calls place None = (item : ℕ) → Did calls place (Act.Send item) → ⊥
-BegunSince calls place (Some time) = (item : ℕ) × (d : Did calls place (Act.Send item)) × (d.call.begin ≡ time)
+-- ---- what is known of a send by a time
 
--- the take at this place got an item, and ended at this time
-abbrev pub GoneSince : List Call → (place : ℕ) → Option ℕ → Type 0
-GoneSince calls place None = (item : ℕ) → Returned calls place (Act.Took item) → ⊥
-GoneSince calls place (Some time) = (item : ℕ) × (d : Did calls place (Act.Took item)) × (d.call.end ≡ Some time)
+-- it had begun
+abbrev pub HasBegun : List Call → (time send : ℕ) → Type 0
+HasBegun calls time send = (item : ℕ) × Did calls send (Act.Send item) × BeganBy calls send time
 
--- the list has the sends, each once, with their begins
-pub record HasBegins (calls : List Call) (begins : List (ℕ × ℕ)) : Type 0 where
-  pub each : (k time send : ℕ) → slice_get begins k ≡ Some (time, send) → BegunSince calls send (Some time)
-  pub all : (send item time : ℕ) → Did calls send (Act.Send item) → BeganBy calls send time → (k at : ℕ) × (slice_get begins k ≡ Some (at, send)) × (at ≤ time)
-  pub apart : (j k time other send : ℕ) → slice_get begins j ≡ Some (time, send) → slice_get begins k ≡ Some (other, send) → j ≡ k
+-- this call took the item, or none did
+abbrev pub IsTakeOf : List Call → (item : ℕ) → Option Call → Type 0
+IsTakeOf calls item None = (take : ℕ) → Did calls take (Act.Took item) → ⊥
+IsTakeOf calls item (Some call) = (take : ℕ) × (d : Did calls take (Act.Took item)) × (d.call ≡ call) × ((other : ℕ) → Did calls other (Act.Took item) → other ≡ take)
 
--- the list has the takes that got an item, each once, with their ends
-pub record HasEnds (calls : List Call) (ends : List (ℕ × ℕ)) : Type 0 where
-  pub each : (k time take : ℕ) → slice_get ends k ≡ Some (time, take) → GoneSince calls take (Some time)
-  pub all : (take item time : ℕ) → Returned calls take (Act.Took item) → EndedBy calls take time → (k at : ℕ) × (slice_get ends k ≡ Some (at, take)) × (at < time)
-  pub apart : (j k time other take : ℕ) → slice_get ends j ≡ Some (time, take) → slice_get ends k ≡ Some (other, take) → j ≡ k
+-- its item had been taken before
+abbrev pub WasTaken : List Call → (time send : ℕ) → Type 0
+WasTaken calls time send = (item take : ℕ) × Did calls send (Act.Send item) × Returned calls take (Act.Took item) × EndedBy calls take time
 
--- both, sorted, of a log whose items differ, and that has none of the faults that show without a capacity
+-- it had ended before
+abbrev pub HasSent : List Call → (time send : ℕ) → Type 0
+HasSent calls time send = (item : ℕ) × Did calls send (Act.Send item) × EndedBy calls send time
+
+-- it had ended, and the take of its item had begun
+abbrev pub MayBeGone : List Call → (time send : ℕ) → Type 0
+MayBeGone calls time send = (item take : ℕ) × Did calls send (Act.Send item) × EndedBy calls send (suc time) × Did calls take (Act.Took item) × BeganBy calls take time
+
+-- each of these, of a call by a time
+abbrev pub IsKnown : Rules → List Call → Known → (time place : ℕ) → Type 0
+IsKnown rules calls Known.Left = IsLeftBy rules calls
+IsKnown rules calls Known.Waits = Upto (WaitsBy calls)
+IsKnown rules calls Known.Begun = Upto (HasBegun calls)
+IsKnown rules calls Known.Taken = WasTaken calls
+IsKnown rules calls Known.Sent = HasSent calls
+IsKnown rules calls Known.Gone = Upto (MayBeGone calls)
+
+-- ---- how many items may be in the queue
+
+-- the begins of the sends, and the ends of the takes of their items, of a log whose items differ; no take ended before its send began
 pub record AreTimes (calls : List Call) (begins ends : List (ℕ × ℕ)) : Type 0 where
   pub differ : Differ calls
-  pub sent : (take item : ℕ) → Did calls take (Act.Took item) → (send : ℕ) × (s : Did calls send (Act.Send item)) × ((t : Did calls take (Act.Took item)) (end : ℕ) → t.call.end ≡ Some end → s.call.begin ≤ end)
-  pub once : (item t u : ℕ) → Did calls t (Act.Took item) → Did calls u (Act.Took item) → t ≡ u
-  pub has_begins : HasBegins calls begins
-  pub begins_up : AreSorted begins
-  pub has_ends : HasEnds calls ends
-  pub ends_up : AreSorted ends
+  pub after : (time send : ℕ) → WasTaken calls time send → HasBegun calls time send
+  pub begun : HasTimes (Upto (HasBegun calls)) begins
+  pub taken : HasTimes (WasTaken calls) ends
 
 -- of the sends before a place of the list this is the last time at which as many items as a number may be in the queue; at the begin of each
 -- send after that fewer may
@@ -73,3 +83,47 @@ pub record FewerIn (calls : List Call) (number begin end : ℕ) : Type 0 where
 -- no call found the queue full that can't have
 abbrev pub FullsArePossible : Rules → List Call → Type 0
 FullsArePossible rules calls = (call : ℕ) → NotFull rules calls call → ⊥
+
+-- ---- how many items are in the queue for certain
+
+-- these are the places of which it holds
+pub record AreAll (P : ℕ → Type 0) (places : List ℕ) : Type 0 where
+  pub once : Once places
+  pub each : (place : ℕ) → In place places → P place
+  pub all : (place : ℕ) → P place → In place places
+
+-- the send had ended at a time, and its item was taken only after that; or, if `left`, by no call
+pub record Remains (calls : List Call) (time : ℕ) (left : Bool) (send : ℕ) : Type 0 where
+  pub sent : HasSent calls (suc time) send
+  pub there : MayBeGone calls time send → ⊥
+  pub counts : (left ≡ true) ⊎ ((later : ℕ) × MayBeGone calls later send)
+
+abbrev pub RemainsIf : List Call → (time : ℕ) → (left : Bool) → (send : ℕ) → Bool → Type 0
+RemainsIf calls time left send true = Remains calls time left send
+RemainsIf calls time left send false = Remains calls time left send → ⊥
+
+-- the calls of a well-formed log by these times, whatever closes it
+pub record AreHeld (rules : Rules) (calls : List Call) (h : Held) : Type 0 where
+  pub opened : rules.closes ≡ false
+  pub written : IsWritten calls
+  pub differ : Differ calls
+  pub once : (item t u : ℕ) → Did calls t (Act.Took item) → Did calls u (Act.Took item) → t ≡ u
+  pub taken : (item : ℕ) → ((take : ℕ) × Did calls take (Act.Took item)) ⊎ ((take : ℕ) → Did calls take (Act.Took item) → ⊥)
+  pub sent : HasTimes (HasSent calls) h.sent.items
+  pub gone : HasTimes (Upto (MayBeGone calls)) h.gone.items
+  pub left : HasTimes (IsLeftBy rules calls) h.left.items
+  pub waits : HasTimes (Upto (WaitsBy calls)) h.waits.items
+
+-- at the end of this send more items were in the queue for certain than a number
+pub record IsCrowd (h : Held) (number : ℕ) (c : Crowd) : Type 0 where
+  pub at : ℕ
+  pub at_is : slice_get h.sent.items at ≡ Some (c.time, c.call)
+  pub more : (rules : Rules) (calls : List Call) → AreHeld rules calls h → (sends : List ℕ) → AreAll (Remains calls c.time c.left) sends → MoreAt calls sends number c.time
+
+-- at no time are more items in the queue for certain than it holds
+abbrev pub ItemsFit : Rules → List Call → Type 0
+ItemsFit rules calls = (number time : ℕ) (sends : List ℕ) → rules.capacity ≡ Some number → MoreAt calls sends number time → ⊥
+
+-- each call that found the queue full may have, by itself; and at each time the items fit
+abbrev pub KeepsRoom : Rules → List Call → Type 0
+KeepsRoom rules calls = FullsArePossible rules calls × ItemsFit rules calls

@@ -4,7 +4,7 @@ use Rattle.std.specs.List.Sorted.{IsNonDecreasingBy}
 use Rattle.cc_judge.specs.Names.{Act, Call, Rules, Lists, Passed, Reach, Shut, Spell, Stay}
 use Rattle.cc_judge.specs.Order.{EndsBefore}
 use Rattle.cc_judge.specs.Faults.{Did, FindsNone, WasClosed, WasOpen}
-use Rattle.cc_judge.specs.Counts.{SentBy, IsLeftBy, WaitsBy, MoreLeft, AreEnough, IsInside, HasLefts, HasWaits}
+use Rattle.cc_judge.specs.Counts.{SentBy, IsLeftBy, WaitsBy, MoreLeft, AreEnough, IsInside, HasTimes, Upto}
 use Rattle.cc_judge.specs.Faultless.{IsWritten}
 
 -- ---- when the queue was closed
@@ -46,19 +46,6 @@ IsDoneBy (Some end) shut (Some time) = IsDone end shut time
 
 -- ---- lists
 
-abbrev pub AreSorted : List (ℕ × ℕ) → Type 0
-AreSorted xs = IsNonDecreasingBy (λ (x : ℕ × ℕ). x.0) xs
-
--- the item of the send at this place is left from this time on, or never
-abbrev pub LeftSince : Rules → List Call → (place : ℕ) → Option ℕ → Type 0
-LeftSince rules calls place None = (later : ℕ) → IsLeftBy rules calls later place → ⊥
-LeftSince rules calls place (Some time) = ((later : ℕ) → time < later → IsLeftBy rules calls later place) × ((later : ℕ) → IsLeftBy rules calls later place → time < later)
-
--- the take at this place hasn't returned, and waits from this time on
-abbrev pub WaitSince : List Call → (place : ℕ) → Option ℕ → Type 0
-WaitSince calls place None = (later : ℕ) → WaitsBy calls later place → ⊥
-WaitSince calls place (Some time) = ((later : ℕ) → time ≤ later → WaitsBy calls later place) × ((later : ℕ) → WaitsBy calls later place → time ≤ later)
-
 -- the item that was sent and taken by these calls was in the queue for certain between these times
 pub record IsSpell (rules : Rules) (calls : List Call) (s : Spell) : Type 0 where
   pub item : ℕ
@@ -99,10 +86,8 @@ pub record AreLatest (spells latest : List Spell) : Type 0 where
 
 pub record AreLists (rules : Rules) (calls : List Call) (lists : Lists) : Type 0 where
   pub written : IsWritten calls
-  pub lefts : HasLefts rules calls lists.lefts.items
-  pub lefts_sorted : AreSorted lists.lefts.items
-  pub waits : HasWaits calls lists.waits.items
-  pub waits_sorted : AreSorted lists.waits.items
+  pub lefts : HasTimes (IsLeftBy rules calls) lists.lefts.items
+  pub waits : HasTimes (Upto (WaitsBy calls)) lists.waits.items
   pub spells : AreSpells rules calls lists.spells.items
   pub latest : AreLatest lists.spells.items lists.latest.items
 

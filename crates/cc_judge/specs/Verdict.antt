@@ -6,7 +6,7 @@ use Rattle.cc_judge.specs.Faults.{Did, Differ, Passed, NeverSent, TakenBeforeSen
 use Rattle.cc_judge.specs.Counts.{TookOver, LeftBehind, NeverEmpty, EndedWithItems}
 use Rattle.cc_judge.specs.Faultless.{IsWritten}
 use Rattle.cc_judge.specs.Cuts.{AreWithoutTies, MayBeCut, IsCut}
-use Rattle.cc_judge.specs.Room.{FullsArePossible}
+use Rattle.cc_judge.specs.Room.{KeepsRoom}
 use Rattle.cc_judge.specs.Table.{IsIndex}
 use Rattle.cc_judge.specs.Until.{IsUntil}
 
@@ -67,22 +67,24 @@ pub record StandsInCut (rules : Rules) (calls : List Call) (fault : Fault) : Typ
   pub cut_is : IsCut rules.ties.items calls cut
   pub stands : StandsFirst plain cut fault
 
-pub record FullsFitInCut (rules : Rules) (calls : List Call) : Type 0 where
+-- the queue keeps its room in the log that is cut
+pub record KeepsRoomInCut (rules : Rules) (calls : List Call) : Type 0 where
   pub plain : Rules
   pub same : AreWithoutTies rules plain
   pub cut : List Call
   pub may : MayBeCut calls rules.ties.items
   pub cut_is : IsCut rules.ties.items calls cut
-  pub possible : FullsArePossible plain cut
+  pub keeps : KeepsRoom plain cut
 
--- each call that found the queue full may have, by itself, in the log or in the log that is cut
-abbrev pub FullsFit : Rules → List Call → Type 0
-FullsFit rules calls = FullsArePossible rules calls ⊎ FullsFitInCut rules calls
+-- the items fit the capacity, in the log or in the log that is cut
+abbrev pub FitsCapacity : Rules → List Call → Type 0
+FitsCapacity rules calls = KeepsRoom rules calls ⊎ KeepsRoomInCut rules calls
 
--- The verdict is right: a clean log has a legal order, of a queue of whatever capacity, and each of its full answers is possible by
--- itself; one with a fault has the fault, which shows before any other, and no legal order.
+-- The verdict is right: a clean log has a legal order, of a queue of whatever capacity, each of its full answers is possible by itself,
+-- and at no time are more items in the queue for certain than it holds; one with a fault has the fault, which shows before any other,
+-- and no legal order.
 abbrev pub IsVerdict : Rules → List Call → Verdict → Type 0
-IsVerdict rules calls Verdict.Clean = IsLinearizable (of_any_capacity rules) calls × FullsFit rules calls
+IsVerdict rules calls Verdict.Clean = IsLinearizable (of_any_capacity rules) calls × FitsCapacity rules calls
 IsVerdict rules calls (Verdict.Fault fault) = (StandsFirst rules calls fault ⊎ StandsInCut rules calls fault) × (IsLinearizable rules calls → ⊥)
 IsVerdict rules calls Verdict.Undecided = Unit {0}
 

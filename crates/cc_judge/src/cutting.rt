@@ -1,6 +1,6 @@
 //! Calls that only their lines order: the log is cut between them, and then their times order them.
 ghost use Rattle.std.specs.Prelude.{◌≡◌, ◌≢◌, ℕ, length, IsTrue, IsFalse, IfOk, IfSome, IfNone};
-ghost use Rattle.cc_judge.specs.Sweeps.{AreSorted};
+ghost use Rattle.cc_judge.specs.Counts.{AreSorted};
 ghost use Rattle.cc_judge.specs.Cuts.{place_of, MeetAt, DoMeet, AreMeetings, AreApart, IsShort, AreShort, MayBeCut, AreMarked, CutBy, IsCut, AreWithoutTies};
 
 use crate::lists::ByTime;

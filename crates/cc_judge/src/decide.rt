@@ -3,7 +3,7 @@ ghost use Rattle.std.specs.Prelude.{◌≡◌, ℕ, [], IfOk, IfSome, IfNone, Is
 ghost use Rattle.cc_judge.specs.Names.{Rules, Verdict};
 ghost use Rattle.cc_judge.specs.Table.{IsIndex};
 ghost use Rattle.cc_judge.specs.Faults.{Differ};
-ghost use Rattle.cc_judge.specs.Room.{FullsArePossible};
+ghost use Rattle.cc_judge.specs.Room.{KeepsRoom};
 ghost use Rattle.cc_judge.specs.Complete.{LogsWithoutFaultsHaveOrders};
 ghost use Rattle.cc_judge.specs.Cuts.{MayBeCut, IsCut};
 ghost use Rattle.cc_judge.specs.Faultless.{IsWritten, NoFault};
@@ -17,21 +17,20 @@ ghost use Rattle.cc_judge.specs.Order.{IsLinearizable, of_any_capacity};
 ghost use Rattle.cc_judge.specs.Verdict.{IsVerdict, AreOrdered, AreSentBelow, IsDecided, Stands, StandsFirst, Indexes, FaultsHaveNoOrder};
 
 use crate::closing::close_fault;
-use crate::crowd::{Crowded, too_many};
 use crate::cutting::{cut_of, without_ties};
 use crate::faults::Index;
 use crate::lists::{Lists, lists_of};
 use crate::nones::{first_none, stays_of};
 use crate::order::is_order;
-use crate::overfull::{end_at, is_too_many};
+use crate::overfull::many_fault;
 use crate::overtaking::{take_fault, turn_fault};
 use crate::prefix::{after, calls_until, ends_of, last_end, next_time};
-use crate::room::{capacity_of, not_full};
+use crate::room::full_fault;
 use crate::search::{Sought, seek};
 use crate::share::share;
 use crate::shutting::{Shut, shut_of};
-use crate::table::{Found, Kind, find};
-use crate::times::{View, ranks_of, view_of};
+use crate::table::{Found, Kind, call_at, find};
+use crate::times::{ranks_of, view_of};
 use crate::written::is_written;
 use crate::{Call, Rules, Stay};
 use std::alloc::{AllocError, Global};
@@ -88,8 +87,8 @@ pub enum Fault {
 /// The verdict on a log.
 #[derive(Drop)]
 pub enum Verdict {
-    /// The log is linearizable: it has a legal order of a queue of whatever capacity, and each answer that the queue is full is possible
-    /// by itself.
+    /// The log is linearizable: it has a legal order of a queue of whatever capacity, each answer that the queue is full is possible by
+    /// itself, and at no time were more items in the queue for certain than it holds.
     Clean,
     /// The log isn't linearizable: it has no legal order.
     Fault(Fault),
@@ -202,39 +201,8 @@ fn fault_of(
     none_fault(alloc, calls, &lists, shut)
 }
 
-/// That a send found the queue full, though it can't have been.
-fn full_fault(alloc: Global, rules: &Rules, calls: &[Call]) -> Result<Option<Fault>, AllocError>
-    requires differ { Differ calls.now }
-    requires none { NoFault rules.now calls.now }
-    ensures some { IfOk result (λ found. IfSome found (Stands rules.now calls.now)) }
-    ensures none { IfOk result (λ found. IfNone found (FullsArePossible rules.now calls.now)) }
-{
-    match not_full(alloc, rules, calls)? {
-        Some(call) => Ok(Some(Fault::NotFull { call })),
-        None => Ok(None),
-    }
-}
-
-/// That more items were in the queue than it holds.
-fn many_fault(alloc: Global, rules: &Rules, view: &View<'_>) -> Result<Option<Fault>, AllocError>
-    requires { IsIndex view.now.calls.now view.now.index.now }
-    ensures { IfOk result (λ found. IfSome found (Stands rules.now view.now.calls.now)) }
-{
-    let Some(capacity) = capacity_of(rules) else {
-        return Ok(None);
-    };
-    let Some(crowded) = too_many(alloc, view, capacity)? else {
-        return Ok(None);
-    };
-    let Crowded { call, sends } = crowded;
-    if !is_too_many(rules, view.calls, view.index, call, sends.as_slice()) {
-        return Ok(None);
-    }
-    Ok(Some(Fault::TooMany { call, sends }))
-}
-
 /// That the log is not one of a queue of its capacity.
-#[tactic(auto, using(crate::proofs::Deciding::no_other))]
+#[tactic(auto, using(crate::proofs::Deciding::both_none))]
 fn room_fault(
     alloc: Global,
     rules: &Rules,
@@ -242,19 +210,15 @@ fn room_fault(
     index: &Index,
 ) -> Result<Option<Fault>, AllocError>
     requires index { IsIndex calls.now index.now }
+    requires written { IsWritten calls.now }
     requires none { NoFault rules.now calls.now }
     ensures some { IfOk result (λ found. IfSome found (Stands rules.now calls.now)) }
-    ensures none { IfOk result (λ found. IfNone found (FullsArePossible rules.now calls.now)) }
+    ensures none { IfOk result (λ found. IfNone found (KeepsRoom rules.now calls.now)) }
 {
-    if let Some(fault) = full_fault(alloc, rules, calls)? {
+    if let Some(fault) = full_fault(alloc, rules, calls, index)? {
         return Ok(Some(fault));
     }
-    let ranks = ranks_of(alloc, calls)?;
-    many_fault(
-        alloc,
-        rules,
-        &view_of(rules, calls, index, ranks.as_slice()),
-    )
+    many_fault(alloc, rules, calls, index)
 }
 
 /// The fault of a log, if it has one that doesn't rest on ties. Of a queue of a capacity two more are sought: a send found the queue
@@ -269,7 +233,7 @@ fn found_of(
     requires index { IsIndex calls.now index.now }
     requires written { IsWritten calls.now }
     ensures some { IfOk result (λ found. IfSome found (Stands rules.now calls.now)) }
-    ensures none { IfOk result (λ found. IfNone found (NoFault rules.now calls.now × FullsArePossible rules.now calls.now)) }
+    ensures none { IfOk result (λ found. IfNone found (NoFault rules.now calls.now × KeepsRoom rules.now calls.now)) }
 {
     if let Some(fault) = fault_of(alloc, rules, calls, index)? {
         return Ok(Some(fault));
@@ -288,7 +252,7 @@ fn found_in(
     requires differ { Differ calls.now }
     requires below { AreSentBelow calls.now items }
     ensures some { IfOk result (λ found. IfSome found (Stands rules.now calls.now)) }
-    ensures none { IfOk result (λ found. IfNone found (NoFault rules.now calls.now × FullsArePossible rules.now calls.now)) }
+    ensures none { IfOk result (λ found. IfNone found (NoFault rules.now calls.now × KeepsRoom rules.now calls.now)) }
 {
     match index_of(alloc, calls, items)? {
         Indexed::Index(index) => found_of(alloc, rules, calls, &index),
@@ -296,9 +260,9 @@ fn found_in(
     }
 }
 
-/// A call at whose end a fault shows, by its place.
-fn shown_by(fault: &Fault) -> usize {
-    match fault {
+/// The end of a call at which a fault shows.
+fn shown_at(calls: &[Call], fault: &Fault) -> Option<u64> {
+    let place = match fault {
         Fault::NeverSent { take } | Fault::TakenBeforeSent { take, .. } => *take,
         Fault::TakenTwice { second, .. } => *second,
         Fault::Overtaken { later_take, .. } => *later_take,
@@ -307,7 +271,8 @@ fn shown_by(fault: &Fault) -> usize {
         | Fault::ClosedEarly { call }
         | Fault::NotFull { call }
         | Fault::TooMany { call, .. } => *call,
-    }
+    };
+    call_at(calls, place)?.end
 }
 
 /// The fault that shows first in a log with this fault: the one of the log until the least time until which it has one. It looks at
@@ -329,7 +294,7 @@ fn first_fault(
     let mut first = found;
     let (mut low, mut high) = (0, last_end(calls));
     while low < high {
-        let time = next_time(&ends, low, high, end_at(calls, shown_by(&first)));
+        let time = next_time(&ends, low, high, shown_at(calls, &first));
         let part = calls_until(alloc, calls, time)?;
         match found_in(alloc, rules, part.as_slice(), items)? {
             Some(fault) => {

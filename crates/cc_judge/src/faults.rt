@@ -1,8 +1,8 @@
 //! The acts of the calls of a log.
-ghost use Rattle.std.specs.Prelude.{◌≡◌, ℕ, IsTrue, IsFalse, IfSome, IfNone, slice_get, Some, None};
+ghost use Rattle.std.specs.Prelude.{◌≡◌, ℕ, IsTrue, IsFalse, IfSome, IfNone};
 ghost use Rattle.cc_judge.specs.Names.{Call, Act};
 ghost use Rattle.cc_judge.specs.Order.{EndsBefore};
-ghost use Rattle.cc_judge.specs.Faults.{Did, Returned, BeganAfter, ShowsClosed, IsRising};
+ghost use Rattle.cc_judge.specs.Faults.{Did, Returned, BeganAfter, ShowsClosed};
 
 use crate::table::call_at;
 use crate::{Act, Call};
@@ -63,34 +63,10 @@ pub fn began_after(calls: &[Call], place: usize, time: u64) -> bool
     }
 }
 
-/// Whether the item has no place in a table of all calls of one kind.
-pub fn is_absent(table: &Vec<Option<u32>>, item: u32) -> bool
-    ensures { IsTrue result → slice_get table.now.items item ≡ Some None }
-{
-    matches!(table.get(item as usize), Some(None))
-}
-
 /// Whether an act closes the queue, or answers that it is closed.
 pub fn shows_closed(act: Act) -> bool
     ensures shows { IsTrue result → ShowsClosed act }
     ensures others { IsFalse result → ShowsClosed act → ⊥ }
 {
     matches!(act, Act::Close | Act::Closed | Act::Ended)
-}
-
-/// Whether each place is past those before it.
-pub fn is_rising(places: &[usize]) -> bool
-    ensures { IsTrue result → IsRising places.now }
-{
-    let mut least = 0;
-    for place in places {
-        if *place < least {
-            return false;
-        }
-        match place.checked_add(1) {
-            Some(next) => least = next,
-            None => return false,
-        }
-    }
-    true
 }

@@ -9,7 +9,6 @@
 mod clauses;
 mod closing;
 mod counts;
-mod crowd;
 mod cutting;
 mod decide;
 mod faults;

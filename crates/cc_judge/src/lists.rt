@@ -3,9 +3,10 @@
 ghost use Rattle.std.specs.Prelude.{suc, List, IfOk};
 ghost use Rattle.cc_judge.specs.Names.{Call, Rules};
 ghost use Rattle.cc_judge.specs.Table.{IsIndex};
-ghost use Rattle.cc_judge.specs.Counts.{AreFirst, HasLefts, HasWaits};
+ghost use Rattle.cc_judge.specs.Counts.{AreFirst, AreSorted, HasTimes, IsLeftBy, Since, Upto, WaitsBy};
+ghost use Rattle.cc_judge.specs.Room.{HasBegun, HasSent, IsKnown, IsTakeOf, MayBeGone, WasTaken};
 ghost use Rattle.cc_judge.specs.Faultless.{IsWritten};
-ghost use Rattle.cc_judge.specs.Sweeps.{AreSorted, IsShutAt, LeftSince, WaitSince, IsSpellOf, SpellAt, AreSpells, IsDoneBy, IsLater, AreLatest, AreLists, IsLatestIn, IsLatest, AreEnoughIf};
+ghost use Rattle.cc_judge.specs.Sweeps.{IsShutAt, IsSpellOf, SpellAt, AreSpells, IsDoneBy, IsLater, AreLatest, AreLists, IsLatestIn, IsLatest, AreEnoughIf};
 
 use crate::faults::Index;
 use crate::shutting::{Shut, done};
@@ -33,7 +34,7 @@ pub fn upto(list: &ByTime, time: u64) -> usize
 /// When the send at this place was done, if it returned and no call took its item.
 fn left_since(calls: &[Call], index: &Index, shut: Option<Shut>, place: usize) -> Option<u64>
     requires { IsIndex calls.now index.now }
-    ensures { (rules : Rules) → IsShutAt rules calls.now shut → LeftSince rules calls.now place result }
+    ensures { (rules : Rules) → IsShutAt rules calls.now shut → Since (IsLeftBy rules calls.now) place result }
 {
     let call = call_at(calls, place)?;
     let (Act::Send(item), Some(end)) = (call.act, call.end) else {
@@ -45,30 +46,9 @@ fn left_since(calls: &[Call], index: &Index, shut: Option<Shut>, place: usize) -
     }
 }
 
-/// The sends whose items no call took, by the times at which they were done.
-fn lefts_of(
-    alloc: Global,
-    calls: &[Call],
-    index: &Index,
-    shut: Option<Shut>,
-) -> Result<ByTime, AllocError>
-    requires { IsIndex calls.now index.now }
-    ensures of { IfOk result (λ v. (rules : Rules) → IsShutAt rules calls.now shut → HasLefts rules calls.now v.items) }
-    ensures sorted { IfOk result (λ v. AreSorted v.items) }
-{
-    let mut list = Vec::new(alloc);
-    for place in 0..calls.len() {
-        if let Some(time) = left_since(calls, index, shut, place) {
-            list.push((time, place))?;
-        }
-    }
-    list.sort_by_key(|entry| entry.0)?;
-    Ok(list)
-}
-
 /// When the call at this place began, if it is a take that hasn't returned.
 fn wait_since(calls: &[Call], place: usize) -> Option<u64>
-    ensures { WaitSince calls.now place result }
+    ensures { Since (Upto (WaitsBy calls.now)) place result }
 {
     let call = call_at(calls, place)?;
     match call.act {
@@ -77,15 +57,122 @@ fn wait_since(calls: &[Call], place: usize) -> Option<u64>
     }
 }
 
-/// The takes that haven't returned, by their begins.
-fn waits_of(alloc: Global, calls: &[Call]) -> Result<ByTime, AllocError>
-    ensures of { IfOk result (λ v. HasWaits calls.now v.items) }
-    ensures sorted { IfOk result (λ v. AreSorted v.items) }
+/// When the send at this place began.
+fn begun_since(calls: &[Call], place: usize) -> Option<u64>
+    ensures { Since (Upto (HasBegun calls.now)) place result }
+{
+    let call = call_at(calls, place)?;
+    match call.act {
+        Act::Send(_) => Some(call.begin),
+        _ => None,
+    }
+}
+
+/// The call that took this item.
+fn take_of(calls: &[Call], index: &Index, item: u32) -> Option<Call>
+    requires { IsIndex calls.now index.now }
+    ensures { IsTakeOf calls.now item result }
+{
+    match place_in(&index.takes, item) {
+        Some(place) => call_at(calls, place),
+        None => None,
+    }
+}
+
+/// When the take ended of the item that the call at this place sent.
+fn taken_since(calls: &[Call], index: &Index, place: usize) -> Option<u64>
+    requires { IsIndex calls.now index.now }
+    ensures { Since (WasTaken calls.now) place result }
+{
+    let call = call_at(calls, place)?;
+    match call.act {
+        Act::Send(item) => match take_of(calls, index, item) {
+            Some(take) => take.end,
+            None => None,
+        },
+        _ => None,
+    }
+}
+
+/// When the send at this place ended.
+pub fn sent_since(calls: &[Call], place: usize) -> Option<u64>
+    ensures { Since (HasSent calls.now) place result }
+{
+    let call = call_at(calls, place)?;
+    match call.act {
+        Act::Send(_) => call.end,
+        _ => None,
+    }
+}
+
+/// When the send at this place had ended and the take of its item had begun.
+pub fn gone_since(calls: &[Call], index: &Index, place: usize) -> Option<u64>
+    requires { IsIndex calls.now index.now }
+    ensures { Since (Upto (MayBeGone calls.now)) place result }
+{
+    let call = call_at(calls, place)?;
+    match (call.act, call.end) {
+        (Act::Send(item), Some(end)) => match take_of(calls, index, item) {
+            Some(take) => Some(end.max(take.begin)),
+            None => None,
+        },
+        _ => None,
+    }
+}
+
+/// What is known of a call from a time on.
+#[derive(Clone, Copy, Drop)]
+pub enum Known {
+    /// It is a send that was done, and no call took its item.
+    Left,
+    /// It is a take that began, and hasn't returned.
+    Waits,
+    /// It is a send that began.
+    Begun,
+    /// It is a send whose item was taken by a call that ended.
+    Taken,
+    /// It is a send that ended.
+    Sent,
+    /// It is a send that ended, and whose item was taken by a call that began.
+    Gone,
+}
+
+/// From when on this is known of the call at this place.
+fn since(
+    calls: &[Call],
+    index: &Index,
+    shut: Option<Shut>,
+    what: Known,
+    place: usize,
+) -> Option<u64>
+    requires { IsIndex calls.now index.now }
+    ensures { (rules : Rules) → IsShutAt rules calls.now shut → Since (IsKnown rules calls.now what) place result }
+{
+    match what {
+        Known::Left => left_since(calls, index, shut, place),
+        Known::Waits => wait_since(calls, place),
+        Known::Begun => begun_since(calls, place),
+        Known::Taken => taken_since(calls, index, place),
+        Known::Sent => sent_since(calls, place),
+        Known::Gone => gone_since(calls, index, place),
+    }
+}
+
+/// The calls of which this is known at a time, by the times from which on it is.
+pub fn by_time(
+    alloc: Global,
+    calls: &[Call],
+    index: &Index,
+    shut: Option<Shut>,
+    what: Known,
+) -> Result<ByTime, AllocError>
+    requires { IsIndex calls.now index.now }
+    ensures { IfOk result (λ v. (rules : Rules) → IsShutAt rules calls.now shut → HasTimes (IsKnown rules calls.now what) v.items) }
 {
     let mut list = Vec::new(alloc);
     for place in 0..calls.len() {
-        if let Some(begin) = wait_since(calls, place) {
-            list.push((begin, place))?;
+        if let Some(time) = since(calls, index, shut, what, place) {
+            list.push((time, place))?;
         }
     }
     list.sort_by_key(|entry| entry.0)?;
@@ -216,8 +303,8 @@ pub fn lists_of(
     let spells = spells_of(alloc, calls, index, shut)?;
     let latest = latest_of(alloc, &spells)?;
     Ok(Lists {
-        lefts: lefts_of(alloc, calls, index, shut)?,
-        waits: waits_of(alloc, calls)?,
+        lefts: by_time(alloc, calls, index, shut, Known::Left)?,
+        waits: by_time(alloc, calls, index, shut, Known::Waits)?,
         spells,
         latest,
     })

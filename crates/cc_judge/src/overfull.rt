@@ -1,149 +1,143 @@
-//! Whether more items were in the queue than it holds: confirmed by the sends of these items.
-ghost use Rattle.std.specs.Prelude.{◌≡◌, ◌+◌, ◌<◌, ℕ, IsTrue, IfSome, slice_get, Some};
-ghost use Rattle.cc_judge.specs.Names.{Call, Act};
-ghost use Rattle.cc_judge.specs.Faults.{Did, Returned, EndedAt, BeganAfter, MoreAt, TooMany};
-ghost use Rattle.cc_judge.specs.Checks.{LeavesAfter, Stays, WaitBy};
+//! Whether more items were in the queue for certain than it holds.
+//!
+//! At a time those items are in the queue whose sends had ended and whose takes hadn't begun. Of the items that no call took, takes
+//! that had begun and haven't returned may have some: so the lesser of these two numbers doesn't count. The number of items grows only
+//! when a send ends. So it is taken at the end of each send, in O(n log n).
+ghost use Rattle.std.specs.Prelude.{◌≡◌, ◌+◌, ◌<◌, ◌≤◌, ℕ, List, IsTrue, IsFalse, IfOk, IfSome, IfNone, Some};
+ghost use Rattle.cc_judge.specs.Names.{Call, Rules};
+ghost use Rattle.cc_judge.specs.Faults.{MoreAt};
+ghost use Rattle.cc_judge.specs.Faultless.{IsWritten};
+ghost use Rattle.cc_judge.specs.Room.{AreAll, AreHeld, IsCrowd, ItemsFit, Remains, RemainsIf};
 ghost use Rattle.cc_judge.specs.Table.{IsIndex};
+ghost use Rattle.cc_judge.specs.Verdict.{Stands};
 
-use crate::faults::{Index, began_after, is_absent, is_rising, sent, taken};
+use crate::decide::Fault;
+use crate::faults::Index;
+use crate::lists::{ByTime, Known, by_time, gone_since, sent_since, upto};
 use crate::room::capacity_of;
-use crate::table::{call_at, place_in};
-use crate::{Act, Call, Rules};
+use crate::{Call, Rules};
+use std::alloc::{AllocError, Global};
 
-/// Whether the call at this place had ended at a time.
-fn had_ended(calls: &[Call], place: usize, time: u64) -> bool
-    ensures { IsTrue result → EndedAt calls.now place time }
-{
-    match call_at(calls, place) {
-        Some(call) => match call.end {
-            Some(end) => end <= time,
-            None => false,
-        },
-        None => false,
-    }
-}
-
-/// Whether the call at this place took the item, and began after a time.
-fn took_after(calls: &[Call], take: usize, item: u32, time: u64) -> bool
-    ensures took { IsTrue result → Returned calls.now take (Act.Took item) }
-    ensures after { IsTrue result → BeganAfter calls.now take time }
-{
-    taken(calls, take) == Some(item) && began_after(calls, take, time)
-}
-
-/// Whether an item was taken by a call that began after a time; or, if `left`, by no call.
-fn leaves_after(calls: &[Call], index: &Index, item: u32, time: u64, left: bool) -> bool
-    requires { IsIndex calls.now index.now }
-    ensures { IsTrue result → LeavesAfter calls.now item time left }
-{
-    match place_in(&index.takes, item) {
-        Some(take) => took_after(calls, take, item, time),
-        None => left && is_absent(&index.takes, item),
-    }
-}
-
-/// Whether the call at this place sent an item, had ended at a time, and the item was taken only after that; if `left`, also
-/// if no call took it.
-fn stays(calls: &[Call], index: &Index, send: usize, time: u64, left: bool) -> bool
-    requires { IsIndex calls.now index.now }
-    ensures { IsTrue result → Stays calls.now send time left }
-{
-    match sent(calls, send) {
-        Some(item) => had_ended(calls, send, time) && leaves_after(calls, index, item, time, left),
-        None => false,
-    }
-}
-
-/// Whether that holds of each of these calls.
-fn all_stay(calls: &[Call], index: &Index, sends: &[usize], time: u64, left: bool) -> bool
-    requires { IsIndex calls.now index.now }
-    ensures { IsTrue result → (k send : ℕ) → slice_get sends.now k ≡ Some send → Stays calls.now send time left }
-{
-    for send in sends {
-        if !stays(calls, index, *send, time, left) {
-            return false;
-        }
-    }
-    true
-}
-
-/// Whether the call at this place is no take that hasn't returned, or began after a time.
-fn is_past(calls: &[Call], place: usize, time: u64) -> bool
-    ensures { IsTrue result → Did calls.now place Act.Taking → BeganAfter calls.now place time }
-{
-    match call_at(calls, place) {
-        Some(call) => !matches!(call.act, Act::Taking) || time < call.begin,
-        None => true,
-    }
-}
-
-/// How many takes haven't returned and began by a time.
-#[tactic(auto, using(crate::proofs::Many::wait_one, crate::proofs::Many::wait_skip, crate::proofs::Many::wait_end))]
-fn waiting(calls: &[Call], time: u64) -> Option<usize>
-    ensures { IfSome result (λ n. WaitBy calls.now time n) }
-{
-    let mut number = 0usize;
-    for place in 0..calls.len() {
-        if !is_past(calls, place, time) {
-            number = number.checked_add(1)?;
-        }
-    }
-    Some(number)
+/// The calls of a log by which it is known how many items are in the queue for certain.
+#[derive(Drop)]
+pub struct Held {
+    /// The sends, by their ends.
+    pub sent: ByTime,
+    /// Those whose items were taken, by the times at which they had ended and the takes had begun.
+    pub gone: ByTime,
+    /// Those whose items no call took, by their ends.
+    pub left: ByTime,
+    /// The takes that haven't returned, by their begins.
+    pub waits: ByTime,
 }
 
 /// Whether a number is more than two together.
 fn is_more(number: usize, one: usize, other: usize) -> bool
-    ensures { IsTrue result → one + other < number }
+    ensures more { IsTrue result → one + other < number }
+    ensures not { IsFalse result → number ≤ one + other }
 {
     one <= number && other < number - one
 }
 
-/// Whether more of the items of these sends than a number were in the queue at a time, and all of them were taken later.
-fn are_more_taken(calls: &[Call], index: &Index, sends: &[usize], number: usize, time: u64) -> bool
+/// Whether more items than this number were in the queue for certain at a time, and if so whether those that no call took have to
+/// be counted.
+fn crowding(held: &Held, number: usize, time: u64) -> Option<bool>
+    ensures some { IfSome result (λ left. (rules : Rules) (calls : List Call) → AreHeld rules calls held.now → (sends : List ℕ) → AreAll (Remains calls time left) sends → MoreAt calls sends number time) }
+    ensures none { IfNone result ((rules : Rules) (calls : List Call) → AreHeld rules calls held.now → (sends : List ℕ) → MoreAt calls sends number time → ⊥) }
+{
+    let inside = upto(&held.sent, time).saturating_sub(upto(&held.gone, time));
+    if is_more(inside, number, upto(&held.left, time)) {
+        return Some(false);
+    }
+    if is_more(inside, number, upto(&held.waits, time)) {
+        return Some(true);
+    }
+    None
+}
+
+/// A send at whose end too many items were in the queue for certain.
+#[derive(Clone, Copy)]
+pub struct Crowd {
+    /// The place of the send.
+    pub call: usize,
+    /// Its end.
+    pub time: u64,
+    /// Whether items that no call took have to be counted.
+    pub left: bool,
+}
+
+/// The send that ended first of those at whose end more items than this number were in the queue for certain.
+fn first_crowd(held: &Held, number: usize) -> Option<Crowd>
+    ensures some { IfSome result (IsCrowd held.now number) }
+    ensures none { IfNone result ((rules : Rules) (calls : List Call) → AreHeld rules calls held.now → (time : ℕ) (sends : List ℕ) → MoreAt calls sends number time → ⊥) }
+{
+    for at in 0..held.sent.len() {
+        let (time, call) = held.sent[at];
+        if let Some(left) = crowding(held, number, time) {
+            return Some(Crowd { call, time, left });
+        }
+    }
+    None
+}
+
+/// Whether the item of the send at this place was in the queue for certain at a time; if no call took it, whether those count.
+fn remains(calls: &[Call], index: &Index, send: usize, time: u64, left: bool) -> bool
     requires { IsIndex calls.now index.now }
-    ensures { IsTrue result → MoreAt calls.now sends.now number time }
+    ensures { RemainsIf calls.now time left send result }
 {
-    if !is_rising(sends) || !all_stay(calls, index, sends, time, false) {
+    let Some(end) = sent_since(calls, send) else {
         return false;
+    };
+    match gone_since(calls, index, send) {
+        Some(from) => end <= time && time < from,
+        None => end <= time && left,
     }
-    number < sends.len()
 }
 
-/// Whether more of the items of these sends than a number were in the queue at a time, also those that were never taken.
-fn are_more_left(calls: &[Call], index: &Index, sends: &[usize], number: usize, time: u64) -> bool
+/// The sends of the items that were in the queue for certain at a time; if `left`, also of those that no call took.
+fn remaining(
+    alloc: Global,
+    calls: &[Call],
+    index: &Index,
+    time: u64,
+    left: bool,
+) -> Result<Vec<usize>, AllocError>
     requires { IsIndex calls.now index.now }
-    ensures { IsTrue result → MoreAt calls.now sends.now number time }
+    ensures { IfOk result (λ v. AreAll (Remains calls.now time left) v.items) }
 {
-    if !is_rising(sends) || !all_stay(calls, index, sends, time, true) {
-        return false;
+    let mut sends = Vec::new(alloc);
+    for send in 0..calls.len() {
+        if remains(calls, index, send, time, left) {
+            sends.push(send)?;
+        }
     }
-    match waiting(calls, time) {
-        Some(takes) => is_more(sends.len(), number, takes),
-        None => false,
-    }
+    Ok(sends)
 }
 
-/// When the call at this place ended, if it did.
-pub fn end_at(calls: &[Call], place: usize) -> Option<u64>
-    ensures { IfSome result (λ end. (one : Call) × (slice_get calls.now place ≡ Some one) × (one.end ≡ Some end)) }
-{
-    call_at(calls, place)?.end
-}
-
-/// Whether more of the items of these sends were in the queue than it holds, when the call at this place had ended.
-pub fn is_too_many(
+/// That more items were in the queue for certain than it holds. It takes memory in proportion to the log.
+pub fn many_fault(
+    alloc: Global,
     rules: &Rules,
     calls: &[Call],
     index: &Index,
-    call: usize,
-    sends: &[usize],
-) -> bool
-    requires { IsIndex calls.now index.now }
-    ensures { IsTrue result → TooMany rules.now calls.now call sends.now }
+) -> Result<Option<Fault>, AllocError>
+    requires index { IsIndex calls.now index.now }
+    requires written { IsWritten calls.now }
+    ensures some { IfOk result (λ found. IfSome found (Stands rules.now calls.now)) }
+    ensures none { IfOk result (λ found. IfNone found (ItemsFit rules.now calls.now)) }
 {
-    let (Some(number), Some(end)) = (capacity_of(rules), end_at(calls, call)) else {
-        return false;
+    let Some(number) = capacity_of(rules) else {
+        return Ok(None);
     };
-    are_more_taken(calls, index, sends, number, end)
-        || are_more_left(calls, index, sends, number, end)
+    let held = Held {
+        sent: by_time(alloc, calls, index, None, Known::Sent)?,
+        gone: by_time(alloc, calls, index, None, Known::Gone)?,
+        left: by_time(alloc, calls, index, None, Known::Left)?,
+        waits: by_time(alloc, calls, index, None, Known::Waits)?,
+    };
+    let Some(Crowd { call, time, left }) = first_crowd(&held, number) else {
+        return Ok(None);
+    };
+    let sends = remaining(alloc, calls, index, time, left)?;
+    Ok(Some(Fault::TooMany { call, sends }))
 }

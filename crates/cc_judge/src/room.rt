@@ -7,67 +7,18 @@ ghost use Rattle.std.specs.Prelude.{◌≡◌, ℕ, suc, List, Some, None, true,
 ghost use Rattle.cc_judge.specs.Names.{Call, Rules};
 ghost use Rattle.cc_judge.specs.Checks.{IsFullCall};
 ghost use Rattle.cc_judge.specs.Counts.{AreFirst};
-ghost use Rattle.cc_judge.specs.Faults.{Differ, FewerAt, NotFull};
+ghost use Rattle.cc_judge.specs.Faults.{FewerAt, NotFull};
 ghost use Rattle.cc_judge.specs.Faultless.{NoFault};
-ghost use Rattle.cc_judge.specs.Room.{AreLastRooms, AreRooms, AreTimes, BegunSince, FewerIn, FullsArePossible, GoneSince, HasBegins, HasEnds, IsLastRoom, IsRoomIn};
-ghost use Rattle.cc_judge.specs.Sweeps.{AreSorted};
+ghost use Rattle.cc_judge.specs.Room.{AreLastRooms, AreRooms, AreTimes, FewerIn, FullsArePossible, IsLastRoom, IsRoomIn};
+ghost use Rattle.cc_judge.specs.Table.{IsIndex};
+ghost use Rattle.cc_judge.specs.Verdict.{Stands};
 
-use crate::lists::{ByTime, before, upto};
+use crate::decide::Fault;
+use crate::faults::Index;
+use crate::lists::{ByTime, Known, before, by_time, upto};
 use crate::table::call_at;
 use crate::{Act, Call, Rules};
 use std::alloc::{AllocError, Global};
-
-/// When the call at this place began, if it sent an item.
-fn begun_since(calls: &[Call], place: usize) -> Option<u64>
-    ensures { BegunSince calls.now place result }
-{
-    let call = call_at(calls, place)?;
-    match call.act {
-        Act::Send(_) => Some(call.begin),
-        _ => None,
-    }
-}
-
-/// When the call at this place ended, if it took an item and returned.
-fn gone_since(calls: &[Call], place: usize) -> Option<u64>
-    ensures { GoneSince calls.now place result }
-{
-    let call = call_at(calls, place)?;
-    match call.act {
-        Act::Took(_) => call.end,
-        _ => None,
-    }
-}
-
-/// The sends, by their begins.
-fn begins_of(alloc: Global, calls: &[Call]) -> Result<ByTime, AllocError>
-    ensures of { IfOk result (λ v. HasBegins calls.now v.items) }
-    ensures sorted { IfOk result (λ v. AreSorted v.items) }
-{
-    let mut list = Vec::new(alloc);
-    for place in 0..calls.len() {
-        if let Some(time) = begun_since(calls, place) {
-            list.push((time, place))?;
-        }
-    }
-    list.sort_by_key(|entry| entry.0)?;
-    Ok(list)
-}
-
-/// The takes that returned with an item, by their ends.
-fn ends_of(alloc: Global, calls: &[Call]) -> Result<ByTime, AllocError>
-    ensures of { IfOk result (λ v. HasEnds calls.now v.items) }
-    ensures sorted { IfOk result (λ v. AreSorted v.items) }
-{
-    let mut list = Vec::new(alloc);
-    for place in 0..calls.len() {
-        if let Some(time) = gone_since(calls, place) {
-            list.push((time, place))?;
-        }
-    }
-    list.sort_by_key(|entry| entry.0)?;
-    Ok(list)
-}
 
 /// Whether as many items as this number may be in the queue at a time.
 fn may_hold(begins: &ByTime, ends: &ByTime, number: usize, time: u64) -> bool
@@ -218,19 +169,24 @@ pub fn capacity_of(rules: &Rules) -> Option<usize>
     }
 }
 
-/// A call that found the queue full, though at each of its times fewer items than the queue holds may have been in it, if there is one.
-/// It takes memory in proportion to the log.
-pub fn not_full(alloc: Global, rules: &Rules, calls: &[Call]) -> Result<Option<usize>, AllocError>
-    requires differ { Differ calls.now }
+/// That a send found the queue full, though at each of its times fewer items than the queue holds may have been in it. It takes memory
+/// in proportion to the log.
+pub fn full_fault(
+    alloc: Global,
+    rules: &Rules,
+    calls: &[Call],
+    index: &Index,
+) -> Result<Option<Fault>, AllocError>
+    requires index { IsIndex calls.now index.now }
     requires none { NoFault rules.now calls.now }
-    ensures some { IfOk result (λ found. IfSome found (NotFull rules.now calls.now)) }
+    ensures some { IfOk result (λ found. IfSome found (Stands rules.now calls.now)) }
     ensures none { IfOk result (λ found. IfNone found (FullsArePossible rules.now calls.now)) }
 {
     let Some(number) = capacity_of(rules) else {
         return Ok(None);
     };
-    let begins = begins_of(alloc, calls)?;
-    let ends = ends_of(alloc, calls)?;
+    let begins = by_time(alloc, calls, index, None, Known::Begun)?;
+    let ends = by_time(alloc, calls, index, None, Known::Taken)?;
     let last = last_rooms(alloc, &begins, &ends, number)?;
     let rooms = Rooms {
         begins,
@@ -238,5 +194,8 @@ pub fn not_full(alloc: Global, rules: &Rules, calls: &[Call]) -> Result<Option<u
         number,
         last,
     };
-    Ok(first_not_full(calls, &rooms))
+    match first_not_full(calls, &rooms) {
+        Some(call) => Ok(Some(Fault::NotFull { call })),
+        None => Ok(None),
+    }
 }

@@ -3,10 +3,8 @@ use Rattle.cc_judge.proofs.lists.lists_of.Goals as goal
 pub returns : goal.returns
 returns c = λ log written at. record {
   written = written;
-  lefts = c.in_ok-lefts_of.ensures.of log at;
-  lefts_sorted = c.in_ok-lefts_of.ensures.sorted;
-  waits = c.in_ok-waits_of.ensures.of;
-  waits_sorted = c.in_ok-waits_of.ensures.sorted;
+  lefts = c.in_ok-by_time.ensures log at;
+  waits = c.in_ok-by_time-2.ensures log at;
   spells = c.in_ok-spells.ensures log written at;
   latest = c.in_ok-latest.ensures;
 }

@@ -1,7 +1,7 @@
 use Rattle.std.proofs.Common.{ℕ, suc, List, sym, subst, leb, leb-true, leb-false, arith, rules}
 use Rattle.std.proofs.lemmas.List.Sorted.{IsPartitionPoint-from_clause, IsPartitionedBy-leb}
 use Rattle.cc_judge.specs.Counts.{AreFirst}
-use Rattle.cc_judge.specs.Sweeps.{AreSorted}
+use Rattle.cc_judge.specs.Counts.{AreSorted}
 use Rattle.cc_judge.proofs.Sweeping.{first_of_point}
 use Rattle.cc_judge.proofs.lists.upto.Goals as goal
 

@@ -10,3 +10,6 @@ returns-in_default c = λ rules calls l.
       | in_default-via-in-Some+else-end-spell w ↦ (taken_by_then rules calls c.args.begin c.args.end w.in-Some.spell (w.in-Some.ensures rules calls l) (omega (arith, w.if-end-spell.false)), enough)
       | in_default-via-in_default w ↦ (none_taken rules calls c.args.begin c.args.end (w.in_default.ensures rules calls l), enough)
     ]
+
+pub returns-in-Some : goal.returns-in-Some
+returns-in-Some c = λ rules calls l. let last = c.in-Some.ensures rules calls l in c.last_passed.ensures rules calls l last.spell last.before c.if-end-spell.true

@@ -19,3 +19,6 @@ returns-in-None-clause-fewer c = λ calls rooms is.
     let r = c.args.rooms.now in
     let l = c.in-None.ensures calls rooms in
     fewer_none calls r.begins.items r.ends.items r.number c.args.times.begin c.args.times.end l.0 rooms.times l.1 (c.may_hold.ensures.fewer calls rooms.times c.if-may_hold.false) l.2
+
+pub returns-then-may_hold-clause-more : goal.returns-then-may_hold-clause-more
+returns-then-may_hold-clause-more c = λ calls rooms off few. c.may_hold.ensures.enough calls rooms.times c.if-may_hold.true few.at_begin
