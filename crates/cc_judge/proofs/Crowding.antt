@@ -1,5 +1,5 @@
 -- How many items are in the queue for certain: exactly when they are more than a number.
-use Rattle.std.proofs.Common.{◌≡◌, ℕ, suc, ◌+◌, ◌-◌, ◌<◌, ◌≤◌, ◌⊎◌, inl, inr, Bool, true, false, List, [], ◌∷◌, ◌++◌, length, length-append, Option, Some, None, refl, sym, ap, ◌∙◌, subst, arith}
+use Rattle.std.proofs.Common.{◌≡◌, ℕ, zero, suc, ◌+◌, ◌-◌, ◌<◌, ◌≤◌, ◌⊎◌, inl, inr, Bool, true, false, List, [], ◌∷◌, ◌++◌, length, length-append, Option, Some, None, refl, sym, ap, ◌∙◌, subst, arith}
 use Rattle.std.specs.List.{slice_get}
 use Rattle.std.proofs.lemmas.Bool.{cases_lt}
 use Rattle.std.proofs.lemmas.Option.{slice_get_within}
@@ -176,89 +176,38 @@ module _ (rules : Rules) (calls : List Call) (h : Held) (is : AreHeld rules call
 
 -- ---- at any time
 
--- the send that ended last of some that had ended by a time
-record Last (calls : List Call) (sends : List ℕ) (time : ℕ) : Type 0 where
-  send : ℕ
-  end : ℕ
-  by : end ≤ time
-  sent : HasSent calls (suc end) send
-  only : (later : ℕ) → HasSent calls later send → end < later
-  each : (other : ℕ) → In other sends → HasSent calls (suc end) other
-
-later_end : (calls : List Call) (send end later : ℕ) → end ≤ later → HasSent calls (suc end) send → HasSent calls (suc later) send
-later_end calls send end later le s = let by = s.2.by in (s.0, s.1, record { call = s.2.call; call_is = s.2.call_is; end = s.2.end; ended = s.2.ended; by = omega (arith, by, le) })
-
-only_end : (calls : List Call) (send end later : ℕ) (one : Call) → slice_get calls send ≡ Some one → one.end ≡ Some end → HasSent calls later send → end < later
-only_end calls send end later one at ends h =
-    let same : h.2.call ≡ one = some_is h.2.call one (sym h.2.call_is ∙ at) in
-    let end_is : h.2.end ≡ end = some_is h.2.end end (sym h.2.ended ∙ ap (λ (c : Call). c.end) same ∙ ends) in
-    let by = h.2.by in
-    omega (arith, by, end_is)
-
-last_of : (calls : List Call) (send : ℕ) (sends : List ℕ) (time : ℕ) → ((s : ℕ) → In s (send ∷ sends) → HasSent calls (suc time) s) → Last calls (send ∷ sends) time
-last_of calls send [] time sent =
-    let s = sent send (inl refl) in
-    let ends : HasSent calls (suc s.2.end) send = (s.0, s.1, record { call = s.2.call; call_is = s.2.call_is; end = s.2.end; ended = s.2.ended; by = omega arith }) in
-    record {
-      send = send;
-      end = s.2.end;
-      by = let by = s.2.by in omega (arith, by);
-      sent = ends;
-      only = λ later h. only_end calls send s.2.end later s.2.call s.2.call_is s.2.ended h;
-      each = λ other within. elim within [ inl here ↦ subst (HasSent calls (suc s.2.end)) here ends | inr none ↦ absurd none ];
-    }
-last_of calls send (next ∷ sends) time sent =
-    let l = last_of calls next sends time (λ s within. sent s (inr within)) in
-    let s = sent send (inl refl) in
-    let ends : HasSent calls (suc s.2.end) send = (s.0, s.1, record { call = s.2.call; call_is = s.2.call_is; end = s.2.end; ended = s.2.ended; by = omega arith }) in
-    elim (cases_lt l.end s.2.end) [
-      | inl less ↦ record {
-        send = send;
-        end = s.2.end;
-        by = let by = s.2.by in omega (arith, by);
-        sent = ends;
-        only = λ later h. only_end calls send s.2.end later s.2.call s.2.call_is s.2.ended h;
-        each = λ other within. elim within [
-          | inl here ↦ subst (HasSent calls (suc s.2.end)) here ends
-          | inr later ↦ later_end calls other l.end s.2.end (omega (arith, less)) (l.each other later)
-        ];
-      }
-      | inr le ↦ record {
-        send = l.send;
-        end = l.end;
-        by = l.by;
-        sent = l.sent;
-        only = l.only;
-        each = λ other within. elim within [ inl here ↦ subst (HasSent calls (suc l.end)) here (later_end calls send s.2.end l.end le ends) | inr later ↦ l.each other later ];
-      }
+-- a send that had ended by a time ended then, or before
+ended_at : (calls : List Call) (list : List (ℕ × ℕ)) (time send : ℕ) → HasTimes (HasSent calls) list → HasSent calls (suc time) send → ((k : ℕ) × (slice_get list k ≡ Some (time, send))) ⊎ HasSent calls time send
+ended_at calls list time send l sent =
+    let a = l.all send (suc time) sent in
+    let less = a.3 in
+    elim (nat_cases a.1 time) [
+      | inl same ↦ inl (a.0, a.2 ∙ ap (λ (t : ℕ). Some (t, send)) same)
+      | inr other ↦ inr ((l.each a.0 a.1 send a.2).0 time (omega (arith, less, other)))
     ]
 
 -- too many at a time are too many at the end of a send
 pub at_end : (calls : List Call) (list : List (ℕ × ℕ)) (number time : ℕ) (sends : List ℕ) → HasTimes (HasSent calls) list → MoreAt calls sends number time → (k end send : ℕ) × (slice_get list k ≡ Some (end, send)) × MoreAt calls sends number end
-at_end calls list number time [] l m = let more = m.more in absurd (omega (arith, more))
-at_end calls list number time (first ∷ sends) l m =
-    let last = last_of calls first sends time m.each in
-    let a = l.all last.send (suc last.end) last.sent in
-    let since = l.each a.0 a.1 last.send a.2 in
-    let upper = a.3 in
-    let lower = last.only (suc a.1) (since.0 (suc a.1) (omega arith)) in
-    let same : last.end ≡ a.1 = omega (arith, upper, lower) in
-    let le = last.by in (
-      a.0,
-      a.1,
-      last.send,
-      a.2,
-      subst (MoreAt calls (first ∷ sends) number) same (record {
-        apart = m.apart;
-        each = last.each;
-        takes = m.takes;
-        more = m.more;
-        others = λ send item take within did may. elim (m.others send item take within did may) [
-          | inl has ↦ inl has
-          | inr late ↦ let after = late.after in inr (record { call = late.call; call_is = late.call_is; after = omega (arith, after, le) })
-        ];
-      }),
-    )
+at_end calls list number zero sends l m = elim (some_or_none (λ s. (k : ℕ) × (slice_get list k ≡ Some (0, s))) (HasSent calls 0) sends (λ s within. ended_at calls list 0 s l (m.each s within))) [
+  | inl some ↦ (some.2.0, 0, some.0, some.2.1, m)
+  | inr none ↦
+      let few = are_in sends [] m.apart (λ s within. let by = (none s within).2.by in absurd (omega (arith, by))) in
+      let more = m.more in
+      absurd (omega (arith, few, more))
+]
+at_end calls list number (suc t) sends l m = elim (some_or_none (λ s. (k : ℕ) × (slice_get list k ≡ Some (suc t, s))) (HasSent calls (suc t)) sends (λ s within. ended_at calls list (suc t) s l (m.each s within))) [
+  | inl some ↦ (some.2.0, suc t, some.0, some.2.1, m)
+  | inr sent ↦ at_end calls list number t sends l (record {
+    apart = m.apart;
+    each = sent;
+    takes = m.takes;
+    more = m.more;
+    others = λ send item take within did may. elim (m.others send item take within did may) [
+      | inl has ↦ inl has
+      | inr late ↦ let after = late.after in inr (record { call = late.call; call_is = late.call_is; after = omega (arith, after) })
+    ];
+  })
+]
 
 -- ---- as it is found
 

@@ -23,12 +23,6 @@ ok_some P Q (Ok None) p f = p
 ok_some P Q (Ok (Some x)) p f = f x p
 ok_some P Q (Err e) p f = p
 
--- what holds anyway holds if none was found
-pub no_other : {X E : Type 0} (Q : Type 0) (r : Result (Option X) E) → Q → IfOk r (λ found. IfNone found Q)
-no_other Q (Ok None) q = q
-no_other Q (Ok (Some x)) q = tt
-no_other Q (Err e) q = tt
-
 -- both of two
 pub both_none : {X E : Type 0} (P Q : Type 0) (r : Result (Option X) E) → P → IfOk r (λ found. IfNone found Q) → IfOk r (λ found. IfNone found (P × Q))
 both_none P Q (Ok None) p q = (p, q)

@@ -7,7 +7,7 @@ use Rattle.cc_judge.specs.Faults.{Did, Returned, Differ, EndedBy, MoreAt, TooMan
 use Rattle.cc_judge.proofs.Places.{In, Before, before_first, in_order, in_last}
 use Rattle.cc_judge.proofs.Runs.{to_where, sends_last, loosened}
 use Rattle.cc_judge.proofs.Orders.{StepOf, step_of, returned_step, took_in_log, in_time, on_before, one_take, apart}
-use Rattle.cc_judge.proofs.Fewer.{once_another}
+use Rattle.cc_judge.proofs.Fewer.{fits, split}
 use Rattle.cc_judge.proofs.Full.{NoneTwice, none_twice_later, none_before}
 
 -- ---- what the queue holds after a step
@@ -145,45 +145,9 @@ module _ (rules : Rules) (calls : List Call) (order : List Step) (o : IsOrder ru
         ];
       }
 
--- ---- items and takes, told apart by even and odd numbers
-
-abbrev evens : List ℕ → List ℕ
-evens [] = []
-evens (x ∷ xs) = (x + x) ∷ evens xs
-
-abbrev evens_and_odds : List ℕ → List ℕ → List ℕ
-evens_and_odds [] ys = evens ys
-evens_and_odds (x ∷ xs) ys = suc (x + x) ∷ evens_and_odds xs ys
-
-evens_length : (xs : List ℕ) → length (evens xs) ≡ length xs
-evens_length [] = refl
-evens_length (x ∷ xs) = ap suc (evens_length xs)
-
-both_length : (xs ys : List ℕ) → length (evens_and_odds xs ys) ≡ length xs + length ys
-both_length [] ys = let e = evens_length ys in omega (arith, e)
-both_length (x ∷ xs) ys = let e = both_length xs ys in omega (arith, e)
-
-in_evens : (x : ℕ) (xs : List ℕ) → In x xs → In (x + x) (evens xs)
-in_evens x [] within = absurd within
-in_evens x (y ∷ xs) (inl here) = inl (ap (λ (n : ℕ). n + n) here)
-in_evens x (y ∷ xs) (inr rest) = inr (in_evens x xs rest)
-
-in_even : (x : ℕ) (xs ys : List ℕ) → In x ys → In (x + x) (evens_and_odds xs ys)
-in_even x [] ys within = in_evens x ys within
-in_even x (y ∷ xs) ys within = inr (in_even x xs ys within)
-
-in_odd : (x : ℕ) (xs ys : List ℕ) → In x xs → In (suc (x + x)) (evens_and_odds xs ys)
-in_odd x [] ys within = absurd within
-in_odd x (y ∷ xs) ys (inl here) = inl (ap (λ (n : ℕ). suc (n + n)) here)
-in_odd x (y ∷ xs) ys (inr rest) = inr (in_odd x xs ys rest)
-
 -- ---- of an order
 
 module _ (rules : Rules) (calls : List Call) (order : List Step) (o : IsOrder rules calls order) (differ : Differ calls) where
-  -- the item of a send is held, or a step of one of these calls took it; the number says which
-  abbrev Where : (held takes : List ℕ) → (send number : ℕ) → Type 0
-  Where held takes send number = ((item : ℕ) × Did calls send (Act.Send item) × In item held × (number ≡ item + item)) ⊎ ((item : ℕ) × Did calls send (Act.Send item) × (u : Step) × In u order × (u.act ≡ Act.Took item) × In u.place takes × (number ≡ suc (u.place + u.place)))
-
   one_step : (u v : Step) → In u order → In v order → u.place ≡ v.place → u ≡ v
   one_step u v first second same = elim (in_order u v order first second) [
     | inl here ↦ here
@@ -192,17 +156,6 @@ module _ (rules : Rules) (calls : List Call) (order : List Step) (o : IsOrder ru
       | inr two ↦ absurd (apart rules calls order o v u two (sym same))
     ]
   ]
-
-  one_where : (held takes : List ℕ) (s t number : ℕ) → Where held takes s number → Where held takes t number → s ≡ t
-  one_where held takes s t number (inl a) (inl b) = let same : b.0 ≡ a.0 = omega (arith, a.3, b.3) in differ a.0 s t a.1 (subst (λ (i : ℕ). Did calls t (Act.Send i)) same b.1)
-  one_where held takes s t number (inl a) (inr b) = absurd (omega (arith, a.3, b.6))
-  one_where held takes s t number (inr a) (inl b) = absurd (omega (arith, a.6, b.3))
-  one_where held takes s t number (inr a) (inr b) =
-      let places : a.2.place ≡ b.2.place = omega (arith, a.6, b.6) in
-      let same = one_step a.2 b.2 a.3 b.3 places in
-      let acts : Act.Took b.0 ≡ Act.Took a.0 = sym b.4 ∙ ap (λ (u : Step). u.act) (sym same) ∙ a.4 in
-      let items : b.0 ≡ a.0 = cc in
-      differ a.0 s t a.1 (subst (λ (i : ℕ). Did calls t (Act.Send i)) items b.1)
 
   ended_step : (send item time : ℕ) → Did calls send (Act.Send item) → EndedBy calls send time → StepOf order send (Act.Send item)
   ended_step send item time did e =
@@ -266,7 +219,17 @@ module _ (rules : Rules) (calls : List Call) (order : List Step) (o : IsOrder ru
           )
         ]
 
-    somewhere : (send : ℕ) → In send sends → (number : ℕ) × (Where after.items m.takes send number × In number (evens_and_odds m.takes after.items))
+    -- the item of a send is held, or a step of one of these calls took it
+    abbrev IsHeld : ℕ → Type 0
+    IsHeld send = (item : ℕ) × (Did calls send (Act.Send item) × In item after.items)
+
+    abbrev TookBy : ℕ → ℕ → Type 0
+    TookBy send place = (item : ℕ) × Did calls send (Act.Send item) × (u : Step) × In u order × (u.act ≡ Act.Took item) × (u.place ≡ place)
+
+    abbrev IsTaken : ℕ → Type 0
+    IsTaken send = (place : ℕ) × (TookBy send place × In place m.takes)
+
+    somewhere : (send : ℕ) → In send sends → IsHeld send ⊎ IsTaken send
     somewhere send within =
         let l = last.each send within in
         let e = m.each send within in
@@ -274,21 +237,27 @@ module _ (rules : Rules) (calls : List Call) (order : List Step) (o : IsOrder ru
         let same = one_step l.1 s.step (until_in l.1 l.4) s.within (l.2 ∙ sym s.place_is) in
         let sent : l.1.act ≡ Act.Send e.0 = ap (λ (x : Step). x.act) same ∙ s.act_is in
         elim (after.new e.0 l.1 l.4 sent) [
-          | inl has ↦ (e.0 + e.0, (inl (e.0, e.1, has, refl), in_even e.0 m.takes after.items has))
-          | inr taken ↦
-              let by = taken_by send e.0 within e.1 taken.0 taken.1 taken.2 taken.3 in
-              (suc (taken.0.place + taken.0.place), (inr (e.0, e.1, taken.0, taken.2, taken.3, by, refl), in_odd taken.0.place m.takes after.items by))
+          | inl has ↦ inl (e.0, (e.1, has))
+          | inr taken ↦ inr (taken.0.place, ((e.0, e.1, taken.0, taken.2, taken.3, refl), taken_by send e.0 within e.1 taken.0 taken.1 taken.2 taken.3))
         ]
       where
         until_in : (s : Step) → Until s last.step order → In s order
         until_in s (inl same) = subst (λ (x : Step). In x order) (sym same) last.within
         until_in s (inr before) = before_first s last.step order before
 
+    own_take : (s t place : ℕ) → TookBy s place → TookBy t place → s ≡ t
+    own_take s t place a b =
+        let same = one_step a.2 b.2 a.3 b.3 (a.5 ∙ sym b.5) in
+        let acts : Act.Took b.0 ≡ Act.Took a.0 = sym b.4 ∙ ap (λ (u : Step). u.act) (sym same) ∙ a.4 in
+        let items : b.0 ≡ a.0 = cc in
+        differ a.0 s t a.1 (subst (λ (i : ℕ). Did calls t (Act.Send i)) items b.1)
+
     overfull : ⊥
     overfull =
-        let sum = both_length m.takes after.items in
-        let fewer : length (evens_and_odds m.takes after.items) < length sends = omega (arith, sum, after.few, m.more) in
-        (once_another (λ send number. Where after.items m.takes send number × In number (evens_and_odds m.takes after.items)) (λ number. ⊥) sends (evens_and_odds m.takes after.items) m.apart fewer somewhere (λ s t number a b. one_where after.items m.takes s t number a.0 b.0) (λ s number within a. inl a.1)).more
+        let parts = split IsHeld IsTaken sends m.apart somewhere in
+        let held = fits (λ send item. Did calls send (Act.Send item)) parts.ones after.items parts.once.0 (λ send within. (parts.each_one send within).1) (λ s t item one other. differ item s t one other) in
+        let taken = fits TookBy parts.others m.takes parts.once.1 (λ send within. (parts.each_other send within).1) own_take in
+        omega (arith, parts.long, held, taken, after.few, m.more)
 
 pub too_many : (rules : Rules) (calls : List Call) (call : ℕ) (sends : List ℕ) (order : List Step) → Differ calls → TooMany rules calls call sends → IsOrder rules calls order → ⊥
 too_many rules calls call sends order differ f o = overfull rules calls order o differ sends f.capacity f.end f.capacity_is f.held

@@ -27,10 +27,6 @@ untaken : (take : ℕ) → Passed (waiting 0 (Act.Send 0) ∷ []) 0 take → ⊥
 untaken zero p = absurd (cc (p.took.call_is, p.took.act_is))
 untaken (suc take) p = absurd (cc (p.took.call_is))
 
-took_nothing : (take : ℕ) → Returned (waiting 4 (Act.Send 0) ∷ []) take (Act.Took 0) → ⊥
-took_nothing zero r = absurd (cc (r.call_is, r.act_is))
-took_nothing (suc take) r = absurd (cc (r.call_is))
-
 -- no send of that log began by 3
 none_sent : (time send item : ℕ) → time < 4 → Did full_early send (Act.Send item) → BeganBy full_early send time → ⊥
 none_sent time zero item early d by = absurd (cc (d.call_is, d.act_is))

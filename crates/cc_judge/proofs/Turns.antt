@@ -69,10 +69,3 @@ marked_on order i d before after within so_far on =
 
 pub all_once : (order : List Step) (marks : List Bool) (i : ℕ) → length order ≤ i → MarkedTo order marks i → IsOnce order
 all_once order marks i end so_far j k s t less s_is t_is = let within : k < length order = slice_get_within order k t t_is in so_far.once j k s t less (omega (arith, within, end)) s_is t_is
-
--- ---- sends that are left
-
--- each element so far is below the least that may come, and past those before it
-pub record RisingTo (xs : List ℕ) (upto least : ℕ) : Type 0 where
-  pub below : (k x : ℕ) → k < upto → slice_get xs k ≡ Some x → x < least
-  pub rising : (j k x y : ℕ) → j < k → k < upto → slice_get xs j ≡ Some x → slice_get xs k ≡ Some y → x < y
