@@ -1,12 +1,5 @@
-pub mod Lines
-pub mod Declined
-pub mod DriveLine
-pub mod DriveClaims
 pub mod Explained
-pub mod Flag
-pub mod JudgeOptions
 pub mod Hard
 pub mod Judged
 pub mod RefusedClaims
-pub mod Removed
-pub mod Tasks
+pub mod Steps

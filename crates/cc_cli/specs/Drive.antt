@@ -1,8 +1,6 @@
 -- The answer of a run by threads, its texts, and its status.
 use Rattle.std.specs.Prelude.{ℕ, ◌≡◌, ◌⊎◌, ◌+◌, ◌++◌, List, [], ◌∷◌, codes, Option, Result, Ok, Err}
 use Rattle.std.specs.Io.KnownBytes.{Keeps, Appends}
-use Rattle.clap.specs.Words.{IsAmong, fault_of}
-use Rattle.clap.specs.declared.error.kind.ErrorKind.{ErrorKind}
 use Rattle.cc_model.specs.Items.{IsPrefix}
 use Rattle.cc_io.specs.Written.{word_text}
 use Rattle.cc_audit.specs.declared.receipt.Verdict.{Verdict}
@@ -12,8 +10,6 @@ use Rattle.cc_drive.specs.declared.config.DriveConfig.{DriveConfig}
 use Rattle.cc_drive.specs.declared.config.DriveEnd.{DriveEnd}
 use Rattle.cc_drive.specs.declared.config.DriveFault.{DriveFault}
 use Rattle.cc_drive.specs.Ran.{IsWhole}
-use Rattle.cc_cli.specs.Line.{IsAsked, drive_command}
-use Rattle.cc_cli.specs.Run.{Declines}
 use Rattle.cc_cli.specs.declared.driving.RunFault.{RunFault}
 
 -- the lines of both counts
@@ -53,17 +49,7 @@ abbrev pub verdict_in : Result DriveEnd RunFault → Result Verdict RunFault
 verdict_in (Ok e) = Ok e.verdict
 verdict_in (Err f) = Err f
 
--- The bytes that a line of these words leaves on both outputs: the drive that the words ask for is done and its outcome reported,
--- or the line is declined for a fault that the parser of command lines finds in the words, or for lack of memory.
-module _ (words : List (List ℕ)) (old new : Option (List ℕ)) (fails fails_after : ℕ) (errors_old errors_new : Option (List ℕ)) (before after status : ℕ) where
-  abbrev pub Done : Type 0
-  Done = (c : DriveConfig) × IsAsked words c × (outcome : Result DriveEnd RunFault) × Leaves c outcome old new fails fails_after
-      × (status ≡ status_of (verdict_in outcome)) × Told errors_old errors_new before after (line_of (verdict_in outcome))
-
-  abbrev pub Answers : Type 0
-  Answers = Done ⊎ ((found : ErrorKind) × IsAmong found (ErrorKind.OutOfMemory ∷ fault_of drive_command words) × Declines old new fails fails_after errors_old errors_new before after status found)
-
--- Nothing else is read.
-module _ (words : List (List ℕ)) (left_old left_new : Option (List ℕ)) (reads reads_after : ℕ) (old new : Option (List ℕ)) (fails fails_after : ℕ) (errors_old errors_new : Option (List ℕ)) (before after status : ℕ) where
-  abbrev pub Drives : Type 0
-  Drives = Keeps left_old left_new × (reads_after ≡ reads) × Answers words old new fails fails_after errors_old errors_new before after status
+-- The bytes that a drive leaves on both outputs: it is done, and its outcome reported.
+abbrev pub Drives : DriveConfig → (old new : Option (List ℕ)) → (fails fails_after : ℕ) → (errors_old errors_new : Option (List ℕ)) → (before after status : ℕ) → Type 0
+Drives c old new fails fails_after errors_old errors_new before after status = (outcome : Result DriveEnd RunFault) × Leaves c outcome old new fails fails_after
+    × (status ≡ status_of (verdict_in outcome)) × Told errors_old errors_new before after (line_of (verdict_in outcome))

@@ -4,16 +4,17 @@ use Rattle.std.specs.List.{starts_with}
 use Rattle.std.specs.Str.{bytes_eq}
 use Rattle.std.specs.Io.KnownBytes.{Appends, Keeps}
 use Rattle.cc_model.specs.Items.{IsPrefix}
-use Rattle.cc_cli.specs.Names.{Head, Mark, Painter}
+use Rattle.cc_cli.specs.Names.{Head, Mark, Painter, Task}
 
 -- a terminal of this kind has colours, and the value of NO_COLOR doesn't forbid them; both are empty if they aren't set
 abbrev pub wants_colours : (term no_color : List ℕ) → Bool
 wants_colours term no_color = not (bytes_eq term [] || bytes_eq term (codes "dumb")) && bytes_eq no_color []
 
--- the task of a line whose answer has colours
-abbrev pub is_painted : List (List ℕ) → Bool
-is_painted [] = false
-is_painted (task ∷ rest) = bytes_eq task (codes "judge") || bytes_eq task (codes "why")
+-- a task that answers by a verdict or a place
+abbrev pub is_painted : Task → Bool
+is_painted Task.Judge = true
+is_painted Task.Why = true
+is_painted task = false
 
 -- the text begins with these bytes
 abbrev pub begins : (text bytes : List ℕ) → Bool

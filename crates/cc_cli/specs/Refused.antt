@@ -1,13 +1,11 @@
 -- Refused claims: for each kind of mistake a claim that the definitions don't admit.
-use Rattle.std.specs.Prelude.{ℕ, ◌≡◌, ◌+◌, true, false, List, [], ◌∷◌, codes, Option, Some, Ok}
-use Rattle.clap.specs.Words.{IsAmong, fault_of}
-use Rattle.clap.specs.declared.error.kind.ErrorKind.{ErrorKind}
-use Rattle.cc_drive.specs.declared.config.DriveConfig.{DriveConfig}
+use Rattle.std.specs.Prelude.{ℕ, ◌≡◌, ◌+◌, true, false, List, [], ◌∷◌, codes, Option, Some, Ok, Err}
 use Rattle.cc_judge.specs.Cuts.{AreShort}
 use Rattle.cc_log.specs.Log.{Spelled}
 use Rattle.cc_cli.specs.Judged.{IsDue, Judges}
-use Rattle.cc_cli.specs.Line.{IsAsked, drive_command}
-use Rattle.cc_cli.specs.Names.{Head, Options, Tie}
+use Rattle.cc_cli.specs.Line.{line_of}
+use Rattle.cc_cli.specs.Names.{Fault, Given, Head, Options, Task, Tie}
+use Rattle.cc_cli.specs.Options.{drive_of}
 use Rattle.cc_cli.specs.Paint.{due_head, wants_colours}
 use Rattle.cc_cli.specs.Why.{Explains}
 
@@ -38,8 +36,8 @@ pub record RefusedClaims : Type 0 where
   -- a device failed while a log was judged, and none did
   pub log_failure_made_up : (options : Options) (left : Option (List ℕ)) (reads fails : ℕ) → Refused (Judges options left reads reads fails fails 4)
   -- a line with an option asks for the default
-  pub option_ignored : (c : DriveConfig) → Refused (IsAsked (codes "drive" ∷ codes "--senders" ∷ codes "3" ∷ []) c × (c.senders ≡ 4))
+  pub option_ignored : (given : List Given) (file : Option ℕ) → line_of (codes "drive" ∷ codes "--senders" ∷ codes "3" ∷ []) ≡ Ok (Task.Drive, given, file) → Refused ((drive_of given).senders ≡ 4)
   -- a line with an option that there isn't asks for a drive
-  pub fault_overlooked : (c : DriveConfig) → Refused (IsAsked (codes "drive" ∷ codes "--sender" ∷ []) c)
-  -- a line without a fault may be declined for an unknown word
-  pub fault_made_up : Refused (IsAmong ErrorKind.UnknownArgument (ErrorKind.OutOfMemory ∷ fault_of drive_command (codes "drive" ∷ [])))
+  pub fault_overlooked : (line : Task × List Given × Option ℕ) → Refused (line_of (codes "drive" ∷ codes "--sender" ∷ []) ≡ Ok line)
+  -- a line without a fault is declined
+  pub fault_made_up : (fault : Fault) → Refused (line_of (codes "drive" ∷ []) ≡ Err fault)

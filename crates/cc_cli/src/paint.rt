@@ -2,12 +2,13 @@
 //!
 //! The text goes to one sink and the marks to another, and both are the same terminal. So each clause about the text holds with
 //! colours too.
-ghost use Rattle.std.specs.Prelude.{◌≡◌, ◌<◌, ◌≤◌, ◌-◌, ◌^◌, IfOk, IfSome, List, Some, false, length, map, string_bytes, ℕ};
+ghost use Rattle.std.specs.Prelude.{◌≡◌, ◌<◌, ◌≤◌, ◌-◌, ◌^◌, IfOk, IfSome, List, Some, false, length, ℕ};
 ghost use Rattle.std.specs.Io.KnownBytes.{Appends, WriteAppends};
 ghost use Rattle.cc_model.specs.Items.{IsPrefix};
 ghost use Rattle.cc_io.specs.Device.{failures_after_write};
 ghost use Rattle.cc_cli.specs.Paint.{Marks, due_head, end_text, first_other, head_at, head_of, is_due, is_of_place, is_painted, mark_text, marks_of, place_length, text_of, wants_colours};
 
+use crate::table::Task;
 use cc_io::{DeviceFault, Sink, write_bytes};
 
 /// Whether a terminal of the kind `term` has colours, and the value of `NO_COLOR` doesn't forbid them. Each is empty if it isn't set.
@@ -17,14 +18,11 @@ pub fn wants_colours(term: &str, no_color: &str) -> bool
     !matches!(term, "" | "dumb") && no_color == ""
 }
 
-/// Whether the answer to this line has colours at a terminal: the first word is a task that answers by a verdict or a place.
-pub fn is_painted(words: &[String]) -> bool
-    ensures { result ≡ is_painted (map string_bytes words.now) }
+/// Whether the answer of this task has colours at a terminal: it is a verdict or a place.
+pub fn is_painted(task: Task) -> bool
+    ensures { result ≡ is_painted task }
 {
-    match words {
-        [task, ..] => task.as_str() == "judge" || task.as_str() == "why",
-        [] => false,
-    }
+    matches!(task, Task::Judge | Task::Why)
 }
 
 /// The meaning of the head of a text.

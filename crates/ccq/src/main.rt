@@ -7,17 +7,15 @@ ghost use Rattle.std.specs.Prelude.{◌<◌, ◌-◌, ◌^◌};
 
 use cc_cli::hint::{decline_page, is_explained, tell_waiting};
 use cc_cli::input::{Input, Reasoned};
-use cc_cli::judge_options::{decline_options, without_options};
-use cc_cli::not_text;
+use cc_cli::line::{Fault, Line, asked, file_in, spelled};
+use cc_cli::options::writes_page;
 use cc_cli::paint::{Painter, is_painted, wants_colours};
-use cc_cli::reading::{decline, decline_file, tell_unread};
+use cc_cli::reading::{decline_file, tell_unread};
+use cc_cli::refusal::decline;
 use cc_cli::run::run;
 use cc_cli::why::explain_refusal;
-use cc_cli::words::{CommandLine, spelled, waiting_task, without_file, without_form, writes_page};
 use cc_io::{Device, InputFault, Sink, Source, out_of_memory, read_input};
-use clap::Error;
 use progress::{Behind, Counter, Meter};
-use std::alloc::AllocError;
 use std::env;
 use std::env::VarError;
 use std::fs::{File, Files};
@@ -37,20 +35,34 @@ fn main(rt: HostRuntime) -> ExitCode {
         ),
         meter.as_ref(),
     );
-    let status = match words(&rt) {
+    let alloc = rt.alloc();
+    let (words, line) = match words(&rt) {
         Ok(words) => {
-            let colours = rt.stdout().is_terminal() && is_painted(&words) && has_colours(&rt);
-            let painter = Painter::new(Device::new(rt.stdout()), Device::new(rt.stdout()), colours);
-            let mut sink = Behind::new(painter, meter.as_ref());
-            let gate = Counter::new(meter.as_ref());
-            answer(&rt, &rt, gate, words, &mut sink, &mut errors)
+            let line = asked(alloc, words.as_slice());
+            (words, line)
         }
-        Err(error) => decline(
-            rt.alloc(),
-            &error,
-            &mut Device::new(rt.stdout()),
-            &mut errors,
-        ),
+        Err(fault) => (Vec::new(alloc), Err(fault)),
+    };
+    let colours = match &line {
+        Ok(line) => rt.stdout().is_terminal() && is_painted(line.task) && has_colours(&rt),
+        Err(_) => false,
+    };
+    let painter = Painter::new(Device::new(rt.stdout()), Device::new(rt.stdout()), colours);
+    let mut sink = Behind::new(painter, meter.as_ref());
+    let status = match &line {
+        Ok(line) => {
+            let gate = Counter::new(meter.as_ref());
+            answer(
+                &rt,
+                &rt,
+                gate,
+                words.as_slice(),
+                line,
+                &mut sink,
+                &mut errors,
+            )
+        }
+        Err(fault) => decline(alloc, words.as_slice(), *fault, &mut sink, &mut errors),
     };
     ExitCode::from(status)
 }
@@ -68,19 +80,14 @@ fn has_colours(rt: &HostRuntime) -> bool {
 
 /// The words of the command line, without the program's name; or why there are none: one of them is no text, or memory
 /// was refused.
-fn words(rt: &HostRuntime) -> Result<Vec<String>, Error> {
+fn words(rt: &HostRuntime) -> Result<Vec<String>, Fault> {
     match env::args(rt) {
-        Ok(args) => Ok(spelled(rt.alloc(), args.skip(1).collect(rt.alloc())?)?),
-        Err(e) if e.kind() == ErrorKind::OutOfMemory => Err(Error::from(AllocError)),
-        Err(_) => Err(not_text(rt.alloc())?),
-    }
-}
-
-/// The name of the input of a line in messages.
-fn input_name(file: &Option<String>) -> &str {
-    match file {
-        Some(name) => name.as_str(),
-        None => "standard input",
+        Ok(args) => match args.skip(1).collect(rt.alloc()) {
+            Ok(words) => spelled(rt.alloc(), words).map_err(|_| Fault::NoMemory),
+            Err(_) => Err(Fault::NoMemory),
+        },
+        Err(e) if e.kind() == ErrorKind::OutOfMemory => Err(Fault::NoMemory),
+        Err(_) => Err(Fault::NotText),
     }
 }
 
@@ -90,45 +97,45 @@ fn answer<R: Threads + Wait + Sync + Files, W: Sink, E: Sink>(
     rt: &R,
     host: &HostRuntime,
     gate: Counter<'_>,
-    words: Vec<String>,
+    words: &[String],
+    line: &Line,
     sink: &mut W,
     errors: &mut E,
 ) -> u8
     requires writes { W.write_failures sink.old < 2 ^ 64 - 1 }
     requires errors { E.write_failures errors.old < 2 ^ 64 - 1 }
 {
-    let judging = match without_options(words) {
-        Ok(judging) => judging,
-        Err(fault) => return decline_options(errors, fault),
-    };
-    let formed = without_form(judging.words);
-    let parted = without_file(formed.words);
-    let line = CommandLine {
-        words: parted.words.as_slice(),
-        form: formed.form,
-        options: judging.options,
-        input: input_name(&parted.file),
-    };
     if host.stdout().is_terminal() && writes_page(line) {
         return decline_page(errors);
     }
-    let Some(name) = &parted.file else {
-        tell_what_is_awaited(host, line);
-        let mut source = Input::new(host.stdin());
-        return answer_over(rt, host, gate, line, &mut source, sink, errors);
-    };
-    match File::open(rt, name.as_str()) {
-        Ok(file) => answer_over(rt, host, gate, line, &mut Input::new(file), sink, errors),
-        Err(error) => decline_file(host.alloc(), errors, name.as_bytes(), &error),
-    }
-}
-
-/// Says at a terminal what a line waits for, if a person has to write it.
-fn tell_what_is_awaited(host: &HostRuntime, line: CommandLine<'_>) {
-    if host.stderr().is_terminal() && host.stdin().is_terminal() {
-        if let Some(task) = waiting_task(line.words) {
-            tell_waiting(&mut Device::new(host.stderr()), task);
+    let Some(name) = file_in(words, line) else {
+        if host.stderr().is_terminal() && host.stdin().is_terminal() {
+            tell_waiting(&mut Device::new(host.stderr()), line.task);
         }
+        let mut source = Input::new(host.stdin());
+        return answer_over(
+            rt,
+            host,
+            gate,
+            line,
+            "standard input",
+            &mut source,
+            sink,
+            errors,
+        );
+    };
+    match File::open(rt, name) {
+        Ok(file) => answer_over(
+            rt,
+            host,
+            gate,
+            line,
+            name,
+            &mut Input::new(file),
+            sink,
+            errors,
+        ),
+        Err(error) => decline_file(host.alloc(), errors, name.as_bytes(), &error),
     }
 }
 
@@ -138,7 +145,8 @@ fn answer_over<R: Threads + Wait + Sync, S: Source + Reasoned, W: Sink, E: Sink>
     rt: &R,
     host: &HostRuntime,
     gate: Counter<'_>,
-    line: CommandLine<'_>,
+    line: &Line,
+    name: &str,
     source: &mut S,
     sink: &mut W,
     errors: &mut E,
@@ -147,24 +155,18 @@ fn answer_over<R: Threads + Wait + Sync, S: Source + Reasoned, W: Sink, E: Sink>
     requires writes { W.write_failures sink.old < 2 ^ 64 - 1 }
     requires errors { E.write_failures errors.old < 2 ^ 64 - 1 }
 {
-    let is_read = waiting_task(line.words).is_some() && is_explained(line.words);
-    if !is_read || !host.stderr().is_terminal() {
-        return run(rt, host.alloc(), line, gate, source, sink, errors);
+    if !is_explained(line.task) || !host.stderr().is_terminal() {
+        return run(rt, host.alloc(), line, name, gate, source, sink, errors);
     }
     match read_input(host.alloc(), source) {
         Ok(input) => {
             let mut kept = Input::new(input.as_slice());
-            match run(rt, host.alloc(), line, gate, &mut kept, sink, errors) {
-                2 => explain_refusal(
-                    host.alloc(),
-                    &mut Device::new(host.stderr()),
-                    line.input,
-                    &input,
-                ),
+            match run(rt, host.alloc(), line, name, gate, &mut kept, sink, errors) {
+                2 => explain_refusal(host.alloc(), &mut Device::new(host.stderr()), name, &input),
                 status => status,
             }
         }
-        Err(InputFault::Read) => tell_unread(host.alloc(), errors, line.input, source),
+        Err(InputFault::Read) => tell_unread(host.alloc(), errors, name, source),
         Err(InputFault::NoMemory) => out_of_memory(errors),
     }
 }

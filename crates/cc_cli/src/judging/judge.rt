@@ -7,10 +7,9 @@ use crate::input::Reasoned;
 use crate::judging::page::{AnswerFault, write_page};
 use crate::judging::verdict_line::text_of;
 use crate::reading::tell_unread;
-use crate::words::CommandLine;
 use cc_io::{Sink, Source, out_of_memory, told, write_bytes};
 use cc_judge::{Verdict, judge};
-use cc_log::{Log, LogFault, read_log};
+use cc_log::{Log, LogFault, Options, read_log};
 use cc_play::{PlayFault, tell};
 use std::alloc::{AllocError, Global};
 
@@ -117,14 +116,15 @@ fn judge_log<W: Sink, E: Sink>(alloc: Global, log: &Log, sink: &mut W, errors: &
     tell_written(errors, status, outcome)
 }
 
-/// Reads the log of a line from the source, judges it by the line's options, and writes the verdict to the sink, as a line or as a page. It returns the exit status: 0
+/// Reads the log of this name from the source, judges it by these options, and writes the verdict to the sink, as a line or as a page. It returns the exit status: 0
 /// if the log is linearizable, 1 if it isn't, 2 if the log is refused, 3 if memory is, 4 if a device fails, and 5 if the
 /// verdict is undecided. A refusal or a failure is reported on `errors`. The status is that of a right verdict on the log that the
 /// input spells, or says that the input spells none. It is 5 only if lines alone order calls of the log, of which more than two
 /// meet at a time, or some overlap by the skew or have times of 2^62 and more. It is 4 exactly if a device failed, as the counts of failures show.
 pub fn judge_input<R: Source + Reasoned, W: Sink, E: Sink>(
     alloc: Global,
-    line: CommandLine<'_>,
+    options: Options,
+    name: &str,
     source: &mut R,
     sink: &mut W,
     errors: &mut E,
@@ -132,12 +132,12 @@ pub fn judge_input<R: Source + Reasoned, W: Sink, E: Sink>(
     requires reads { R.read_failures source.old < 2 ^ 64 - 1 }
     requires writes { W.write_failures sink.old < 2 ^ 64 - 1 }
     requires errors { E.write_failures errors.old < 2 ^ 64 - 1 }
-    ensures { Judges line.entry.options (R.bytes_left source.old)
+    ensures { Judges options (R.bytes_left source.old)
         (R.read_failures source.old) (R.read_failures source.new)
         (W.write_failures sink.old) (W.write_failures sink.new) result }
 {
-    match read_log(alloc, source, line.options) {
+    match read_log(alloc, source, options) {
         Ok(log) => judge_log(alloc, &log, sink, errors),
-        Err(fault) => refused(alloc, errors, line.input, source, &fault),
+        Err(fault) => refused(alloc, errors, name, source, &fault),
     }
 }
