@@ -30,7 +30,8 @@ pub mod Listing
 pub mod RefusedCounts
 pub mod Faultless
 pub mod Cuts
-pub mod Ranks
+pub mod Splits
+pub mod Trials
 pub mod Marks
 pub mod Late
 pub mod Until

@@ -18,7 +18,7 @@ use Rattle.cc_judge.proofs.Listing.{ListOf, rises, at_pushed, last_pushed}
 use Rattle.cc_judge.proofs.Until.{no_first}
 use Rattle.cc_judge.proofs.Faultless.{faultless_logs_have_orders}
 
-less_or : (k i : ℕ) → k < i + 1 → (k < i) ⊎ (k ≡ i)
+pub less_or : (k i : ℕ) → k < i + 1 → (k < i) ⊎ (k ≡ i)
 less_or k i below = elim (cases_lt k i) [ inl less ↦ inl less | inr not_less ↦ inr (omega (arith, below, not_less)) ]
 
 -- ---- a sorted list of times
@@ -213,7 +213,7 @@ each_more Relates calls cut i c d is so so_far = record {
     longer [] = refl
     longer (x ∷ xs) = let more = longer xs in omega (arith, more)
 
-slice_has : {X : Type 0} (xs : List X) (k : ℕ) → k < length xs → (x : X) × (slice_get xs k ≡ Some x)
+pub slice_has : {X : Type 0} (xs : List X) (k : ℕ) → k < length xs → (x : X) × (slice_get xs k ≡ Some x)
 slice_has [] k less = absurd (omega (arith, less))
 slice_has (x ∷ xs) zero less = (x, refl)
 slice_has (x ∷ xs) (suc k) less = slice_has xs k (omega (arith, less))

@@ -9,6 +9,7 @@ pub mod Faultless
 pub mod Sweeps
 pub mod Room
 pub mod Cuts
+pub mod Splits
 pub mod Until
 pub mod Verdict
 pub mod Refused

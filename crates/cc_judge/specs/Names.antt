@@ -18,6 +18,7 @@ pub use Rattle.cc_judge.specs.declared.lists.Spell.{Spell}
 pub use Rattle.cc_judge.specs.declared.lists.Lists.{Lists}
 pub use Rattle.cc_judge.specs.declared.sweeps.Reach.{Reach}
 pub use Rattle.cc_judge.specs.declared.overtaking.Passed.{Passed}
+pub use Rattle.cc_judge.specs.declared.exploring.Explored.{Explored}
 pub use Rattle.cc_judge.specs.declared.decide.Fault.{Fault}
 pub use Rattle.cc_judge.specs.declared.decide.Verdict.{Verdict}
 pub use Rattle.cc_judge.specs.declared.decide.Indexed.{Indexed}

@@ -1,7 +1,8 @@
 //! The laws of logs whose items and takes are counted.
 ghost use Rattle.cc_judge.specs.Counts.{CountsAreRight, CountsHaveNoOrder};
 ghost use Rattle.cc_judge.specs.Faultless.{FaultlessLogsHaveOrders};
-ghost use Rattle.cc_judge.specs.Cuts.{CutLogsAreExact, CutsByRankAreExact};
+ghost use Rattle.cc_judge.specs.Cuts.{CutLogsAreExact};
+ghost use Rattle.cc_judge.specs.Splits.{SplitsAreExact};
 ghost use Rattle.cc_judge.specs.RefusedCounts.{RefusedCounts};
 
 /// The law: a log of items that differ has no legal order if more of its items are left than takes may have.
@@ -30,10 +31,11 @@ pub fn cut_logs_are_exact()
     ensures { CutLogsAreExact }
 {}
 
-/// The law: a log has a legal order exactly if the log has one that is cut, by some ranks, between the calls that lines alone order.
-#[tactic(auto, using(crate::proofs::Ranks::cuts_by_rank_are_exact))]
-pub fn cuts_by_rank_are_exact()
-    ensures { CutsByRankAreExact }
+/// The law: a log has a legal order exactly if one has that is cut between two calls which lines alone order, at one of the times at which
+/// a call began while both were under way.
+#[tactic(auto, using(crate::proofs::Splits::splits_are_exact))]
+pub fn splits_are_exact()
+    ensures { SplitsAreExact }
 {}
 
 /// Of each kind of mistake about counts, times and cuts an example that no clause admits.

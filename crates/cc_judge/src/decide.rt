@@ -242,7 +242,7 @@ fn found_of(
 }
 
 /// The fault of a log, if it has one that doesn't rest on ties.
-fn found_in(
+pub fn found_in(
     alloc: Global,
     rules: &Rules,
     calls: &[Call],

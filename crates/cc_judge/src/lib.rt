@@ -11,6 +11,7 @@ mod closing;
 mod counts;
 mod cutting;
 mod decide;
+mod exploring;
 mod faults;
 mod lists;
 mod log;
@@ -31,7 +32,7 @@ mod written;
 pub use clauses::clauses_refuse;
 pub use counts::{
     counts_are_right, counts_have_no_order, counts_refuse, cut_logs_are_exact,
-    cuts_by_rank_are_exact, faultless_logs_have_orders,
+    faultless_logs_have_orders, splits_are_exact,
 };
 pub use decide::{
     Fault, Verdict, faults_have_no_order, judge, late_logs_are_linearizable,
