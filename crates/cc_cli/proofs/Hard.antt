@@ -4,7 +4,7 @@ use Rattle.std.proofs.Common.{◌≡◌, ◌≢◌, ◌<◌, ◌≤◌, ◌⊎�
 use Rattle.std.specs.List.{slice_get}
 use Rattle.std.proofs.lemmas.Bool.{cases_lt}
 use Rattle.cc_judge.specs.Cuts.{AreShort, DoMeet, IsShort, MayBeCut, MeetAt}
-use Rattle.cc_judge.specs.Verdict.{AreOrdered}
+use Rattle.cc_judge.specs.Verdict.{AreOrdered, IsSmall}
 use Rattle.cc_judge.proofs.Listing.{some_is}
 use Rattle.cc_judge.proofs.Turns.{nat_cases}
 use Rattle.cc_log.specs.Written.{AreTied, IsTied}
@@ -92,8 +92,8 @@ module _ (calls : List Call) (ties : List Tie) (meet : DoMeet calls ties) where
 
 -- ---- the log
 
-pub is_hard : (skew : ℕ) (rules : Rules) (calls : List Call) → AreTied skew calls rules.ties.items → (AreOrdered rules calls → ⊥) → IsHard skew rules calls
-is_hard skew rules calls tied unordered = (λ none. unordered (inl none), by (some_or_all (HasLongTime calls) (λ place call. IsShort call) calls (is_short calls)))
+pub is_hard : (skew : ℕ) (rules : Rules) (calls : List Call) → AreTied skew calls rules.ties.items → (AreOrdered rules calls → ⊥) → (IsSmall rules calls → ⊥) → IsHard skew rules calls
+is_hard skew rules calls tied unordered large = (λ none. unordered (inl none), large, by (some_or_all (HasLongTime calls) (λ place call. IsShort call) calls (is_short calls)))
   where
     after_meet : AreShort calls → DoMeet calls rules.ties.items → MeetAtOnce calls rules.ties.items ⊎ (((skew ≢ 0) × HasOverlap calls rules.ties.items) ⊎ HasLongTime calls)
     after_meet short meet = elim (are_alone calls rules.ties.items meet) [
@@ -128,7 +128,7 @@ not_long calls short long = by long.long
     by (inr ends) = let less = here.1 ends.0 ends.1 in let most = ends.2 in omega (arith, less, most)
 
 pub easy : (skew : ℕ) (rules : Rules) (calls : List Call) (tie : Tie) → skew ≡ 0 → AreShort calls → rules.ties.items ≡ tie ∷ [] → IsHard skew rules calls → ⊥
-easy skew rules calls tie none short one hard = by hard.1
+easy skew rules calls tie none short one hard = by hard.2
   where
     at_first : (k : ℕ) (other : Tie) → slice_get rules.ties.items k ≡ Some other → k ≡ 0
     at_first k other is = first_of_one tie other k (subst (λ (ties : List Tie). slice_get ties k ≡ Some other) one is)

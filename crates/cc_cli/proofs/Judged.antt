@@ -3,7 +3,7 @@ use Rattle.std.proofs.Common.{◌≡◌, ◌⊎◌, ◌+◌, ◌==◌, ℕ, fals
 use Rattle.std.specs.Result.{IsErrAnd}
 use Rattle.cc_judge.specs.declared.decide.Verdict.{Verdict}
 use Rattle.cc_judge.specs.Late.{judged_capacity}
-use Rattle.cc_judge.specs.Verdict.{IsDecided, IsVerdict}
+use Rattle.cc_judge.specs.Verdict.{IsDecided, IsUndecided, IsVerdict}
 use Rattle.cc_cli.specs.Failures.{FailsBy}
 use Rattle.cc_cli.specs.Judged.{IsDue, IsDueOrNone, IsHard, IsJudged, IsRefused, failed_by, failed_writes, told_status, verdict_status}
 use Rattle.cc_cli.specs.Names.{AnswerFault, Call, Log, LogFault, Options, Rules}
@@ -28,15 +28,15 @@ judged rules calls items verdict outcome status now right decided is of =
     subst (IsJudged rules calls items) (sym (of ∙ ap (λ (s : ℕ). told_status s outcome) is)) (told rules calls items verdict right decided outcome)
 
 -- only the verdict undecided has its status
-undecided : (verdict : Verdict) → verdict_status verdict ≡ 5 → verdict ≡ Verdict.Undecided
+undecided : (verdict : Verdict) → verdict_status verdict ≡ 5 → IsUndecided verdict
 undecided Verdict.Clean is = absurd (omega (arith, is))
 undecided (Verdict.Fault fault) is = absurd (omega (arith, is))
-undecided Verdict.Undecided is = refl
+undecided (Verdict.Undecided tie) is = tt
 
 -- so a well-formed log is hard if its status is that
 hard : (skew : ℕ) (rules : Rules) (calls : List Call) (items : ℕ) (verdict : Verdict) (status : ℕ) → IsDecided rules calls items verdict → IsWellFormed skew calls items rules.ties.items → status ≡ verdict_status verdict → status ≡ 5 → IsHard skew rules calls
 hard skew rules calls items verdict status decided well is five =
-    is_hard skew rules calls well.tied (λ ordered. decided (undecided verdict (sym is ∙ five)) ordered well.differ well.below well.written)
+    is_hard skew rules calls well.tied (λ ordered. decided (undecided verdict (sym is ∙ five)) (inl ordered) well.differ well.below well.written) (λ small. decided (undecided verdict (sym is ∙ five)) (inr small) well.differ well.below well.written)
 
 -- an answer's fault that was passed on
 pub unwritten : (result : Result (Unit {0}) AnswerFault) (fault : AnswerFault) (old new : ℕ) → IsErrAnd result (λ f. f ≡ fault) → new ≡ old + failed_by fault → new ≡ old + failed_writes result
@@ -46,7 +46,7 @@ unwritten (Err f) fault old new h is = is ∙ ap (λ x. old + failed_by x) (sym 
 not_four : (verdict : Verdict) → (verdict_status verdict == 4) ≡ false
 not_four Verdict.Clean = refl
 not_four (Verdict.Fault fault) = refl
-not_four Verdict.Undecided = refl
+not_four (Verdict.Undecided tie) = refl
 
 -- the status of an answer is 4 if and only if its write failed
 pub counted : (verdict : Verdict) (outcome : Result (Unit {0}) AnswerFault) (status told old new : ℕ) → status ≡ verdict_status verdict → told ≡ told_status status outcome → new ≡ old + failed_writes outcome → new ≡ old + cond (told == 4) 1 0

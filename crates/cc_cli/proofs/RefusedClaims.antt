@@ -11,7 +11,7 @@ use Rattle.cc_cli.proofs.Hard.{easy}
 no_refusal : (verdict : Verdict) → 2 ≡ verdict_status verdict → ⊥
 no_refusal Verdict.Clean is = absurd (omega (arith, is))
 no_refusal (Verdict.Fault fault) is = absurd (omega (arith, is))
-no_refusal Verdict.Undecided is = absurd (omega (arith, is))
+no_refusal (Verdict.Undecided tie) is = absurd (omega (arith, is))
 
 -- the options of a line that asks for something
 abbrev given_in : Result (Task × List Given × Option ℕ) Fault → List Given

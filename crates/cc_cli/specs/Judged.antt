@@ -2,7 +2,7 @@
 use Rattle.std.specs.Prelude.{ℕ, ◌≡◌, ◌≢◌, ◌<◌, ◌≤◌, ◌⊎◌, List, [], Option, Some, Result, Ok, Err, slice_get}
 use Rattle.cc_judge.specs.Cuts.{MeetAt}
 use Rattle.cc_judge.specs.Late.{judged_capacity}
-use Rattle.cc_judge.specs.Verdict.{IsDecided, IsVerdict}
+use Rattle.cc_judge.specs.Verdict.{IsDecided, IsSmall, IsVerdict}
 use Rattle.cc_judge.specs.declared.decide.Verdict.{Verdict}
 use Rattle.cc_log.specs.Lines.{HasInput}
 use Rattle.cc_log.specs.Log.{Refusal, Spelled, log_of}
@@ -13,7 +13,7 @@ use Rattle.cc_cli.specs.Names.{AnswerFault, Call, LogFault, Options, Rules, Tie}
 abbrev pub verdict_status : Verdict → ℕ
 verdict_status Verdict.Clean = 0
 verdict_status (Verdict.Fault fault) = 1
-verdict_status Verdict.Undecided = 5
+verdict_status (Verdict.Undecided tie) = 5
 
 -- the status if this one's answer was written, and if it wasn't
 abbrev pub told_status : ℕ → Result (Unit {0}) AnswerFault → ℕ
@@ -80,9 +80,10 @@ pub record MeetAtOnce (calls : List Call) (ties : List Tie) : Type 0 where
   pub met : MeetAt calls tie time
   pub other_met : MeetAt calls other time
 
--- Lines alone order calls of the log, of which more than two meet at a time, or two overlap by the skew; or a time is 2^62 or more.
+-- Lines alone order calls of the log, which isn't small. And of these calls more than two meet at a time, or two overlap by the skew, or
+-- a time is 2^62 or more.
 abbrev pub IsHard : (skew : ℕ) → Rules → List Call → Type 0
-IsHard skew rules calls = (rules.ties.items ≢ []) × (MeetAtOnce calls rules.ties.items ⊎ (((skew ≢ 0) × HasOverlap calls rules.ties.items) ⊎ HasLongTime calls))
+IsHard skew rules calls = (rules.ties.items ≢ []) × (IsSmall rules calls → ⊥) × (MeetAtOnce calls rules.ties.items ⊎ (((skew ≢ 0) × HasOverlap calls rules.ties.items) ⊎ HasLongTime calls))
 
 -- The status is that of a right verdict on the log that an input spells, or 2 if the input spells none. It is 5, undecided, only if
 -- the log is hard.

@@ -1,9 +1,13 @@
 -- A log in which at most two calls meet at a time has the orders of the log that is cut between them.
-use Rattle.std.proofs.Common.{◌≡◌, ◌≢◌, ℕ, zero, suc, ◌+◌, ◌*◌, ◌⊎◌, inl, inr, List, [], ◌∷◌, Option, Some, None, IsSome, refl, sym, ap, ◌∙◌, subst, arith}
+use Rattle.std.proofs.Common.{◌≡◌, ◌≢◌, ℕ, zero, suc, ◌+◌, ◌*◌, ◌≤◌, ◌⊎◌, inl, inr, List, [], ◌∷◌, Option, Some, None, IsSome, refl, sym, ap, ◌∙◌, subst, arith}
 use Rattle.std.specs.List.{slice_get}
 use Rattle.std.proofs.lemmas.Bool.{cases_lt}
 use Rattle.cc_judge.specs.Names.{Act, Call, Rules, Step, Tie}
-use Rattle.cc_judge.specs.Order.{EndsBefore, MayHaveDone, IsRun, RespectsLines, IsOrder}
+use Rattle.cc_judge.specs.Order.{EndsBefore, MayHaveDone, IsLinearizable, IsRun, RespectsLines, RespectsRealTime, IsOrder}
+use Rattle.cc_judge.specs.Faults.{Did, Differ}
+use Rattle.cc_judge.specs.Faultless.{IsWritten}
+use Rattle.cc_judge.specs.Verdict.{AreSentBelow}
+use Rattle.cc_judge.specs.Splits.{AreLeft, IsFiner, IsTimed}
 use Rattle.cc_judge.specs.Cuts.{IsEarlier, IsLater, MeetAt, AreLone, CutCall, IsCut, AreWithoutTies, CutLogsAreExact}
 use Rattle.cc_judge.proofs.Turns.{nat_cases}
 use Rattle.cc_judge.proofs.Shares.{end_cases}
@@ -22,14 +26,70 @@ one_end o e f one other = let both : Some e ≡ Some f = sym one ∙ other in cc
 pub one_call : (xs : List Call) (p : ℕ) (c d : Call) → slice_get xs p ≡ Some c → slice_get xs p ≡ Some d → c ≡ d
 one_call xs p c d one other = let both : Some c ≡ Some d = sym one ∙ other in cc
 
-module _ (rules plain : Rules) (calls cut : List Call) (same : AreWithoutTies rules plain) (alone : AreLone calls rules.ties.items) (k : IsCut rules.ties.items calls cut) (order : List Step) where
-  ended : (p : ℕ) (c d : Call) → CutCall rules.ties.items p c d → IsSome c.end → IsSome d.end
+-- ---- a finer log
+
+module _ (calls cut : List Call) (f : IsFiner calls cut) where
+  did_whole : (place : ℕ) (act : Act) → Did cut place act → Did calls place act
+  did_whole place act did = let c = f.back place did.call did.call_is in record { call = c.0; call_is = c.1; act_is = sym c.2 ∙ did.act_is }
+
+  pub finer_differ : Differ calls → Differ cut
+  finer_differ differ item i j one other = differ item i j (did_whole i (Act.Send item) one) (did_whole j (Act.Send item) other)
+
+  pub finer_below : (items : ℕ) → AreSentBelow calls items → AreSentBelow cut items
+  finer_below items below place item did = below place item (did_whole place (Act.Send item) did)
+
+  -- an order of it is one of the log, if it keeps the ties
+  pub unfiner : (rules rest : Rules) (order : List Step) → AreLeft rules rest cut → IsOrder rest cut order → IsOrder rules calls order
+  unfiner rules rest order l o = record {
+    each = λ j s is.
+        let i = o.each j s is in
+        let r = f.back s.place i.call i.call_is in
+        record { call = r.0; call_is = r.1; may = subst (λ (a : Act). MayHaveDone a s.act) r.2 i.may };
+    once = o.once;
+    whole = λ place c is some. let d = f.there place c is in o.whole place d.0 d.1 (d.3 some);
+    in_time = λ i j s t less s_is t_is ends. o.in_time i j s t less s_is t_is (f.before t.place s.place ends);
+    in_line = λ n tie is i j s t less s_is t_is later earlier. elim (l.all n tie is) [
+      | inl before ↦ o.in_time i j s t less s_is t_is (subst (λ (p : ℕ). EndsBefore cut p s.place) (sym earlier) (subst (EndsBefore cut tie.earlier) (sym later) before))
+      | inr k ↦ o.in_line k.0 tie k.1 i j s t less s_is t_is later earlier
+    ];
+    legal = subst (λ (c : Option ℕ). IsRun c [] order) l.capacity o.legal;
+    closing = λ judged. o.closing (l.closes ∙ judged);
+  }
+
+  -- and the other way round, if the order keeps the times of the finer log
+  pub into_finer : (rules rest : Rules) (order : List Step) → rest.capacity ≡ rules.capacity → rest.closes ≡ rules.closes → RespectsLines rest.ties.items order → RespectsRealTime cut order → IsOrder rules calls order → IsOrder rest cut order
+  into_finer rules rest order capacity closes in_line in_time o = record {
+    each = λ j s is.
+        let i = o.each j s is in
+        let r = f.there s.place i.call i.call_is in
+        record { call = r.0; call_is = r.1; may = subst (λ (a : Act). MayHaveDone a s.act) (sym r.2) i.may };
+    once = o.once;
+    whole = λ place d is some. let c = f.back place d is in o.whole place c.0 c.1 (c.3 some);
+    in_time = in_time;
+    in_line = in_line;
+    legal = subst (λ (c : Option ℕ). IsRun c [] order) (sym capacity) o.legal;
+    closing = λ judged. o.closing (sym closes ∙ judged);
+  }
+
+  pub finer_written : IsWritten calls → ((p : ℕ) (d : Call) (e : ℕ) → slice_get cut p ≡ Some d → d.end ≡ Some e → d.begin ≤ e) → IsWritten cut
+  finer_written written timed = record {
+    timed = timed;
+    waits = λ q did. elim (end_cases did.call.end) [ inr none ↦ none | inl e ↦ let c = f.back q did.call did.call_is in let d = did_whole q Act.Taking did in absurd (none_some c.0.end (ap (λ (x : Call). x.end) (one_call calls q c.0 d.call c.1 d.call_is) ∙ written.waits q d) (c.3 (some_is did.call.end e.0 e.1))) ];
+    took = λ q item did. let d = did_whole q (Act.Took item) did in still q did.call d.call did.call_is d.call_is (written.took q item d);
+    ended = λ q did. let d = did_whole q Act.Ended did in still q did.call d.call did.call_is d.call_is (written.ended q d);
+  }
+    where
+      still : (q : ℕ) (d c : Call) → slice_get cut q ≡ Some d → slice_get calls q ≡ Some c → IsSome c.end → IsSome d.end
+      still q d c d_is c_is some = let e = f.there q c c_is in subst (λ (x : Call). IsSome x.end) (one_call cut q e.0 d e.1 d_is) (e.3 some)
+
+module _ (ties : List Tie) (calls cut : List Call) (alone : AreLone calls ties) (k : IsCut ties calls cut) where
+  ended : (p : ℕ) (c d : Call) → CutCall ties p c d → IsSome c.end → IsSome d.end
   ended p c d h some = elim (end_cases c.end) [
     | inr open_end ↦ absurd (none_some c.end open_end some)
     | inl e ↦ elim (h.end e.0 e.1) [ inl tied ↦ some_is d.end (4 * e.0 + 1) tied.1 | inr free ↦ some_is d.end (4 * e.0 + 3) free.1 ]
   ]
 
-  had_ended : (p : ℕ) (c d : Call) → CutCall rules.ties.items p c d → IsSome d.end → IsSome c.end
+  had_ended : (p : ℕ) (c d : Call) → CutCall ties p c d → IsSome d.end → IsSome c.end
   had_ended p c d h some = elim (end_cases c.end) [ inr open_end ↦ absurd (none_some d.end (h.open_end open_end) some) | inl e ↦ some_is c.end e.0 e.1 ]
 
   -- ---- an order of the cut log is one of the log
@@ -44,7 +104,7 @@ module _ (rules plain : Rules) (calls cut : List Call) (same : AreWithoutTies ru
         | inr free ↦ record { one = one.0; other = other.0; end = 4 * e.end + 3; one_is = one.1; other_is = other.1; ended = free.1; before = elim other.2.begin [ inl late ↦ let b_is = late.1 in omega (arith, less, b_is) | inr first ↦ let b_is = first.1 in omega (arith, less, b_is) ] }
       ]
 
-  tied_before : (i : ℕ) (tie : Tie) → slice_get rules.ties.items i ≡ Some tie → EndsBefore cut tie.earlier tie.later
+  tied_before : (i : ℕ) (tie : Tie) → slice_get ties i ≡ Some tie → EndsBefore cut tie.earlier tie.later
   tied_before i tie is =
       let m = (alone.meet i tie is).1 in
       let time = (alone.meet i tie is).0 in
@@ -59,26 +119,20 @@ module _ (rules plain : Rules) (calls cut : List Call) (same : AreWithoutTies ru
         ]
       ]
 
-  pub uncut : IsOrder plain cut order → IsOrder rules calls order
-  uncut o = record {
-    each = λ j s is.
-        let i = o.each j s is in
-        let r = k.back s.place i.call i.call_is in
-        record { call = r.0; call_is = r.1; may = subst (λ (a : Act). MayHaveDone a s.act) r.2.act i.may };
-    once = o.once;
-    whole = λ place c is some. let d = k.there place c is in o.whole place d.0 d.1 (ended place c d.0 d.2 some);
-    in_time = λ i j s t less s_is t_is ends. o.in_time i j s t less s_is t_is (still_before t.place s.place ends);
-    in_line = λ n tie is i j s t less s_is t_is later earlier.
-        let e = tied_before n tie is in
-        o.in_time i j s t less s_is t_is (subst (λ (p : ℕ). EndsBefore cut p s.place) (sym earlier) (subst (EndsBefore cut tie.earlier) (sym later) e));
-    legal = subst (λ (c : Option ℕ). IsRun c [] order) same.capacity o.legal;
-    closing = λ judged. o.closing (same.closes ∙ judged);
+  pub cut_timed : IsTimed ties calls cut
+  cut_timed = record {
+    finer = record {
+      there = λ place c is. let d = k.there place c is in (d.0, d.1, d.2.act, ended place c d.0 d.2);
+      back = λ place d is. let c = k.back place d is in (c.0, c.1, c.2.act, had_ended place c.0 d c.2);
+      before = still_before;
+    };
+    timed = tied_before;
   }
 
   -- ---- and the other way round
 
   -- what ends first in the cut log ends first, or meets the other
-  was_before : (a b : ℕ) → EndsBefore cut a b → EndsBefore calls a b ⊎ ((i : ℕ) × (tie : Tie) × (slice_get rules.ties.items i ≡ Some tie) × (tie.earlier ≡ a) × (tie.later ≡ b))
+  pub was_before : (a b : ℕ) → EndsBefore cut a b → EndsBefore calls a b ⊎ ((i : ℕ) × (tie : Tie) × (slice_get ties i ≡ Some tie) × (tie.earlier ≡ a) × (tie.later ≡ b))
   was_before a b e =
       let one = k.back a e.one e.one_is in
       let other = k.back b e.other e.other_is in
@@ -104,7 +158,7 @@ module _ (rules plain : Rules) (calls cut : List Call) (same : AreWithoutTies ru
         ]
       ]
     where
-      meets : (c d : Call) (time : ℕ) → slice_get calls a ≡ Some c → slice_get calls b ≡ Some d → c.end ≡ Some time → time ≡ d.begin → IsEarlier rules.ties.items a → IsLater rules.ties.items b → (i : ℕ) × (tie : Tie) × (slice_get rules.ties.items i ≡ Some tie) × (tie.earlier ≡ a) × (tie.later ≡ b)
+      meets : (c d : Call) (time : ℕ) → slice_get calls a ≡ Some c → slice_get calls b ≡ Some d → c.end ≡ Some time → time ≡ d.begin → IsEarlier ties a → IsLater ties b → (i : ℕ) × (tie : Tie) × (slice_get ties i ≡ Some tie) × (tie.earlier ≡ a) × (tie.later ≡ b)
       meets c d time c_is d_is ends stamps (i, one, one_is, earlier) (j, other, other_is, later) =
           let m = alone.meet i one one_is in
           let n = alone.meet j other other_is in
@@ -115,22 +169,15 @@ module _ (rules plain : Rules) (calls cut : List Call) (same : AreWithoutTies ru
           let l = alone.lone i j time one other one_is other_is (subst (MeetAt calls one) m_time m.1) (subst (MeetAt calls other) n_time n.1) in
           (i, one, one_is, earlier, l.1 ∙ later)
 
-  pub into_cut : IsOrder rules calls order → IsOrder plain cut order
-  into_cut o = record {
-    each = λ j s is.
-        let i = o.each j s is in
-        let r = k.there s.place i.call i.call_is in
-        record { call = r.0; call_is = r.1; may = subst (λ (a : Act). MayHaveDone a s.act) (sym r.2.act) i.may };
-    once = o.once;
-    whole = λ place d is some. let c = k.back place d is in o.whole place c.0 c.1 (had_ended place c.0 d c.2 some);
-    in_time = λ i j s t less s_is t_is ends. elim (was_before t.place s.place ends) [
-      | inl before ↦ o.in_time i j s t less s_is t_is before
-      | inr tied ↦ o.in_line tied.0 tied.1 tied.2 i j s t less s_is t_is (sym tied.4) (sym tied.3)
-    ];
-    in_line = subst (λ (l : List Tie). RespectsLines l order) (sym same.none) (λ i tie is. cc);
-    legal = subst (λ (c : Option ℕ). IsRun c [] order) (sym same.capacity) o.legal;
-    closing = λ judged. o.closing (sym same.closes ∙ judged);
-  }
+into_cut : (rules plain : Rules) (calls cut : List Call) (order : List Step) → AreWithoutTies rules plain → AreLone calls rules.ties.items → IsCut rules.ties.items calls cut → IsOrder rules calls order → IsOrder plain cut order
+into_cut rules plain calls cut order same alone k o = into_finer calls cut (cut_timed rules.ties.items calls cut alone k).finer rules plain order same.capacity same.closes (subst (λ (l : List Tie). RespectsLines l order) (sym same.none) (λ i tie is. cc)) (λ i j s t less s_is t_is ends. elim (was_before rules.ties.items calls cut alone k t.place s.place ends) [
+  | inl before ↦ o.in_time i j s t less s_is t_is before
+  | inr tied ↦ o.in_line tied.0 tied.1 tied.2 i j s t less s_is t_is (sym tied.4) (sym tied.3)
+]) o
+
+-- an order of a log that is cut so that times order all calls is one of the log
+pub untimed : (rules plain : Rules) (calls cut : List Call) → AreWithoutTies rules plain → IsTimed rules.ties.items calls cut → IsLinearizable plain cut → IsLinearizable rules calls
+untimed rules plain calls cut same timed o = (o.0, unfiner calls cut timed.finer rules plain o.0 (record { capacity = same.capacity; closes = same.closes; of = subst (λ (l : List Tie). (i : ℕ) (tie : Tie) → slice_get l i ≡ Some tie → (k : ℕ) × (slice_get rules.ties.items k ≡ Some tie)) (sym same.none) (λ i tie is. cc); all = λ i tie is. inl (timed.timed i tie is) }) o.1)
 
 -- ---- there is a cut log
 
@@ -183,7 +230,7 @@ cut_there ties calls = let c = choose (CutCall ties) calls (λ p c is. cut_call 
 
 pub cut_logs_are_exact : CutLogsAreExact
 cut_logs_are_exact = record {
-  exact = λ rules plain calls cut same alone k o. (o.0, into_cut rules plain calls cut same alone k o.0 o.1);
-  sound = λ rules plain calls cut same alone k o. (o.0, uncut rules plain calls cut same alone k o.0 o.1);
+  exact = λ rules plain calls cut same alone k o. (o.0, into_cut rules plain calls cut o.0 same alone k o.1);
+  sound = λ rules plain calls cut same alone k. untimed rules plain calls cut same (cut_timed rules.ties.items calls cut alone k);
   there = cut_there;
 }

@@ -6,7 +6,6 @@ pub mod Parts
 pub mod Fewer
 pub mod NoOrder
 pub mod Tables
-pub mod Lines
 pub mod Shut
 pub mod Full
 pub mod Many

@@ -82,6 +82,7 @@ no_order rules calls (Fault.Reopened closed send) differ stands (order, o) = reo
 no_order rules calls (Fault.ClosedEarly call) differ stands (order, o) = closed_early rules calls call order stands o
 no_order rules calls (Fault.NotFull call) differ stands (order, o) = not_full rules calls call order differ stands o
 no_order rules calls (Fault.TooMany call sends) differ stands (order, o) = too_many rules calls call sends.items order differ stands o
+no_order rules calls Fault.NoOrder differ stands has = stands has
 
 -- no item is sent twice in a log whose sends have a table
 pub differ : (calls : List Call) (table : List (Option ℕ)) → IsTable calls Kind.Send table → Differ calls

@@ -1,21 +1,23 @@
 -- A log that is cut between calls that only their lines order: how the parts of times are found, and what holds of the cut log.
-use Rattle.std.proofs.Common.{◌≡◌, ◌≢◌, ℕ, zero, suc, ◌+◌, ◌*◌, ◌<◌, ◌≤◌, ◌⊎◌, inl, inr, Bool, true, false, List, [], ◌∷◌, ◌++◌, length, Option, Some, None, IsSome, refl, sym, ap, ◌∙◌, subst, arith}
+use Rattle.std.proofs.Common.{◌≡◌, ◌≢◌, ℕ, zero, suc, ◌+◌, ◌*◌, ◌<◌, ◌≤◌, ◌⊎◌, inl, inr, Bool, true, false, List, [], ◌∷◌, ◌++◌, length, Option, Some, None, refl, sym, ap, ◌∙◌, subst, arith}
 use Rattle.std.specs.List.{slice_get, slice_set}
 use Rattle.std.proofs.lemmas.Bool.{cases_lt}
 use Rattle.std.proofs.lemmas.Option.{slice_get_within}
-use Rattle.cc_judge.specs.Names.{Act, Call, Fault, Rules, Tie, Verdict}
+use Rattle.cc_judge.specs.Names.{Call, Fault, Rules, Tie, Verdict}
 use Rattle.cc_judge.specs.Order.{IsLinearizable, of_any_capacity}
 use Rattle.cc_judge.specs.Room.{KeepsRoom}
-use Rattle.cc_judge.specs.Faults.{Did, Differ}
+use Rattle.cc_judge.specs.Faults.{Differ}
 use Rattle.cc_judge.specs.Faultless.{IsWritten, NoFault}
 use Rattle.cc_judge.specs.Counts.{AreSorted}
 use Rattle.cc_judge.specs.Cuts.{IsEarlier, IsLater, MeetAt, AreLone, AreMeetings, AreApart, AreShort, MayBeCut, AreMarked, AreEach, CutBy, CutCall, IsCut, AreWithoutTies, begin_part, end_part, place_of}
-use Rattle.cc_judge.specs.Verdict.{AreSentBelow, StandsFirst, IsVerdict}
+use Rattle.cc_judge.specs.Verdict.{StandsFirst, IsVerdict}
 use Rattle.cc_judge.proofs.Turns.{nat_cases, set_at, set_elsewhere}
 use Rattle.cc_judge.proofs.Shares.{end_cases}
-use Rattle.cc_judge.proofs.Cuts.{cut_logs_are_exact, none_some, some_is, one_end, one_call}
+use Rattle.cc_judge.proofs.Cuts.{cut_logs_are_exact, cut_timed, finer_differ, finer_written, none_some, one_call, one_end, some_is, untimed}
+use Rattle.cc_judge.specs.Splits.{IsClean, IsFiner, IsTimed}
+use Rattle.cc_judge.specs.Until.{HaveEnded}
 use Rattle.cc_judge.proofs.Listing.{ListOf, rises, at_pushed, last_pushed}
-use Rattle.cc_judge.proofs.Until.{no_first}
+use Rattle.cc_judge.proofs.Until.{no_first, none_until, until_end}
 use Rattle.cc_judge.proofs.Faultless.{faultless_logs_have_orders}
 
 pub less_or : (k i : ℕ) → k < i + 1 → (k < i) ⊎ (k ≡ i)
@@ -232,20 +234,8 @@ are_each Relates calls cut i end so_far = record {
 -- ---- what holds of the cut log
 
 module _ (ties : List Tie) (calls cut : List Call) (may : MayBeCut calls ties) (k : IsCut ties calls cut) where
-  did_whole : (place : ℕ) (act : Act) → Did cut place act → Did calls place act
-  did_whole place act did = let c = k.back place did.call did.call_is in record { call = c.0; call_is = c.1; act_is = sym c.2.act ∙ did.act_is }
-
-  pub cut_differ : Differ calls → Differ cut
-  cut_differ differ item i j one other = differ item i j (did_whole i (Act.Send item) one) (did_whole j (Act.Send item) other)
-
-  pub cut_below : (items : ℕ) → AreSentBelow calls items → AreSentBelow cut items
-  cut_below items below place item did = below place item (did_whole place (Act.Send item) did)
-
-  cut_some : (place : ℕ) (c d : Call) → CutCall ties place c d → IsSome c.end → IsSome d.end
-  cut_some place c d so some = elim (end_cases c.end) [
-    | inr open_end ↦ absurd (none_some c.end open_end some)
-    | inl e ↦ elim (so.end e.0 e.1) [ inl tied ↦ some_is d.end (4 * e.0 + 1) tied.1 | inr free ↦ some_is d.end (4 * e.0 + 3) free.1 ]
-  ]
+  pub cut_finer : IsFiner calls cut
+  cut_finer = (cut_timed ties calls cut (lone calls ties may) k).finer
 
   -- a call doesn't meet itself
   not_both : (place time : ℕ) (c : Call) → slice_get calls place ≡ Some c → c.begin ≡ time → c.end ≡ Some time → IsEarlier ties place → IsLater ties place → ⊥
@@ -279,31 +269,42 @@ module _ (ties : List Tie) (calls cut : List Call) (may : MayBeCut calls ties) (
   ]
 
   pub written_cut : IsWritten calls → IsWritten cut
-  written_cut written = record {
-    timed = λ place d e is ends. let c = k.back place d is in timed_cut place c.0 d e c.1 c.2 (λ f f_is. written.timed place c.0 f c.1 f_is) ends;
-    waits = λ place did. let c = k.back place did.call did.call_is in c.2.open_end (written.waits place (record { call = c.0; call_is = c.1; act_is = sym c.2.act ∙ did.act_is }));
-    took = λ place item did. let c = k.back place did.call did.call_is in cut_some place c.0 did.call c.2 (written.took place item (record { call = c.0; call_is = c.1; act_is = sym c.2.act ∙ did.act_is }));
-    ended = λ place did. let c = k.back place did.call did.call_is in cut_some place c.0 did.call c.2 (written.ended place (record { call = c.0; call_is = c.1; act_is = sym c.2.act ∙ did.act_is }));
-  }
+  written_cut written = finer_written calls cut cut_finer written (λ place d e is ends. let c = k.back place d is in timed_cut place c.0 d e c.1 c.2 (λ f f_is. written.timed place c.0 f c.1 f_is) ends)
 
 -- ---- verdicts
 
 pub fault_so : (rules : Rules) (calls : List Call) (fault : Fault) → Differ calls → StandsFirst rules calls fault → IsVerdict rules calls (Verdict.Fault fault)
 fault_so rules calls fault differ s = (inl s, no_first rules calls fault differ s)
 
--- a log with an order that was found
-pub clean_so : (rules : Rules) (calls : List Call) → IsLinearizable (of_any_capacity rules) calls → NoFault rules calls × KeepsRoom rules calls → IsVerdict rules calls Verdict.Clean
-clean_so rules calls order fine = (order, inl fine.1)
+-- a log without a legal order is so until its last end
+pub none_until_end : (rules : Rules) (calls : List Call) (time : ℕ) → IsWritten calls → Differ calls → NoFault rules calls → HaveEnded time calls → (IsLinearizable rules calls → ⊥) → StandsFirst rules calls Fault.NoOrder
+none_until_end rules calls time written differ fine ended none =
+    let k = until_end time calls written ended in
+    record { time = time; part = calls; part_is = k; stands = none; first = λ ties earlier less. none_until rules calls calls time differ written k fine ties earlier (omega (arith, less)) }
+
+-- a log that is clean once it is cut
+pub clean_evenly : (rules plain : Rules) (calls cut : List Call) → AreWithoutTies rules plain → Differ calls → IsTimed rules.ties.items calls cut → IsWritten cut → NoFault plain cut × KeepsRoom plain cut → IsClean rules calls
+clean_evenly rules plain calls cut same differ timed written fine = record {
+  plain = plain;
+  same = same;
+  cut = cut;
+  timed = timed;
+  order = faultless_logs_have_orders plain cut same.none (finer_differ calls cut timed.finer differ) written fine.0;
+  keeps = fine.1;
+}
+
+pub clean_verdict : (rules : Rules) (calls : List Call) → IsClean rules calls → IsVerdict rules calls Verdict.Clean
+clean_verdict rules calls c = (
+  untimed (of_any_capacity rules) (of_any_capacity c.plain) calls c.cut (record { capacity = refl; closes = c.same.closes; none = c.same.none }) c.timed c.order,
+  inr (record { plain = c.plain; same = c.same; cut = c.cut; timed = c.timed; keeps = c.keeps }),
+)
 
 module _ (rules plain : Rules) (calls cut : List Call) (differ : Differ calls) (written : IsWritten calls) (may : MayBeCut calls rules.ties.items) (k : IsCut rules.ties.items calls cut) (same : AreWithoutTies rules plain) where
   pub cut_fault : (fault : Fault) → StandsFirst plain cut fault → IsVerdict rules calls (Verdict.Fault fault)
   cut_fault fault stands = (
     inr (record { plain = plain; same = same; cut = cut; may = may; cut_is = k; stands = stands }),
-    λ order. no_first plain cut fault (cut_differ rules.ties.items calls cut may k differ) stands (cut_logs_are_exact.exact rules plain calls cut same (lone calls rules.ties.items may) k order),
+    λ order. no_first plain cut fault (finer_differ calls cut (cut_finer rules.ties.items calls cut may k) differ) stands (cut_logs_are_exact.exact rules plain calls cut same (lone calls rules.ties.items may) k order),
   )
 
-  cut_order : NoFault plain cut → IsLinearizable (of_any_capacity rules) calls
-  cut_order fine = cut_logs_are_exact.sound (of_any_capacity rules) (of_any_capacity plain) calls cut (record { capacity = refl; closes = same.closes; none = same.none }) (lone calls rules.ties.items may) k (faultless_logs_have_orders plain cut same.none (cut_differ rules.ties.items calls cut may k differ) (written_cut rules.ties.items calls cut may k written) fine)
-
   pub cut_clean : NoFault plain cut × KeepsRoom plain cut → IsVerdict rules calls Verdict.Clean
-  cut_clean fine = (cut_order fine.0, inr (record { plain = plain; same = same; cut = cut; may = may; cut_is = k; keeps = fine.1 }))
+  cut_clean fine = clean_verdict rules calls (clean_evenly rules plain calls cut same differ (cut_timed rules.ties.items calls cut (lone calls rules.ties.items may) k) (written_cut rules.ties.items calls cut may k written) fine)

@@ -4,7 +4,6 @@ use Rattle.std.specs.List.{slice_get}
 use Rattle.cc_judge.specs.Names.{Act, Call, Fault, Rules, Spell}
 use Rattle.cc_judge.specs.Order.{EndsBefore, of_any_capacity}
 use Rattle.cc_judge.specs.Faults.{BeganBy, Did, EndedBy, FewerAt, In, MayHaveTaken, MoreAt, Passed, Returned, WasClosed}
-use Rattle.cc_judge.specs.Checks.{GoesOn}
 use Rattle.cc_judge.specs.Room.{FullsArePossible}
 use Rattle.cc_judge.specs.Refused.{RefusedClaims, call, waiting, handed, beside, closed, crowded, full_early, next_item, strays}
 use Rattle.cc_judge.specs.Until.{IsCallUntil, IsOver, IsUntil, act_until}
@@ -50,11 +49,6 @@ not_full rules one possible = possible 0 (record {
   at_begin = none_at 0 (omega arith);
   at_sends = λ send item c is act from upto. none_at c.begin (omega (arith, upto));
 })
-
-over : (next : ℕ) → GoesOn (call 0 1 Act.Close ∷ []) 0 2 next → ⊥
-over next g = let same : Some g.call ≡ Some (call 0 1 Act.Close) = sym g.call_is in
-    let is : g.call ≡ call 0 1 Act.Close = cc in
-    absurd (omega (arith, g.not_ended 1 (ap (λ (c : Call). c.end) is)))
 
 -- a send doesn't show that the queue was closed
 shut_by_a_send : WasClosed handed 0 → ⊥
@@ -177,12 +171,10 @@ claims_refused = record {
   full_before_a_send_began = not_full;
   last_fault_named = last_named;
   late_log_judged_by_a_capacity = λ is. absurd (cc (is));
-  lines_turned_round = λ kept. absurd (omega (arith, kept 0 1 refl refl));
   more_items_than_room = λ rules one fit. fit 1 3 (0 ∷ 1 ∷ []) one two_held;
   never_sent_of_a_sent_item = λ is. absurd (cc (is));
   none_beside_an_item = λ d. absurd (cc (d.0));
   overtaken_in_one_go = λ take later o. late beside 0 1 (call 0 5 (Act.Send 0)) (call 1 6 (Act.Send 1)) 5 refl refl refl (omega arith) o.sent_first;
-  overtakes_an_ended_call = λ next g. over next g;
   shut_by_a_send = shut_by_a_send;
   taken_after_sent = λ t. late handed 1 0 (call 2 3 (Act.Took 0)) (call 0 1 (Act.Send 0)) 3 refl refl refl (omega arith) t.early;
   taken_twice_by_one_call = λ t. t.apart refl;

@@ -1,13 +1,15 @@
 -- The clauses refuse these claims about counts, times and cuts.
-use Rattle.std.proofs.Common.{◌≡◌, ℕ, zero, suc, ◌<◌, ◌≤◌, true, false, inl, inr, List, [], ◌∷◌, length, Some, refl, sym, ap, ◌∙◌, subst, arith}
+use Rattle.std.proofs.Common.{◌≡◌, ℕ, zero, suc, ◌+◌, ◌<◌, ◌≤◌, true, false, inl, inr, List, [], ◌∷◌, length, Some, None, refl, sym, ap, ◌∙◌, subst, arith}
 use Rattle.std.specs.List.{slice_get}
-use Rattle.cc_judge.specs.Names.{Act, Call, Rules}
+use Rattle.cc_judge.specs.Names.{Act, Call, Rules, Tie, Verdict}
 use Rattle.cc_judge.specs.Faults.{Did}
 use Rattle.cc_judge.specs.Faults.{In, Once}
+use Rattle.cc_judge.specs.Splits.{AllTouch, DoTouch, HasRoom, HaveRoom, spend}
+use Rattle.cc_judge.specs.Verdict.{IsDecided}
 use Rattle.cc_judge.specs.Counts.{SentBy, IsLeftBy, WaitsBy, MoreLeft, AreEnough, NeverEmpty}
 use Rattle.cc_judge.specs.Refused.{call, waiting, handed}
 use Rattle.cc_judge.specs.Cuts.{MeetAt, MayBeCut, CutCall}
-use Rattle.cc_judge.specs.RefusedCounts.{RefusedCounts, left, left_and_taking, filled, two_meetings, first_meeting, second_meeting}
+use Rattle.cc_judge.specs.RefusedCounts.{RefusedCounts, left, left_and_taking, filled, two_meetings, first_meeting, overlapping, second_meeting}
 
 -- the one call at a place
 same_call : (calls : List Call) (place : ℕ) (one other : Call) → slice_get calls place ≡ Some one → slice_get calls place ≡ Some other → one ≡ other
@@ -139,6 +141,43 @@ though_taken rules l =
     let item : l.item ≡ 0 = cc in
     l.untaken 1 (record { call = call 2 3 (Act.Took 0); call_is = refl; act_is = ap Act.Took (sym item) })
 
+-- ---- small
+
+both : (P : ℕ → Call → Type 0) → P 0 (call 0 5 (Act.Send 0)) → P 1 (call 3 9 (Act.Send 1)) → (p : ℕ) (c : Call) → slice_get overlapping p ≡ Some c → P p c
+both P first second zero c is = let e : call 0 5 (Act.Send 0) ≡ c = cc in subst (P 0) e first
+both P first second (suc zero) c is = let e : call 3 9 (Act.Send 1) ≡ c = cc in subst (P 1) e second
+both P first second (suc (suc p)) c is = absurd (cc (is))
+
+sends : (p : ℕ) (c : Call) → slice_get overlapping p ≡ Some c → c.act ≡ Act.Send p
+sends = both (λ p c. c.act ≡ Act.Send p) refl refl
+
+though_small : (rules : Rules) → rules.ties.items ≡ first_meeting ∷ [] → IsDecided rules overlapping 2 (Verdict.Undecided None) → ⊥
+though_small rules ties decided = decided tt (inr (record { touch = subst (AllTouch overlapping) (sym ties) touch; room = subst (λ (l : List Tie). HaveRoom (length l) overlapping) (sym ties) room; few = subst (λ (l : List Tie). 2 + spend 2 (length l) ≤ 1048576) (sym ties) (omega arith) })) differ (record { sent = λ p item d. below p item d; took = λ p item d. absurd (other p (Act.Took item) (λ v is. absurd (cc (is))) d) }) (record {
+  timed = λ p c e is ends. both (λ p c. (e : ℕ) → c.end ≡ Some e → c.begin ≤ e) (λ e is. let n : 5 ≡ e = cc in omega (arith, n)) (λ e is. let n : 9 ≡ e = cc in omega (arith, n)) p c is e ends;
+  waits = λ q d. absurd (other q Act.Taking (λ v is. absurd (cc (is))) d);
+  took = λ q item d. absurd (other q (Act.Took item) (λ v is. absurd (cc (is))) d);
+  ended = λ q d. absurd (other q Act.Ended (λ v is. absurd (cc (is))) d);
+})
+  where
+    other : (p : ℕ) (act : Act) → ((v : ℕ) → Act.Send v ≡ act → ⊥) → Did overlapping p act → ⊥
+    other p act never d = never p (sym (sends p d.call d.call_is) ∙ d.act_is)
+
+    at : (p item : ℕ) → Did overlapping p (Act.Send item) → p ≡ item
+    at p item d = let acts : Act.Send p ≡ Act.Send item = sym (sends p d.call d.call_is) ∙ d.act_is in cc
+
+    differ : (item i j : ℕ) → Did overlapping i (Act.Send item) → Did overlapping j (Act.Send item) → i ≡ j
+    differ item i j one two = at i item one ∙ sym (at j item two)
+
+    below : (p item : ℕ) → Did overlapping p (Act.Send item) → item < 2
+    below p item d = let same = at p item d in let less = both (λ p c. p < 2) (omega arith) (omega arith) p d.call d.call_is in omega (arith, same, less)
+
+    touch : AllTouch overlapping (first_meeting ∷ [])
+    touch zero tie is = let e : first_meeting ≡ tie = cc in subst (DoTouch overlapping) e (record { apart = λ same. absurd (cc (same)); one = call 0 5 (Act.Send 0); other = call 3 9 (Act.Send 1); one_is = refl; other_is = refl; end = 5; ended = refl; touch = omega arith })
+    touch (suc i) tie is = absurd (cc (is))
+
+    room : HaveRoom 1 overlapping
+    room = both (λ p c. HasRoom 1 c) (omega arith, λ e is. let n : 5 ≡ e = cc in omega (arith, n)) (omega arith, λ e is. let n : 9 ≡ e = cc in omega (arith, n))
+
 pub counts_refused : RefusedCounts
 counts_refused = record {
   as_many_takes_as_items = as_many;
@@ -154,6 +193,9 @@ counts_refused = record {
       let begins : m.other.begin ≡ 2 = ap (λ (c : Call). c.begin) one in
       let is = m.begins in
       absurd (omega (arith, begins, is));
+  no_order_though_one = λ rules none. none ([], record { each = λ k s is. absurd (cc (is)); once = λ j k s t less s_is. absurd (cc (s_is)); whole = λ p c is. absurd (cc (is)); in_time = λ j k s t less s_is. absurd (cc (s_is)); in_line = λ i tie is j k s t less s_is. absurd (cc (s_is)); legal = tt; closing = λ judged. tt });
+  split_beside_the_time = λ s. elim s.begin [ inl late ↦ absurd (cc (late.1)) | inr free ↦ free.0 refl ];
+  undecided_though_small = though_small;
   waits_before_it_began = λ w.
       let one = same_call (waiting 5 Act.Taking ∷ []) 0 w.1.call (waiting 5 Act.Taking) w.1.call_is refl in
       let begins : w.1.call.begin ≡ 5 = ap (λ (c : Call). c.begin) one in

@@ -1,47 +1,13 @@
 -- A log that is cut between two calls has the orders of the log, at one of the times at which both were under way.
-use Rattle.std.proofs.Common.{◌≡◌, ◌≢◌, ℕ, zero, suc, ◌+◌, ◌<◌, ◌≤◌, ◌⊎◌, inl, inr, List, [], ◌∷◌, length, Option, Some, None, IsSome, refl, sym, ap, ◌∙◌, subst, arith}
+use Rattle.std.proofs.Common.{◌≡◌, ◌≢◌, ℕ, zero, suc, ◌<◌, ◌≤◌, ◌⊎◌, inl, inr, List, [], ◌∷◌, Some, IsSome, refl, sym, ap, ◌∙◌, subst, arith}
 use Rattle.std.specs.List.{slice_get}
 use Rattle.std.proofs.lemmas.Bool.{cases_lt}
-use Rattle.std.proofs.lemmas.Option.{slice_get_within}
-use Rattle.cc_judge.specs.Names.{Act, Call, Rules, Step, Tie}
-use Rattle.cc_judge.specs.Order.{EndsBefore, IsCall, IsLinearizable, IsOfLog, IsOrder, IsRun, MayHaveDone}
-use Rattle.cc_judge.specs.Faults.{Did, Differ}
+use Rattle.cc_judge.specs.Names.{Call, Rules, Step, Tie}
+use Rattle.cc_judge.specs.Order.{EndsBefore, IsLinearizable, IsOfLog, IsOrder}
 use Rattle.cc_judge.specs.Faultless.{IsWritten}
-use Rattle.cc_judge.specs.Verdict.{AreSentBelow}
-use Rattle.cc_judge.specs.Splits.{AreLeft, DoTouch, IsBeginBy, IsEndBy, IsFiner, IsSplit, IsUnderWay, MaySplit, SplitCall, SplitsAreExact}
-use Rattle.cc_judge.proofs.Turns.{nat_cases}
+use Rattle.cc_judge.specs.Splits.{AreLeft, DoTouch, IsFiner, IsSplit, MaySplit, SplitCall, SplitsAreExact}
 use Rattle.cc_judge.proofs.Shares.{end_cases}
-use Rattle.cc_judge.proofs.Cuts.{none_some, some_is, one_end, one_call}
-
--- ---- a finer log
-
-module _ (calls cut : List Call) (f : IsFiner calls cut) where
-  did_whole : (place : ℕ) (act : Act) → Did cut place act → Did calls place act
-  did_whole place act did = let c = f.back place did.call did.call_is in record { call = c.0; call_is = c.1; act_is = sym c.2 ∙ did.act_is }
-
-  pub finer_differ : Differ calls → Differ cut
-  finer_differ differ item i j one other = differ item i j (did_whole i (Act.Send item) one) (did_whole j (Act.Send item) other)
-
-  pub finer_below : (items : ℕ) → AreSentBelow calls items → AreSentBelow cut items
-  finer_below items below place item did = below place item (did_whole place (Act.Send item) did)
-
-  -- an order of it is one of the log, if it keeps the ties
-  pub unfiner : (rules rest : Rules) (order : List Step) → AreLeft rules rest cut → IsOrder rest cut order → IsOrder rules calls order
-  unfiner rules rest order l o = record {
-    each = λ j s is.
-        let i = o.each j s is in
-        let r = f.back s.place i.call i.call_is in
-        record { call = r.0; call_is = r.1; may = subst (λ (a : Act). MayHaveDone a s.act) r.2 i.may };
-    once = o.once;
-    whole = λ place c is some. let d = f.there place c is in o.whole place d.0 d.1 (d.3 some);
-    in_time = λ i j s t less s_is t_is ends. o.in_time i j s t less s_is t_is (f.before t.place s.place ends);
-    in_line = λ n tie is i j s t less s_is t_is later earlier. elim (l.all n tie is) [
-      | inl before ↦ o.in_time i j s t less s_is t_is (subst (λ (p : ℕ). EndsBefore cut p s.place) (sym earlier) (subst (EndsBefore cut tie.earlier) (sym later) before))
-      | inr k ↦ o.in_line k.0 tie k.1 i j s t less s_is t_is later earlier
-    ];
-    legal = subst (λ (c : Option ℕ). IsRun c [] order) l.capacity o.legal;
-    closing = λ judged. o.closing (l.closes ∙ judged);
-  }
+use Rattle.cc_judge.proofs.Cuts.{finer_written, into_finer, none_some, one_call, one_end, some_is, unfiner}
 
 -- ---- a log that is split is finer
 
@@ -123,18 +89,7 @@ module _ (calls cut : List Call) (tie : Tie) (time : ℕ) (may : MaySplit calls 
       ]
 
   pub split_written : tie.earlier ≢ tie.later → IsWritten calls → IsWritten cut
-  split_written apart written = record {
-    timed = λ p d f is ends. let c = k.back p d is in timed p c.0 d f c.1 c.2 ends;
-    waits = λ q did.
-        let c = k.back q did.call did.call_is in
-        c.2.open_end (written.waits q (record { call = c.0; call_is = c.1; act_is = sym c.2.act ∙ did.act_is }));
-    took = λ q item did.
-        let c = k.back q did.call did.call_is in
-        ended q c.0 did.call c.2 (written.took q item (record { call = c.0; call_is = c.1; act_is = sym c.2.act ∙ did.act_is }));
-    ended = λ q did.
-        let c = k.back q did.call did.call_is in
-        ended q c.0 did.call c.2 (written.ended q (record { call = c.0; call_is = c.1; act_is = sym c.2.act ∙ did.act_is }));
-  }
+  split_written apart written = finer_written calls cut split_finer written (λ p d f is ends. let c = k.back p d is in timed p c.0 d f c.1 c.2 ends)
     where
       timed : (p : ℕ) (c d : Call) (f : ℕ) → slice_get calls p ≡ Some c → SplitCall tie time p c d → d.end ≡ Some f → d.begin ≤ f
       timed p c d f is h ends = elim (end_cases c.end) [
@@ -375,33 +330,20 @@ module _ (rules : Rules) (calls : List Call) (i : ℕ) (tie : Tie) (tie_is : sli
 
   into_split : (p place : ℕ) (h : Step) (call : Call) → slice_get order p ≡ Some h → h.place ≡ tie.earlier → CutsAt p place call → (rest : Rules) (cut : List Call) → IsSplit tie call.begin calls cut → AreLeft rules rest cut → IsOrder rest cut order
   unfolding AsCut
-  into_split p place h call h_is first at rest cut k l =
-      let f = split_finer calls cut tie call.begin at.may k in
-      record {
-        each = λ j s is.
-            let i = o.each j s is in
-            let r = f.there s.place i.call i.call_is in
-            record { call = r.0; call_is = r.1; may = subst (λ (a : Act). MayHaveDone a s.act) (sym r.2) i.may };
-        once = o.once;
-        whole = λ place d is some. let c = f.back place d is in o.whole place c.0 c.1 (c.3 some);
-        in_time = λ j n s t less s_is t_is ends. elim (was_before calls cut tie call.begin at.may k t.place s.place ends) [
-          | inl before ↦ o.in_time j n s t less s_is t_is before
-          | inr cuts ↦ elim cuts [
-            | inl both ↦ o.in_line i tie tie_is j n s t less s_is t_is both.1 both.0
-            | inr or ↦ elim or [
-              | inl after ↦
-                  let n_is = one_place n p t h t_is h_is (after.0 ∙ sym first) in
-                  let m = at.most j s after.1 (omega (arith, less, n_is)) s_is after.2 in
-                  let late = after.3 in
-                  omega (arith, m, late)
-              | inr before ↦ let lower = at.before n t before.1 before.2 t_is before.3 before.4 before.5 j s s_is before.0 in omega (arith, lower, less)
-            ]
-          ]
-        ];
-        in_line = λ n other is. let r = l.of n other is in o.in_line r.0 other r.1;
-        legal = subst (λ (c : Option ℕ). IsRun c [] order) (sym l.capacity) o.legal;
-        closing = λ judged. o.closing (sym l.closes ∙ judged);
-      }
+  into_split p place h call h_is first at rest cut k l = into_finer calls cut (split_finer calls cut tie call.begin at.may k) rules rest order l.capacity l.closes (λ n other is. let r = l.of n other is in o.in_line r.0 other r.1) (λ j n s t less s_is t_is ends. elim (was_before calls cut tie call.begin at.may k t.place s.place ends) [
+    | inl before ↦ o.in_time j n s t less s_is t_is before
+    | inr cuts ↦ elim cuts [
+      | inl both ↦ o.in_line i tie tie_is j n s t less s_is t_is both.1 both.0
+      | inr or ↦ elim or [
+        | inl after ↦
+            let n_is = one_place n p t h t_is h_is (after.0 ∙ sym first) in
+            let m = at.most j s after.1 (omega (arith, less, n_is)) s_is after.2 in
+            let late = after.3 in
+            omega (arith, m, late)
+        | inr before ↦ let lower = at.before n t before.1 before.2 t_is before.3 before.4 before.5 j s s_is before.0 in omega (arith, lower, less)
+      ]
+    ]
+  ]) o
 
   split_exact : (place : ℕ) × (call : Call) × (slice_get calls place ≡ Some call) × MaySplit calls tie call.begin × ((rest : Rules) (cut : List Call) → IsSplit tie call.begin calls cut → AreLeft rules rest cut → IsLinearizable rest cut)
   split_exact =

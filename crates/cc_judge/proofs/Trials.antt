@@ -1,24 +1,23 @@
 -- What the search for an order keeps from one cut to the next.
-use Rattle.std.proofs.Common.{◌≡◌, ◌≢◌, ℕ, zero, suc, ◌+◌, ◌-◌, ◌*◌, ◌/◌, ◌<◌, ◌≤◌, ◌⊎◌, inl, inr, List, [], ◌∷◌, ◌++◌, length, get_or, Option, Some, None, IsSome, refl, sym, ap, ◌∙◌, subst, arith}
+use Rattle.std.proofs.Common.{◌≡◌, ℕ, zero, suc, ◌+◌, ◌-◌, ◌*◌, ◌/◌, ◌<◌, ◌≤◌, ◌⊎◌, inl, inr, List, [], ◌∷◌, ◌++◌, length, Option, Some, None, IsSome, refl, sym, ap, ◌∙◌, subst, arith}
 use Rattle.std.specs.List.{slice_get}
 use Rattle.std.proofs.Math.Nat.{div-mul-le_self, mul-le-mul_left, mul-le-mul_right}
 use Rattle.std.proofs.lemmas.Nat.{le-div}
 use Rattle.std.proofs.lemmas.Bool.{cases_lt}
 use Rattle.std.proofs.lemmas.Option.{slice_get_within}
 use Rattle.cc_judge.specs.Names.{Call, Explored, Rules, Tie}
-use Rattle.cc_judge.specs.Order.{EndsBefore, IsLinearizable, of_any_capacity}
+use Rattle.cc_judge.specs.Order.{EndsBefore, IsLinearizable}
 use Rattle.cc_judge.specs.Faults.{Differ}
 use Rattle.cc_judge.specs.Faultless.{IsWritten, NoFault}
-use Rattle.cc_judge.specs.Room.{FullsArePossible}
-use Rattle.cc_judge.specs.Cuts.{AreEach, AreWithoutTies}
-use Rattle.cc_judge.specs.Splits.{AllTouch, AreLeft, AreOpen, AreTiesLeft, DoTouch, EndsInParts, HaveRoom, IsBegunBefore, IsClean, IsExplored, IsExploredAt, IsFiner, IsInParts, IsSplit, IsTieOf, IsTimed, MaySplit, NoneAt, SplitCall, spend}
-use Rattle.cc_judge.proofs.Turns.{below_or_at}
+use Rattle.cc_judge.specs.Room.{KeepsRoom}
+use Rattle.cc_judge.specs.Cuts.{AreEach}
+use Rattle.cc_judge.specs.Splits.{AllTouch, AreLeft, AreOpen, AreTiesLeft, DoTouch, EndsInParts, HaveRoom, IsBegunBefore, IsClean, IsExplored, IsExploredAt, IsFiner, IsInParts, IsSplit, IsTieOf, MaySplit, NoneAt, spend}
 use Rattle.cc_judge.proofs.Shares.{end_cases}
-use Rattle.cc_judge.proofs.Cuts.{none_some, some_is, one_end, one_call}
+use Rattle.cc_judge.proofs.Cuts.{none_some, one_call, one_end, some_is}
 use Rattle.cc_judge.proofs.Parts.{less_or, slice_has}
 use Rattle.cc_judge.proofs.Listing.{at_pushed, last_pushed}
 use Rattle.cc_judge.proofs.Faultless.{faultless_logs_have_orders}
-use Rattle.cc_judge.proofs.Splits.{finer_differ, split_finer, split_before, splits_are_exact}
+use Rattle.cc_judge.proofs.Splits.{split_finer, split_before, splits_are_exact}
 
 -- ---- times in parts
 
@@ -135,6 +134,12 @@ all_left ties cut rest upto end l = record {
   fewer = λ i tie is before. let less = slice_get_within ties i tie is in let f = l.fewer i tie (omega (arith, less, end)) is before in omega (arith, f, end);
 }
 
+pub touch_more : (calls : List Call) (ties : List Tie) (i : ℕ) (tie : Tie) → slice_get ties i ≡ Some tie → DoTouch calls tie → ((k : ℕ) (t : Tie) → k < i → slice_get ties k ≡ Some t → DoTouch calls t) → (k : ℕ) (t : Tie) → k < i + 1 → slice_get ties k ≡ Some t → DoTouch calls t
+touch_more calls ties i tie is touch so_far k t below at = elim (less_or k i below) [
+  | inl less ↦ so_far k t less at
+  | inr here ↦ subst (DoTouch calls) (one_tie ties i tie t is (ap (slice_get ties) (sym here) ∙ at)) touch
+]
+
 -- ---- one cut
 
 module _ (rules rest : Rules) (calls cut : List Call) (tie : Tie) (time : ℕ) (at : IsTieOf rules.ties.items tie) (touch : AllTouch calls rules.ties.items) (may : MaySplit calls tie time) (k : IsSplit tie time calls cut) where
@@ -187,7 +192,7 @@ module _ (rules rest : Rules) (calls cut : List Call) (tie : Tie) (time : ℕ) (
           timed = λ i t is. elim (l.all i t is) [ inl before ↦ c.timed.finer.before t.earlier t.later before | inr r ↦ c.timed.timed r.0 t r.1 ];
         };
         order = c.order;
-        possible = c.possible;
+        keeps = c.keeps;
       }
 
   pub explored_at : AreLeft rules rest cut → (found : Explored) → IsExplored rest cut found → IsExploredAt rules calls tie time found
@@ -294,7 +299,7 @@ explored_on rules calls tie time (Explored.Stuck stuck) other is = tt
 
 -- ---- a log without ties
 
-pub clean_so : (rules : Rules) (calls : List Call) → rules.ties.items ≡ [] → Differ calls → IsWritten calls → NoFault rules calls × FullsArePossible rules calls → IsClean rules calls
+pub clean_so : (rules : Rules) (calls : List Call) → rules.ties.items ≡ [] → Differ calls → IsWritten calls → NoFault rules calls × KeepsRoom rules calls → IsClean rules calls
 clean_so rules calls none differ written fine = record {
   plain = rules;
   same = record { capacity = refl; closes = refl; none = none };
@@ -304,15 +309,5 @@ clean_so rules calls none differ written fine = record {
     timed = subst (λ (ties : List Tie). (i : ℕ) (tie : Tie) → slice_get ties i ≡ Some tie → EndsBefore calls tie.earlier tie.later) (sym none) (λ i tie is. absurd (cc (is)));
   };
   order = faultless_logs_have_orders rules calls none differ written fine.0;
-  possible = fine.1;
-}
-
-pub clean_evenly : (rules plain : Rules) (calls cut : List Call) → AreWithoutTies rules plain → Differ calls → IsTimed rules.ties.items calls cut → IsWritten cut → NoFault plain cut × FullsArePossible plain cut → IsClean rules calls
-clean_evenly rules plain calls cut same differ timed written fine = record {
-  plain = plain;
-  same = same;
-  cut = cut;
-  timed = timed;
-  order = faultless_logs_have_orders plain cut same.none (finer_differ calls cut timed.finer differ) written fine.0;
-  possible = fine.1;
+  keeps = fine.1;
 }

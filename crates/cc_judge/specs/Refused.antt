@@ -5,7 +5,6 @@ use Rattle.cc_judge.specs.Order.{Does, Allows, IsOrder}
 use Rattle.cc_judge.specs.Faults.{Passed, TakenBeforeSent, TakenTwice, WasClosed, ClosedEarly, MoreAt}
 use Rattle.cc_judge.specs.Counts.{TookOver}
 use Rattle.cc_judge.specs.Late.{judged_capacity, padded}
-use Rattle.cc_judge.specs.Checks.{GoesOn, IsKept}
 use Rattle.cc_judge.specs.Room.{FullsArePossible, ItemsFit}
 use Rattle.cc_judge.specs.Sweeps.{IsPassedLast}
 use Rattle.cc_judge.specs.Verdict.{StandsFirst}
@@ -52,12 +51,9 @@ one_item = record { from = 1; until = 30; send = 0; take = 2 }
 abbrev pub next_item : Spell
 next_item = record { from = 3; until = 40; send = 1; take = 3 }
 
--- a table in which the item has a place, and one in which each of two calls has its step, the later first
+-- a table in which the item has a place
 abbrev pub placed : List (Option ℕ)
 placed = Some 0 ∷ []
-
-abbrev pub turned : List (Option ℕ)
-turned = Some 1 ∷ Some 0 ∷ []
 
 pub record RefusedClaims : Type 0 where
   pub accepted_though_untaken : Refused ((take : ℕ) × Passed (waiting 0 (Act.Send 0) ∷ []) 0 take)
@@ -70,12 +66,10 @@ pub record RefusedClaims : Type 0 where
   pub full_before_a_send_began : (rules : Rules) → rules.capacity ≡ Some 1 → Refused (FullsArePossible rules full_early)
   pub last_fault_named : (rules : Rules) → rules.ties.items ≡ [] → Refused (StandsFirst rules strays (Fault.NeverSent 1))
   pub late_log_judged_by_a_capacity : Refused (judged_capacity true (Some 1) ≡ Some 1)
-  pub lines_turned_round : Refused (IsKept turned record { earlier = 0; later = 1 })
   pub more_items_than_room : (rules : Rules) → rules.capacity ≡ Some 1 → Refused (ItemsFit rules crowded)
   pub never_sent_of_a_sent_item : Refused (slice_get placed 0 ≡ Some None)
   pub none_beside_an_item : Refused (Does None (7 ∷ []) Act.FoundNone (7 ∷ []))
   pub overtaken_in_one_go : (take later : ℕ) → Refused (TookOver beside 0 take 1 later)
-  pub overtakes_an_ended_call : (next : ℕ) → Refused (GoesOn (call 0 1 Act.Close ∷ []) 0 2 next)
   pub shut_by_a_send : Refused (WasClosed handed 0)
   pub taken_after_sent : Refused (TakenBeforeSent handed 0 1)
   pub taken_twice_by_one_call : Refused (TakenTwice handed 1 1)

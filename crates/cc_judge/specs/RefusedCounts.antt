@@ -1,9 +1,11 @@
 -- Claims about counts, times and cuts that the clauses refuse: for each kind of mistake a small log.
-use Rattle.std.specs.Prelude.{◌≡◌, false, List, [], ◌∷◌}
-use Rattle.cc_judge.specs.Names.{Act, Call, Rules, Tie}
+use Rattle.std.specs.Prelude.{◌≡◌, false, List, [], ◌∷◌, None}
+use Rattle.cc_judge.specs.Names.{Act, Call, Explored, Rules, Tie, Verdict}
 use Rattle.cc_judge.specs.Counts.{SentBy, IsLeftBy, WaitsBy, MoreLeft, AreEnough, NeverEmpty}
 use Rattle.cc_judge.specs.Cuts.{MeetAt, MayBeCut, CutCall}
 use Rattle.cc_judge.specs.Faultless.{IsWritten}
+use Rattle.cc_judge.specs.Splits.{IsExplored, SplitCall}
+use Rattle.cc_judge.specs.Verdict.{IsDecided}
 use Rattle.cc_judge.specs.Refused.{Refused, call, waiting, handed}
 
 -- one item is left, and one take hasn't returned
@@ -27,6 +29,10 @@ first_meeting = record { earlier = 0; later = 1 }
 abbrev pub second_meeting : Tie
 second_meeting = record { earlier = 2; later = 3 }
 
+-- two calls of one thread, of which the second may have begun before the first had ended
+abbrev pub overlapping : List Call
+overlapping = call 0 5 (Act.Send 0) ∷ call 3 9 (Act.Send 1) ∷ []
+
 pub record RefusedCounts : Type 0 where
   pub as_many_takes_as_items : (rules : Rules) → Refused (MoreLeft rules left_and_taking 2 2)
   pub cut_beside_the_later_call : Refused (CutCall (first_meeting ∷ []) 1 (call 5 9 (Act.Send 1)) (call 20 39 (Act.Send 1)))
@@ -37,5 +43,8 @@ pub record RefusedCounts : Type 0 where
   pub enough_without_a_take : (rules : Rules) → Refused (AreEnough rules left 2 2)
   pub left_though_taken : (rules : Rules) → Refused (IsLeftBy rules handed 4 0)
   pub met_apart : Refused (MeetAt handed (record { earlier = 0; later = 1 }) 1)
+  pub no_order_though_one : (rules : Rules) → Refused (IsExplored rules [] Explored.NoOrder)
+  pub split_beside_the_time : Refused (SplitCall first_meeting 4 1 (call 3 9 (Act.Send 1)) (call 4 10 (Act.Send 1)))
+  pub undecided_though_small : (rules : Rules) → rules.ties.items ≡ first_meeting ∷ [] → Refused (IsDecided rules overlapping 2 (Verdict.Undecided None))
   pub waits_before_it_began : Refused (WaitsBy (waiting 5 Act.Taking ∷ []) 4 0)
   pub written_backwards : Refused (IsWritten (call 3 1 Act.FoundNone ∷ []))

@@ -5,7 +5,7 @@ use Rattle.cc_judge.specs.Names.{Call, Explored, Rules, Tie}
 use Rattle.cc_judge.specs.Order.{EndsBefore, IsLinearizable, of_any_capacity}
 use Rattle.cc_judge.specs.Faultless.{IsWritten}
 use Rattle.cc_judge.specs.Cuts.{AreEach, AreWithoutTies}
-use Rattle.cc_judge.specs.Room.{FullsArePossible}
+use Rattle.cc_judge.specs.Room.{KeepsRoom}
 
 -- the second log has the calls of the first, with their acts, and its times order no fewer of them
 pub record IsFiner (calls cut : List Call) : Type 0 where
@@ -78,15 +78,14 @@ pub record SplitsAreExact : Type 0 where
 
 -- ---- what a search shows
 
--- Once the log is cut so that times order all calls, it has a legal order, of a queue of whatever capacity, and each call that found the
--- queue full may have, by itself.
+-- Once the log is cut so that times order all calls, it has a legal order, of a queue of whatever capacity, and keeps its room.
 pub record IsClean (rules : Rules) (calls : List Call) : Type 0 where
   pub plain : Rules
   pub same : AreWithoutTies rules plain
   pub cut : List Call
   pub timed : IsTimed rules.ties.items calls cut
   pub order : IsLinearizable (of_any_capacity plain) cut
-  pub possible : FullsArePossible plain cut
+  pub keeps : KeepsRoom plain cut
 
 abbrev pub IsExplored : Rules → List Call → Explored → Type 0
 IsExplored rules calls Explored.Clean = IsClean rules calls

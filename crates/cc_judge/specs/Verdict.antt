@@ -1,11 +1,12 @@
 -- The verdict on a log.
-use Rattle.std.specs.Prelude.{◌≡◌, ℕ, ◌<◌, ◌⊎◌, List, [], Some, slice_get}
+use Rattle.std.specs.Prelude.{◌≡◌, ℕ, ◌+◌, ◌<◌, ◌≤◌, ◌⊎◌, List, [], length, Some, slice_get}
 use Rattle.cc_judge.specs.Names.{Act, Call, Rules, Fault, Stay, Verdict, Indexed}
 use Rattle.cc_judge.specs.Order.{IsLinearizable, of_any_capacity}
 use Rattle.cc_judge.specs.Faults.{Did, Differ, Passed, NeverSent, TakenBeforeSent, TakenTwice, Reopened, ClosedEarly, NotFull, TooMany}
 use Rattle.cc_judge.specs.Counts.{TookOver, LeftBehind, NeverEmpty, EndedWithItems}
 use Rattle.cc_judge.specs.Faultless.{IsWritten}
 use Rattle.cc_judge.specs.Cuts.{AreWithoutTies, MayBeCut, IsCut}
+use Rattle.cc_judge.specs.Splits.{AllTouch, HaveRoom, IsTimed, spend}
 use Rattle.cc_judge.specs.Room.{KeepsRoom}
 use Rattle.cc_judge.specs.Table.{IsIndex}
 use Rattle.cc_judge.specs.Until.{IsUntil}
@@ -48,6 +49,7 @@ Stands rules calls (Fault.Reopened closed send) = Reopened rules calls closed se
 Stands rules calls (Fault.ClosedEarly call) = ClosedEarly rules calls call
 Stands rules calls (Fault.NotFull call) = NotFull rules calls call
 Stands rules calls (Fault.TooMany call sends) = TooMany rules calls call sends.items
+Stands rules calls Fault.NoOrder = IsLinearizable rules calls → ⊥
 
 -- The log has the fault until a time. Until no earlier time has it a fault: it has a legal order, of a queue of whatever capacity, if no
 -- calls are ordered only by their lines.
@@ -72,8 +74,7 @@ pub record KeepsRoomInCut (rules : Rules) (calls : List Call) : Type 0 where
   pub plain : Rules
   pub same : AreWithoutTies rules plain
   pub cut : List Call
-  pub may : MayBeCut calls rules.ties.items
-  pub cut_is : IsCut rules.ties.items calls cut
+  pub timed : IsTimed rules.ties.items calls cut
   pub keeps : KeepsRoom plain cut
 
 -- the items fit the capacity, in the log or in the log that is cut
@@ -86,21 +87,32 @@ FitsCapacity rules calls = KeepsRoom rules calls ⊎ KeepsRoomInCut rules calls
 abbrev pub IsVerdict : Rules → List Call → Verdict → Type 0
 IsVerdict rules calls Verdict.Clean = IsLinearizable (of_any_capacity rules) calls × FitsCapacity rules calls
 IsVerdict rules calls (Verdict.Fault fault) = (StandsFirst rules calls fault ⊎ StandsInCut rules calls fault) × (IsLinearizable rules calls → ⊥)
-IsVerdict rules calls Verdict.Undecided = Unit {0}
+IsVerdict rules calls (Verdict.Undecided tie) = Unit {0}
+
+abbrev pub IsUndecided : Verdict → Type 0
+IsUndecided (Verdict.Undecided tie) = Unit {0}
+IsUndecided _ = ⊥
 
 -- the items of a log are below a number
 pub record AreBelow (calls : List Call) (items : ℕ) : Type 0 where
   pub sent : (place item : ℕ) → Did calls place (Act.Send item) → item < items
   pub took : (place item : ℕ) → Did calls place (Act.Took item) → item < items
 
+-- Each cut of the log can be tried: its ties are of calls that meet or overlap, and in all logs that are cut so are no more than 2^20
+-- calls.
+pub record IsSmall (rules : Rules) (calls : List Call) : Type 0 where
+  pub touch : AllTouch calls rules.ties.items
+  pub room : HaveRoom (length rules.ties.items) calls
+  pub few : length calls + spend (length calls) (length rules.ties.items) ≤ 1048576
+
 -- times order the calls of the log, or do so once the log is cut
 abbrev pub AreOrdered : Rules → List Call → Type 0
 AreOrdered rules calls = (rules.ties.items ≡ []) ⊎ MayBeCut calls rules.ties.items
 
 -- The verdict decides a well-formed log whose items differ and are below a number, if no calls are ordered only by their lines, or at
--- most two that meet at a time.
+-- most two that meet at a time, or the log is small.
 abbrev pub IsDecided : Rules → List Call → (items : ℕ) → Verdict → Type 0
-IsDecided rules calls items verdict = verdict ≡ Verdict.Undecided → AreOrdered rules calls → Differ calls → AreBelow calls items → IsWritten calls → ⊥
+IsDecided rules calls items verdict = IsUndecided verdict → AreOrdered rules calls ⊎ IsSmall rules calls → Differ calls → AreBelow calls items → IsWritten calls → ⊥
 
 -- the items that were sent are below a number
 abbrev pub AreSentBelow : List Call → (items : ℕ) → Type 0

@@ -1,5 +1,5 @@
 //! The verdict on a log.
-ghost use Rattle.std.specs.Prelude.{◌≡◌, ℕ, [], IfOk, IfSome, IfNone, IsTrue, IsFalse};
+ghost use Rattle.std.specs.Prelude.{◌≡◌, ◌⊎◌, ℕ, [], IfOk, IfSome, IfNone, IsTrue, IsFalse};
 ghost use Rattle.cc_judge.specs.Names.{Rules, Verdict};
 ghost use Rattle.cc_judge.specs.Table.{IsIndex};
 ghost use Rattle.cc_judge.specs.Faults.{Differ};
@@ -14,25 +14,22 @@ ghost use Rattle.cc_judge.specs.Late.{
 };
 ghost use Rattle.cc_judge.specs.Sweeps.{AreLists, IsShutAt, MayBeEmpty};
 ghost use Rattle.cc_judge.specs.Order.{IsLinearizable, of_any_capacity};
-ghost use Rattle.cc_judge.specs.Verdict.{IsVerdict, AreOrdered, AreSentBelow, IsDecided, Stands, StandsFirst, Indexes, FaultsHaveNoOrder};
+ghost use Rattle.cc_judge.specs.Verdict.{IsVerdict, AreOrdered, AreSentBelow, IsDecided, IsSmall, IsUndecided, Stands, StandsFirst, Indexes, FaultsHaveNoOrder};
 
 use crate::closing::close_fault;
 use crate::cutting::{cut_of, without_ties};
+use crate::exploring::{Explored, explore, may_explore};
 use crate::faults::Index;
 use crate::lists::{Lists, lists_of};
 use crate::nones::{first_none, stays_of};
-use crate::order::is_order;
 use crate::overfull::many_fault;
 use crate::overtaking::{take_fault, turn_fault};
 use crate::prefix::{after, calls_until, ends_of, last_end, next_time};
 use crate::room::full_fault;
-use crate::search::{Sought, seek};
-use crate::share::share;
 use crate::shutting::{Shut, shut_of};
 use crate::table::{Found, Kind, call_at, find};
-use crate::times::{ranks_of, view_of};
 use crate::written::is_written;
-use crate::{Call, Rules, Stay};
+use crate::{Call, Rules, Stay, Tie};
 use std::alloc::{AllocError, Global};
 
 /// Why a log has no legal order, by the places of the calls that show it.
@@ -82,6 +79,8 @@ pub enum Fault {
         call: usize,
         sends: Vec<usize>,
     },
+    /// No order of the calls is legal, wherever the log is cut between those which only their lines order.
+    NoOrder,
 }
 
 /// The verdict on a log.
@@ -92,9 +91,9 @@ pub enum Verdict {
     Clean,
     /// The log isn't linearizable: it has no legal order.
     Fault(Fault),
-    /// Neither an order nor a fault was found: only their lines order some calls. That is also the verdict if two calls sent one item,
-    /// an item isn't below the number of items, or a call isn't well-formed.
-    Undecided,
+    /// The search for an order was given up, when it had to cut the log between the calls of this tie. There is no tie if a time is too
+    /// great, or the log isn't well-formed: two calls sent one item, or an item isn't below the number of items.
+    Undecided(Option<Tie>),
 }
 
 /// The index of a log, or its fault: two calls took one item, or one took an item that no call sent.
@@ -260,7 +259,7 @@ pub fn found_in(
     }
 }
 
-/// The end of a call at which a fault shows.
+/// The end of a call at which a fault shows, if it does at one.
 fn shown_at(calls: &[Call], fault: &Fault) -> Option<u64> {
     let place = match fault {
         Fault::NeverSent { take } | Fault::TakenBeforeSent { take, .. } => *take,
@@ -271,6 +270,7 @@ fn shown_at(calls: &[Call], fault: &Fault) -> Option<u64> {
         | Fault::ClosedEarly { call }
         | Fault::NotFull { call }
         | Fault::TooMany { call, .. } => *call,
+        Fault::NoOrder => return None,
     };
     call_at(calls, place)?.end
 }
@@ -314,7 +314,7 @@ fn timed(alloc: Global, rules: &Rules, calls: &[Call], items: usize) -> Result<V
     requires below { AreSentBelow calls.now items }
     requires none { rules.now.ties.items ≡ [] }
     ensures right { IfOk result (IsVerdict rules.now calls.now) }
-    ensures decided { IfOk result (λ verdict. verdict ≡ Verdict.Undecided → ⊥) }
+    ensures decided { IfOk result (λ verdict. IsUndecided verdict → ⊥) }
 {
     if let Some(fault) = found_in(alloc, rules, calls, items)? {
         return Ok(Verdict::Fault(first_fault(alloc, rules, calls, items, fault)?));
@@ -336,7 +336,7 @@ fn cut_up(
     requires may { MayBeCut calls.now rules.now.ties.items }
     requires cut { IsCut rules.now.ties.items calls.now cut.now }
     ensures right { IfOk result (IsVerdict rules.now calls.now) }
-    ensures decided { IfOk result (λ verdict. verdict ≡ Verdict.Undecided → ⊥) }
+    ensures decided { IfOk result (λ verdict. IsUndecided verdict → ⊥) }
 {
     let plain = without_ties(alloc, rules);
     if let Some(fault) = found_in(alloc, &plain, cut, items)? {
@@ -345,41 +345,41 @@ fn cut_up(
     Ok(Verdict::Clean)
 }
 
-/// An order of a log in which only their lines order more than two calls that meet at a time, if one is found.
-fn has_order(alloc: Global, rules: &Rules, calls: &[Call], items: usize) -> Result<bool, AllocError>
+/// The log has no order, as it is until its last end.
+fn none_fault_of(rules: &Rules, calls: &[Call]) -> Fault
     requires written { IsWritten calls.now }
     requires differ { Differ calls.now }
-    requires below { AreSentBelow calls.now items }
-    ensures { IfOk result (λ has. IsTrue has → IsLinearizable (of_any_capacity rules.now) calls.now) }
+    requires fine { NoFault rules.now calls.now }
+    requires none { IsLinearizable rules.now calls.now → ⊥ }
+    ensures { StandsFirst rules.now calls.now result }
 {
-    let Indexed::Index(index) = index_of(alloc, calls, items)? else {
-        return Ok(false);
-    };
-    let ranks = ranks_of(alloc, calls)?;
-    let view = view_of(rules, calls, &index, ranks.as_slice());
-    let shares = share(alloc, &view)?;
-    let Sought { order, stuck } = seek(alloc, &view, &shares)?;
-    if stuck.is_some() {
-        return Ok(false);
-    }
-    is_order(alloc, rules, calls, order.as_slice())
+    let _end = last_end(calls);
+    Fault::NoOrder
 }
 
-/// The verdict on such a log: a fault that doesn't rest on ties, or an order that is sought, and checked.
-#[tactic(auto, using(crate::proofs::Parts::clean_so))]
+/// How many calls are judged at most, in all logs that are cut in a search.
+const MOST: usize = 1 << 20;
+
+/// The verdict on a log in which only lines order calls: by each cut between them, if no fault shows without one.
 fn sought(alloc: Global, rules: &Rules, calls: &[Call], items: usize) -> Result<Verdict, AllocError>
     requires written { IsWritten calls.now }
     requires differ { Differ calls.now }
     requires below { AreSentBelow calls.now items }
-    ensures { IfOk result (IsVerdict rules.now calls.now) }
+    ensures right { IfOk result (IsVerdict rules.now calls.now) }
+    ensures decided { IfOk result (λ verdict. IsUndecided verdict → IsSmall rules.now calls.now → ⊥) }
 {
     if let Some(fault) = found_in(alloc, rules, calls, items)? {
         return Ok(Verdict::Fault(first_fault(alloc, rules, calls, items, fault)?));
     }
-    if has_order(alloc, rules, calls, items)? {
-        Ok(Verdict::Clean)
-    } else {
-        Ok(Verdict::Undecided)
+    if !may_explore(calls, rules.ties.as_slice()) {
+        return Ok(Verdict::Undecided(None));
+    }
+    let mut left = MOST;
+    let found = explore(alloc, rules, calls, items, &mut left)?;
+    match found {
+        Explored::Clean => Ok(Verdict::Clean),
+        Explored::NoOrder => Ok(Verdict::Fault(none_fault_of(rules, calls))),
+        Explored::Stuck(tie) => Ok(Verdict::Undecided(Some(tie))),
     }
 }
 
@@ -394,7 +394,7 @@ fn verdict_by(
     requires differ { Differ calls.now }
     requires below { AreSentBelow calls.now items }
     ensures right { IfOk result (IsVerdict rules.now calls.now) }
-    ensures decided { IfOk result (λ verdict. verdict ≡ Verdict.Undecided → AreOrdered rules.now calls.now → ⊥) }
+    ensures decided { IfOk result (λ verdict. IsUndecided verdict → AreOrdered rules.now calls.now ⊎ IsSmall rules.now calls.now → ⊥) }
 {
     if rules.ties.is_empty() {
         return timed(alloc, rules, calls, items);
@@ -424,8 +424,9 @@ fn do_differ(alloc: Global, calls: &[Call], items: usize) -> Result<bool, AllocE
 ///
 /// A log is decided, with closes and calls that haven't returned, if at most one tie meets at each time, and with ties the times are
 /// below 2^62: the log has a legal order exactly if it has none of the faults (after Henzinger, Sezgin and Vafeiadis, CONCUR 2013, for
-/// calls that all returned and take no moment's emptiness). With more ties at a time the verdict may be undecided. Of a capacity two
-/// faults are judged: a send found the queue full that can't have been, or the queue held too many items.
+/// calls that all returned and take no moment's emptiness). With other ties the log is cut between their calls in each way that may matter.
+/// The verdict is undecided only if that takes more than 2^20 calls to judge. Of a capacity two faults are judged: a send found the queue
+/// full that can't have been, or the queue held too many items.
 pub fn judge(
     alloc: Global,
     rules: &Rules,
@@ -436,12 +437,12 @@ pub fn judge(
     ensures decided { IfOk result (IsDecided rules.now calls.now items) }
 {
     if !is_written(calls) {
-        return Ok(Verdict::Undecided);
+        return Ok(Verdict::Undecided(None));
     }
     let apart = do_differ(alloc, calls, items)?;
     if apart {
         verdict_by(alloc, rules, calls, items)
     } else {
-        Ok(Verdict::Undecided)
+        Ok(Verdict::Undecided(None))
     }
 }

@@ -6,7 +6,7 @@ ghost use Rattle.cc_judge.specs.Order.{EndsBefore};
 ghost use Rattle.cc_judge.specs.Faults.{Differ};
 ghost use Rattle.cc_judge.specs.Faultless.{IsWritten};
 ghost use Rattle.cc_judge.specs.Verdict.{AreSentBelow};
-ghost use Rattle.cc_judge.specs.Splits.{AllTouch, AreFewer, AreLeft, AreOpen, AreTiesLeft, HasRoom, HaveRoom, IsBegin, IsBeginBy, IsBegunBefore, IsClean, IsEndBy, IsExplored, IsExploredAt, IsFiner, IsInParts, IsSplit, IsStuck, IsTieOf, IsUnderWay, MaySplit, SplitCall, spend};
+ghost use Rattle.cc_judge.specs.Splits.{AllTouch, AreFewer, AreLeft, DoTouch, AreOpen, AreTiesLeft, HasRoom, HaveRoom, IsBegin, IsBeginBy, IsBegunBefore, IsClean, IsEndBy, IsExplored, IsExploredAt, IsFiner, IsInParts, IsSplit, IsStuck, IsTieOf, IsUnderWay, MaySplit, SplitCall, spend};
 
 use crate::cutting::without_ties;
 use crate::decide::found_in;
@@ -133,6 +133,67 @@ fn rules_left(alloc: Global, rules: &Rules, cut: &[Call]) -> Result<Rules, Alloc
         closes: rules.closes,
         ties: ties_left(alloc, rules.ties.as_slice(), cut)?,
     })
+}
+
+/// Whether the times of a call, and this number more, are below 2^63.
+fn has_room(call: Call, more: u64) -> bool
+    ensures room { IsTrue result → HasRoom more call }
+    ensures others { IsFalse result → HasRoom more call → ⊥ }
+{
+    const FAR: u64 = 1 << 63;
+    more < FAR && call.begin < FAR - more && call.end.unwrap_or(0) < FAR - more
+}
+
+/// Whether that holds of each call.
+fn have_room(calls: &[Call], more: u64) -> bool
+    ensures room { IsTrue result → HaveRoom more calls.now }
+    ensures others { IsFalse result → HaveRoom more calls.now → ⊥ }
+{
+    for call in calls {
+        if !has_room(*call, more) {
+            return false;
+        }
+    }
+    true
+}
+
+/// Whether a tie is one of two calls that meet or overlap.
+fn does_touch(calls: &[Call], tie: Tie) -> bool
+    ensures touch { IsTrue result → DoTouch calls.now tie }
+    ensures others { IsFalse result → DoTouch calls.now tie → ⊥ }
+{
+    match (
+        call_at(calls, tie.earlier as usize),
+        call_at(calls, tie.later as usize),
+    ) {
+        (Some(one), Some(other)) => match one.end {
+            Some(end) => tie.earlier != tie.later && other.begin <= end,
+            None => false,
+        },
+        _ => false,
+    }
+}
+
+/// Whether each tie is so.
+fn all_touch(calls: &[Call], ties: &[Tie]) -> bool
+    ensures touch { IsTrue result → AllTouch calls.now ties.now }
+    ensures others { IsFalse result → AllTouch calls.now ties.now → ⊥ }
+{
+    for tie in ties {
+        if !does_touch(calls, *tie) {
+            return false;
+        }
+    }
+    true
+}
+
+/// Whether an order of a log can be searched.
+pub fn may_explore(calls: &[Call], ties: &[Tie]) -> bool
+    ensures touch { IsTrue result → AllTouch calls.now ties.now }
+    ensures room { IsTrue result → HaveRoom (length ties.now) calls.now }
+    ensures others { IsFalse result → AllTouch calls.now ties.now → HaveRoom (length ties.now) calls.now → ⊥ }
+{
+    all_touch(calls, ties) && have_room(calls, ties.len() as u64)
 }
 
 // ---- one cut for all ties

@@ -16,17 +16,13 @@ mod faults;
 mod lists;
 mod log;
 mod nones;
-mod order;
 mod overfull;
 mod overtaking;
 mod prefix;
 mod room;
-mod search;
-mod share;
 mod shutting;
 mod sweeps;
 mod table;
-mod times;
 mod written;
 
 pub use clauses::clauses_refuse;
@@ -39,4 +35,3 @@ pub use decide::{
     late_logs_have_no_fault, logs_without_faults_have_orders, windows_are_linearizable,
 };
 pub use log::{Act, Call, Rules, Stay, Step, Tie};
-pub use order::is_order;

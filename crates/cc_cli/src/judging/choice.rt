@@ -106,6 +106,7 @@ fn mark_named(marks: &mut Vec<bool>, fault: &Fault) {
                 mark(marks, *send);
             }
         }
+        Fault::NoOrder => {}
     }
 }
 
@@ -314,8 +315,11 @@ fn mark_beside(log: &Log, bodies: &IndexSet<Body>, spans: &[Span], marks: &mut V
 }
 
 /// The calls that the page of a fault shows: those that the fault names, those of the same items, and of the others that overlap
-/// one of those that it names the first 300 in the log's order.
+/// one of those that it names the first 300 in the log's order. If it names none, the first calls of the log.
 pub fn beside_fault(alloc: Global, log: &Log, fault: &Fault) -> Result<Choice, AllocError> {
+    if matches!(fault, Fault::NoOrder) {
+        return first_calls(alloc, log);
+    }
     let mut marks = vec![in alloc; false; log.calls.len()]?;
     mark_fault(alloc, log, fault, &mut marks)?;
     let bodies = bodies(alloc, log, marks.as_slice())?;

@@ -107,36 +107,37 @@ e queue is closed. A closed queue stays closed.',\n  'closed early': f => 'Line 
 of this call can the queue have held ' + f.capacity + ' items: count each item whose send had begun, but none whose ta\
 ke had ended.',\n  'too many': f => 'When line ' + f.call + ' had ended, the sends of ' + sends(f) + ' had ended too. \
 So few takes had begun that may have their items that more than '\n    + f.capacity + ' of them were in the queue' + e\
-nds(f) + (f.more ? ' The first ' + f.sends.length + ' are drawn.' : ''),\n  'not empty': f => 'Line ' + f.take + (f.en\
-ded ? ' found the queue closed and empty' + (f.close ? ', and no close began before ' + line(f.close) : '') + '. At ea\
-ch moment of this call at which the queue can have been closed' : ' found the queue empty. At each moment of this call\
-')\n    + ' an item was in the queue for certain: ' + list([...stays.map(stay => sent(stay) + ' ' + until(stay)), ...o\
-thers(f)], 'and then') + '.',\n};\nconst there = numbers => numbers.map(number => at.get(number)).filter(Boolean);\nco\
-nst greatest = moments => moments.reduce((a, b) => (a === null || b === null ? null : a > b ? a : b));\n// No close be\
-gan before this moment, and no accepted send comes after the close.\nconst close = at.get(fault.close);\nconst shut = \
-sends => greatest([close ? close.begin : 0n, ...sends.map(call => call.begin)]);\nconst barOfStay = stay => {\n  cons\
-t sends = there(stay.sends);\n  const out = at.get(stay.take || stay.next);\n  const end = sends.length ? greatest(sen\
-ds.map(call => call.end)) : null;\n  // An item that was sent before the close counts since the queue was closed; if \
-a take found the end, since it can have been.\n  const closed = at.get(stay.closed);\n  const since = closed && sends.\
-length ? (fault.ended ? shut(sends) : closed.end) : null;\n  const from = since !== null && (end === null || since < e\
-nd) ? since : end;\n  return from === null ? null : { name: left(stay), from, to: out ? out.begin : null };\n};\ncons\
-t takes = new Map(calls.filter(call => kind(call) === 'take' && its(call) !== null).map(call => [its(call), call]));\n\
-const leaves = (send, to) => (takes.has(its(send)) ? takes.get(its(send))[to] : null);\nconst barOfSend = (send, from\
-, to) => ({ name: 'item ' + its(send), from: send[from], to: leaves(send, to) });\nconst blamed = at.get(fault.kind ==\
-= 'not empty' ? fault.take : fault.call);\nconst during = bar => blamed && bar.from <= blamed.end && (bar.to === null \
-|| bar.to >= blamed.begin);\nconst bars = {\n  'too many': () => there(fault.sends).map(send => barOfSend(send, 'end'\
-, 'begin')),\n  'not full': () => calls.filter(call => kind(call) === 'send' && !call.answer)\n    .map(send => barOfS\
-end(send, 'begin', 'end')).filter(during),\n};\nconst sure = bars[fault.kind] ? bars[fault.kind]() : stays.map(barOfSt\
-ay).filter(Boolean);\nconst BAR = {\n  'not full': 'the item can have been in the queue',\n  'too many': 'the item is \
-in the queue, unless a take that has not returned got it',\n}[fault.kind] || 'the item is in the queue for certain';\n\
-// The moments at which no order can have what the fault says: of each call that it accuses, and those at which the qu\
-eue\n// held too many.\nconst accused = { 'never sent': [fault.take], 'taken twice': [fault.first, fault.second], 'ove\
-rtaken': [fault.take], 'not empty': [fault.take], 'open after closed': [fault.send], 'closed early': [fault.call], 'no\
-t full': [fault.call] }[fault.kind] || [];\nconst never = there(accused).map(call => ({ from: call.begin, to: call.en\
-d }));\nif (fault.kind === 'taken before sent' && at.get(fault.take) && at.get(fault.send)) never.push({ from: at.get(\
-fault.take).end, to: at.get(fault.send).begin });\nif (fault.kind === 'too many' && blamed) never.push({ from: blamed.\
-end, to: fault.until ? BigInt(fault.until) : null });\nif (fault.ended && never.length) never[0].from = greatest([neve\
-r[0].from, shut(there(stays.flatMap(stay => stay.sends)))]);\n\n\
+nds(f) + (f.more ? ' The first ' + f.sends.length + ' are drawn.' : ''),\n  'no order': () => 'Lines alone order call\
+s of one thread. Wherever one of these calls ended and the next began, the log has a fault. So no few calls show it.',\
+\n  'not empty': f => 'Line ' + f.take + (f.ended ? ' found the queue closed and empty' + (f.close ? ', and no close b\
+egan before ' + line(f.close) : '') + '. At each moment of this call at which the queue can have been closed' : ' foun\
+d the queue empty. At each moment of this call')\n    + ' an item was in the queue for certain: ' + list([...stays.map\
+(stay => sent(stay) + ' ' + until(stay)), ...others(f)], 'and then') + '.',\n};\nconst there = numbers => numbers.map(\
+number => at.get(number)).filter(Boolean);\nconst greatest = moments => moments.reduce((a, b) => (a === null || b === \
+null ? null : a > b ? a : b));\n// No close began before this moment, and no accepted send comes after the close.\ncon\
+st close = at.get(fault.close);\nconst shut = sends => greatest([close ? close.begin : 0n, ...sends.map(call => call.b\
+egin)]);\nconst barOfStay = stay => {\n  const sends = there(stay.sends);\n  const out = at.get(stay.take || stay.next\
+);\n  const end = sends.length ? greatest(sends.map(call => call.end)) : null;\n  // An item that was sent before the \
+close counts since the queue was closed; if a take found the end, since it can have been.\n  const closed = at.get(sta\
+y.closed);\n  const since = closed && sends.length ? (fault.ended ? shut(sends) : closed.end) : null;\n  const from = \
+since !== null && (end === null || since < end) ? since : end;\n  return from === null ? null : { name: left(stay), fr\
+om, to: out ? out.begin : null };\n};\nconst takes = new Map(calls.filter(call => kind(call) === 'take' && its(call) !\
+== null).map(call => [its(call), call]));\nconst leaves = (send, to) => (takes.has(its(send)) ? takes.get(its(send))[t\
+o] : null);\nconst barOfSend = (send, from, to) => ({ name: 'item ' + its(send), from: send[from], to: leaves(send, to\
+) });\nconst blamed = at.get(fault.kind === 'not empty' ? fault.take : fault.call);\nconst during = bar => blamed && b\
+ar.from <= blamed.end && (bar.to === null || bar.to >= blamed.begin);\nconst bars = {\n  'too many': () => there(fault\
+.sends).map(send => barOfSend(send, 'end', 'begin')),\n  'not full': () => calls.filter(call => kind(call) === 'send' \
+&& !call.answer)\n    .map(send => barOfSend(send, 'begin', 'end')).filter(during),\n};\nconst sure = bars[fault.kind\
+] ? bars[fault.kind]() : stays.map(barOfStay).filter(Boolean);\nconst BAR = {\n  'not full': 'the item can have been i\
+n the queue',\n  'too many': 'the item is in the queue, unless a take that has not returned got it',\n}[fault.kind] |\
+| 'the item is in the queue for certain';\n// The moments at which no order can have what the fault says: of each cal\
+l that it accuses, and those at which the queue\n// held too many.\nconst accused = { 'never sent': [fault.take], 'tak\
+en twice': [fault.first, fault.second], 'overtaken': [fault.take], 'not empty': [fault.take], 'open after closed': [fa\
+ult.send], 'closed early': [fault.call], 'not full': [fault.call] }[fault.kind] || [];\nconst never = there(accused).m\
+ap(call => ({ from: call.begin, to: call.end }));\nif (fault.kind === 'taken before sent' && at.get(fault.take) && at.\
+get(fault.send)) never.push({ from: at.get(fault.take).end, to: at.get(fault.send).begin });\nif (fault.kind === 'too \
+many' && blamed) never.push({ from: blamed.end, to: fault.until ? BigInt(fault.until) : null });\nif (fault.ended && n\
+ever.length) never[0].from = greatest([never[0].from, shut(there(stays.flatMap(stay => stay.sends)))]);\n\n\
 // ---- the times: their order alone, or the clock\nconst spans = [...calls.map(call => ({ from: call.begin, to: call.\
 end })), ...sure, ...never];\nconst moments = spans.flatMap(span => (span.to === null ? [span.from] : [span.from, span\
 .to]));\nconst times = [...new Set(moments.map(String))].map(BigInt).sort((a, b) => (a < b ? -1 : 1));\nconst rank = n\
@@ -195,18 +196,19 @@ l = to();\n  if (call) choose(call);\n});\n\n\
 lean' : '';\ndocument.title = fault.line;\n$('verdict').textContent = fault.line;\n$('verdict').className = verdict;\n\
 $('why').textContent = WHY[fault.kind] ? WHY[fault.kind](fault) : verdict === 'clean' ? 'All calls have one order tha\
 t agrees with real time, in which a queue gives the same answers.' : verdict === 'fault' ? 'The calls that the fault n\
-ames have no legal order.' : 'Neither an order nor a fault was found.';\nconst key = (kind, words) => { const element \
-= document.createElement('li'), box = document.createElement('i'); box.className = kind; element.append(box, words); r\
-eturn element; };\nif (verdict === 'fault') $('key').append(key('is-fault', 'named by the fault; the impossible moment\
-s are shaded'), key('is-same', 'of an item of the fault'), key('', 'another call'), ...(sure.length ? [key('is-sure', \
-BAR)] : []));\ncalls.filter(call => role(call)).forEach(call => {\n  const row = document.createElement('tr');\n  [cal\
-l.line, call.thread, short(call), call.said.begin, call.end === null ? 'not returned' : call.said.end].forEach((value\
-, k) => {\n    const cell = document.createElement('td');\n    cell.textContent = value;\n    if (k !== 1 && k !== 2) \
-cell.className = 'number';\n    row.append(cell);\n  });\n  $('named').append(row);\n});\n$('named-title').parentEleme\
-nt.hidden = verdict !== 'fault';\n$('rest').textContent = calls.length === fault.calls ? 'All ' + fault.calls + ' call\
-s of the log are shown.' : verdict !== 'fault' ? 'The first ' + calls.length + ' of ' + fault.calls + ' calls of the l\
-og are shown.' : calls.length + ' of ' + fault.calls + ' calls of the log are shown: those that the fault names, thos\
-e of the same items, and calls at the same time' + (fault.left_out ? ' (' + fault.left_out + ' more at that time are l\
-eft out)' : '') + '.' + (skew ? ' The picture has each call as it is judged: from ' + skew + ' before its begin to ' \
-+ skew + ' after its end.' : '');\n$('scale').addEventListener('change', redraw);\nwindow.addEventListener('resize', r\
-edraw);\nif (here) tell(here);\n})();\n</script>\n</body>\n</html>\n";
+ames have no legal order.' : 'Lines alone order calls of one thread, in too many places to try each order. So neither \
+an order nor a fault was found.';\nconst key = (kind, words) => { const element = document.createElement('li'), box = \
+document.createElement('i'); box.className = kind; element.append(box, words); return element; };\nif (verdict === 'fa\
+ult') $('key').append(key('is-fault', 'named by the fault; the impossible moments are shaded'), key('is-same', 'of an \
+item of the fault'), key('', 'another call'), ...(sure.length ? [key('is-sure', BAR)] : []));\ncalls.filter(call => ro\
+le(call)).forEach(call => {\n  const row = document.createElement('tr');\n  [call.line, call.thread, short(call), call\
+.said.begin, call.end === null ? 'not returned' : call.said.end].forEach((value, k) => {\n    const cell = document.cr\
+eateElement('td');\n    cell.textContent = value;\n    if (k !== 1 && k !== 2) cell.className = 'number';\n    row.app\
+end(cell);\n  });\n  $('named').append(row);\n});\n$('named-title').parentElement.hidden = verdict !== 'fault';\n$('re\
+st').textContent = calls.length === fault.calls ? 'All ' + fault.calls + ' calls of the log are shown.' : verdict !== \
+'fault' ? 'The first ' + calls.length + ' of ' + fault.calls + ' calls of the log are shown.' : calls.length + ' of ' \
++ fault.calls + ' calls of the log are shown: those that the fault names, those of the same items, and calls at the sa\
+me time' + (fault.left_out ? ' (' + fault.left_out + ' more at that time are left out)' : '') + '.' + (skew ? ' The pi\
+cture has each call as it is judged: from ' + skew + ' before its begin to ' + skew + ' after its end.' : '');\n$('sca\
+le').addEventListener('change', redraw);\nwindow.addEventListener('resize', redraw);\nif (here) tell(here);\n})();\n</\
+script>\n</body>\n</html>\n";

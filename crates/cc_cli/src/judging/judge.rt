@@ -27,7 +27,7 @@ fn status_of(verdict: &Verdict) -> u8
     match verdict {
         Verdict::Clean => 0,
         Verdict::Fault(_) => 1,
-        Verdict::Undecided => 5,
+        Verdict::Undecided(_) => 5,
     }
 }
 
@@ -120,7 +120,7 @@ fn judge_log<W: Sink, E: Sink>(alloc: Global, log: &Log, sink: &mut W, errors: &
 /// if the log is linearizable, 1 if it isn't, 2 if the log is refused, 3 if memory is, 4 if a device fails, and 5 if the
 /// verdict is undecided. A refusal or a failure is reported on `errors`. The status is that of a right verdict on the log that the
 /// input spells, or says that the input spells none. It is 5 only if lines alone order calls of the log, of which more than two
-/// meet at a time, or some overlap by the skew or have times of 2^62 and more. It is 4 exactly if a device failed, as the counts of failures show.
+/// meet at a time, or some overlap by the skew or have times of 2^62 and more; and if the log isn't small. It is 4 exactly if a device failed, as the counts of failures show.
 pub fn judge_input<R: Source + Reasoned, W: Sink, E: Sink>(
     alloc: Global,
     options: Options,

@@ -175,6 +175,7 @@ fn pattern(fault: &Fault) -> &'static str {
         Fault::ClosedEarly { .. } => "closed early",
         Fault::NotFull { .. } => "not full",
         Fault::TooMany { .. } => "too many",
+        Fault::NoOrder => "no order",
     }
 }
 
@@ -268,6 +269,7 @@ fn push_named(
         Fault::ClosedEarly { call } => push_line(alloc, text, log, "call", *call),
         Fault::NotFull { call } => push_bounded(alloc, text, log, *call),
         Fault::TooMany { call, sends } => push_too_many(alloc, text, log, *call, sends.as_slice()),
+        Fault::NoOrder => Ok(()),
     }
 }
 

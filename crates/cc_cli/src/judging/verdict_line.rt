@@ -1,6 +1,6 @@
 //! The line of a verdict.
 
-use cc_judge::{Act, Fault, Stay, Verdict};
+use cc_judge::{Act, Fault, Stay, Tie, Verdict};
 use cc_log::{Ending, Log};
 use std::alloc::{AllocError, Global};
 
@@ -273,7 +273,26 @@ fn fault_text(alloc: Global, log: &Log, fault: &Fault) -> Result<String, AllocEr
         }
         Fault::TooMany { call, sends } => { too_many(alloc, log, *call, sends.as_slice()) }
         Fault::NotEmpty { call, stays } => { not_empty(alloc, log, *call, stays.as_slice()) }
+        Fault::NoOrder => String::from_str(alloc, NO_ORDER),
     }
+}
+
+/// The text of a log without a legal order, of which no few calls show that.
+const NO_ORDER: &str =
+    "judge fault: no order: wherever one of the calls that lines alone order ended and the next began, the calls have no legal order\n";
+
+/// The text of a search that was given up at a tie, or wasn't begun.
+fn undecided(alloc: Global, log: &Log, tie: Option<Tie>) -> Result<String, AllocError> {
+    let Some(tie) = tie else {
+        return String::from_str(
+            alloc,
+            "judge undecided: lines alone order calls, and times are near 2^63 or above\n",
+        );
+    };
+    let two = two_lines(alloc, log, tie.earlier as usize, tie.later as usize)?;
+    format!(in alloc;
+        "judge undecided: lines alone order calls in too many places to try each order, as at {two}; judge by a finer clock, a smaller --skew, or in parts\n"
+    )
 }
 
 /// How many of the sends with an answer have to be judged by more than the log says: those that found the queue full if its
@@ -346,6 +365,6 @@ pub fn text_of(alloc: Global, log: &Log, verdict: &Verdict) -> Result<String, Al
             )
         }
         Verdict::Fault(fault) => fault_text(alloc, log, fault),
-        Verdict::Undecided => String::from_str(alloc, "judge undecided\n"),
+        Verdict::Undecided(tie) => undecided(alloc, log, *tie),
     }
 }

@@ -3,7 +3,8 @@ use Rattle.std.proofs.Common.{ℕ, ◌+◌, ◌-◌, ◌≤◌, length, refl, sy
 use Rattle.std.proofs.lemmas.Option.{slice_get-get_or}
 use Rattle.cc_judge.specs.Splits.{IsSplit, SplitCall, spend}
 use Rattle.cc_judge.proofs.NoOrder.{no_order}
-use Rattle.cc_judge.proofs.Splits.{finer_below, finer_differ, split_finer, split_written}
+use Rattle.cc_judge.proofs.Cuts.{finer_below, finer_differ}
+use Rattle.cc_judge.proofs.Splits.{split_finer, split_written}
 use Rattle.cc_judge.proofs.Trials.{TriedTo, all_spent, before_now, clean_so, each_long, explored_at, explored_on, more_spent, no_order_left, room_now, spent_once, touch_now, tried_before, tried_more}
 use Rattle.cc_judge.proofs.exploring.+explore.Goals as goal
 use Rattle.cc_judge.proofs.exploring.+explore.Goals.{by_cuts-then-may_split+then-is_first+else-left-calls+in_ok-found+in-NoOrder, by_cuts-else-may_split, by_cuts-else-may_split-via-then-may_split+else-is_first, by_cuts-else-may_split-via-else-may_split}

@@ -1,4 +1,4 @@
-use Rattle.std.proofs.Common.{inl, inr, refl, arith}
+use Rattle.std.proofs.Common.{refl, arith}
 use Rattle.std.proofs.lemmas.Option.{slice_get-get_or}
 use Rattle.cc_judge.proofs.Trials.{parts_finer, parts_more}
 use Rattle.cc_judge.proofs.exploring.are_in_parts.Goals as goal

@@ -1,8 +1,6 @@
-use Rattle.std.proofs.Common.{ℕ, refl, sym, subst}
-use Rattle.cc_judge.specs.Names.{Tie}
-use Rattle.cc_judge.specs.Splits.{IsTimed}
-use Rattle.cc_judge.proofs.Splits.{finer_below, finer_differ}
-use Rattle.cc_judge.proofs.Trials.{clean_evenly}
+use Rattle.std.proofs.Common.{refl}
+use Rattle.cc_judge.proofs.Cuts.{finer_below, finer_differ}
+use Rattle.cc_judge.proofs.Parts.{clean_evenly}
 use Rattle.cc_judge.proofs.exploring.fits_evenly.Goals as goal
 
 pub found_in-requires-clause-differ : goal.found_in-requires-clause-differ
