@@ -79,7 +79,7 @@ pub enum Fault {
         call: usize,
         sends: Vec<usize>,
     },
-    /// No order of the calls is legal, wherever the log is cut between those which only their lines order.
+    /// The calls have no legal order: each way to cut the log between those that only their lines order leaves a fault.
     NoOrder,
 }
 
