@@ -9,3 +9,4 @@ pub mod Failed
 pub mod Reading
 pub mod RefusedClaims
 pub mod Part
+pub mod Following

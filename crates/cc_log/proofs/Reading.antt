@@ -81,7 +81,7 @@ refused_line left_first left l known number options line rest fault has leads re
     )
 
 -- a line that is too long
-long_refused : (known : Known) (number : ℕ) (line : List ℕ) → line_limit < length line → with_line known number line ≡ Err (bad_line number LineFault.TooLong)
+pub long_refused : (known : Known) (number : ℕ) (line : List ℕ) → line_limit < length line → with_line known number line ≡ Err (bad_line number LineFault.TooLong)
 long_refused known number line long = ap (λ b. if b then Err (bad_line number LineFault.TooLong) else (if is_blank line then Ok known else (tree_of number line >>= with_tree known number))) (lt-ltb line_limit (length line) long)
 
 pub long_line : (left_first left : Option (List ℕ)) (l : Lines) (known : Known) (number : ℕ) (options : Options) (fault : LogFault) → IsLongLine number (IsTooLong l left) fault

@@ -10,3 +10,4 @@ pub mod Options
 pub mod Refused
 pub mod Window
 pub mod Part
+pub mod Follow

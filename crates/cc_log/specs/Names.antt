@@ -1,9 +1,13 @@
 -- The types in specs, proofs and contracts of this crate. A variant comes after its type, as `Said.Close`.
+pub use Rattle.cc_judge.specs.declared.decide.Verdict.{Verdict}
 pub use Rattle.cc_judge.specs.declared.log.Act.{Act}
 pub use Rattle.cc_judge.specs.declared.log.Call.{Call}
 pub use Rattle.cc_judge.specs.declared.log.Tie.{Tie}
 pub use Rattle.cc_log.specs.declared.fault.LineFault.{LineFault}
 pub use Rattle.cc_log.specs.declared.fault.LogFault.{LogFault}
+pub use Rattle.cc_log.specs.declared.parts.Followed.{Followed}
+pub use Rattle.cc_log.specs.declared.parts.Part.{Part}
+pub use Rattle.cc_log.specs.declared.parts.Text.{Text}
 pub use Rattle.cc_log.specs.declared.line.Ending.{Ending}
 pub use Rattle.cc_log.specs.declared.line.Line.{Line}
 pub use Rattle.cc_log.specs.declared.line.Said.{Said}

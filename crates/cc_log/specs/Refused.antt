@@ -1,7 +1,8 @@
 -- Refused claims: for each kind of mistake a small case, and a claim about it that doesn't hold.
 use Rattle.std.specs.Prelude.{◌≡◌, ℕ, List, [], ◌∷◌, codes, false, None, Some, Ok}
 use Rattle.cc_judge.specs.Faults.{Did}
-use Rattle.cc_log.specs.Names.{Act, Call, Ending, Last, Said, Tie, Window}
+use Rattle.cc_log.specs.Names.{Act, Call, Ending, Followed, Last, Options, Said, Tie, Verdict, Window}
+use Rattle.cc_log.specs.Follow.{IsFollowed}
 use Rattle.cc_log.specs.Form.{members_in}
 use Rattle.cc_log.specs.Line.{Body, end_from}
 use Rattle.cc_log.specs.Written.{IsWellFormed}
@@ -38,5 +39,7 @@ pub record RefusedClaims : Type 0 where
   pub goes_on_after_end : Refused (not_ended 3 (Some Ending.Whole) ≡ Ok tt)
   -- a close that isn't in the part of the log that is judged says nothing
   pub close_outside_lost : (window : Window) (e : Entry) → Refused (with_cut (with_close (at_first window) Said.Close) e None ≡ Ok (at_first window))
+  -- a log that was followed is clean, though its one line is none of a log
+  pub clean_unread : (options : Options) (f : Followed) → f.verdict ≡ Verdict.Clean → Refused (IsFollowed options (codes "[" ∷ []) f)
   -- a log with a send has no items
   pub items_lost : (calls : List Call) (ties : List Tie) (place item : ℕ) → Did calls place (Act.Send item) → Refused (IsWellFormed 0 calls 0 ties)

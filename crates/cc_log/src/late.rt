@@ -20,7 +20,7 @@ fn sent_items(alloc: Global, calls: &[Call], items: usize) -> Result<Vec<bool>, 
 }
 
 /// Of each item whether a call took it.
-fn taken_items(alloc: Global, calls: &[Call], items: usize) -> Result<Vec<bool>, AllocError>
+pub fn taken_items(alloc: Global, calls: &[Call], items: usize) -> Result<Vec<bool>, AllocError>
     ensures { IfOk result (λ marks. marks.items ≡ taken_items items calls.now) }
 {
     let mut marks = vec![in alloc; false; items]?;
@@ -58,7 +58,7 @@ fn mark_taken(marks: &mut Vec<bool>, act: Act)
 }
 
 /// Whether an item is marked.
-fn is_marked(marks: &Vec<bool>, item: usize) -> bool
+pub fn is_marked(marks: &Vec<bool>, item: usize) -> bool
     ensures { result ≡ unwrap_or (slice_get marks.now.items item) false }
 {
     marks.get(item).copied().unwrap_or(false)

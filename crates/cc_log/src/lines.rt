@@ -10,7 +10,7 @@ use cc_io::Source;
 use std::alloc::{AllocError, Global};
 
 /// The length in bytes beyond which a line is refused, and how many bytes are read at once.
-const LINE_LIMIT: usize = 65_536;
+pub const LINE_LIMIT: usize = 65_536;
 
 /// The place of the first newline.
 fn newline_in(bytes: &[u8]) -> Option<usize>

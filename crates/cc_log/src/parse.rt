@@ -133,7 +133,7 @@ impl Log {
 }
 
 /// The log of no lines.
-fn at_first(alloc: Global, options: Options) -> State
+pub fn at_first(alloc: Global, options: Options) -> State
     ensures { Shows options result (at_first options.window) }
 {
     State {
@@ -162,7 +162,7 @@ fn is_part(late: bool, from: Option<u64>, ends: Option<Ending>) -> bool
 }
 
 /// Finishes the log of all lines.
-fn finish(alloc: Global, state: &mut State) -> Result<(), LogFault>
+pub fn finish(alloc: Global, state: &mut State) -> Result<(), LogFault>
     ensures due { (options : Options) (known : Known) → Shows options state.old known → Gives (λ done. log_view state.new.log) result (if_some options.skew known) }
     ensures well { (options : Options) (known : Known) → Shows options state.old known → OnOk result (IsWellFormed options.skew state.new.log.calls.items state.new.log.items state.new.log.rules.ties.items) }
     ensures capacity { OnOk result (state.new.log.rules.capacity ≡ judged_capacity state.new.log.part state.old.log.rules.capacity) }

@@ -1,10 +1,10 @@
 //! The log of the lines so far.
-ghost use Rattle.std.specs.Prelude.{◌≡◌, ◌≤◌, ◌-◌, ◌++◌, [], ◌∷◌, length, option_map, IfErr, OnOk, true, not, nat_eq, ◌&&◌, if◌then◌else◌};
+ghost use Rattle.std.specs.Prelude.{◌≡◌, ◌-◌, ◌++◌, [], ◌∷◌, length, option_map, IfErr, OnOk, true, not, nat_eq, ◌&&◌, if◌then◌else◌};
 ghost use Rattle.std.specs.Prelude.{min, ◌+◌, ◌^◌};
 ghost use Rattle.serde_json.specs.View.{view};
 ghost use Rattle.cc_log.specs.Answers.{Gives};
 ghost use Rattle.cc_log.specs.Line.{begins_late};
-ghost use Rattle.cc_log.specs.Lines.{is_blank, line_limit};
+ghost use Rattle.cc_log.specs.Lines.{is_blank};
 ghost use Rattle.cc_log.specs.Log.{Known, after_last, is_close, json_in, not_ended, or_refusal, tree_of, with_call, with_line, with_tree};
 ghost use Rattle.cc_log.specs.State.{Adds, IsStep, Shows, entry_in};
 ghost use Rattle.cc_log.specs.Names.{LogFault, Options};
@@ -13,6 +13,7 @@ use crate::fault::{LineFault, LogFault};
 use crate::form::{check_form, check_once};
 use crate::items::{Items, act_of};
 use crate::line::{Ending, Line, Said, begins_late, ending_in};
+use crate::lines::LINE_LIMIT;
 use crate::narrow::narrow;
 use crate::parse::{Log, Notes, Shown};
 use crate::threads::{Last, Parsed, after_last, fault_of, note_tie, read_call};
@@ -212,9 +213,11 @@ pub fn add_line(
     text: &[u8],
     number: usize,
 ) -> Result<(), LogFault>
-    requires { length text.now ≤ line_limit }
     ensures { (options : Options) (known : Known) → Shows options state.old known → IsStep options (with_line known number text.now) result state.new }
 {
+    if text.len() > LINE_LIMIT {
+        return Err(fault_of(number, LineFault::TooLong));
+    }
     if is_blank(text) {
         return Ok(());
     }
