@@ -1,10 +1,10 @@
 -- The exit status of a judged log.
-use Rattle.std.specs.Prelude.{ℕ, ◌≡◌, ◌≢◌, ◌<◌, ◌≤◌, ◌⊎◌, List, [], Option, Some, Result, Ok, Err, slice_get}
+use Rattle.std.specs.Prelude.{ℕ, ◌≡◌, ◌≢◌, ◌<◌, ◌≤◌, ◌⊎◌, Bool, true, false, List, [], Option, Some, Result, Ok, Err, slice_get}
 use Rattle.cc_judge.specs.Cuts.{MeetAt}
-use Rattle.cc_judge.specs.Late.{judged_capacity}
 use Rattle.cc_judge.specs.Verdict.{IsDecided, IsSmall, IsVerdict}
 use Rattle.cc_judge.specs.declared.decide.Verdict.{Verdict}
-use Rattle.cc_log.specs.Lines.{HasInput}
+use Rattle.cc_log.specs.Follow.{AreInCleanParts, ArePartOf, HasRules, NumberedLine, part_of}
+use Rattle.cc_log.specs.Lines.{HasInput, lines_of}
 use Rattle.cc_log.specs.Log.{Refusal, Spelled, log_of}
 use Rattle.cc_cli.specs.Failures.{FailsBy}
 use Rattle.cc_cli.specs.Names.{AnswerFault, Call, LogFault, Options, Rules, Tie}
@@ -20,6 +20,10 @@ abbrev pub told_status : ℕ → Result (Unit {0}) AnswerFault → ℕ
 told_status status (Ok done) = status
 told_status status (Err AnswerFault.Memory) = 3
 told_status status (Err AnswerFault.Write) = 4
+
+-- the status of a verdict, or that memory was refused or a write failed
+abbrev pub IsTold : Verdict → ℕ → Type 0
+IsTold verdict status = (status ≡ 3) ⊎ ((status ≡ 4) ⊎ (status ≡ verdict_status verdict))
 
 -- how many writes failed
 abbrev pub failed_by : AnswerFault → ℕ
@@ -40,12 +44,6 @@ abbrev pub IsRefused : LogFault → ℕ → Type 0
 IsRefused LogFault.Memory status = status ≡ 3
 IsRefused LogFault.Read status = status ≡ 4
 IsRefused _ status = (status ≡ 2) ⊎ (status ≡ 3)
-
--- the rules are those of the log, by these options
-pub record HasRules (options : Options) (log : Spelled) (rules : Rules) : Type 0 where
-  pub capacity : rules.capacity ≡ judged_capacity log.part options.capacity
-  pub closes : rules.closes ≡ log.closes
-  pub ties : rules.ties.items ≡ log.ties
 
 -- a call of the log has a time of 2^62 or more
 pub record HasLongTime (calls : List Call) : Type 0 where
@@ -91,11 +89,24 @@ abbrev pub IsDue : Options → Result Spelled Refusal → ℕ → Type 0
 IsDue options (Ok log) status = (rules : Rules) × (verdict : Verdict) × HasRules options log rules × IsVerdict rules log.calls verdict × (status ≡ verdict_status verdict) × (status ≡ 5 → IsHard options.skew rules log.calls)
 IsDue options (Err refusal) status = status ≡ 2
 
+-- The same of a part of a log that is followed, the last one that was judged: some of its lines. Of a clean log each line is in a part
+-- that is clean.
+pub record IsPartDue (options : Options) (lines : List (List ℕ)) (status : ℕ) : Type 0 where
+  pub part : List NumberedLine
+  pub of_log : ArePartOf lines part
+  pub due : IsDue options (part_of options part) status
+  pub clean : status ≡ 0 → AreInCleanParts options lines
+
+-- the status is due of the log of an input, which is followed or isn't
+abbrev pub IsInputDue : (follow : Bool) → Options → (input : List ℕ) → ℕ → Type 0
+IsInputDue false options input status = IsDue options (log_of options input) status
+IsInputDue true options input status = IsPartDue options (lines_of input) status
+
 -- the status is due of an input of the source, or it is 3 or 4
-abbrev pub IsDueOrNone : Options → (left : Option (List ℕ)) → ℕ → Type 0
-IsDueOrNone options left status = (status ≡ 3) ⊎ ((status ≡ 4) ⊎ ((input : List ℕ) × HasInput left input × IsDue options (log_of options input) status))
+abbrev pub IsDueOrNone : (follow : Bool) → Options → (left : Option (List ℕ)) → ℕ → Type 0
+IsDueOrNone follow options left status = (status ≡ 3) ⊎ ((status ≡ 4) ⊎ ((input : List ℕ) × HasInput left input × IsInputDue follow options input status))
 
 -- The input of a source was judged: the status is due, or it is 4 exactly if a device failed, or 3 if memory was refused.
 pub record Judges (options : Options) (left : Option (List ℕ)) (reads reads_after fails fails_after status : ℕ) : Type 0 where
-  pub due : IsDueOrNone options left status
+  pub due : IsDueOrNone options.follow options left status
   pub failures : FailsBy reads reads_after fails fails_after status

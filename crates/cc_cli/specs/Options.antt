@@ -17,6 +17,7 @@ judged_by given = record {
   capacity = option_map small (number_of Name.Capacity given);
   skew = number_or 0 Name.Skew given;
   page = is_some (number_of Name.Page given);
+  follow = is_some (number_of Name.Follow given);
   window = record { from = number_of Name.From given; until = number_of Name.Until given };
 }
 

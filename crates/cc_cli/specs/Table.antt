@@ -16,7 +16,8 @@ task_named word = if bytes_eq word (codes "play") then Some Task.Play
 -- the options of a task, each as it is written: flags, and those that take a number from the first to the second
 abbrev pub options : Task → List (List ℕ × Opt)
 options Task.Show = (codes "--trace", Opt.Flag Name.Trace) ∷ []
-options Task.Judge = (codes "--page", Opt.Flag Name.Page)
+options Task.Judge = (codes "--follow", Opt.Flag Name.Follow)
+    ∷ (codes "--page", Opt.Flag Name.Page)
     ∷ (codes "--capacity", Opt.Number Name.Capacity 1 (2 ^ 32 - 1))
     ∷ (codes "--skew", Opt.Number Name.Skew 0 (2 ^ 64 - 1))
     ∷ (codes "--from", Opt.Number Name.From 0 (2 ^ 64 - 1))

@@ -1,10 +1,11 @@
 //! Judging a log, and writing the verdict.
 //!
-//! `judge` reads a log, judges it, and answers the status. `verdict_line` is the line of a verdict, and `page` its page: the
+//! `judge` reads a log, judges it, and answers the status; `follow` judges it in parts while it is read. `verdict_line` is the line of a verdict, and `page` its page: the
 //! fixed text of `fault_page`, with the calls that `choice` chooses. Both name the calls that the fault has, and no others.
 mod choice;
 mod clauses;
 mod fault_page;
+mod follow;
 mod judge;
 mod page;
 mod verdict_line;

@@ -42,6 +42,7 @@ pub fn judged_by(given: &[Given]) -> Options
         },
         skew: number_or(given, Name::Skew, 0),
         page: number_of(given, Name::Page).is_some(),
+        follow: number_of(given, Name::Follow).is_some(),
         window: Window {
             from: number_of(given, Name::From),
             until: number_of(given, Name::Until),

@@ -24,6 +24,8 @@ pub enum Task {
 pub enum Name {
     /// The run is shown as a trace.
     Trace,
+    /// The log is judged while it is read.
+    Follow,
     /// The answer is a page.
     Page,
     /// How many items the queue holds.
@@ -58,6 +60,7 @@ const SHOW: &[(&str, Opt)] = &[("--trace", Opt::Flag(Name::Trace))];
 
 /// The options of `judge`.
 const JUDGE: &[(&str, Opt)] = &[
+    ("--follow", Opt::Flag(Name::Follow)),
     ("--page", Opt::Flag(Name::Page)),
     ("--capacity", Opt::Number(Name::Capacity, 1, 4_294_967_295)),
     ("--skew", Opt::Number(Name::Skew, 0, u64::MAX)),

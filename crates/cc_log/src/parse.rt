@@ -28,6 +28,8 @@ pub struct Options {
     pub skew: u64,
     /// Whether the answer is a page, for which the lines are kept.
     pub page: bool,
+    /// Whether the log is judged in parts, while it is read.
+    pub follow: bool,
     /// The part of the log that is judged.
     pub window: Window,
 }
@@ -41,6 +43,7 @@ impl Options {
             capacity: None,
             skew: 0,
             page: false,
+            follow: false,
             window: Window {
                 from: None,
                 until: None,

@@ -1,9 +1,10 @@
 //! Judging the log on an input.
 ghost use Rattle.std.specs.Prelude.{◌≡◌, ◌⊎◌, ◌<◌, ◌+◌, ◌-◌, ◌^◌, ◌==◌, IfOk, if◌then◌else◌};
 ghost use Rattle.cc_judge.specs.Verdict.{IsDecided, IsVerdict};
-ghost use Rattle.cc_cli.specs.Judged.{IsJudged, IsRefused, Judges, failed_writes, told_status, verdict_status};
+ghost use Rattle.cc_cli.specs.Judged.{IsJudged, IsRefused, IsTold, Judges, failed_writes, told_status, verdict_status};
 
 use crate::input::Reasoned;
+use crate::judging::follow::follow_input;
 use crate::judging::page::{AnswerFault, write_page};
 use crate::judging::verdict_line::text_of;
 use crate::reading::tell_unread;
@@ -15,9 +16,11 @@ use std::alloc::{AllocError, Global};
 
 /// A verdict, and its line.
 #[derive(Drop)]
-struct Found {
-    verdict: Verdict,
-    line: String,
+pub struct Found {
+    /// The verdict.
+    pub verdict: Verdict,
+    /// The line.
+    pub line: String,
 }
 
 /// The exit status of a verdict: 0 if it is clean, 1 for a fault, 5 if it is undecided.
@@ -42,7 +45,7 @@ fn verdict_on(alloc: Global, log: &Log) -> Result<Found, AllocError>
 }
 
 /// Reports why the input of this name is no log, and returns the status.
-fn refused<R: Reasoned, E: Sink>(
+pub fn refused<R: Reasoned, E: Sink>(
     alloc: Global,
     errors: &mut E,
     name: &str,
@@ -102,18 +105,34 @@ fn tell_written<E: Sink>(errors: &mut E, status: u8, outcome: Result<(), AnswerF
 
 /// Writes the verdict on a log, and returns the status, which is the verdict's whether that is written as a line or as a page.
 #[tactic(auto, using(crate::proofs::Judged::told, crate::proofs::Judged::counted))]
+pub fn tell_found<W: Sink, E: Sink>(
+    alloc: Global,
+    log: &Log,
+    found: &Found,
+    sink: &mut W,
+    errors: &mut E,
+) -> u8
+    requires writes { W.write_failures sink.old < 2 ^ 64 - 1 }
+    requires errors { E.write_failures errors.old < 2 ^ 64 - 1 }
+    ensures told { IsTold found.now.verdict result }
+    ensures failures { W.write_failures sink.new ≡ W.write_failures sink.old + (if result == 4 then 1 else 0) }
+{
+    let status = status_of(&found.verdict);
+    let outcome = write_found(alloc, log, found, sink);
+    tell_written(errors, status, outcome)
+}
+
+/// Judges a log, writes the verdict, and returns the status.
 fn judge_log<W: Sink, E: Sink>(alloc: Global, log: &Log, sink: &mut W, errors: &mut E) -> u8
     requires writes { W.write_failures sink.old < 2 ^ 64 - 1 }
     requires errors { E.write_failures errors.old < 2 ^ 64 - 1 }
     ensures judged { IsJudged log.now.rules log.now.calls.items log.now.items result }
     ensures failures { W.write_failures sink.new ≡ W.write_failures sink.old + (if result == 4 then 1 else 0) }
 {
-    let Ok(found) = verdict_on(alloc, log) else {
-        return out_of_memory(errors);
-    };
-    let status = status_of(&found.verdict);
-    let outcome = write_found(alloc, log, &found, sink);
-    tell_written(errors, status, outcome)
+    match verdict_on(alloc, log) {
+        Ok(found) => tell_found(alloc, log, &found, sink, errors),
+        Err(_) => out_of_memory(errors),
+    }
 }
 
 /// Reads the log of this name from the source, judges it by these options, and writes the verdict to the sink, as a line or as a page. It returns the exit status: 0
@@ -136,6 +155,9 @@ pub fn judge_input<R: Source + Reasoned, W: Sink, E: Sink>(
         (R.read_failures source.old) (R.read_failures source.new)
         (W.write_failures sink.old) (W.write_failures sink.new) result }
 {
+    if options.follow {
+        return follow_input(alloc, options, name, source, sink, errors);
+    }
     match read_log(alloc, source, options) {
         Ok(log) => judge_log(alloc, &log, sink, errors),
         Err(fault) => refused(alloc, errors, name, source, &fault),

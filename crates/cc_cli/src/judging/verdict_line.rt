@@ -345,7 +345,7 @@ fn judged(log: &Log) -> usize {
 }
 
 /// The words for how the log says that it ends.
-fn said_end(ends: Option<Ending>) -> &'static str {
+pub fn said_end(ends: Option<Ending>) -> &'static str {
     match ends {
         Some(Ending::Whole) => "the log says that it is whole",
         Some(Ending::Early) => "the log says that it ends early",
