@@ -209,7 +209,7 @@ Options, before or behind LOG:
   --until T     judges calls that began before T; those that ended at T or later haven't returned
 
 The answer is `judge clean: ..`, `judge fault: ..` with the pattern and its lines, or
-`judge undecided`. A log that is refused has one line on standard error, as `ccq: log refused: ..`.
+`judge undecided: ..`. A log that is refused has one line on standard error, as `ccq: log refused: ..`.
 
 Example, in which one item was sent and taken:
   printf '%s\\n' '{\"thread\":\"a\",\"begin\":1,\"end\":2,\"send\":[7]}' \\

@@ -279,7 +279,7 @@ fn fault_text(alloc: Global, log: &Log, fault: &Fault) -> Result<String, AllocEr
 
 /// The text of a log without a legal order, of which no few calls show that.
 const NO_ORDER: &str =
-    "judge fault: no order: wherever one of the calls that lines alone order ended and the next began, the calls have no legal order\n";
+    "judge fault: no order: lines alone order some calls, and however these are divided in time, there is a fault\n";
 
 /// The text of a search that was given up at a tie, or wasn't begun.
 fn undecided(alloc: Global, log: &Log, tie: Option<Tie>) -> Result<String, AllocError> {
