@@ -26,6 +26,7 @@ _ccq() {
         audit) _arguments $help "${file}1:receipts:_files" ;;
         judge)
           _arguments $help \
+            '--follow[judge in parts while the log is read]' \
             '--page[write a page that draws the calls]' \
             '--capacity[items that the queue holds]:1 to 4294967295:' \
             '--skew[by how much clocks may differ]:a number:' \
