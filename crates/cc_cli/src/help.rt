@@ -200,8 +200,8 @@ A log has a JSON object for each call, one a line, 65536 bytes at most:
 The first line may be {\"begins\":\"late\"}, the last one {\"ends\":\"whole\"} or {\"ends\":\"early\"}.
 
 Options, before or behind LOG:
-  --follow      judges the log in parts while it is read, until a part has a fault; memory for a part
-                and the items in the queue. No part shows an item that is lost or never sent
+  --follow      judges the log in parts while it is read, until a part has a fault; memory for a
+                part and the items in the queue. No part shows an item that is lost or never sent
   --page        writes the answer as a page for a browser that draws the calls; needs no network
   --capacity N  the queue holds at most N items: judges that, and the answer full
   --skew N      each clock may be wrong by N: a call may have begun N earlier and ended N later
@@ -209,7 +209,8 @@ Options, before or behind LOG:
   --until T     judges calls that began before T; those that ended at T or later haven't returned
 
 The answer is `judge clean: ..`, `judge fault: ..` with the pattern and its lines, or
-`judge undecided: ..`. A log that is refused has one line on standard error, as `ccq: log refused: ..`.
+`judge undecided: ..`. A log that is refused has one line on standard error, as
+`ccq: log refused: ..`.
 
 Example, in which one item was sent and taken:
   printf '%s\\n' '{\"thread\":\"a\",\"begin\":1,\"end\":2,\"send\":[7]}' \\
