@@ -17,6 +17,7 @@ import re
 import subprocess
 import sys
 import tempfile
+import time
 from pathlib import Path
 
 sys.dont_write_bytecode = True
@@ -137,12 +138,23 @@ def are_recorded_clean():
     return right
 
 
+def peak_of(pid):
+    """The kilobytes that a process has had at most; 0 once it has ended."""
+    found = re.search(r"^VmHWM:\s+(\d+) kB$", Path(f"/proc/{pid}/status").read_text(encoding="ascii"), re.M)
+    return int(found[1]) if found else 0
+
+
 def measured(options, path):
-    """The seconds of the processor and the megabytes of a run."""
+    """The exit status, the seconds of the processor and the megabytes of a run, which are looked at while it runs."""
+    peak = 0
     with open(path, "rb") as log:
         program = subprocess.Popen([PROGRAM, "judge", *options], stdin=log, stdout=subprocess.DEVNULL)
-        _, status, used = os.wait4(program.pid, 0)
-    return status, used.ru_utime + used.ru_stime, used.ru_maxrss / 1024
+    while True:
+        ended, status, used = os.wait4(program.pid, os.WNOHANG)
+        if ended:
+            return status, used.ru_utime + used.ru_stime, peak / 1024
+        peak = max(peak, peak_of(program.pid))
+        time.sleep(0.005)
 
 
 def is_bounded():
