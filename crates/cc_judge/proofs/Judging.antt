@@ -3,7 +3,7 @@ use Rattle.std.proofs.Common.{◌≡◌, ◌≢◌, ℕ, suc, ◌+◌, ◌<◌, 
 use Rattle.std.specs.List.{slice_get}
 use Rattle.cc_judge.specs.Names.{Act, Call, Kind, Rules, Index, Lists, Shut, Spell, Stay}
 use Rattle.cc_judge.specs.Order.{EndsBefore}
-use Rattle.cc_judge.specs.Faults.{Did, Differ, NeverSent, TakenTwice, Passed, WasClosed, WasOpen, Reopened, ClosedEarly, BeganBy, BeganAfter}
+use Rattle.cc_judge.specs.Faults.{Did, Differ, NeverSent, TakenTwice, Passed, WasClosed, WasOpen, ClosedEarly, BeganBy, BeganAfter}
 use Rattle.cc_judge.specs.Table.{IsIndex, Twice}
 use Rattle.cc_judge.specs.Counts.{SentBy, MoreLeft, AreEnough, IsInside, TookOver, LeftBehind, NeverEmpty, EndedWithItems}
 use Rattle.cc_judge.specs.Faultless.{IsWritten, NoFault}
@@ -36,14 +36,6 @@ closed_early_so rules calls s written shut after = elim shut.was_closed.shows [
     later = λ close did. let b = after close did in record { one = shut.ends.0; other = b.call; end = s.time; one_is = shut.ends.1; other_is = b.call_is; ended = shut.ends.2; before = b.after };
   }
 ]
-
-pub reopened_so : (rules : Rules) (calls : List Call) (s : Shut) (send : ℕ) → IsShut rules calls s → WasOpen calls send → BeganAfter calls send s.time → Reopened rules calls s.call send
-reopened_so rules calls s send shut was_open b = record {
-  judged = shut.judged;
-  was_closed = shut.was_closed;
-  after = record { one = shut.ends.0; other = b.call; end = s.time; one_is = shut.ends.1; other_is = b.call_is; ended = shut.ends.2; before = b.after };
-  was_open = was_open;
-}
 
 pub keeps_unshut : (rules : Rules) (calls : List Call) → IsOpen rules calls → KeepsClosed rules calls
 keeps_unshut rules calls none = record {
@@ -282,9 +274,6 @@ passed_end rules calls lists begin end i s past so_far = record {
   later = so_far.later;
   last = λ k t is. let within = slice_get_within lists.spells.items k t is in so_far.last k t (omega (arith, within, past)) is;
 }
-
-pub first_untaken : (calls : List Call) → AreUntaken calls []
-first_untaken calls k send is = absurd (cc (is))
 
 pub untaken_more : (rules : Rules) (calls : List Call) (lists : Lists) (sends : List ℕ) (at : ℕ) (x : ℕ × ℕ) → AreLists rules calls lists → slice_get lists.lefts.items at ≡ Some x → AreUntaken calls sends → AreUntaken calls (sends ++ x.1 ∷ [])
 untaken_more rules calls lists sends at x l is so_far k other other_is = elim (pushed_at sends x.1 other k other_is) [

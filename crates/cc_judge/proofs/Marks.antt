@@ -141,9 +141,6 @@ IsEarly c = (c.begin ≡ 0) × (c.end ≡ None)
 pub early_is : (act : Act) (c : Call) → early act ≡ c → IsEarly c
 early_is act c is = (ap (λ (y : Call). y.begin) (sym is), ap (λ (y : Call). y.end) (sym is))
 
-pub one_early : (act : Act) (j : ℕ) (c : Call) → slice_get (early act ∷ []) j ≡ Some c → IsEarly c
-one_early act j c is = grind arith
-
 lacking_early : (a b : Bool) (x j : ℕ) (c : Call) → slice_get (lacking a b x) j ≡ Some c → IsEarly c
 lacking_early a b x j c is = grind arith
 

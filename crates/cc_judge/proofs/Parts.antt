@@ -28,9 +28,6 @@ less_or k i below = elim (cases_lt k i) [ inl less ↦ inl less | inr not_less �
 abbrev pub ApartTo : List (ℕ × ℕ) → ℕ → Type 0
 ApartTo list i = (j k time x y : ℕ) → j < i → k < i → slice_get list j ≡ Some (time, x) → slice_get list k ≡ Some (time, y) → j ≡ k
 
-pub apart_first : (list : List (ℕ × ℕ)) → ApartTo list 1
-apart_first list j k time x y below under j_is k_is = omega (arith, below, under)
-
 first_is : {X Y : Type 0} (e f : X × Y) → Some e ≡ Some f → e.0 ≡ f.0
 first_is e f both = let same : e ≡ f = cc in ap (λ g. g.0) same
 

@@ -3,7 +3,7 @@ use Rattle.std.proofs.Common.{◌≡◌, ℕ, zero, suc, ◌<◌, List, [], ◌�
 use Rattle.std.specs.List.{slice_get}
 use Rattle.cc_judge.specs.Names.{Act, Call, Fault, Rules, Spell}
 use Rattle.cc_judge.specs.Order.{EndsBefore, of_any_capacity}
-use Rattle.cc_judge.specs.Faults.{BeganBy, Did, EndedBy, FewerAt, In, MayHaveTaken, MoreAt, Passed, Returned, WasClosed}
+use Rattle.cc_judge.specs.Faults.{BeganBy, Did, EndedBy, FewerAt, In, MayHaveTaken, MoreAt, Passed, WasClosed}
 use Rattle.cc_judge.specs.Room.{FullsArePossible}
 use Rattle.cc_judge.specs.Refused.{RefusedClaims, call, waiting, handed, beside, closed, crowded, full_early, next_item, strays}
 use Rattle.cc_judge.specs.Until.{IsCallUntil, IsOver, IsUntil, act_until}

@@ -8,9 +8,9 @@ use Rattle.std.proofs.lemmas.Option.{get_or_from_slice_get, slice_get-get_or, sl
 use Rattle.cc_judge.specs.Names.{Act, Call, Rules, Index, Lists, Reach, Shut, Spell}
 use Rattle.cc_judge.specs.Faults.{Did, Returned, Passed, WasAccepted, WasClosed, EndedBy}
 use Rattle.cc_judge.specs.Table.{IsIndex}
-use Rattle.cc_judge.specs.Counts.{SentBy, IsShutOut, IsLeftBy, MoreLeft, AreEnough, StayedOn, IsInside, AreFirst, AreSorted, Since, Upto, WaitsBy}
+use Rattle.cc_judge.specs.Counts.{SentBy, IsShutOut, IsLeftBy, MoreLeft, AreEnough, StayedOn, IsInside, AreFirst, AreSorted, Since, Upto}
 use Rattle.cc_judge.specs.Faultless.{IsWritten}
-use Rattle.cc_judge.specs.Sweeps.{EndsAt, IsOpen, IsShutAt, IsSooner, IsDone, IsDoneBy, IsSpell, IsSpellOf, SpellAt, AreSpells, IsLater, AreLatest, AreLists, IsLatestIn, IsLast, IsLatest, AreEnoughIf, AreTaken, LeftsReach, Reaches, HasEndedIf}
+use Rattle.cc_judge.specs.Sweeps.{EndsAt, IsOpen, IsShutAt, IsSooner, IsDone, IsDoneBy, IsSpell, IsSpellOf, SpellAt, AreSpells, IsLater, AreLists, IsLatestIn, IsLast, IsLatest, AreEnoughIf, AreTaken, LeftsReach, Reaches, HasEndedIf}
 use Rattle.cc_judge.proofs.Counting.{counts_are_right}
 use Rattle.cc_judge.proofs.Listing.{some_is, contains_at, at_contains, pushed_at, at_pushed, last_pushed, rises}
 
@@ -182,9 +182,6 @@ pub upto_none : (P : (time place : ℕ) → Type 0) (place : ℕ) → ((time : �
 upto_none P place none zero holds = holds
 upto_none P place none (suc time) holds = none time holds
 
-pub wait_some : (calls : List Call) (place : ℕ) (call : Call) → slice_get calls place ≡ Some call → call.act ≡ Act.Taking → Since (Upto (WaitsBy calls)) place (Some call.begin)
-wait_some calls place call is act = since_upto (WaitsBy calls) place call.begin (λ later le. (record { call = call; call_is = is; act_is = act }, record { call = call; call_is = is; by = le })) (λ later waits. let by = waits.1.by in let same : waits.1.call ≡ call = some_is waits.1.call call (sym waits.1.call_is ∙ is) in subst (λ (c : Call). c.begin ≤ later) same by)
-
 -- ---- items that were taken
 
 pub took_one : (calls : List Call) (index : Index) → IsIndex calls index → (item t u : ℕ) → Did calls t (Act.Took item) → Did calls u (Act.Took item) → t ≡ u
@@ -204,11 +201,7 @@ returned_take calls take item written took = record { call = took.call; call_is 
 pub passed_by : (calls : List Call) (send take item : ℕ) → IsWritten calls → Did calls send (Act.Send item) → Did calls take (Act.Took item) → Passed calls send take
 passed_by calls send take item written sent took = record { item = item; sent = sent; took = returned_take calls take item written took }
 
--- no spell: the call is no send, or its item was never taken
-pub spell_none : (rules : Rules) (calls : List Call) (send : ℕ) → ((item take time : ℕ) → Did calls send (Act.Send item) → Did calls take (Act.Took item) → SentBy rules calls send item time → ⊥) → SpellAt rules calls send None
-spell_none rules calls send none item take time sent took = none item take time sent.sent took sent
-
--- or it hasn't returned, and the queue was never closed
+-- no spell: the send hasn't returned, and the queue was never closed
 pub never_done : (rules : Rules) (calls : List Call) (send item time : ℕ) (call : Call) → slice_get calls send ≡ Some call → call.end ≡ None → IsOpen rules calls → SentBy rules calls send item time → ⊥
 never_done rules calls send item time call is ends unshut sent = elim sent.done [
   | inl ended ↦
@@ -274,9 +267,6 @@ pub record SpellsTo (rules : Rules) (calls : List Call) (spells : List Spell) (u
   pub each : (k : ℕ) (s : Spell) → slice_get spells k ≡ Some s → IsSpell rules calls s
   pub all : (send : ℕ) → send < upto → SpellAt rules calls send None ⊎ ((k : ℕ) × (s : Spell) × (slice_get spells k ≡ Some s) × (s.send ≡ send))
 
-pub spells_first : (rules : Rules) (calls : List Call) → SpellsTo rules calls [] 0
-spells_first rules calls = record { each = λ k s is. cc (is); all = λ send below. absurd (omega (arith, below)) }
-
 pub spells_skip : (rules : Rules) (calls : List Call) (spells : List Spell) (i : ℕ) → SpellAt rules calls i None → SpellsTo rules calls spells i → SpellsTo rules calls spells (i + 1)
 spells_skip rules calls spells i none so_far = record {
   each = so_far.each;
@@ -322,15 +312,6 @@ pub record LatestTo (spells latest : List Spell) (best : Option Spell) (upto : �
   pub each : (k : ℕ) (s : Spell) → slice_get latest k ≡ Some s → (j : ℕ) × (j ≤ k) × (slice_get spells j ≡ Some s)
   pub most : (j k : ℕ) (s t : Spell) → j ≤ k → slice_get latest k ≡ Some s → slice_get spells j ≡ Some t → t.until ≤ s.until
 
-pub latest_first : (spells : List Spell) → LatestTo spells [] None 0
-latest_first spells = record {
-  as_many = refl;
-  best_is = λ s is. cc (is);
-  best_most = λ j t below is. absurd (omega (arith, below));
-  each = λ k s is. cc (is);
-  most = λ j k s t le is other. cc (is);
-}
-
 pub latest_more : (spells latest : List Spell) (best : Option Spell) (i : ℕ) (other s : Spell) → slice_get spells i ≡ Some other → IsLater best other s → LatestTo spells latest best i → LatestTo spells (latest ++ s ∷ []) (Some s) (i + 1)
 latest_more spells latest best i other s here is so_far = record {
   as_many = more_length latest s ∙ ap (λ (n : ℕ). n + 1) so_far.as_many;
@@ -363,9 +344,6 @@ latest_more spells latest best i other s here is so_far = record {
       | inl less ↦ let b = so_far.best_most j t less t_is in let le = b.2 in let more = is.best_too b.0 b.1 in omega (arith, le, more)
       | inr at ↦ let same : t ≡ other = some_is t other (sym t_is ∙ ap (slice_get spells) at ∙ here) in subst (λ (x : Spell). x.until ≤ s.until) (sym same) is.most
     ]
-
-pub latest_all : (spells latest : List Spell) (best : Option Spell) (i : ℕ) → length spells ≡ i → LatestTo spells latest best i → AreLatest spells latest
-latest_all spells latest best i end so_far = record { as_many = so_far.as_many ∙ sym end; each = so_far.each; most = so_far.most }
 
 -- the first items are those whose sends were done before a time: of these it was taken last
 pub latest_is : (rules : Rules) (calls : List Call) (lists : Lists) (number time : ℕ) (found : Option Spell) → AreLists rules calls lists → ((k : ℕ) (s : Spell) → k < number → slice_get lists.spells.items k ≡ Some s → s.from < time) → ((k : ℕ) (s : Spell) → slice_get lists.spells.items k ≡ Some s → s.from < time → k < number) → number ≤ length lists.spells.items → IsLatestIn lists.latest.items number found → IsLatest rules calls time found
@@ -517,12 +495,6 @@ latest_of_point rules calls lists xs number time found same l within first rest 
     at : (k : ℕ) (s : Spell) → slice_get lists.spells.items k ≡ Some s → slice_get xs k ≡ Some s
     at k s s_is = ap (λ (ys : List Spell). slice_get ys k) same ∙ s_is
 
-pub past_of : (xs : List (ℕ × ℕ)) (k : ℕ) → slice_get xs k ≡ None → length xs ≤ k
-past_of xs k none = elim (cases_lt k (length xs)) [
-  | inr not_less ↦ omega (arith, not_less)
-  | inl less ↦ let both : Some (get_or xs k (0, 0)) ≡ None = sym (slice_get-get_or xs k (0, 0) less) ∙ none in cc
-]
-
 pub lefts_enough : (rules : Rules) (calls : List Call) (lists : Lists) (left wait time : ℕ) → AreLists rules calls lists → (AreSorted lists.lefts.items → AreFirst lists.lefts.items left time) → (AreSorted lists.waits.items → AreFirst lists.waits.items wait (suc time)) → left ≤ wait → AreEnough rules calls time time
 lefts_enough rules calls lists left wait time l lefts waits few = counts_are_right.enough rules calls lists.lefts.items lists.waits.items left wait time time l.lefts l.waits (lefts l.lefts.sorted) (waits l.waits.sorted) few
 
@@ -549,11 +521,6 @@ ended_taken rules calls end s false last le more = inr more
 pub ended_none : (rules : Rules) (calls : List Call) (end : ℕ) (few : Bool) → IsLatest rules calls (suc end) None → AreEnoughIf rules calls (suc end) end few → HasEndedIf rules calls end few
 ended_none rules calls end true none enough = (λ send take item by took. absurd (none send take item by (record { call = took.call; call_is = took.call_is; act_is = took.act_is })), enough)
 ended_none rules calls end false none more = inr more
-
--- ---- one time after another
-
-pub inside_on : (rules : Rules) (calls : List Call) (begin time next : ℕ) → ((t : ℕ) → begin ≤ t → t < time → IsInside rules calls t t) → ((t : ℕ) → time ≤ t → t < next → IsInside rules calls t t) → (t : ℕ) → begin ≤ t → t < next → IsInside rules calls t t
-inside_on rules calls begin time next so_far on t from less = elim (cases_lt t time) [ inl before ↦ so_far t from before | inr after ↦ on t (omega (arith, after)) less ]
 
 -- ---- the spell of a send
 

@@ -248,9 +248,6 @@ pub record TriedTo (rules : Rules) (calls : List Call) (tie : Tie) (upto before 
   pub none : (k : ℕ) (c : Call) → k < upto → slice_get calls k ≡ Some c → MaySplit calls tie c.begin → NoneAt rules calls tie c.begin
   pub spent : (fewer : ℕ) → length rules.ties.items ≡ suc fewer → before ≤ left + upto * (length calls + spend (length calls) fewer)
 
-pub none_tried : (rules : Rules) (calls : List Call) (tie : Tie) (left : ℕ) → TriedTo rules calls tie 0 left left
-none_tried rules calls tie left = record { none = λ k c less. absurd (omega (arith, less)); spent = λ fewer is. omega arith }
-
 count_of : (ties : List Tie) (tie : Tie) → IsTieOf ties tie → (fewer : ℕ) × (length ties ≡ suc fewer)
 count_of [] tie at = absurd (cc (at.1))
 count_of (x ∷ ties) tie at = (length ties, omega arith)

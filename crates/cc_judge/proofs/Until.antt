@@ -35,17 +35,8 @@ record Fits (did now : Act) : Type 0 where
   allows : (closed : Bool) → Allows closed did → Allows closed now
   closes : (closed : Bool) → closed_after closed did ≡ closed_after closed now
 
-same : (did : Act) → Fits did did
-same did = record { does = λ c x y d. d; allows = λ c a. a; closes = λ c. refl }
-
 fits : (finds : Bool) (did : Act) → Fits did (act_by finds did)
 fits finds did = grind arith
-
-may_still : (said did : Act) → MayHaveDone said did → MayHaveDone said (act_by (finds_none said) did)
-may_still said did may = grind arith
-
-may_until : (said did : Act) → MayHaveDone said did → MayHaveDone (act_until said) (act_by (finds_none (act_until said)) did)
-may_until said did may = grind arith
 
 may_by : (time : ℕ) (c d : Call) (did : Act) → IsCallUntil time c d → MayHaveDone c.act did → MayHaveDone d.act (act_by (finds_none d.act) did)
 may_by time c d did until may = grind arith
