@@ -4,13 +4,13 @@ use Rattle.std.specs.List.{slice_get}
 use Rattle.std.proofs.lemmas.Bool.{cases_lt}
 use Rattle.std.proofs.lemmas.Option.{slice_get_within}
 use Rattle.cc_judge.specs.Names.{Act, Call, Crowd, Held, Index, Known, Rules}
-use Rattle.cc_judge.specs.Counts.{HasTimes, IsLeftBy, Since, Upto, WaitsBy}
+use Rattle.cc_judge.specs.Counts.{HasTimes, IsLeftBy, Since, Upto, WaitsBy, AreFirst}
 use Rattle.cc_judge.specs.Faults.{BeganAfter, BeganBy, Did, In, MoreAt, TooMany}
 use Rattle.cc_judge.specs.Faultless.{IsWritten}
 use Rattle.cc_judge.specs.Sweeps.{IsShutAt}
 use Rattle.cc_judge.specs.Table.{IsIndex}
 use Rattle.cc_judge.specs.Room.{AreAll, AreHeld, HasSent, IsCrowd, IsKnown, ItemsFit, MayBeGone, Remains, RemainsIf}
-use Rattle.cc_judge.proofs.Counting.{Counted}
+use Rattle.cc_judge.proofs.Counting.{Counted, counted}
 use Rattle.cc_judge.proofs.Fewer.{Rest, are_in, fits, in_or_not, rest_of, some_or_none, split}
 use Rattle.cc_judge.proofs.Listing.{some_is}
 use Rattle.cc_judge.proofs.NoOrder.{differ}
@@ -106,9 +106,22 @@ module _ (rules : Rules) (calls : List Call) (h : Held) (is : AreHeld rules call
         ];
   }
 
-  module _ (s g : ℕ) (sent : Counted (HasSent calls (suc time)) s) (gone : Counted (MayBeGone calls time) g) where
-    pub more_taken : (l : ℕ) → (left : Counted (IsLeftBy rules calls (suc time)) l) → number + l < s - g → (sends : List ℕ) → AreAll (Remains calls time false) sends → MoreAt calls sends number time
-    more_taken l left more sends are =
+  module _ (s g : ℕ) (first_sent : AreFirst h.sent.items s (suc time)) (first_gone : AreFirst h.gone.items g (suc time)) where
+    sent : Counted (HasSent calls (suc time)) s
+    sent = counted (HasSent calls) h.sent.items s (suc time) is.sent first_sent
+
+    gone : Counted (MayBeGone calls time) g
+    gone = counted (Upto (MayBeGone calls)) h.gone.items g (suc time) is.gone first_gone
+
+    left_by : (l : ℕ) → AreFirst h.left.items l (suc time) → Counted (IsLeftBy rules calls (suc time)) l
+    left_by l first = counted (IsLeftBy rules calls) h.left.items l (suc time) is.left first
+
+    waiting_by : (w : ℕ) → AreFirst h.waits.items w (suc time) → Counted (WaitsBy calls time) w
+    waiting_by w first = counted (Upto (WaitsBy calls)) h.waits.items w (suc time) is.waits first
+
+    pub more_taken : (l : ℕ) → AreFirst h.left.items l (suc time) → number + l < s - g → (sends : List ℕ) → AreAll (Remains calls time false) sends → MoreAt calls sends number time
+    more_taken l first_left more sends are =
+        let left = left_by l first_left in
         let all = sends ++ (left.places ++ gone.places) in
         let fit = are_in sent.places all sent.are.once (λ p within. elim (in_or_not p gone.places) [
           | inl out ↦ in_behind sends (left.places ++ gone.places) p (in_behind left.places gone.places p out)
@@ -121,8 +134,9 @@ module _ (rules : Rules) (calls : List Call) (h : Held) (is : AreHeld rules call
         let other = length-append left.places gone.places in
         more_so false sends [] are (omega (arith, fit, sum, other, more, sent.long, gone.long, left.long)) (λ off. cc (off))
 
-    pub more_left : (w : ℕ) → (waits : Counted (WaitsBy calls time) w) → number + w < s - g → (sends : List ℕ) → AreAll (Remains calls time true) sends → MoreAt calls sends number time
-    more_left w waits more sends are =
+    pub more_left : (w : ℕ) → AreFirst h.waits.items w (suc time) → number + w < s - g → (sends : List ℕ) → AreAll (Remains calls time true) sends → MoreAt calls sends number time
+    more_left w first_waits more sends are =
+        let waits = waiting_by w first_waits in
         let fit = are_in sent.places (sends ++ gone.places) sent.are.once (λ p within. elim (in_or_not p gone.places) [
           | inl out ↦ in_behind sends gone.places p out
           | inr there ↦ in_front sends gone.places p (are.all p (record { sent = sent.are.each p within; there = λ h. there (gone.are.all p h); counts = inl refl }))
@@ -144,8 +158,10 @@ module _ (rules : Rules) (calls : List Call) (h : Held) (is : AreHeld rules call
     own : (one other take : ℕ) → GoesBy one take → GoesBy other take → one ≡ other
     own one other take a b = is.differ b.0 one other (subst (λ (x : ℕ). Did calls one (Act.Send x)) (took_item calls take a.0 b.0 a.2 b.2) a.1) b.1
 
-    pub only_so : (l w : ℕ) → (left : Counted (IsLeftBy rules calls (suc time)) l) → (waits : Counted (WaitsBy calls time) w) → (sends : List ℕ) → MoreAt calls sends number time → (number + l < s - g) ⊎ (number + w < s - g)
-    only_so l w left waits sends m =
+    pub only_so : (l w : ℕ) → AreFirst h.left.items l (suc time) → AreFirst h.waits.items w (suc time) → (sends : List ℕ) → MoreAt calls sends number time → (number + l < s - g) ⊎ (number + w < s - g)
+    only_so l w first_left first_waits sends m =
+        let left = left_by l first_left in
+        let waits = waiting_by w first_waits in
         let parts = split (λ p. MayBeGone calls time p) (λ p. MayBeGone calls time p → ⊥) sends m.apart (λ p within. elim (in_or_not p gone.places) [ inl out ↦ inl (gone.are.each p out) | inr there ↦ inr (λ h. there (gone.are.all p h)) ]) in
         let goes : (p : ℕ) → In p parts.ones → (take : ℕ) × (GoesBy p take × In take m.takes) = λ p within.
         let one = parts.each_one p within in
