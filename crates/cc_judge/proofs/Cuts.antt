@@ -181,30 +181,23 @@ untimed rules plain calls cut same timed o = (o.0, unfiner calls cut timed.finer
 
 -- ---- there is a cut log
 
-pub is_earlier : (ties : List Tie) (p : ℕ) → IsEarlier ties p ⊎ (IsEarlier ties p → ⊥)
-is_earlier [] p = inr (λ e. let is = e.2 in cc)
-is_earlier (x ∷ ties) p = elim (nat_cases x.earlier p) [
-  | inl same ↦ inl (0, x, refl, same)
-  | inr other ↦ elim (is_earlier ties p) [ inl e ↦ inl (suc e.0, e.1, e.2, e.3) | inr none ↦ inr (λ e. neither other none e.0 e.1 e.2 e.3) ]
-]
-  where
-    neither : x.earlier ≢ p → (IsEarlier ties p → ⊥) → (i : ℕ) (tie : Tie) → slice_get (x ∷ ties) i ≡ Some tie → tie.earlier ≡ p → ⊥
-    neither other none zero tie is at = let e : x ≡ tie = cc in other (ap (λ (t : Tie). t.earlier) e ∙ at)
-    neither other none (suc i) tie is at = none (i, tie, is, at)
+-- a tie has this place as the earlier one, or as the later one
+abbrev IsTied : (Tie → ℕ) → List Tie → (place : ℕ) → Type 0
+IsTied which ties p = (i : ℕ) × (tie : Tie) × (slice_get ties i ≡ Some tie) × (which tie ≡ p)
 
-pub is_later : (ties : List Tie) (p : ℕ) → IsLater ties p ⊎ (IsLater ties p → ⊥)
-is_later [] p = inr (λ e. let is = e.2 in cc)
-is_later (x ∷ ties) p = elim (nat_cases x.later p) [
+is_tied : (which : Tie → ℕ) (ties : List Tie) (p : ℕ) → IsTied which ties p ⊎ (IsTied which ties p → ⊥)
+is_tied which [] p = inr (λ e. let is = e.2 in cc)
+is_tied which (x ∷ ties) p = elim (nat_cases (which x) p) [
   | inl same ↦ inl (0, x, refl, same)
-  | inr other ↦ elim (is_later ties p) [ inl e ↦ inl (suc e.0, e.1, e.2, e.3) | inr none ↦ inr (λ e. neither other none e.0 e.1 e.2 e.3) ]
+  | inr other ↦ elim (is_tied which ties p) [ inl e ↦ inl (suc e.0, e.1, e.2, e.3) | inr none ↦ inr (λ e. neither other none e.0 e.1 e.2 e.3) ]
 ]
   where
-    neither : x.later ≢ p → (IsLater ties p → ⊥) → (i : ℕ) (tie : Tie) → slice_get (x ∷ ties) i ≡ Some tie → tie.later ≡ p → ⊥
-    neither other none zero tie is at = let e : x ≡ tie = cc in other (ap (λ (t : Tie). t.later) e ∙ at)
+    neither : which x ≢ p → (IsTied which ties p → ⊥) → (i : ℕ) (tie : Tie) → slice_get (x ∷ ties) i ≡ Some tie → which tie ≡ p → ⊥
+    neither other none zero tie is at = let e : x ≡ tie = cc in other (ap which e ∙ at)
     neither other none (suc i) tie is at = none (i, tie, is, at)
 
 cut_begin : (ties : List Tie) (p b : ℕ) → (n : ℕ) × ((IsLater ties p × (n ≡ 4 * b + 2)) ⊎ ((IsLater ties p → ⊥) × (n ≡ 4 * b)))
-cut_begin ties p b = elim (is_later ties p) [ inl late ↦ (4 * b + 2, inl (late, refl)) | inr first ↦ (4 * b, inr (first, refl)) ]
+cut_begin ties p b = elim (is_tied (λ (tie : Tie). tie.later) ties p) [ inl late ↦ (4 * b + 2, inl (late, refl)) | inr first ↦ (4 * b, inr (first, refl)) ]
 
 -- a cut end
 record CutEnd (ties : List Tie) (p : ℕ) (o : Option ℕ) : Type 0 where
@@ -214,7 +207,7 @@ record CutEnd (ties : List Tie) (p : ℕ) (o : Option ℕ) : Type 0 where
 
 cut_end : (ties : List Tie) (p : ℕ) (o : Option ℕ) → CutEnd ties p o
 cut_end ties p None = record { q = None; open_end = λ is. refl; end = λ time is. cc }
-cut_end ties p (Some e) = elim (is_earlier ties p) [
+cut_end ties p (Some e) = elim (is_tied (λ (tie : Tie). tie.earlier) ties p) [
   | inl tied ↦ record { q = Some (4 * e + 1); open_end = λ is. cc; end = λ time is. let t = one_end (Some e) e time refl is in inl (tied, ap (λ (n : ℕ). Some (4 * n + 1)) t) }
   | inr free ↦ record { q = Some (4 * e + 3); open_end = λ is. cc; end = λ time is. let t = one_end (Some e) e time refl is in inr (free, ap (λ (n : ℕ). Some (4 * n + 3)) t) }
 ]
