@@ -1,28 +1,10 @@
 -- Of sends that are more than some takes, and whose items were each taken by a call of their own, the item of one was taken
 -- by another call. Lists of places are split and compared.
-use Rattle.std.proofs.Common.{◌≡◌, ◌≢◌, ℕ, suc, ◌+◌, ◌<◌, ◌≤◌, ◌⊎◌, inl, inr, List, [], ◌∷◌, length, refl, sym, ap, ◌∙◌, subst, arith}
+use Rattle.std.proofs.Common.{◌≡◌, ℕ, ◌+◌, ◌<◌, ◌≤◌, ◌⊎◌, inl, inr, List, [], ◌∷◌, length, refl, sym, ◌∙◌, subst, arith}
 use Rattle.std.proofs.lemmas.Bool.{cases_lt}
-use Rattle.cc_judge.proofs.Places.{In}
+use Rattle.cc_judge.proofs.Places.{In, without, without_length, from_without, to_without}
 use Rattle.cc_judge.proofs.Turns.{nat_cases}
 pub use Rattle.cc_judge.specs.Faults.{Once}
-
--- the list without an element
-abbrev pub without : (p : ℕ) (xs : List ℕ) → In p xs → List ℕ
-without p [] h = []
-without p (x ∷ xs) (inl here) = xs
-without p (x ∷ xs) (inr later) = x ∷ without p xs later
-
-pub without_length : (p : ℕ) (xs : List ℕ) (h : In p xs) → suc (length (without p xs h)) ≡ length xs
-without_length p [] h = absurd h
-without_length p (x ∷ xs) (inl here) = refl
-without_length p (x ∷ xs) (inr later) = ap suc (without_length p xs later)
-
-pub without_in : (p q : ℕ) (xs : List ℕ) (h : In p xs) → In q xs → q ≢ p → In q (without p xs h)
-without_in p q [] h within apart = absurd h
-without_in p q (x ∷ xs) (inl here) (inl there) apart = absurd (apart (sym there ∙ here))
-without_in p q (x ∷ xs) (inl here) (inr rest) apart = rest
-without_in p q (x ∷ xs) (inr later) (inl there) apart = inl there
-without_in p q (x ∷ xs) (inr later) (inr rest) apart = inr (without_in p q xs later rest apart)
 
 -- a send of the list whose item was taken by a call of which more is known
 pub record Another (R : ℕ → ℕ → Type 0) (More : ℕ → Type 0) : Type 0 where
@@ -41,7 +23,7 @@ once_another R More (s ∷ sends) may once fewer each own others =
           let shorter = without_length r.0 may has in
           once_another R More sends (without r.0 may has) once.1 (omega (arith, fewer, shorter)) (λ t within. each t (inr within)) own (λ t q within took. elim (others t q (inr within) took) [
             | inr more ↦ inr more
-            | inl had ↦ inl (without_in r.0 q may has had (λ same. once.0 (own_is t s q r.0 same within took r.1)))
+            | inl had ↦ elim (to_without r.0 q may has had) [ inl same ↦ absurd (once.0 (own_is t s q r.0 (sym same) within took r.1)) | inr still ↦ inl still ]
           ])
     ]
   where
@@ -70,18 +52,12 @@ in_or_not p (x ∷ xs) = elim (nat_cases x p) [
   ]
 ]
 
-without_old : (p q : ℕ) (xs : List ℕ) (h : In p xs) → In q (without p xs h) → In q xs
-without_old p q [] h within = absurd h
-without_old p q (x ∷ xs) (inl here) within = inr within
-without_old p q (x ∷ xs) (inr later) (inl there) = inl there
-without_old p q (x ∷ xs) (inr later) (inr rest) = inr (without_old p q xs later rest)
-
-without_once : (p : ℕ) (xs : List ℕ) (h : In p xs) → Once xs → Once (without p xs h) × (In p (without p xs h) → ⊥)
+pub without_once : (p : ℕ) (xs : List ℕ) (h : In p xs) → Once xs → Once (without p xs h) × (In p (without p xs h) → ⊥)
 without_once p [] h once = absurd h
 without_once p (x ∷ xs) (inl here) once = (once.1, λ within. once.0 (subst (λ (q : ℕ). In q xs) (sym here) within))
 without_once p (x ∷ xs) (inr later) once =
     let rest = without_once p xs later once.1 in
-    (((λ within. once.0 (without_old p x xs later within)), rest.0), λ within. elim within [ inl here ↦ once.0 (subst (λ (q : ℕ). In q xs) (sym here) later) | inr more ↦ rest.1 more ])
+    (((λ within. once.0 (from_without p x xs later within)), rest.0), λ within. elim within [ inl here ↦ once.0 (subst (λ (q : ℕ). In q xs) (sym here) later) | inr more ↦ rest.1 more ])
 
 pub record Rest (xs ys : List ℕ) : Type 0 where
   pub rest : List ℕ
@@ -101,14 +77,14 @@ rest_of xs (y ∷ ys) once within =
         long = let shorter = without_length y r.rest has in omega (arith, shorter, r.long);
         all = λ p here. elim (r.all p here) [
           | inl gone ↦ inl (inr gone)
-          | inr had ↦ elim (nat_cases y p) [ inl same ↦ inl (inl same) | inr apart ↦ inr (without_in y p r.rest has had (λ same. apart (sym same))) ]
+          | inr had ↦ elim (to_without y p r.rest has had) [ inl same ↦ inl (inl same) | inr still ↦ inr still ]
         ];
-        each = λ p here. r.each p (without_old y p r.rest has here);
+        each = λ p here. r.each p (from_without y p r.rest has here);
         once = λ apart. let o = r.once apart in let w = without_once y r.rest has o.0 in (
           w.0,
           λ p here other. elim other [
             | inl same ↦ w.1 (subst (λ (q : ℕ). In q (without y r.rest has)) (sym same) here)
-            | inr later ↦ o.1 p (without_old y p r.rest has here) later
+            | inr later ↦ o.1 p (from_without y p r.rest has here) later
           ],
         );
       }

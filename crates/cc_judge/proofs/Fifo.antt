@@ -1,8 +1,8 @@
 -- Items of which none was overtaken have an order in which each may be in front of those behind it.
-use Rattle.std.proofs.Common.{◌≡◌, ℕ, zero, suc, ◌+◌, ◌<◌, ◌≤◌, ◌⊎◌, inl, inr, List, [], ◌∷◌, length, refl, sym, ap, ◌∙◌, subst, arith}
+use Rattle.std.proofs.Common.{◌≡◌, ℕ, zero, suc, ◌+◌, ◌<◌, ◌≤◌, inl, inr, List, [], ◌∷◌, length, refl, sym, ap, subst, arith}
 use Rattle.std.proofs.lemmas.Bool.{cases_lt}
 use Rattle.cc_judge.specs.Names.{Step}
-use Rattle.cc_judge.proofs.Places.{In, Before}
+use Rattle.cc_judge.proofs.Places.{In, Before, without, without_length, from_without, to_without}
 use Rattle.cc_judge.proofs.Weave.{Item, Ahead, IsOf, Fits, Woven, weave}
 
 -- the first was sent before the second, which left before it
@@ -53,41 +53,13 @@ source x xs spans none =
 
 -- ---- the list without an element
 
-unfoldable pub without : {X : Type 0} (x : X) (xs : List X) → In x xs → List X
-without x [] h = []
-without x (y ∷ xs) (inl here) = xs
-without x (y ∷ xs) (inr later) = y ∷ without x xs later
-
-pub without_length : {X : Type 0} (x : X) (xs : List X) (h : In x xs) → length (without x xs h) + 1 ≡ length xs
-unfolding without
-without_length x [] h = absurd h
-without_length x (y ∷ xs) (inl here) = omega arith
-without_length x (y ∷ xs) (inr later) = let e = without_length x xs later in omega (arith, e)
-
-pub from_without : {X : Type 0} (x z : X) (xs : List X) (h : In x xs) → In z (without x xs h) → In z xs
-unfolding without
-from_without x z [] h within = absurd h
-from_without x z (y ∷ xs) (inl here) within = inr within
-from_without x z (y ∷ xs) (inr later) (inl same) = inl same
-from_without x z (y ∷ xs) (inr later) (inr more) = inr (from_without x z xs later more)
-
-to_without : (x z : Item) (xs : List Item) (h : In x xs) → In z xs → (x ≡ z) ⊎ In z (without x xs h)
-unfolding without
-to_without x z [] h within = absurd h
-to_without x z (y ∷ xs) (inl here) (inl same) = inl (sym here ∙ same)
-to_without x z (y ∷ xs) (inl here) (inr more) = inr more
-to_without x z (y ∷ xs) (inr later) (inl same) = inr (inl same)
-to_without x z (y ∷ xs) (inr later) (inr more) = elim (to_without x z xs later more) [ inl same ↦ inl same | inr rest ↦ inr (inr rest) ]
-
 before_without : (x u v : Item) (xs : List Item) (h : In x xs) → Before u v (without x xs h) → Before u v xs
-unfolding without
 before_without x u v [] h before = absurd h
 before_without x u v (y ∷ xs) (inl here) before = inr before
 before_without x u v (y ∷ xs) (inr later) (inl first) = inl (first.0, from_without x v xs later first.1)
 before_without x u v (y ∷ xs) (inr later) (inr more) = inr (before_without x u v xs later more)
 
 apart_from : (x z : Item) (xs : List Item) (h : In x xs) → ((u v : Item) → Before u v xs → Apart u v) → In z (without x xs h) → Apart x z
-unfolding without
 apart_from x z [] h apart within = absurd h
 apart_from x z (y ∷ xs) (inl here) apart within = subst (λ (w : Item). Apart w z) here (apart y z (inl (refl, within)))
 apart_from x z (y ∷ xs) (inr later) apart (inl same) = λ place of_x of_z. apart y x (inl (refl, later)) place (subst (λ (w : Item). IsOf w.fate place) (sym same) of_z) of_x

@@ -1,5 +1,5 @@
 -- Elements of a list, and which of two comes first.
-use Rattle.std.proofs.Common.{◌≡◌, ℕ, zero, suc, ◌<◌, ◌⊎◌, inl, inr, List, [], ◌∷◌, ◌++◌, Some, refl, sym, ap, ◌∙◌, arith}
+use Rattle.std.proofs.Common.{◌≡◌, ℕ, zero, suc, ◌+◌, ◌<◌, ◌⊎◌, inl, inr, List, [], ◌∷◌, ◌++◌, length, Some, refl, sym, ap, ◌∙◌, arith}
 use Rattle.std.specs.List.{slice_get}
 pub use Rattle.cc_judge.specs.Faults.{In}
 
@@ -45,6 +45,31 @@ pub at_before : {X : Type 0} (s t : X) (xs : List X) → Before s t xs → (j k 
 at_before s t [] h = absurd h
 at_before s t (x ∷ xs) (inl here) = let r = at_in t xs here.1 in (0, suc r.0, omega arith, ap Some here.0, r.1)
 at_before s t (x ∷ xs) (inr later) = let r = at_before s t xs later in (suc r.0, suc r.1, omega (arith, r.2), r.3, r.4)
+
+-- ---- the list without an element
+
+abbrev pub without : {X : Type 0} (x : X) (xs : List X) → In x xs → List X
+without x [] h = []
+without x (y ∷ xs) (inl here) = xs
+without x (y ∷ xs) (inr later) = y ∷ without x xs later
+
+pub without_length : {X : Type 0} (x : X) (xs : List X) (h : In x xs) → length (without x xs h) + 1 ≡ length xs
+without_length x [] h = absurd h
+without_length x (y ∷ xs) (inl here) = omega arith
+without_length x (y ∷ xs) (inr later) = let e = without_length x xs later in omega (arith, e)
+
+pub from_without : {X : Type 0} (x z : X) (xs : List X) (h : In x xs) → In z (without x xs h) → In z xs
+from_without x z [] h within = absurd h
+from_without x z (y ∷ xs) (inl here) within = inr within
+from_without x z (y ∷ xs) (inr later) (inl same) = inl same
+from_without x z (y ∷ xs) (inr later) (inr more) = inr (from_without x z xs later more)
+
+pub to_without : {X : Type 0} (x z : X) (xs : List X) (h : In x xs) → In z xs → (x ≡ z) ⊎ In z (without x xs h)
+to_without x z [] h within = absurd h
+to_without x z (y ∷ xs) (inl here) (inl same) = inl (sym here ∙ same)
+to_without x z (y ∷ xs) (inl here) (inr more) = inr more
+to_without x z (y ∷ xs) (inr later) (inl same) = inr (inl same)
+to_without x z (y ∷ xs) (inr later) (inr more) = elim (to_without x z xs later more) [ inl same ↦ inl same | inr rest ↦ inr (inr rest) ]
 
 -- ---- what is put at the end
 

@@ -6,9 +6,9 @@ use Rattle.std.proofs.lemmas.Option.{slice_get_within}
 use Rattle.cc_judge.specs.Names.{Act, Call, Step, Rules}
 use Rattle.cc_judge.specs.Order.{EndsBefore, MayHaveDone, IsOfLog, IsOrder, IsLinearizable, of_any_capacity}
 use Rattle.cc_judge.specs.Faults.{Did, Differ, FindsNone, Once}
-use Rattle.cc_judge.proofs.Places.{In, at_in}
+use Rattle.cc_judge.proofs.Places.{In, at_in, from_without, without, without_length}
 use Rattle.cc_judge.proofs.Turns.{nat_cases}
-use Rattle.cc_judge.proofs.Fifo.{without, without_length, from_without}
+use Rattle.cc_judge.proofs.Fewer.{in_or_not, without_once}
 use Rattle.cc_judge.specs.Complete.{IsLeft, IsWaiting, Enough, Ready}
 use Rattle.cc_judge.proofs.Views.{none_some, Faultless, faultless_has_order, taker, one_call, one_act, none_took}
 use Rattle.cc_judge.proofs.Complete.{Quiet}
@@ -115,23 +115,6 @@ module _ (calls : List Call) (p item : ℕ) (dp : Did calls p Act.Taking) where
 
 -- ---- lists of places
 
-once_without : (q : ℕ) (xs : List ℕ) (h : In q xs) → Once xs → Once (without q xs h)
-unfolding without
-once_without q [] h once = absurd h
-once_without q (x ∷ xs) (inl is) once = once.1
-once_without q (x ∷ xs) (inr later) once = ((λ within. once.0 (from_without q x xs later within)), once_without q xs later once.1)
-
-not_without : (q : ℕ) (xs : List ℕ) (h : In q xs) → Once xs → In q (without q xs h) → ⊥
-unfolding without
-not_without q [] h once within = absurd h
-not_without q (x ∷ xs) (inl is) once within = once.0 (subst (λ (r : ℕ). In r xs) (sym is) within)
-not_without q (x ∷ xs) (inr later) once (inl same) = once.0 (subst (λ (r : ℕ). In r xs) (sym same) later)
-not_without q (x ∷ xs) (inr later) once (inr more) = not_without q xs later once.1 more
-
-is_in : (q : ℕ) (xs : List ℕ) → In q xs ⊎ (In q xs → ⊥)
-is_in q [] = inr (λ h. h)
-is_in q (x ∷ xs) = grind (arith, nat_cases, is_in q xs)
-
 -- of one place more than wanted all but one aren't this one
 record But (q : ℕ) (ys : List ℕ) : Type 0 where
   zs : List ℕ
@@ -142,13 +125,13 @@ record But (q : ℕ) (ys : List ℕ) : Type 0 where
 
 but : (q n : ℕ) (ys : List ℕ) → length ys ≡ suc n → Once ys → But q ys
 but q n [] len once = absurd (omega (arith, len))
-but q n (y ∷ ys) len once = elim (is_in q (y ∷ ys)) [
+but q n (y ∷ ys) len once = elim (in_or_not q (y ∷ ys)) [
   | inl has ↦ record {
     zs = without q (y ∷ ys) has;
     len = without_length q (y ∷ ys) has;
-    once = once_without q (y ∷ ys) has once;
+    once = (without_once q (y ∷ ys) has once).0;
     within = λ r h. from_without q r (y ∷ ys) has h;
-    other = λ r h same. not_without q (y ∷ ys) has once (subst (λ (s : ℕ). In s (without q (y ∷ ys) has)) same h);
+    other = λ r h same. (without_once q (y ∷ ys) has once).1 (subst (λ (s : ℕ). In s (without q (y ∷ ys) has)) same h);
   }
   | inr no_such ↦ record { zs = ys; len = omega arith; once = once.1; within = λ r h. inr h; other = λ r h same. no_such (inr (subst (λ (s : ℕ). In s ys) same h)) }
 ]
