@@ -1,5 +1,5 @@
 -- The faults that count exclude each legal order.
-use Rattle.std.proofs.Common.{◌≡◌, ◌≢◌, ℕ, zero, suc, ◌≤◌, ◌⊎◌, inl, inr, false, List, [], ◌∷◌, Option, Some, IsSome, refl, sym, ap, ◌∙◌, subst, arith}
+use Rattle.std.proofs.Common.{◌≡◌, ◌≢◌, ℕ, zero, suc, ◌≤◌, ◌⊎◌, inl, inr, false, List, [], ◌∷◌, Some, refl, sym, ap, ◌∙◌, subst, arith}
 use Rattle.std.specs.List.{slice_get}
 use Rattle.std.proofs.lemmas.Bool.{cases_lt}
 use Rattle.cc_judge.specs.Names.{Act, Call, Step, Rules}
@@ -10,13 +10,10 @@ use Rattle.cc_judge.specs.Counts.{SentBy, IsLeftBy, MoreLeft, IsInside, TookOver
 use Rattle.cc_judge.proofs.Places.{Before, before_first, in_order, at_in, at_before, before_at}
 use Rattle.cc_judge.proofs.Turns.{nat_cases}
 use Rattle.cc_judge.proofs.Runs.{taken_before_none, first_taken_first}
-use Rattle.cc_judge.proofs.Orders.{StepOf, runs, step_of, returned_step, in_log, sent_in_log, took_in_log, in_time, on_before, apart, one_take}
+use Rattle.cc_judge.proofs.Orders.{StepOf, runs, step_of, returned_step, in_log, sent_in_log, took_in_log, in_time, on_before, one_take, one_step}
 use Rattle.cc_judge.proofs.Shut.{WantsOpen, not_after, accepted_step, shown_step}
 use Rattle.cc_judge.proofs.Fewer.{once_another}
-use Rattle.cc_judge.proofs.Views.{one_act}
-
-some_end : (o : Option ℕ) (e : ℕ) → o ≡ Some e → IsSome o
-some_end o e is = subst IsSome (sym is) refl
+use Rattle.cc_judge.proofs.Calls.{is_some_of, one_act, none_send, none_taking}
 
 goes : (calls : List Call) (a b c d : ℕ) → a ≡ c → b ≡ d → EndsBefore calls a b → EndsBefore calls c d
 goes calls a b c d first second e = subst (λ (x : ℕ). EndsBefore calls x d) first (subst (EndsBefore calls a) second e)
@@ -29,7 +26,7 @@ module _ (rules : Rules) (calls : List Call) (order : List Step) (differ : Diffe
     | inl e ↦
         let both : Some s.sent.call ≡ Some e.call = sym s.sent.call_is ∙ e.call_is in
         let one : s.sent.call ≡ e.call = cc in
-        step_of rules calls order o send s.sent.call (Act.Send item) s.sent.call_is s.sent.act_is (λ is. cc) (some_end s.sent.call.end e.end (ap (λ (c : Call). c.end) one ∙ e.ended))
+        step_of rules calls order o send s.sent.call (Act.Send item) s.sent.call_is s.sent.act_is (λ is. cc) (is_some_of s.sent.call.end e.end (ap (λ (c : Call). c.end) one ∙ e.ended))
     | inr shut ↦
         let a = accepted_step rules calls order o differ send item shut.accepted in
         let d = sent_in_log rules calls order o a.step a.item a.within a.act_is in
@@ -90,17 +87,10 @@ module _ (rules : Rules) (calls : List Call) (order : List Step) (differ : Diffe
 
   took_one : (sent began s t place : ℕ) → Took sent began s place → Took sent began t place → s ≡ t
   took_one sent began s t place a b =
-      let places : a.by.step.place ≡ b.by.step.place = a.place_is ∙ sym b.place_is in
-      elim (in_order a.by.step b.by.step order a.by.within b.by.within) [
-        | inl same ↦
-            let acts : Act.Took a.left.item ≡ Act.Took b.left.item = sym a.by.act_is ∙ ap (λ (x : Step). x.act) same ∙ b.by.act_is in
-            let items : a.left.item ≡ b.left.item = cc in
-            differ b.left.item s t (subst (λ (i : ℕ). Did calls s (Act.Send i)) items a.left.sent_by.sent) b.left.sent_by.sent
-        | inr placed ↦ elim placed [
-          | inl one ↦ absurd (apart rules calls order o a.by.step b.by.step one places)
-          | inr two ↦ absurd (apart rules calls order o b.by.step a.by.step two (sym places))
-        ]
-      ]
+      let same = one_step rules calls order o a.by.step b.by.step a.by.within b.by.within (a.place_is ∙ sym b.place_is) in
+      let acts : Act.Took a.left.item ≡ Act.Took b.left.item = sym a.by.act_is ∙ ap (λ (x : Step). x.act) same ∙ b.by.act_is in
+      let items : a.left.item ≡ b.left.item = cc in
+      differ b.left.item s t (subst (λ (i : ℕ). Did calls s (Act.Send i)) items a.left.sent_by.sent) b.left.sent_by.sent
 
   -- not each of them was taken
   pub not_all_taken : (sent began : ℕ) → MoreLeft rules calls sent began → ((send item : ℕ) → SentBy rules calls send item sent → ((take : ℕ) → Did calls take (Act.Took item) → ⊥) → TakenBy item began) → ⊥
@@ -168,7 +158,7 @@ module _ (rules : Rules) (calls : List Call) (order : List Step) (differ : Diffe
 
   pub left_behind : (later_send later_take : ℕ) → LeftBehind rules calls later_send later_take → ⊥
   left_behind later_send later_take f =
-      let t = step_of rules calls order o later_take f.took.call (Act.Took f.item) f.took.call_is f.took.act_is (λ is. cc) (some_end f.took.call.end f.end f.ended) in
+      let t = step_of rules calls order o later_take f.took.call (Act.Took f.item) f.took.call_is f.took.act_is (λ is. cc) (is_some_of f.took.call.end f.end f.ended) in
       not_all_taken f.sent.call.begin f.end f.left (λ send item s untaken. elim (nat_cases item f.item) [
         | inl same ↦ absurd (untaken later_take (subst (λ (v : ℕ). Did calls later_take (Act.Took v)) (sym same) f.took))
         | inr other ↦
@@ -204,22 +194,14 @@ module _ (rules : Rules) (calls : List Call) (order : List Step) (differ : Diffe
       let u = taken_before_none [] order h.step e item (runs rules calls order o) (before send item s h) h.act_is none in
       record { step = u.step; within = before_first u.step e order u.before; act_is = u.act_is; by = begun u.step u.before })
 
-  none_taking : (act : Act) → FindsNone act → act ≢ Act.Taking
-  none_taking act (inl none) taking = let e : Act.FoundNone ≡ Act.Taking = sym none ∙ taking in cc
-  none_taking act (inr none) taking = let e : Act.Ended ≡ Act.Taking = sym none ∙ taking in cc
-
-  none_sends : (act : Act) (item : ℕ) → FindsNone act → act ≢ Act.Send item
-  none_sends act item (inl none) send = let e : Act.FoundNone ≡ Act.Send item = sym none ∙ send in cc
-  none_sends act item (inr none) send = let e : Act.Ended ≡ Act.Send item = sym none ∙ send in cc
-
   pub ended_with_items : (call : ℕ) → EndedWithItems rules calls call → ⊥
   ended_with_items call f =
       let d = f.found_none.did in
-      let e = step_of rules calls order o call d.call Act.Ended d.call_is d.act_is (λ is. cc) (some_end d.call.end f.end f.found_none.end_is) in
+      let e = step_of rules calls order o call d.call Act.Ended d.call_is d.act_is (λ is. cc) (is_some_of d.call.end f.end f.found_none.end_is) in
       let closes = o.closing f.judged in
       let shows : ShowsClosed e.step.act = inr (inr e.act_is) in
       not_inside (suc f.end) f.end f.inside e.step (inr e.act_is) (λ send item s h. elim (in_order h.step e.step order h.within e.within) [
-        | inl same ↦ absurd (none_sends e.step.act item (inr e.act_is) (ap (λ (x : Step). x.act) (sym same) ∙ h.act_is))
+        | inl same ↦ absurd (none_send e.step.act item (inr e.act_is) (ap (λ (x : Step). x.act) (sym same) ∙ h.act_is))
         | inr placed ↦ elim placed [
           | inl right ↦ right
           | inr wrong ↦ absurd (not_after false order e.step h.step closes wrong shows (inl (item, h.act_is)))
@@ -306,7 +288,7 @@ module _ (rules : Rules) (calls : List Call) (order : List Step) (differ : Diffe
   unfolding Begins
   never_empty call f =
       let d = f.found_none.did in
-      let e = step_of rules calls order o call d.call f.act d.call_is d.act_is (none_taking f.act f.finds_none) (some_end d.call.end f.end f.found_none.end_is) in
+      let e = step_of rules calls order o call d.call f.act d.call_is d.act_is (none_taking f.act f.finds_none) (is_some_of d.call.end f.end f.found_none.end_is) in
       let at = at_in e.step order e.within in
       let k = at.0 in
       let m = moment k (λ j low. let t = shorter order k e.step at.1 j low in begins_at j t.0 t.1) in
@@ -331,7 +313,7 @@ module _ (rules : Rules) (calls : List Call) (order : List Step) (differ : Diffe
             omega (arith, same, timed)
       ] in
       not_inside m.m m.m (f.inside m.m low high) e.step none (λ send item s h. elim (in_order h.step e.step order h.within e.within) [
-        | inl same ↦ absurd (none_sends e.step.act item none (ap (λ (x : Step). x.act) (sym same) ∙ h.act_is))
+        | inl same ↦ absurd (none_send e.step.act item none (ap (λ (x : Step). x.act) (sym same) ∙ h.act_is))
         | inr placed ↦ elim placed [
           | inl right ↦ right
           | inr wrong ↦ absurd (too_late k m e.step at.1 send item s h wrong)

@@ -14,15 +14,9 @@ use Rattle.cc_judge.proofs.Counting.{Counted, counted}
 use Rattle.cc_judge.proofs.Fewer.{Rest, are_in, fits, in_or_not, rest_of, some_or_none, split}
 use Rattle.cc_judge.proofs.Listing.{some_is}
 use Rattle.cc_judge.proofs.NoOrder.{differ}
-use Rattle.cc_judge.proofs.Sweeping.{returned_take, sent_one, took_one}
+use Rattle.cc_judge.proofs.Sweeping.{returned_take, took_one}
 use Rattle.cc_judge.proofs.Turns.{nat_cases}
-
--- a take got one item
-took_item : (calls : List Call) (take item other : ℕ) → Did calls take (Act.Took item) → Did calls take (Act.Took other) → item ≡ other
-took_item calls take item other a b =
-    let same : a.call ≡ b.call = some_is a.call b.call (sym a.call_is ∙ b.call_is) in
-    let both : Act.Took item ≡ Act.Took other = sym a.act_is ∙ ap (λ (c : Call). c.act) same ∙ b.act_is in
-    cc
+use Rattle.cc_judge.proofs.Calls.{sent_one, took_item}
 
 in_front : (xs ys : List ℕ) (x : ℕ) → In x xs → In x (xs ++ ys)
 in_front [] ys x within = absurd within

@@ -9,22 +9,9 @@ use Rattle.cc_judge.specs.Faultless.{IsWritten}
 use Rattle.cc_judge.specs.Verdict.{AreSentBelow}
 use Rattle.cc_judge.specs.Splits.{AreLeft, IsFiner, IsTimed}
 use Rattle.cc_judge.specs.Cuts.{IsEarlier, IsLater, MeetAt, AreLone, CutCall, IsCut, AreWithoutTies, CutLogsAreExact}
-use Rattle.cc_judge.proofs.Turns.{nat_cases}
-use Rattle.cc_judge.proofs.Shares.{end_cases}
+use Rattle.cc_judge.proofs.Turns.{nat_cases, one_at}
 use Rattle.cc_judge.proofs.Faultless.{choose}
-
-pub none_some : (o : Option ℕ) → o ≡ None → IsSome o → ⊥
-none_some None is some = cc
-none_some (Some n) is some = cc
-
-pub some_is : (o : Option ℕ) (e : ℕ) → o ≡ Some e → IsSome o
-some_is o e is = subst IsSome (sym is) refl
-
-pub one_end : (o : Option ℕ) (e f : ℕ) → o ≡ Some e → o ≡ Some f → e ≡ f
-one_end o e f one other = let both : Some e ≡ Some f = sym one ∙ other in cc
-
-pub one_call : (xs : List Call) (p : ℕ) (c d : Call) → slice_get xs p ≡ Some c → slice_get xs p ≡ Some d → c ≡ d
-one_call xs p c d one other = let both : Some c ≡ Some d = sym one ∙ other in cc
+use Rattle.cc_judge.proofs.Calls.{end_cases, is_some_of, none_some, one_end}
 
 -- ---- a finer log
 
@@ -74,23 +61,23 @@ module _ (calls cut : List Call) (f : IsFiner calls cut) where
   pub finer_written : IsWritten calls → ((p : ℕ) (d : Call) (e : ℕ) → slice_get cut p ≡ Some d → d.end ≡ Some e → d.begin ≤ e) → IsWritten cut
   finer_written written timed = record {
     timed = timed;
-    waits = λ q did. elim (end_cases did.call.end) [ inr none ↦ none | inl e ↦ let c = f.back q did.call did.call_is in let d = did_whole q Act.Taking did in absurd (none_some c.0.end (ap (λ (x : Call). x.end) (one_call calls q c.0 d.call c.1 d.call_is) ∙ written.waits q d) (c.3 (some_is did.call.end e.0 e.1))) ];
+    waits = λ q did. elim (end_cases did.call.end) [ inr none ↦ none | inl e ↦ let c = f.back q did.call did.call_is in let d = did_whole q Act.Taking did in absurd (none_some c.0.end (ap (λ (x : Call). x.end) (one_at calls q c.0 d.call c.1 d.call_is) ∙ written.waits q d) (c.3 (is_some_of did.call.end e.0 e.1))) ];
     took = λ q item did. let d = did_whole q (Act.Took item) did in still q did.call d.call did.call_is d.call_is (written.took q item d);
     ended = λ q did. let d = did_whole q Act.Ended did in still q did.call d.call did.call_is d.call_is (written.ended q d);
   }
     where
       still : (q : ℕ) (d c : Call) → slice_get cut q ≡ Some d → slice_get calls q ≡ Some c → IsSome c.end → IsSome d.end
-      still q d c d_is c_is some = let e = f.there q c c_is in subst (λ (x : Call). IsSome x.end) (one_call cut q e.0 d e.1 d_is) (e.3 some)
+      still q d c d_is c_is some = let e = f.there q c c_is in subst (λ (x : Call). IsSome x.end) (one_at cut q e.0 d e.1 d_is) (e.3 some)
 
 module _ (ties : List Tie) (calls cut : List Call) (alone : AreLone calls ties) (k : IsCut ties calls cut) where
   ended : (p : ℕ) (c d : Call) → CutCall ties p c d → IsSome c.end → IsSome d.end
   ended p c d h some = elim (end_cases c.end) [
     | inr open_end ↦ absurd (none_some c.end open_end some)
-    | inl e ↦ elim (h.end e.0 e.1) [ inl tied ↦ some_is d.end (4 * e.0 + 1) tied.1 | inr free ↦ some_is d.end (4 * e.0 + 3) free.1 ]
+    | inl e ↦ elim (h.end e.0 e.1) [ inl tied ↦ is_some_of d.end (4 * e.0 + 1) tied.1 | inr free ↦ is_some_of d.end (4 * e.0 + 3) free.1 ]
   ]
 
   had_ended : (p : ℕ) (c d : Call) → CutCall ties p c d → IsSome d.end → IsSome c.end
-  had_ended p c d h some = elim (end_cases c.end) [ inr open_end ↦ absurd (none_some d.end (h.open_end open_end) some) | inl e ↦ some_is c.end e.0 e.1 ]
+  had_ended p c d h some = elim (end_cases c.end) [ inr open_end ↦ absurd (none_some d.end (h.open_end open_end) some) | inl e ↦ is_some_of c.end e.0 e.1 ]
 
   -- ---- an order of the cut log is one of the log
 
@@ -138,7 +125,7 @@ module _ (ties : List Tie) (calls cut : List Call) (alone : AreLone calls ties) 
       let other = k.back b e.other e.other_is in
       let less = e.before in
       elim (end_cases one.0.end) [
-        | inr open_end ↦ absurd (none_some e.one.end (one.2.open_end open_end) (some_is e.one.end e.end e.ended))
+        | inr open_end ↦ absurd (none_some e.one.end (one.2.open_end open_end) (is_some_of e.one.end e.end e.ended))
         | inl f ↦ elim (cases_lt f.0 other.0.begin) [
           | inl before ↦ inl (record { one = one.0; other = other.0; end = f.0; one_is = one.1; other_is = other.1; ended = f.1; before = before })
           | inr not_before ↦ elim (one.2.end f.0 f.1) [
@@ -162,8 +149,8 @@ module _ (ties : List Tie) (calls cut : List Call) (alone : AreLone calls ties) 
       meets c d time c_is d_is ends stamps (i, one, one_is, earlier) (j, other, other_is, later) =
           let m = alone.meet i one one_is in
           let n = alone.meet j other other_is in
-          let first = one_call calls a m.1.one c (ap (slice_get calls) (sym earlier) ∙ m.1.one_is) c_is in
-          let second = one_call calls b n.1.other d (ap (slice_get calls) (sym later) ∙ n.1.other_is) d_is in
+          let first = one_at calls a m.1.one c (ap (slice_get calls) (sym earlier) ∙ m.1.one_is) c_is in
+          let second = one_at calls b n.1.other d (ap (slice_get calls) (sym later) ∙ n.1.other_is) d_is in
           let m_time : m.0 ≡ time = one_end c.end m.0 time (ap (λ (x : Call). x.end) (sym first) ∙ m.1.ends) ends in
           let n_time : n.0 ≡ time = sym n.1.begins ∙ ap (λ (x : Call). x.begin) second ∙ sym stamps in
           let l = alone.lone i j time one other one_is other_is (subst (MeetAt calls one) m_time m.1) (subst (MeetAt calls other) n_time n.1) in

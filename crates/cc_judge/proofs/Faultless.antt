@@ -2,7 +2,7 @@
 use Rattle.std.proofs.Common.{◌≡◌, ◌≢◌, ℕ, zero, suc, ◌+◌, ◌*◌, ◌<◌, ◌≤◌, ◌⊎◌, inl, inr, Bool, true, false, List, [], ◌∷◌, length, Option, Some, None, IsSome, refl, sym, ap, ◌∙◌, subst, arith}
 use Rattle.std.specs.List.{slice_get}
 use Rattle.std.proofs.lemmas.Bool.{cases_lt}
-use Rattle.std.proofs.lemmas.Option.{slice_get_within}
+use Rattle.std.proofs.lemmas.Option.{slice_get_within, slice_get_cases}
 use Rattle.cc_judge.specs.Names.{Act, Call, Rules}
 use Rattle.cc_judge.specs.Order.{EndsBefore, IsLinearizable, of_any_capacity}
 use Rattle.cc_judge.specs.Faults.{Did, Differ, FindsNone, ShowsClosed, WasClosed, WasAccepted, WasOpen}
@@ -11,9 +11,10 @@ use Rattle.cc_judge.specs.Counts.{SentBy, AreEnough}
 use Rattle.cc_judge.specs.Faultless.{IsWritten, NoFault, FaultlessLogsHaveOrders}
 use Rattle.cc_judge.proofs.Turns.{nat_cases}
 use Rattle.cc_judge.proofs.Complete.{IsIdle}
-use Rattle.cc_judge.proofs.Views.{none_some, one_act, taker}
-use Rattle.cc_judge.proofs.Shares.{LeastAt, least_at, end_cases, call_at, completeness}
+use Rattle.cc_judge.proofs.Views.{taker}
+use Rattle.cc_judge.proofs.Shares.{LeastAt, least_at, completeness}
 use Rattle.cc_judge.proofs.Clips.{WantsOpen, WantsClosed, Clips, complete_closed, complete_open}
+use Rattle.cc_judge.proofs.Calls.{end_cases, is_some_of, none_some, one_act}
 
 -- ---- what a log without closes needs
 
@@ -146,9 +147,6 @@ pub record IsTheClose (shut close p : ℕ) (c d : Call) : Type 0 where
 abbrev pub Clip : (calls : List Call) (shut close p : ℕ) (c d : Call) → Type 0
 Clip calls shut close p c d = Keeps c d ⊎ Opens calls shut p c d ⊎ Drops calls p c d ⊎ Shuts shut close p c d ⊎ IsTheClose shut close p c d
 
-some_is : (o : Option ℕ) (e : ℕ) → o ≡ Some e → IsSome o
-some_is o e is = subst IsSome (sym is) refl
-
 module _ (rules : Rules) (calls : List Call) (differ : Differ calls) (written : IsWritten calls) (fine : NoFault rules calls) (judged : rules.closes ≡ true)
     (shown shut : ℕ) (w : WasClosed calls shown) (w_end : w.returned.call.end ≡ Some shut) (least : (q e : ℕ) (v : WasClosed calls q) → v.returned.call.end ≡ Some e → shut ≤ e)
     (close : ℕ) (dc : Did calls close Act.Close) (c_by : dc.call.begin ≤ shut) where
@@ -161,7 +159,7 @@ module _ (rules : Rules) (calls : List Call) (differ : Differ calls) (written : 
 
   -- a call that shows the queue closed ended no earlier
   ends_after : (p : ℕ) (c : Call) (e : ℕ) → slice_get calls p ≡ Some c → WantsClosed c.act → c.end ≡ Some e → shut ≤ e
-  ends_after p c e is wants ends = least p e (record { act = c.act; shows = shows_closed c.act wants; returned = record { call = c; call_is = is; act_is = refl; ended = some_is c.end e ends } }) ends
+  ends_after p c e is wants ends = least p e (record { act = c.act; shows = shows_closed c.act wants; returned = record { call = c; call_is = is; act_is = refl; ended = is_some_of c.end e ends } }) ends
 
   keep : (c : Call) → IsPlain c.act → (d : Call) × Keeps c d
   keep c plain = let t = tripled c.end in (record { begin = 3 * c.begin; end = t.0; act = c.act }, record { act = refl; plain = plain; begin = refl; ends = t.1 })
@@ -224,7 +222,7 @@ module _ (rules : Rules) (calls : List Call) (differ : Differ calls) (written : 
   sends : (p : ℕ) (c : Call) (item : ℕ) → slice_get calls p ≡ Some c → c.act ≡ Act.Send item → (d : Call) × Clip calls shut close p c d
   sends p c item is act = elim (end_cases c.end) [
     | inl e ↦
-        let accepted : WasAccepted calls p item = inl (record { call = c; call_is = is; act_is = act; ended = some_is c.end e.0 e.1 }) in
+        let accepted : WasAccepted calls p item = inl (record { call = c; call_is = is; act_is = act; ended = is_some_of c.end e.0 e.1 }) in
         let d = opens_some p c e.0 is wants e.1 (inr (item, accepted)) (λ v v_is. subst (WasAccepted calls p) (same v v_is) accepted) in
         (d.0, inr (inl d.1))
     | inr open_end ↦ elim (taker calls item) [
@@ -255,7 +253,7 @@ module _ (rules : Rules) (calls : List Call) (differ : Differ calls) (written : 
   fulls : (p : ℕ) (c : Call) → slice_get calls p ≡ Some c → c.act ≡ Act.Full → (d : Call) × Clip calls shut close p c d
   fulls p c is act = elim (end_cases c.end) [
     | inl e ↦
-        let d = opens_some p c e.0 is wants e.1 (inl (record { call = c; call_is = is; act_is = act; ended = some_is c.end e.0 e.1 })) (λ v v_is. absurd (no_send v v_is)) in
+        let d = opens_some p c e.0 is wants e.1 (inl (record { call = c; call_is = is; act_is = act; ended = is_some_of c.end e.0 e.1 })) (λ v v_is. absurd (no_send v v_is)) in
         (d.0, inr (inl d.1))
     | inr open_end ↦ let d = drop p c wants open_end (λ v v_is accepted. no_send v v_is) in (d.0, inr (inr (inl d.1)))
   ]
@@ -361,7 +359,7 @@ module _ (rules : Rules) (calls : List Call) (differ : Differ calls) (written : 
         (r.0, r.1, (λ some. ended c r.0 (end_cases c.end) some (high p c r.0 is r.2)), low p c r.0 r.2, high p c r.0 is r.2);
     back = λ p d is. let r = chosen.back p d is in (r.0, r.1, back_act p r.0 d r.2);
     open_by = λ p d is wants ended. let r = chosen.back p d is in open_by p r.0 d r.2 wants ended;
-    sends_end = λ p item d. let s = send_old item p d in some_is d.call.end s.opens.f s.opens.end;
+    sends_end = λ p item d. let s = send_old item p d in is_some_of d.call.end s.opens.f s.opens.end;
     closes_at = let r = chosen.there close dc.call dc.call_is in the_close r.0 r.1 r.2;
     closed_from = λ p d is other wants. let r = chosen.back p d is in closed_from p r.0 d r.2 other wants;
   }
@@ -539,9 +537,9 @@ wants_closed : (act : Act) → WantsClosed act ⊎ (ShowsClosed act → ⊥)
 wants_closed act = grind arith
 
 shown_at : (calls : List Call) (p : ℕ) → ((e : ℕ) × ShownAt calls p e) ⊎ ((e : ℕ) → ShownAt calls p e → ⊥)
-shown_at calls p = elim (call_at calls p) [
-  | inr none ↦ inr (λ e s. let clash : None ≡ Some s.0.returned.call = sym none ∙ s.0.returned.call_is in cc)
-  | inl c ↦ of_call c.0 c.1
+shown_at calls p = elim (slice_get_cases calls p).1 [
+  | inr none ↦ inr (λ e s. let clash : None ≡ Some s.0.returned.call = sym none.1 ∙ s.0.returned.call_is in cc)
+  | inl c ↦ of_call c.0 c.2
 ]
   where
     of_call : (c : Call) → slice_get calls p ≡ Some c → ((e : ℕ) × ShownAt calls p e) ⊎ ((e : ℕ) → ShownAt calls p e → ⊥)
@@ -551,7 +549,7 @@ shown_at calls p = elim (call_at calls p) [
           let one : s.0.returned.call ≡ c = cc in
           other (subst ShowsClosed (sym s.0.returned.act_is ∙ ap (λ (x : Call). x.act) one) s.0.shows))
       | inl wants ↦ elim (end_cases c.end) [
-        | inl e ↦ inl (e.0, (record { act = c.act; shows = shows_closed c.act wants; returned = record { call = c; call_is = is; act_is = refl; ended = some_is c.end e.0 e.1 } }, e.1))
+        | inl e ↦ inl (e.0, (record { act = c.act; shows = shows_closed c.act wants; returned = record { call = c; call_is = is; act_is = refl; ended = is_some_of c.end e.0 e.1 } }, e.1))
         | inr open_end ↦ inr (λ e s.
             let one : s.0.returned.call ≡ c = cc in
             none_some c.end open_end (subst (λ (x : Call). IsSome x.end) one s.0.returned.ended))

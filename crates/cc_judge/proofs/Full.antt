@@ -1,14 +1,16 @@
 -- A send finds the queue full only if as many items as the queue holds may have been in it.
-use Rattle.std.proofs.Common.{◌≡◌, ◌≢◌, ℕ, ◌<◌, ◌≤◌, ◌⊎◌, inl, inr, List, [], ◌∷◌, length, Option, Some, IsSome, refl, sym, ap, ◌∙◌, subst, arith}
+use Rattle.std.proofs.Common.{◌≡◌, ◌≢◌, ℕ, ◌<◌, ◌≤◌, ◌⊎◌, inl, inr, List, [], ◌∷◌, length, Option, Some, refl, sym, ap, ◌∙◌, subst, arith}
 use Rattle.std.specs.List.{slice_get}
 use Rattle.std.proofs.lemmas.Bool.{cases_lt}
 use Rattle.cc_judge.specs.Names.{Act, Call, Rules, Step}
 use Rattle.cc_judge.specs.Order.{EndsBefore, IsCall, Does, IsRun, IsOrder}
-use Rattle.cc_judge.specs.Faults.{Returned, Differ, EndedBy, FewerAt, NotFull}
+use Rattle.cc_judge.specs.Faults.{Differ, EndedBy, FewerAt, NotFull}
 use Rattle.cc_judge.proofs.Places.{In, Before, before_first, before_second, in_order}
 use Rattle.cc_judge.proofs.Runs.{Earlier, Single, AtMostOnce, later, first, from_where, takes_front, gone, single_next, loosened}
 use Rattle.cc_judge.proofs.Orders.{returned_step, sent_in_log, in_log, in_time, on_before, one_send, apart}
 use Rattle.cc_judge.proofs.Fewer.{Once, are_in}
+use Rattle.cc_judge.proofs.Calls.{is_send, is_some_of}
+use Rattle.cc_judge.proofs.Turns.{one_at}
 
 -- no step is in the list twice
 abbrev pub NoneTwice : List Step → Type 0
@@ -70,45 +72,18 @@ record Latest (calls : List Call) (steps : List Step) (t : Step) (least : ℕ) :
   over : least ≤ time
   each : (s : Step) (item : ℕ) (c : Call) → Before s t steps → s.act ≡ Act.Send item → slice_get calls s.place ≡ Some c → c.begin ≤ time
 
-is_send : (act : Act) → ((item : ℕ) × (act ≡ Act.Send item)) ⊎ ((item : ℕ) → act ≢ Act.Send item)
-is_send (Act.Send v) = inl (v, refl)
-is_send (Act.Took v) = inr (λ item e. cc)
-is_send Act.FoundNone = inr (λ item e. cc)
-is_send Act.Taking = inr (λ item e. cc)
-is_send Act.Full = inr (λ item e. cc)
-is_send Act.Closed = inr (λ item e. cc)
-is_send Act.Ended = inr (λ item e. cc)
-is_send Act.Close = inr (λ item e. cc)
-
 -- the same with one step more at the front
 module _ (calls : List Call) (x : Step) (steps : List Step) (t : Step) (least : ℕ) (within : In t steps) (i : IsCall calls x) (l : Latest calls steps t least) where
-  latest_other : ((item : ℕ) → x.act ≢ Act.Send item) → Latest calls (x ∷ steps) t least
-  latest_other other = record {
+  latest_kept : ((s : Step) (item : ℕ) (c : Call) → x ≡ s → s.act ≡ Act.Send item → slice_get calls s.place ≡ Some c → c.begin ≤ l.time) → Latest calls (x ∷ steps) t least
+  latest_kept earlier = record {
     time = l.time;
     from = elim l.from [ inl is ↦ inl is | inr f ↦ inr (f.0, f.1, f.2, inr f.3, f.4, f.5, f.6) ];
     over = l.over;
-    each = λ s item c before sent is. elim before [
-      | inl here ↦ absurd (other item (ap (λ (y : Step). y.act) here.0 ∙ sent))
-      | inr on ↦ l.each s item c on sent is
-    ];
+    each = λ s item c before sent is. elim before [ inl here ↦ earlier s item c here.0 sent is | inr on ↦ l.each s item c on sent is ];
   }
 
   begins_here : (s : Step) (c : Call) → x ≡ s → slice_get calls s.place ≡ Some c → c.begin ≡ i.call.begin
-  begins_here s c here is =
-      let both : Some c ≡ Some i.call = sym is ∙ ap (λ (y : Step). slice_get calls y.place) (sym here) ∙ i.call_is in
-      let one : c ≡ i.call = cc in
-      ap (λ (y : Call). y.begin) one
-
-  latest_same : i.call.begin ≤ l.time → Latest calls (x ∷ steps) t least
-  latest_same earlier = record {
-    time = l.time;
-    from = elim l.from [ inl is ↦ inl is | inr f ↦ inr (f.0, f.1, f.2, inr f.3, f.4, f.5, f.6) ];
-    over = l.over;
-    each = λ s item c before sent is. elim before [
-      | inl here ↦ omega (arith, begins_here s c here.0 is, earlier)
-      | inr on ↦ l.each s item c on sent is
-    ];
-  }
+  begins_here s c here is = ap (λ (y : Call). y.begin) (one_at calls s.place c i.call is (ap (λ (y : Step). slice_get calls y.place) (sym here) ∙ i.call_is))
 
   latest_more : (item : ℕ) → x.act ≡ Act.Send item → l.time < i.call.begin → Latest calls (x ∷ steps) t least
   latest_more sent_item sends more = record {
@@ -123,10 +98,10 @@ module _ (calls : List Call) (x : Step) (steps : List Step) (t : Step) (least : 
 
   latest_on : Latest calls (x ∷ steps) t least
   latest_on = elim (is_send x.act) [
-    | inr other ↦ latest_other other
+    | inr other ↦ latest_kept (λ s item c here sent is. absurd (other item (ap (λ (y : Step). y.act) here ∙ sent)))
     | inl sends ↦ elim (cases_lt l.time i.call.begin) [
       | inl more ↦ latest_more sends.0 sends.1 more
-      | inr not_more ↦ latest_same not_more
+      | inr not_more ↦ latest_kept (λ s item c here sent is. omega (arith, begins_here s c here is, not_more))
     ]
   ]
 
@@ -149,18 +124,8 @@ all_once (x ∷ xs) once = ((once x).0 refl, all_once xs (λ item. (once item).1
 
 -- ---- of an order
 
-module _ (rules : Rules) (calls : List Call) (call : ℕ) (order : List Step) (differ : Differ calls) (f : NotFull rules calls call) (o : IsOrder rules calls order) where
-  full_returned : Returned calls call Act.Full
-  full_returned = record { call = f.full.0; call_is = f.full.1; act_is = f.full.2; ended = subst IsSome (sym f.full.4) refl }
-
-  none_twice : NoneTwice order
-  none_twice s t before same = apart rules calls order o s t before (ap (λ (x : Step). x.place) same)
-
-  single : (item : ℕ) → Single item [] order
-  single item = record { once = tt; no_more = λ within. absurd within; one = one_send rules calls order o differ item }
-
-  legal_so : IsRun (Some f.capacity) [] order
-  legal_so = subst (λ (c : Option ℕ). IsRun c [] order) f.capacity_is o.legal
+pub none_twice : (rules : Rules) (calls : List Call) (order : List Step) → IsOrder rules calls order → NoneTwice order
+none_twice rules calls order o s t before same = apart rules calls order o s t before (ap (λ (x : Step). x.place) same)
 
 -- at the latest time at which a send before that began fewer items may be in the queue
 fewer_then : (rules : Rules) (calls : List Call) (call : ℕ) (order : List Step) (f : NotFull rules calls call) → IsOrder rules calls order → (t : Step) → t.place ≡ call → (l : Latest calls order t f.begin) → FewerAt calls f.capacity l.time
@@ -178,9 +143,7 @@ fewer_then rules calls call order f o t place_is l = elim l.from [
     act_in_log : (s : Step) (item : ℕ) (c : Call) → Before s t order → s.act ≡ Act.Send item → slice_get calls s.place ≡ Some c → c.act ≡ Act.Send item
     act_in_log s item c before sent is =
         let d = sent_in_log rules calls order o s item (before_first s t order before) sent in
-        let both : Some c ≡ Some d.call = sym is ∙ d.call_is in
-        let one : c ≡ d.call = cc in
-        ap (λ (y : Call). y.act) one ∙ d.act_is
+        ap (λ (y : Call). y.act) (one_at calls s.place c d.call is d.call_is) ∙ d.act_is
 
 -- a take that had ended by then comes before that
 taken_first : (rules : Rules) (calls : List Call) (call : ℕ) (order : List Step) (f : NotFull rules calls call) → IsOrder rules calls order → (t : Step) → t.place ≡ call → In t order → t.act ≡ Act.Full → (l : Latest calls order t f.begin) → (u : Step) (item : ℕ) → In u order → u.act ≡ Act.Took item → EndedBy calls u.place l.time → Before u t order
@@ -215,9 +178,11 @@ taken_first rules calls call order f o t place_is within full l u item there too
 
 pub not_full : (rules : Rules) (calls : List Call) (call : ℕ) (order : List Step) → Differ calls → NotFull rules calls call → IsOrder rules calls order → ⊥
 not_full rules calls call order differ f o =
-    let t = returned_step rules calls order o call Act.Full (λ is. cc) (full_returned rules calls call order differ f o) in
-    let once = none_twice rules calls call order differ f o in
-    let h = held_at f.capacity [] order t.step (legal_so rules calls call order differ f o) once (single rules calls call order differ f o) t.within t.act_is in
+    let t = returned_step rules calls order o call Act.Full (λ is. cc) (record { call = f.full.0; call_is = f.full.1; act_is = f.full.2; ended = is_some_of f.full.0.end f.end f.full.4 }) in
+    let once = none_twice rules calls order o in
+    let legal = subst (λ (c : Option ℕ). IsRun c [] order) f.capacity_is o.legal in
+    let single : (item : ℕ) → Single item [] order = λ item. record { once = tt; no_more = λ within. absurd within; one = one_send rules calls order o differ item } in
+    let h = held_at f.capacity [] order t.step legal once single t.within t.act_is in
     let l = latest calls order t.step f.begin (λ s within. in_log rules calls order o s within) once t.within in
     let fewer = fewer_then rules calls call order f o t.step t.place_is l in
     let each : (item : ℕ) → In item h.items → In item fewer.may = λ (item : ℕ) (has : In item h.items). elim (h.from item has) [

@@ -13,10 +13,9 @@ use Rattle.std.proofs.lemmas.Option.{slice_get_within}
 use Rattle.std.proofs.lemmas.List.Sorted.{Contains-permutation, IsPermutation-sym}
 use Rattle.cc_judge.specs.Verdict.{IsOvertaken, IsUntaken, AreUntaken, IsStay, AreStays}
 use Rattle.cc_judge.proofs.Listing.{some_is, pushed_at, contains_at, at_contains}
-use Rattle.cc_judge.proofs.Sweeping.{passed_by, some_end, is_some_of}
-
-pub one_call : (calls : List Call) (place : ℕ) (a b : Call) → slice_get calls place ≡ Some a → slice_get calls place ≡ Some b → a ≡ b
-one_call calls place a b here there = some_is a b (sym here ∙ there)
+use Rattle.cc_judge.proofs.Sweeping.{passed_by}
+use Rattle.cc_judge.proofs.Calls.{is_some_of, some_end, took_item}
+use Rattle.cc_judge.proofs.Turns.{less_or, one_at}
 
 -- ---- closes
 
@@ -25,7 +24,7 @@ closed_early_so rules calls s written shut after = elim shut.was_closed.shows [
   | inl close ↦
       let r = shut.was_closed.returned in
       let b = after s.call (record { call = r.call; call_is = r.call_is; act_is = r.act_is ∙ close }) in
-      let le = written.timed s.call b.call s.time b.call_is (ap (λ (c : Call). c.end) (one_call calls s.call b.call shut.ends.0 b.call_is shut.ends.1) ∙ shut.ends.2) in
+      let le = written.timed s.call b.call s.time b.call_is (ap (λ (c : Call). c.end) (one_at calls s.call b.call shut.ends.0 b.call_is shut.ends.1) ∙ shut.ends.2) in
       let late = b.after in
       absurd (omega (arith, le, late))
   | inr answered ↦ record {
@@ -56,7 +55,7 @@ keeps_shut rules calls s close shut did begun none = record {
         let le = shut.first call before.end was_closed (before.one, before.one_is, before.ended) in
         let less = before.before in
         let by = begun.by in
-        let same = ap (λ (c : Call). c.begin) (one_call calls close before.other begun.call before.other_is begun.call_is) in
+        let same = ap (λ (c : Call). c.begin) (one_at calls close before.other begun.call before.other_is begun.call_is) in
         omega (arith, le, less, by, same),
   );
 }
@@ -74,7 +73,7 @@ module _ (rules : Rules) (calls : List Call) (written : IsWritten calls) (later_
         later = later;
         sent_first = first (spell.after begin last.before);
         apart = λ same.
-            let here = ap (λ (c : Call). c.begin) (one_call calls later_take pair.took.call spell.took.call pair.took.call_is (ap (slice_get calls) same ∙ spell.took.call_is)) in
+            let here = ap (λ (c : Call). c.begin) (one_at calls later_take pair.took.call spell.took.call pair.took.call_is (ap (slice_get calls) same ∙ spell.took.call_is)) in
             let timed = written.timed later_take pair.took.call end pair.took.call_is pair.ends in
             omega (arith, less, begins, here, timed);
         taken_last = record { one = pair.took.call; other = spell.took.call; end = end; one_is = pair.took.call_is; other_is = spell.took.call_is; ended = pair.ends; before = omega (arith, less, begins) };
@@ -114,7 +113,7 @@ never_empty_so rules calls place begin end written none inside = record {
 
 pub ended_items_so : (rules : Rules) (calls : List Call) (place begin end : ℕ) → rules.closes ≡ true → Did calls place Act.Ended → IsNone calls place begin end → IsInside rules calls (suc end) end → EndedWithItems rules calls place
 ended_items_so rules calls place begin end judged did none inside =
-    let same = one_call calls place did.call none.call did.call_is none.call_is in
+    let same = one_at calls place did.call none.call did.call_is none.call_is in
     record {
       judged = judged;
       begin = begin;
@@ -140,28 +139,23 @@ pub when_both : {X : Type 0} (P Q : X → Type 0) (found : Option X) → is_some
 when_both P Q None some p q = absurd (cc (some))
 when_both P Q (Some x) some p q = (x, p, q)
 
-one_item : (calls : List Call) (take one other : ℕ) → Did calls take (Act.Took one) → Did calls take (Act.Took other) → one ≡ other
-one_item calls take one other d e =
-    let both : Act.Took one ≡ Act.Took other = sym d.act_is ∙ ap (λ (c : Call). c.act) (one_call calls take d.call e.call d.call_is e.call_is) ∙ e.act_is in
-    cc
-
 pub was_sent : (calls : List Call) (take one other : ℕ) → Did calls take (Act.Took one) → Did calls take (Act.Took other) → WasSent calls take one → WasSent calls take other
-was_sent calls take one other d e = subst (WasSent calls take) (one_item calls take one other d e)
+was_sent calls take one other d e = subst (WasSent calls take) (took_item calls take one other d e)
 
 -- a take of this item, of whose send the index has no place, took no item that was sent
 pub unsent : (calls : List Call) (index : Index) (send take one other : ℕ) → IsIndex calls index → Did calls take (Act.Took one) → ((place : ℕ) → slice_get index.sends.items one ≢ Some (Some place)) → Did calls send (Act.Send other) → Did calls take (Act.Took other) → ⊥
-unsent calls index send take one other indexed d none s e = none send (ap (slice_get index.sends.items) (one_item calls take one other d e) ∙ indexed.sends.all send other s)
+unsent calls index send take one other indexed d none s e = none send (ap (slice_get index.sends.items) (took_item calls take one other d e) ∙ indexed.sends.all send other s)
 
 -- the times of a pair follow from its take
 pub same_pair : (rules : Rules) (calls : List Call) (index : Index) (s s2 t t2 b b2 e e2 : ℕ) → IsIndex calls index → t ≡ t2 → IsPair calls s t b e → IsPair calls s2 t2 b2 e2 → KeepsTurn rules calls b e → KeepsTurn rules calls b2 e2
 same_pair rules calls index s s2 t t2 b b2 e e2 indexed same p q keeps =
     let took : Did calls t2 (Act.Took p.item) = subst (λ (k : ℕ). Did calls k (Act.Took p.item)) same p.took in
-    let items = one_item calls t2 p.item q.item took q.took in
+    let items = took_item calls t2 p.item q.item took q.took in
     let sent : Did calls s (Act.Send q.item) = subst (λ (n : ℕ). Did calls s (Act.Send n)) items p.sent in
     let both : Some (Some s) ≡ Some (Some s2) = sym (indexed.sends.all s q.item sent) ∙ indexed.sends.all s2 q.item q.sent in
     let sends : s ≡ s2 = cc in
-    let begins : b ≡ b2 = sym p.begins ∙ ap (λ (c : Call). c.begin) (one_call calls s2 p.sent.call q.sent.call (sym (ap (slice_get calls) sends) ∙ p.sent.call_is) q.sent.call_is) ∙ q.begins in
-    let ended : Some e ≡ Some e2 = sym p.ends ∙ ap (λ (c : Call). c.end) (one_call calls t2 p.took.call q.took.call (sym (ap (slice_get calls) same) ∙ p.took.call_is) q.took.call_is) ∙ q.ends in
+    let begins : b ≡ b2 = sym p.begins ∙ ap (λ (c : Call). c.begin) (one_at calls s2 p.sent.call q.sent.call (sym (ap (slice_get calls) sends) ∙ p.sent.call_is) q.sent.call_is) ∙ q.begins in
+    let ended : Some e ≡ Some e2 = sym p.ends ∙ ap (λ (c : Call). c.end) (one_at calls t2 p.took.call q.took.call (sym (ap (slice_get calls) same) ∙ p.took.call_is) q.took.call_is) ∙ q.ends in
     let ends : e ≡ e2 = cc in
     subst (λ (x : ℕ × ℕ). KeepsTurn rules calls x.0 x.1) (λ i. (begins i, ends i)) keeps
 
@@ -174,15 +168,15 @@ open_taken calls index send item call (Some take) indexed written is act has som
 pub not_open : (calls : List Call) (index : Index) (send item : ℕ) (call : Call) (found : Option ℕ) → IsIndex calls index → slice_get calls send ≡ Some call → call.act ≡ Act.Send item → call.end ≡ None → IfNone found ((place : ℕ) → slice_get index.takes.items item ≢ Some (Some place)) → is_some found ≡ false → WasOpen calls send → ⊥
 not_open calls index send item call (Some take) indexed is act ends none not_some was_open = cc (not_some)
 not_open calls index send item call None indexed is act ends none not_some (inl full) =
-    let both : Act.Send item ≡ Act.Full = sym act ∙ ap (λ (c : Call). c.act) (one_call calls send call full.call is full.call_is) ∙ full.act_is in
+    let both : Act.Send item ≡ Act.Full = sym act ∙ ap (λ (c : Call). c.act) (one_at calls send call full.call is full.call_is) ∙ full.act_is in
     cc
 not_open calls index send item call None indexed is act ends none not_some (inr (other, inl sent)) =
-    let same = one_call calls send call sent.call is sent.call_is in
+    let same = one_at calls send call sent.call is sent.call_is in
     let e = some_end sent.call.end sent.ended in
     let both : None ≡ Some e.0 = sym ends ∙ ap (λ (c : Call). c.end) same ∙ e.1 in
     cc
 not_open calls index send item call None indexed is act ends none not_some (inr (other, inr (take, passed))) =
-    let same : Act.Send item ≡ Act.Send passed.item = sym act ∙ ap (λ (c : Call). c.act) (one_call calls send call passed.sent.call is passed.sent.call_is) ∙ passed.sent.act_is in
+    let same : Act.Send item ≡ Act.Send passed.item = sym act ∙ ap (λ (c : Call). c.act) (one_at calls send call passed.sent.call is passed.sent.call_is) ∙ passed.sent.act_is in
     let items : item ≡ passed.item = cc in
     none take (ap (slice_get index.takes.items) items ∙ indexed.takes.all take passed.item (record { call = passed.took.call; call_is = passed.took.call_is; act_is = passed.took.act_is }))
 
@@ -195,7 +189,7 @@ never_at rules calls begin end (Some time) false is so all = absurd (cc (so))
 
 same_none : (calls : List Call) (place begin end b e : ℕ) → IsNone calls place begin end → IsNone calls place b e → (begin ≡ b) × (end ≡ e)
 same_none calls place begin end b e n m =
-    let same = one_call calls place n.call m.call n.call_is m.call_is in
+    let same = one_at calls place n.call m.call n.call_is m.call_is in
     let ends : Some end ≡ Some e = sym n.ends ∙ ap (λ (c : Call). c.end) same ∙ m.ends in
     (sym n.begins ∙ ap (λ (c : Call). c.begin) same ∙ m.begins, some_is end e ends)
 
@@ -312,9 +306,9 @@ module _ (rules : Rules) (calls : List Call) (index : Index) (indexed : IsIndex 
 
   in_turn : (s1 t1 s2 t2 one other : ℕ) → Did calls s1 (Act.Send one) → Did calls t1 (Act.Took one) → Did calls s2 (Act.Send other) → Did calls t2 (Act.Took other) → EndsBefore calls s1 s2 → EndsBefore calls t2 t1 → ⊥
   in_turn s1 t1 s2 t2 one other d1 e1 d2 e2 before behind =
-      let ends = sym (ap (λ (c : Call). c.end) (one_call calls t2 behind.one e2.call behind.one_is e2.call_is)) ∙ behind.ended in
-      let begins = ap (λ (c : Call). c.begin) (one_call calls s2 before.other d2.call before.other_is d2.call_is) in
-      let takes = ap (λ (c : Call). c.begin) (one_call calls t1 behind.other e1.call behind.other_is e1.call_is) in
+      let ends = sym (ap (λ (c : Call). c.end) (one_at calls t2 behind.one e2.call behind.one_is e2.call_is)) ∙ behind.ended in
+      let begins = ap (λ (c : Call). c.begin) (one_at calls s2 before.other d2.call before.other_is d2.call_is) in
+      let takes = ap (λ (c : Call). c.begin) (one_at calls t1 behind.other e1.call behind.other_is e1.call_is) in
       let less = before.before in
       let by = (turns s2 t2 d2.call.begin behind.end (pair_of s2 t2 other behind.end d2 e2 ends)).0 s1 t1 one (record { sent = d1; done = inl (record { call = before.one; call_is = before.one_is; end = before.end; ended = before.ended; by = omega (arith, less, begins) }) }) e1 in
       let late = behind.before in
@@ -343,9 +337,6 @@ module _ (rules : Rules) (calls : List Call) (index : Index) (indexed : IsIndex 
   }
 
 -- ---- one call after another
-
-less_or : (k i : ℕ) → k < i + 1 → (k < i) ⊎ (k ≡ i)
-less_or k i below = elim (cases_lt k i) [ inl less ↦ inl less | inr not_less ↦ inr (omega (arith, below, not_less)) ]
 
 -- what holds of the calls so far, and of the next one, holds of all up to it
 pub one_more : (P : ℕ → Type 0) (i : ℕ) → ((k : ℕ) → k < i → P k) → P i → (k : ℕ) → k < i + 1 → P k

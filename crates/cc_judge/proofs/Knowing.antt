@@ -8,7 +8,8 @@ use Rattle.cc_judge.specs.Faults.{Did}
 use Rattle.cc_judge.specs.Table.{IsIndex}
 use Rattle.cc_judge.specs.Room.{IsKnown, IsTakeOf, MayBeGone, WasTaken}
 use Rattle.cc_judge.proofs.Listing.{ListOf, some_is}
-use Rattle.cc_judge.proofs.Sweeping.{sent_one, since_upto, took_one}
+use Rattle.cc_judge.proofs.Sweeping.{since_upto, took_one}
+use Rattle.cc_judge.proofs.Calls.{sent_one}
 
 -- it is known of a call of the log
 within : (rules : Rules) (calls : List Call) (what : Known) (time place : ℕ) → IsKnown rules calls what time place → place < length calls

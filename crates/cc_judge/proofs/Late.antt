@@ -14,6 +14,7 @@ use Rattle.cc_judge.proofs.Places.{In, Before, before_first, before_second, in_a
 use Rattle.cc_judge.proofs.Turns.{nat_cases}
 use Rattle.cc_judge.proofs.Orders.{apart, in_log, in_time, one_send, one_take, runs, sent_in_log, step_of, took_in_log}
 use Rattle.cc_judge.proofs.Marks.{IsEarly, get_behind, get_front, get_split, get_within, is_some_true, lacks, lacks_at, lacks_rises, marked, marks_sent, marks_taken, none_is_marked, none_marked, only_marked, padding_early}
+use Rattle.cc_judge.proofs.Calls.{end_cases, none_some}
 
 -- ---- a list of steps of which some go to other places, and some aren't kept
 
@@ -106,17 +107,13 @@ record Sorts (f : Step → Option ℕ) (k : ℕ → Bool) : Type 0 where
   stays : (s : Step) (q x : ℕ) → f s ≡ Some q → Moves s.act x → k x ≡ true
   goes : (s : Step) (x : ℕ) → f s ≡ None → Moves s.act x → k x ≡ false
 
-some_or_none : (o : Option ℕ) → (o ≡ None) ⊎ ((q : ℕ) × (o ≡ Some q))
-some_or_none None = inl refl
-some_or_none (Some q) = inr (q, refl)
-
 moved_run : (f : Step → Option ℕ) (k : ℕ → Bool) → Sorts f k → (steps : List Step) (held : List ℕ) → IsRun None held steps → IsRun None (only k held) (moved f steps)
 moved_run f k sorts [] held run = tt
-moved_run f k sorts (s ∷ steps) held run = elim (some_or_none (f s)) [
-  | inl none ↦
+moved_run f k sorts (s ∷ steps) held run = elim (end_cases (f s)) [
+  | inr none ↦
       let same : only k run.0 ≡ only k held = does_nothing k held run.0 s.act run.1 (λ x moves. sorts.goes s x none moves) in
       subst (λ (o : Option ℕ). IsRun None (only k held) (put o s.act (moved f steps))) (sym none) (subst (λ (l : List ℕ). IsRun None l (moved f steps)) same (moved_run f k sorts steps run.0 run.2))
-  | inr some ↦
+  | inl some ↦
       subst (λ (o : Option ℕ). IsRun None (only k held) (put o s.act (moved f steps))) (sym some.1)
       (only k run.0, does_kept k held run.0 s.act run.1 (λ x moves. sorts.stays s some.0 x some.1 moves), moved_run f k sorts steps run.0 run.2)
 ]
@@ -300,9 +297,6 @@ or_first a b is not = grind arith
 
 not_both : (b : Bool) → b ≡ true → b ≡ false → ⊥
 not_both b is_so is_not = grind arith
-
-no_end : (o : Option ℕ) → o ≡ None → IsSome o → ⊥
-no_end o none some = grind arith
 
 -- ---- steps that go to other places
 
@@ -503,12 +497,12 @@ own_counts whole part calls lacked items order g s c within at ended x (inr act)
   | inr taking ↦
       let d = did_within calls lacked s.place Act.Taking taking (slice_get_within calls s.place c at) in
       let one : d.call ≡ c = cc in
-      absurd (no_end c.end (sym (ap (λ (y : Call). y.end) one) ∙ g.sound.waits s.place d) ended)
+      absurd (none_some c.end (sym (ap (λ (y : Call). y.end) one) ∙ g.sound.waits s.place d) ended)
 ]
 
 all_kept : (whole part : Rules) (calls lacked : List Call) (items : ℕ) (order : List Step) → Part whole part calls lacked items order → IsWhole (padded true part.closes calls items) (moved (goes_to part calls items order) order)
 all_kept whole part calls lacked items order g place c is ended = elim (padded_split part.closes calls items place c is) [
-  | inr late ↦ absurd (no_end c.end late.1 ended)
+  | inr late ↦ absurd (none_some c.end late.1 ended)
   | inl mine ↦
       let h = g.is.whole place c (get_front calls lacked place c mine) ended in
       let within = in_at h.step order h.at h.step_is in

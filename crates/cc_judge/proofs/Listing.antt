@@ -14,6 +14,12 @@ use Rattle.cc_judge.proofs.Marks.{get_front, get_last}
 pub some_is : {X : Type 0} (x y : X) → Some x ≡ Some y → x ≡ y
 some_is x y same = cc
 
+pub first_is : {X Y : Type 0} (e f : X × Y) → Some e ≡ Some f → e.0 ≡ f.0
+first_is e f both = ap (λ g. g.0) (some_is e f both)
+
+pub second_is : {X Y : Type 0} (e f : X × Y) → Some e ≡ Some f → e.1 ≡ f.1
+second_is e f both = ap (λ g. g.1) (some_is e f both)
+
 pub contains_at : {X : Type 0} (xs : List X) (x : X) → Contains xs x → (k : ℕ) × (slice_get xs k ≡ Some x)
 contains_at xs x has = (has.0, slice_get-get_or xs has.0 x has.1 ∙ ap Some has.2)
 

@@ -6,9 +6,9 @@ use Rattle.cc_judge.specs.Order.{Does, IsRun, IsOrder}
 use Rattle.cc_judge.specs.Faults.{Did, Returned, Differ, EndedBy, MoreAt, TooMany}
 use Rattle.cc_judge.proofs.Places.{In, Before, before_first, in_order, in_last}
 use Rattle.cc_judge.proofs.Runs.{to_where, sends_last, loosened}
-use Rattle.cc_judge.proofs.Orders.{StepOf, step_of, returned_step, took_in_log, in_time, on_before, one_take, apart}
+use Rattle.cc_judge.proofs.Orders.{StepOf, step_of, returned_step, took_in_log, in_time, on_before, one_take, one_step}
 use Rattle.cc_judge.proofs.Fewer.{fits, split}
-use Rattle.cc_judge.proofs.Full.{NoneTwice, none_twice_later, none_before}
+use Rattle.cc_judge.proofs.Full.{NoneTwice, none_twice_later, none_before, none_twice}
 
 -- ---- what the queue holds after a step
 
@@ -148,15 +148,6 @@ module _ (rules : Rules) (calls : List Call) (order : List Step) (o : IsOrder ru
 -- ---- of an order
 
 module _ (rules : Rules) (calls : List Call) (order : List Step) (o : IsOrder rules calls order) (differ : Differ calls) where
-  one_step : (u v : Step) → In u order → In v order → u.place ≡ v.place → u ≡ v
-  one_step u v first second same = elim (in_order u v order first second) [
-    | inl here ↦ here
-    | inr placed ↦ elim placed [
-      | inl one ↦ absurd (apart rules calls order o u v one same)
-      | inr two ↦ absurd (apart rules calls order o v u two (sym same))
-    ]
-  ]
-
   ended_step : (send item time : ℕ) → Did calls send (Act.Send item) → EndedBy calls send time → StepOf order send (Act.Send item)
   ended_step send item time did e =
       let both : Some did.call ≡ Some e.call = sym did.call_is ∙ e.call_is in
@@ -173,12 +164,6 @@ module _ (rules : Rules) (calls : List Call) (order : List Step) (o : IsOrder ru
   some_place [] n less = absurd (omega (arith, less))
   some_place (x ∷ xs) n less = (x, xs, refl)
 
-  legal_so : (capacity : ℕ) → rules.capacity ≡ Some capacity → IsRun (Some capacity) [] order
-  legal_so capacity is = subst (λ (c : Option ℕ). IsRun c [] order) is o.legal
-
-  none_twice : NoneTwice order
-  none_twice s t before same = apart rules calls order o s t before (ap (λ (x : Step). x.place) same)
-
   module _ (sends : List ℕ) (capacity time : ℕ) (is : rules.capacity ≡ Some capacity) (m : MoreAt calls sends capacity time) where
     steps_of : (s : ℕ) → In s sends → (item : ℕ) × StepOf order s (Act.Send item)
     steps_of s within =
@@ -191,7 +176,7 @@ module _ (rules : Rules) (calls : List Call) (order : List Step) (o : IsOrder ru
         subst (Last order) (sym f.2) (last_of rules calls order o f.0 f.1 (λ s within. steps_of s (subst (In s) (sym f.2) within)))
 
     after : HeldAfter capacity [] order last.step
-    after = held_after capacity [] order last.step (legal_so capacity is) none_twice (omega arith) last.within
+    after = held_after capacity [] order last.step (subst (λ (c : Option ℕ). IsRun c [] order) is o.legal) (none_twice rules calls order o) (omega arith) last.within
 
     -- a step until the last send that took the item of a send is of one of the takes
     taken_by : (send item : ℕ) → In send sends → Did calls send (Act.Send item) → (u : Step) → Until u last.step order → In u order → u.act ≡ Act.Took item → In u.place m.takes
@@ -234,7 +219,7 @@ module _ (rules : Rules) (calls : List Call) (order : List Step) (o : IsOrder ru
         let l = last.each send within in
         let e = m.each send within in
         let s = ended_step send e.0 (suc time) e.1 e.2 in
-        let same = one_step l.1 s.step (until_in l.1 l.4) s.within (l.2 ∙ sym s.place_is) in
+        let same = one_step rules calls order o l.1 s.step (until_in l.1 l.4) s.within (l.2 ∙ sym s.place_is) in
         let sent : l.1.act ≡ Act.Send e.0 = ap (λ (x : Step). x.act) same ∙ s.act_is in
         elim (after.new e.0 l.1 l.4 sent) [
           | inl has ↦ inl (e.0, (e.1, has))
@@ -247,7 +232,7 @@ module _ (rules : Rules) (calls : List Call) (order : List Step) (o : IsOrder ru
 
     own_take : (s t place : ℕ) → TookBy s place → TookBy t place → s ≡ t
     own_take s t place a b =
-        let same = one_step a.2 b.2 a.3 b.3 (a.5 ∙ sym b.5) in
+        let same = one_step rules calls order o a.2 b.2 a.3 b.3 (a.5 ∙ sym b.5) in
         let acts : Act.Took b.0 ≡ Act.Took a.0 = sym b.4 ∙ ap (λ (u : Step). u.act) (sym same) ∙ a.4 in
         let items : b.0 ≡ a.0 = cc in
         differ a.0 s t a.1 (subst (λ (i : ℕ). Did calls t (Act.Send i)) items b.1)

@@ -1,5 +1,5 @@
 -- The facts that a legal order of a log gives of the calls of the log.
-use Rattle.std.proofs.Common.{◌≡◌, ◌≢◌, ℕ, ◌≤◌, ◌⊎◌, inl, inr, List, [], Option, Some, None, IsSome, refl, sym, ap, ◌∙◌, subst, arith}
+use Rattle.std.proofs.Common.{◌≡◌, ◌≢◌, ℕ, ◌≤◌, ◌⊎◌, inl, inr, List, [], Some, None, IsSome, refl, sym, ap, ◌∙◌, subst, arith}
 use Rattle.std.specs.List.{slice_get}
 use Rattle.std.proofs.lemmas.Bool.{cases_lt}
 use Rattle.cc_judge.specs.Names.{Act, Call, Rules, Step}
@@ -7,6 +7,7 @@ use Rattle.cc_judge.specs.Order.{MayHaveDone, EndsBefore, IsCall, HasStepOf, IsR
 use Rattle.cc_judge.specs.Faults.{Did, Returned, Differ}
 use Rattle.cc_judge.proofs.Places.{In, Before, before_first, before_second, in_order, in_at, at_in, at_before, before_at}
 use Rattle.cc_judge.proofs.Runs.{taken_once, of_whatever_capacity}
+use Rattle.cc_judge.proofs.Calls.{is_some_of}
 
 -- a call that says what it did did that
 did_same : (said did : Act) → MayHaveDone said did → said ≢ Act.Taking → did ≡ said
@@ -51,14 +52,11 @@ step_of rules calls order o place c act call_is act_is plain ended =
 pub returned_step : (rules : Rules) (calls : List Call) (order : List Step) → IsOrder rules calls order → (place : ℕ) (act : Act) → act ≢ Act.Taking → Returned calls place act → StepOf order place act
 returned_step rules calls order o place act plain r = step_of rules calls order o place r.call act r.call_is r.act_is plain r.ended
 
-some_ended : (e : Option ℕ) (n : ℕ) → e ≡ Some n → IsSome e
-some_ended e n is = subst IsSome (sym is) refl
-
 -- a call that ended before another began returned
 pub ended_step : (rules : Rules) (calls : List Call) (order : List Step) → IsOrder rules calls order → (place other : ℕ) (act : Act) → act ≢ Act.Taking → Did calls place act → EndsBefore calls place other → StepOf order place act
 ended_step rules calls order o place other act plain d e =
     let one : d.call ≡ e.one = cc in
-    step_of rules calls order o place d.call act d.call_is d.act_is plain (some_ended d.call.end e.end (ap (λ (x : Call). x.end) one ∙ e.ended))
+    step_of rules calls order o place d.call act d.call_is d.act_is plain (is_some_of d.call.end e.end (ap (λ (x : Call). x.end) one ∙ e.ended))
 
 pub in_log : (rules : Rules) (calls : List Call) (order : List Step) → IsOrder rules calls order → (s : Step) → In s order → IsCall calls s
 in_log rules calls order o s within = let at = at_in s order within in o.each at.0 s at.1
@@ -87,6 +85,15 @@ closed_in_log rules calls order o s within is =
 -- two steps are of two calls
 pub apart : (rules : Rules) (calls : List Call) (order : List Step) → IsOrder rules calls order → (s t : Step) → Before s t order → s.place ≢ t.place
 apart rules calls order o s t first = let at = at_before s t order first in o.once at.0 at.1 s t at.2 at.3 at.4
+
+pub one_step : (rules : Rules) (calls : List Call) (order : List Step) → IsOrder rules calls order → (s t : Step) → In s order → In t order → s.place ≡ t.place → s ≡ t
+one_step rules calls order o s t first second same = elim (in_order s t order first second) [
+  | inl here ↦ here
+  | inr placed ↦ elim placed [
+    | inl one ↦ absurd (apart rules calls order o s t one same)
+    | inr two ↦ absurd (apart rules calls order o t s two (sym same))
+  ]
+]
 
 -- no step comes after one whose call began after it had ended
 pub in_time : (rules : Rules) (calls : List Call) (order : List Step) → IsOrder rules calls order → (s t : Step) → Before s t order → EndsBefore calls t.place s.place → ⊥

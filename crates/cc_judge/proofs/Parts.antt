@@ -1,8 +1,9 @@
 -- A log that is cut between calls that only their lines order: how the parts of times are found, and what holds of the cut log.
-use Rattle.std.proofs.Common.{◌≡◌, ◌≢◌, ℕ, zero, suc, ◌+◌, ◌*◌, ◌<◌, ◌≤◌, ◌⊎◌, inl, inr, Bool, true, false, List, [], ◌∷◌, ◌++◌, length, Option, Some, None, refl, sym, ap, ◌∙◌, subst, arith}
+use Rattle.std.proofs.Common.{◌≡◌, ◌≢◌, ℕ, ◌+◌, ◌*◌, ◌<◌, ◌≤◌, ◌⊎◌, inl, inr, Bool, true, false, List, [], ◌∷◌, ◌++◌, length, Option, Some, None, refl, sym, ap, ◌∙◌, subst, arith}
 use Rattle.std.specs.List.{slice_get, slice_set}
 use Rattle.std.proofs.lemmas.Bool.{cases_lt}
 use Rattle.std.proofs.lemmas.Option.{slice_get_within}
+use Rattle.std.proofs.lemmas.List.{length_push}
 use Rattle.cc_judge.specs.Names.{Call, Fault, Rules, Tie, Verdict}
 use Rattle.cc_judge.specs.Order.{IsLinearizable, of_any_capacity}
 use Rattle.cc_judge.specs.Room.{KeepsRoom}
@@ -11,28 +12,19 @@ use Rattle.cc_judge.specs.Faultless.{IsWritten, NoFault}
 use Rattle.cc_judge.specs.Counts.{AreSorted}
 use Rattle.cc_judge.specs.Cuts.{IsEarlier, IsLater, MeetAt, AreLone, AreMeetings, AreApart, AreShort, MayBeCut, AreMarked, AreEach, CutBy, CutCall, IsCut, AreWithoutTies, begin_part, end_part, place_of}
 use Rattle.cc_judge.specs.Verdict.{StandsFirst, IsVerdict}
-use Rattle.cc_judge.proofs.Turns.{nat_cases, set_at, set_elsewhere}
-use Rattle.cc_judge.proofs.Shares.{end_cases}
-use Rattle.cc_judge.proofs.Cuts.{cut_logs_are_exact, cut_timed, finer_differ, finer_written, none_some, one_call, one_end, some_is, untimed}
+use Rattle.cc_judge.proofs.Turns.{nat_cases, set_at, set_elsewhere, one_at, less_or, slice_has}
+use Rattle.cc_judge.proofs.Cuts.{cut_logs_are_exact, cut_timed, finer_differ, finer_written, untimed}
 use Rattle.cc_judge.specs.Splits.{IsClean, IsFiner, IsTimed}
 use Rattle.cc_judge.specs.Until.{HaveEnded}
-use Rattle.cc_judge.proofs.Listing.{ListOf, rises, at_pushed, last_pushed}
+use Rattle.cc_judge.proofs.Listing.{ListOf, rises, at_pushed, last_pushed, first_is, second_is}
 use Rattle.cc_judge.proofs.Until.{no_first, none_until, until_end}
 use Rattle.cc_judge.proofs.Faultless.{faultless_logs_have_orders}
-
-pub less_or : (k i : ℕ) → k < i + 1 → (k < i) ⊎ (k ≡ i)
-less_or k i below = elim (cases_lt k i) [ inl less ↦ inl less | inr not_less ↦ inr (omega (arith, below, not_less)) ]
+use Rattle.cc_judge.proofs.Calls.{end_cases, is_some_of, none_some, one_end}
 
 -- ---- a sorted list of times
 
 abbrev pub ApartTo : List (ℕ × ℕ) → ℕ → Type 0
 ApartTo list i = (j k time x y : ℕ) → j < i → k < i → slice_get list j ≡ Some (time, x) → slice_get list k ≡ Some (time, y) → j ≡ k
-
-first_is : {X Y : Type 0} (e f : X × Y) → Some e ≡ Some f → e.0 ≡ f.0
-first_is e f both = let same : e ≡ f = cc in ap (λ g. g.0) same
-
-second_is : {X Y : Type 0} (e f : X × Y) → Some e ≡ Some f → e.1 ≡ f.1
-second_is e f both = let same : e ≡ f = cc in ap (λ g. g.1) same
 
 -- two entries, one behind the other
 module _ (list : List (ℕ × ℕ)) (l p : ℕ) (next : l + 1 ≡ p) (e f : ℕ × ℕ) (e_is : slice_get list l ≡ Some e) (f_is : slice_get list p ≡ Some f) where
@@ -103,7 +95,7 @@ may_be_cut calls ties list short m apart = record {
 }
   where
     one_time : (calls : List Call) (tie : Tie) (t u : ℕ) → MeetAt calls tie t → MeetAt calls tie u → t ≡ u
-    one_time calls tie t u m n = sym m.begins ∙ ap (λ (c : Call). c.begin) (one_call calls tie.later m.other n.other m.other_is n.other_is) ∙ n.begins
+    one_time calls tie t u m n = sym m.begins ∙ ap (λ (c : Call). c.begin) (one_at calls tie.later m.other n.other m.other_is n.other_is) ∙ n.begins
 
 pub must_be_apart : (calls : List Call) (ties : List Tie) (list : List (ℕ × ℕ)) → AreMeetings calls ties list → MayBeCut calls ties → AreApart list
 must_be_apart calls ties list m may j k time x y j_is k_is =
@@ -117,11 +109,6 @@ must_be_apart calls ties list m may j k time x y j_is k_is =
 pub record MarkedTo (ties : List Tie) (later : Bool) (marks : List Bool) (upto : ℕ) : Type 0 where
   pub marked : (place : ℕ) → slice_get marks place ≡ Some true → (i : ℕ) × (tie : Tie) × (slice_get ties i ≡ Some tie) × (place_of later tie ≡ place)
   pub others : (place i : ℕ) (tie : Tie) → i < upto → slice_get marks place ≡ Some false → slice_get ties i ≡ Some tie → place_of later tie ≢ place
-
-pub set_long : {X : Type 0} (xs : List X) (k : ℕ) (x : X) → length (slice_set xs k x) ≡ length xs
-set_long [] k x = refl
-set_long (y ∷ xs) zero x = refl
-set_long (y ∷ xs) (suc k) x = ap suc (set_long xs k x)
 
 pub marks_all : (ties : List Tie) (later : Bool) (marks : List Bool) (i : ℕ) → length ties ≤ i → MarkedTo ties later marks i → AreMarked ties later marks
 marks_all ties later marks i end so_far = record {
@@ -197,25 +184,16 @@ cut_so ties place earlier later e l c d early late e_is l_is by = record {
 
 pub each_more : (Relates : (place : ℕ) → (whole part : Call) → Type 0) (calls cut : List Call) (i : ℕ) (c d : Call) → slice_get calls i ≡ Some c → Relates i c d → EachTo Relates calls cut i → EachTo Relates calls (cut ++ d ∷ []) (i + 1)
 each_more Relates calls cut i c d is so so_far = record {
-  long = longer cut ∙ omega (arith, so_far.long);
+  long = length_push cut d ∙ omega (arith, so_far.long);
   each = λ k x below k_is. elim (less_or k i below) [
     | inl less ↦ let had = so_far.each k x less k_is in (had.0, at_pushed cut d had.0 k had.1, had.2)
     | inr here ↦ (
       d,
       ap (slice_get (cut ++ d ∷ [])) (here ∙ sym so_far.long) ∙ last_pushed cut d,
-      subst (λ (n : ℕ). Relates n x d) (sym here) (subst (λ (y : Call). Relates i y d) (one_call calls i c x is (sym (ap (slice_get calls) here) ∙ k_is)) so),
+      subst (λ (n : ℕ). Relates n x d) (sym here) (subst (λ (y : Call). Relates i y d) (one_at calls i c x is (sym (ap (slice_get calls) here) ∙ k_is)) so),
     )
   ];
 }
-  where
-    longer : (xs : List Call) → length (xs ++ d ∷ []) ≡ length xs + 1
-    longer [] = refl
-    longer (x ∷ xs) = let more = longer xs in omega (arith, more)
-
-pub slice_has : {X : Type 0} (xs : List X) (k : ℕ) → k < length xs → (x : X) × (slice_get xs k ≡ Some x)
-slice_has [] k less = absurd (omega (arith, less))
-slice_has (x ∷ xs) zero less = (x, refl)
-slice_has (x ∷ xs) (suc k) less = slice_has xs k (omega (arith, less))
 
 pub are_each : (Relates : (place : ℕ) → (whole part : Call) → Type 0) (calls cut : List Call) (i : ℕ) → i ≡ length calls → EachTo Relates calls cut i → AreEach Relates calls cut
 are_each Relates calls cut i end so_far = record {
@@ -225,7 +203,7 @@ are_each Relates calls cut i end so_far = record {
       let long = so_far.long in
       let c = slice_has calls k (omega (arith, less, long, end)) in
       let had = so_far.each k c.0 (omega (arith, less, long)) c.1 in
-      (c.0, c.1, subst (Relates k c.0) (one_call cut k had.0 d had.1 is) had.2);
+      (c.0, c.1, subst (Relates k c.0) (one_at cut k had.0 d had.1 is) had.2);
 }
 
 -- ---- what holds of the cut log
@@ -239,8 +217,8 @@ module _ (ties : List Tie) (calls cut : List Call) (may : MayBeCut calls ties) (
   not_both place time c is begins ends (i, one, one_is, earlier) (j, other, other_is, later) =
       let m = may.meet i one one_is in
       let n = may.meet j other other_is in
-      let first = one_call calls place m.2.one c (ap (slice_get calls) (sym earlier) ∙ m.2.one_is) is in
-      let second = one_call calls place n.2.other c (ap (slice_get calls) (sym later) ∙ n.2.other_is) is in
+      let first = one_at calls place m.2.one c (ap (slice_get calls) (sym earlier) ∙ m.2.one_is) is in
+      let second = one_at calls place n.2.other c (ap (slice_get calls) (sym later) ∙ n.2.other_is) is in
       let m_time : m.1 ≡ time = one_end c.end m.1 time (ap (λ (x : Call). x.end) (sym first) ∙ m.2.ends) ends in
       let n_time : n.1 ≡ time = sym n.2.begins ∙ ap (λ (x : Call). x.begin) second ∙ begins in
       let same = may.alone i j time one other one_is other_is (subst (MeetAt calls one) m_time m.2) (subst (MeetAt calls other) n_time n.2) in
@@ -250,7 +228,7 @@ module _ (ties : List Tie) (calls cut : List Call) (may : MayBeCut calls ties) (
 
   timed_cut : (place : ℕ) (c d : Call) (e : ℕ) → slice_get calls place ≡ Some c → CutCall ties place c d → ((f : ℕ) → c.end ≡ Some f → c.begin ≤ f) → d.end ≡ Some e → d.begin ≤ e
   timed_cut place c d e is so timed ends = elim (end_cases c.end) [
-    | inr open_end ↦ absurd (none_some d.end (so.open_end open_end) (some_is d.end e ends))
+    | inr open_end ↦ absurd (none_some d.end (so.open_end open_end) (is_some_of d.end e ends))
     | inl f ↦
         let le = timed f.0 f.1 in
         elim (so.end f.0 f.1) [

@@ -9,6 +9,7 @@ use Rattle.cc_judge.specs.Refused.{RefusedClaims, call, waiting, handed, beside,
 use Rattle.cc_judge.specs.Until.{IsCallUntil, IsOver, IsUntil, act_until}
 use Rattle.cc_judge.specs.Verdict.{StandsFirst}
 use Rattle.cc_judge.proofs.NoOrder.{no_order}
+use Rattle.cc_judge.proofs.Listing.{some_is}
 
 -- a call that ended at a time didn't end before one that began by then
 late : (calls : List Call) (first second : ℕ) (one other : Call) (end : ℕ) → slice_get calls first ≡ Some one → slice_get calls second ≡ Some other → one.end ≡ Some end → other.begin < end → EndsBefore calls first second → ⊥
@@ -117,9 +118,6 @@ none_sent_early zero item d = absurd (cc (d.call_is, d.act_is))
 none_sent_early (suc zero) item d = absurd (cc (d.call_is, d.act_is))
 none_sent_early (suc (suc send)) item d = absurd (cc (d.call_is))
 
-one_call : (x y : Call) → Some x ≡ Some y → y ≡ x
-one_call x y same = cc
-
 until_1 : IsUntil 1 strays early
 unfolding early
 until_1 = record { there = there; back = back }
@@ -128,13 +126,13 @@ until_1 = record { there = there; back = back }
     not_over over = let end : Some over.0 ≡ Some 11 = sym over.1 in let same : over.0 ≡ 11 = cc in let by = over.2 in omega (arith, same, by)
 
     there : (place : ℕ) (c : Call) → slice_get strays place ≡ Some c → (d : Call) × (slice_get early place ≡ Some d) × IsCallUntil 1 c d
-    there zero c is = subst (λ (x : Call). (d : Call) × (slice_get early 0 ≡ Some d) × IsCallUntil 1 x d) (sym (one_call (call 0 1 (Act.Took 7)) c is)) (call 0 1 (Act.Took 7), refl, inl ((1, refl, omega arith), refl))
-    there (suc zero) c is = subst (λ (x : Call). (d : Call) × (slice_get early 1 ≡ Some d) × IsCallUntil 1 x d) (sym (one_call (call 10 11 (Act.Took 8)) c is)) (waiting 10 Act.Taking, refl, inr (not_over, refl))
+    there zero c is = subst (λ (x : Call). (d : Call) × (slice_get early 0 ≡ Some d) × IsCallUntil 1 x d) (some_is (call 0 1 (Act.Took 7)) c is) (call 0 1 (Act.Took 7), refl, inl ((1, refl, omega arith), refl))
+    there (suc zero) c is = subst (λ (x : Call). (d : Call) × (slice_get early 1 ≡ Some d) × IsCallUntil 1 x d) (some_is (call 10 11 (Act.Took 8)) c is) (waiting 10 Act.Taking, refl, inr (not_over, refl))
     there (suc (suc place)) c is = absurd (cc (is))
 
     back : (place : ℕ) (d : Call) → slice_get early place ≡ Some d → (c : Call) × (slice_get strays place ≡ Some c) × IsCallUntil 1 c d
-    back zero d is = subst (λ (x : Call). (c : Call) × (slice_get strays 0 ≡ Some c) × IsCallUntil 1 c x) (sym (one_call (call 0 1 (Act.Took 7)) d is)) (call 0 1 (Act.Took 7), refl, inl ((1, refl, omega arith), refl))
-    back (suc zero) d is = subst (λ (x : Call). (c : Call) × (slice_get strays 1 ≡ Some c) × IsCallUntil 1 c x) (sym (one_call (waiting 10 Act.Taking) d is)) (call 10 11 (Act.Took 8), refl, inr (not_over, refl))
+    back zero d is = subst (λ (x : Call). (c : Call) × (slice_get strays 0 ≡ Some c) × IsCallUntil 1 c x) (some_is (call 0 1 (Act.Took 7)) d is) (call 0 1 (Act.Took 7), refl, inl ((1, refl, omega arith), refl))
+    back (suc zero) d is = subst (λ (x : Call). (c : Call) × (slice_get strays 1 ≡ Some c) × IsCallUntil 1 c x) (some_is (waiting 10 Act.Taking) d is) (call 10 11 (Act.Took 8), refl, inr (not_over, refl))
     back (suc (suc place)) d is = absurd (cc (is))
 
 last_named : (rules : Rules) → rules.ties.items ≡ [] → StandsFirst rules strays (Fault.NeverSent 1) → ⊥
@@ -142,7 +140,7 @@ unfolding early
 last_named rules ties f =
     let took = f.stands.took in
     let c = f.part_is.back 1 took.call took.call_is in
-    let one = one_call (call 10 11 (Act.Took 8)) c.0 c.1 in
+    let one = sym (some_is (call 10 11 (Act.Took 8)) c.0 c.1) in
     elim c.2 [
       | inr held ↦
           let act : Act.Took f.stands.item ≡ Act.Taking = sym took.act_is ∙ ap (λ (x : Call). x.act) held.1 ∙ ap (λ (x : Call). act_until x.act) one in

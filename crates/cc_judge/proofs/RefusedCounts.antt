@@ -10,10 +10,7 @@ use Rattle.cc_judge.specs.Counts.{SentBy, IsLeftBy, WaitsBy, MoreLeft, AreEnough
 use Rattle.cc_judge.specs.Refused.{call, waiting, handed}
 use Rattle.cc_judge.specs.Cuts.{MeetAt, MayBeCut, CutCall}
 use Rattle.cc_judge.specs.RefusedCounts.{RefusedCounts, left, left_and_taking, filled, two_meetings, first_meeting, overlapping, second_meeting}
-
--- the one call at a place
-same_call : (calls : List Call) (place : ℕ) (one other : Call) → slice_get calls place ≡ Some one → slice_get calls place ≡ Some other → one ≡ other
-same_call calls place one other here there = let both : Some one ≡ Some other = sym here ∙ there in cc
+use Rattle.cc_judge.proofs.Turns.{one_at}
 
 same_end : (one other : Call) (e f : ℕ) → one ≡ other → one.end ≡ Some e → other.end ≡ Some f → e ≡ f
 same_end one other e f same ends there = let both : Some e ≡ Some f = sym ends ∙ ap (λ (c : Call). c.end) same ∙ there in cc
@@ -60,7 +57,7 @@ two_pairs may =
 
 done_when_it_ended : (rules : Rules) → rules.closes ≡ false → SentBy rules handed 0 0 1 → ⊥
 done_when_it_ended rules open_then s = elim s.done [
-  | inl e ↦ let end = same_end e.call (call 0 1 (Act.Send 0)) e.end 1 (same_call handed 0 e.call (call 0 1 (Act.Send 0)) e.call_is refl) e.ended refl in let by = e.by in absurd (omega (arith, end, by))
+  | inl e ↦ let end = same_end e.call (call 0 1 (Act.Send 0)) e.end 1 (one_at handed 0 e.call (call 0 1 (Act.Send 0)) e.call_is refl) e.ended refl in let by = e.by in absurd (omega (arith, end, by))
   | inr shut ↦ let clash : true ≡ false = sym shut.judged ∙ open_then in cc
 ]
 
@@ -74,7 +71,7 @@ not_yet : (rules : Rules) → rules.closes ≡ false → (send item : ℕ) → S
 not_yet rules open_then send item s = elim s.done [
   | inl e ↦
       let here = sends_filled send item s.sent in
-      let end = same_end e.call (call 0 5 (Act.Send 0)) e.end 5 (same_call filled 0 e.call (call 0 5 (Act.Send 0)) (ap (slice_get filled) (sym here) ∙ e.call_is) refl) e.ended refl in
+      let end = same_end e.call (call 0 5 (Act.Send 0)) e.end 5 (one_at filled 0 e.call (call 0 5 (Act.Send 0)) (ap (slice_get filled) (sym here) ∙ e.call_is) refl) e.ended refl in
       let by = e.by in
       absurd (omega (arith, end, by))
   | inr shut ↦ let clash : true ≡ false = sym shut.judged ∙ open_then in cc
@@ -87,7 +84,7 @@ some_in (x ∷ xs) more = (x, inl refl)
 empty_at_first : (rules : Rules) → rules.closes ≡ false → NeverEmpty rules filled 1 → ⊥
 empty_at_first rules open_then f =
     let d = f.found_none.did in
-    let one = same_call filled 1 d.call (call 1 9 Act.FoundNone) d.call_is refl in
+    let one = one_at filled 1 d.call (call 1 9 Act.FoundNone) d.call_is refl in
     let begins : d.call.begin ≡ 1 = ap (λ (c : Call). c.begin) one in
     let begin = f.found_none.begin_is in
     let end = same_end d.call (call 1 9 Act.FoundNone) f.end 9 one f.found_none.end_is refl in
@@ -103,7 +100,7 @@ empty_at_first rules open_then f =
 at_no_time : (rules : Rules) → NeverEmpty rules (call 3 1 Act.FoundNone ∷ []) 0 → ⊥
 at_no_time rules f =
     let d = f.found_none.did in
-    let one = same_call (call 3 1 Act.FoundNone ∷ []) 0 d.call (call 3 1 Act.FoundNone) d.call_is refl in
+    let one = one_at (call 3 1 Act.FoundNone ∷ []) 0 d.call (call 3 1 Act.FoundNone) d.call_is refl in
     let begins : d.call.begin ≡ 3 = ap (λ (c : Call). c.begin) one in
     let begin = f.found_none.begin_is in
     let end = same_end d.call (call 3 1 Act.FoundNone) f.end 1 one f.found_none.end_is refl in
@@ -136,7 +133,7 @@ without_a_take rules enough =
 
 though_taken : (rules : Rules) → IsLeftBy rules handed 4 0 → ⊥
 though_taken rules l =
-    let one = same_call handed 0 l.sent_by.sent.call (call 0 1 (Act.Send 0)) l.sent_by.sent.call_is refl in
+    let one = one_at handed 0 l.sent_by.sent.call (call 0 1 (Act.Send 0)) l.sent_by.sent.call_is refl in
     let acts : Act.Send l.item ≡ Act.Send 0 = sym l.sent_by.sent.act_is ∙ ap (λ (c : Call). c.act) one in
     let item : l.item ≡ 0 = cc in
     l.untaken 1 (record { call = call 2 3 (Act.Took 0); call_is = refl; act_is = ap Act.Took (sym item) })
@@ -189,7 +186,7 @@ counts_refused = record {
   enough_without_a_take = without_a_take;
   left_though_taken = though_taken;
   met_apart = λ m.
-      let one = same_call handed 1 m.other (call 2 3 (Act.Took 0)) m.other_is refl in
+      let one = one_at handed 1 m.other (call 2 3 (Act.Took 0)) m.other_is refl in
       let begins : m.other.begin ≡ 2 = ap (λ (c : Call). c.begin) one in
       let is = m.begins in
       absurd (omega (arith, begins, is));
@@ -197,7 +194,7 @@ counts_refused = record {
   split_beside_the_time = λ s. elim s.begin [ inl late ↦ absurd (cc (late.1)) | inr free ↦ free.0 refl ];
   undecided_though_small = though_small;
   waits_before_it_began = λ w.
-      let one = same_call (waiting 5 Act.Taking ∷ []) 0 w.1.call (waiting 5 Act.Taking) w.1.call_is refl in
+      let one = one_at (waiting 5 Act.Taking ∷ []) 0 w.1.call (waiting 5 Act.Taking) w.1.call_is refl in
       let begins : w.1.call.begin ≡ 5 = ap (λ (c : Call). c.begin) one in
       let by = w.1.by in
       absurd (omega (arith, begins, by));

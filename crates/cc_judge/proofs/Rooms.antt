@@ -11,9 +11,9 @@ use Rattle.cc_judge.specs.Faults.{Did, Differ, FewerAt, In, NotFull, Returned}
 use Rattle.cc_judge.specs.Room.{AreLastRooms, AreRooms, AreTimes, FewerIn, FullsArePossible, HasBegun, IsLast, IsLastRoom, IsRoomIn, WasTaken}
 use Rattle.cc_judge.proofs.Counting.{Counted}
 use Rattle.cc_judge.proofs.Fewer.{Rest, fits, rest_of}
-use Rattle.cc_judge.proofs.Listing.{pushed_at, rises, some_is}
-use Rattle.cc_judge.proofs.Sweeping.{sent_one}
+use Rattle.cc_judge.proofs.Listing.{pushed_at, rises, some_is, first_is}
 use Rattle.cc_judge.proofs.Turns.{nat_cases}
+use Rattle.cc_judge.proofs.Calls.{sent_one}
 
 -- the item that a call sent or took
 abbrev item_in : Act → ℕ
@@ -68,14 +68,11 @@ module _ (calls : List Call) (begins ends : List (ℕ × ℕ)) (t : AreTimes cal
 
 -- ---- the last time at which as many items may be in the queue
 
-pair_is : (x y : ℕ × ℕ) → Some x ≡ Some y → x.0 ≡ y.0
-pair_is x y is = cc
-
 module _ (calls : List Call) (begins : List (ℕ × ℕ)) (number at begin send : ℕ) (up : AreSorted begins) (here : slice_get begins at ≡ Some (begin, send)) where
   -- fewer may be then
   still : (last : Option ℕ) → FewerAt calls number begin → IsLastRoom calls begins number at last → IsLastRoom calls begins number (at + 1) last
   still None few was = λ k t other less is. elim (nat_cases k at) [
-    | inl same ↦ subst (FewerAt calls number) (pair_is (begin, send) (t, other) (sym here ∙ ap (slice_get begins) (sym same) ∙ is)) few
+    | inl same ↦ subst (FewerAt calls number) (first_is (begin, send) (t, other) (sym here ∙ ap (slice_get begins) (sym same) ∙ is)) few
     | inr apart ↦ was k t other (omega (arith, less, apart)) is
   ]
   still (Some time) few was = record {
@@ -85,7 +82,7 @@ module _ (calls : List Call) (begins : List (ℕ × ℕ)) (number at begin send 
     place_is = was.place_is;
     before = let less = was.before in omega (arith, less);
     later = λ k t other less is after. elim (nat_cases k at) [
-      | inl same ↦ subst (FewerAt calls number) (pair_is (begin, send) (t, other) (sym here ∙ ap (slice_get begins) (sym same) ∙ is)) few
+      | inl same ↦ subst (FewerAt calls number) (first_is (begin, send) (t, other) (sym here ∙ ap (slice_get begins) (sym same) ∙ is)) few
       | inr apart ↦ was.later k t other (omega (arith, less, apart)) is after
     ];
   }

@@ -1,8 +1,8 @@
 -- Takes that haven't returned are given the items that are left: the take that began first has the item whose send ended first.
-use Rattle.std.proofs.Common.{◌≡◌, ◌≢◌, ℕ, zero, suc, ◌+◌, ◌<◌, ◌≤◌, ◌⊎◌, inl, inr, false, List, [], ◌∷◌, length, Option, Some, None, IsSome, refl, sym, ap, ◌∙◌, subst, arith}
+use Rattle.std.proofs.Common.{◌≡◌, ◌≢◌, ℕ, zero, suc, ◌+◌, ◌<◌, ◌≤◌, ◌⊎◌, inl, inr, false, List, [], ◌∷◌, length, Some, None, IsSome, refl, sym, ap, ◌∙◌, subst, arith}
 use Rattle.std.specs.List.{slice_get}
 use Rattle.std.proofs.lemmas.Bool.{cases_lt}
-use Rattle.std.proofs.lemmas.Option.{slice_get_within}
+use Rattle.std.proofs.lemmas.Option.{slice_get_within, slice_get_cases}
 use Rattle.cc_judge.specs.Names.{Act, Call, Step, Rules}
 use Rattle.cc_judge.specs.Order.{EndsBefore, MayHaveDone, IsOfLog, IsOrder, IsLinearizable, of_any_capacity}
 use Rattle.cc_judge.specs.Faults.{Did, Differ, FindsNone, Once}
@@ -10,10 +10,11 @@ use Rattle.cc_judge.proofs.Places.{In, at_in, from_without, without, without_len
 use Rattle.cc_judge.proofs.Turns.{nat_cases}
 use Rattle.cc_judge.proofs.Fewer.{in_or_not, without_once}
 use Rattle.cc_judge.specs.Complete.{IsLeft, IsWaiting, Enough, Ready}
-use Rattle.cc_judge.proofs.Views.{none_some, Faultless, faultless_has_order, taker, one_call, one_act, none_took}
+use Rattle.cc_judge.proofs.Views.{Faultless, faultless_has_order, taker}
 use Rattle.cc_judge.proofs.Complete.{Quiet}
 use Rattle.cc_judge.specs.Late.{Weaker}
 use Rattle.cc_judge.proofs.Weaker.{weaken}
+use Rattle.cc_judge.proofs.Calls.{end_cases, none_some, one_call, one_act, is_send, none_took}
 
 -- ---- the log in which a take has an item
 
@@ -359,10 +360,6 @@ differ_given calls p item dp differ v i j di dj = differ v i j (old_of calls p i
 IsDone : List Call → Type 0
 IsDone calls = ((q : ℕ) → Did calls q Act.Taking → ⊥) ⊎ ((y item e : ℕ) (d : Did calls y (Act.Send item)) → d.call.end ≡ Some e → ((t : ℕ) → Did calls t (Act.Took item) → ⊥) → ⊥)
 
-pub end_cases : (o : Option ℕ) → ((e : ℕ) × (o ≡ Some e)) ⊎ (o ≡ None)
-end_cases None = inr refl
-end_cases (Some e) = inl (e, refl)
-
 module _ (calls : List Call) (ready : Ready calls) (done : IsDone calls) where
   no_left : (sent began y : ℕ) → Enough calls sent began → IsLeft calls sent y → ⊥
   unfolding IsDone
@@ -418,44 +415,29 @@ Waits calls q v = (d : Did calls q Act.Taking) × (d.call.begin ≡ v)
 Stays : List Call → ℕ → ℕ → Type 0
 Stays calls y v = (item : ℕ) × (d : Did calls y (Act.Send item)) × (d.call.end ≡ Some v) × ((t : ℕ) → Did calls t (Act.Took item) → ⊥)
 
-pub call_at : (calls : List Call) (q : ℕ) → ((c : Call) × (slice_get calls q ≡ Some c)) ⊎ (slice_get calls q ≡ None)
-call_at [] q = inr refl
-call_at (c ∷ calls) zero = inl (c, refl)
-call_at (c ∷ calls) (suc q) = call_at calls q
-
 is_taking : (act : Act) → (act ≡ Act.Taking) ⊎ (act ≢ Act.Taking)
 is_taking act = grind arith
-
-is_send : (act : Act) → ((item : ℕ) × (act ≡ Act.Send item)) ⊎ ((item : ℕ) → act ≢ Act.Send item)
-is_send (Act.Send v) = inl (v, refl)
-is_send (Act.Took v) = inr (λ item is. cc)
-is_send Act.FoundNone = inr (λ item is. cc)
-is_send Act.Taking = inr (λ item is. cc)
-is_send Act.Full = inr (λ item is. cc)
-is_send Act.Closed = inr (λ item is. cc)
-is_send Act.Ended = inr (λ item is. cc)
-is_send Act.Close = inr (λ item is. cc)
 
 no_call : (calls : List Call) (q : ℕ) (act : Act) → slice_get calls q ≡ None → Did calls q act → ⊥
 no_call calls q act none d = let clash : None ≡ Some d.call = sym none ∙ d.call_is in cc
 
 waits_at : (calls : List Call) (q : ℕ) → ((v : ℕ) × Waits calls q v) ⊎ ((v : ℕ) → Waits calls q v → ⊥)
 unfolding Waits
-waits_at calls q = elim (call_at calls q) [
-  | inr none ↦ inr (λ v w. no_call calls q Act.Taking none w.0)
+waits_at calls q = elim (slice_get_cases calls q).1 [
+  | inr none ↦ inr (λ v w. no_call calls q Act.Taking none.1 w.0)
   | inl c ↦ elim (is_taking c.0.act) [
-    | inl taking ↦ inl (c.0.begin, (record { call = c.0; call_is = c.1; act_is = taking }, refl))
-    | inr other ↦ inr (λ v w. other (one_act calls q c.0.act Act.Taking (record { call = c.0; call_is = c.1; act_is = refl }) w.0))
+    | inl taking ↦ inl (c.0.begin, (record { call = c.0; call_is = c.2; act_is = taking }, refl))
+    | inr other ↦ inr (λ v w. other (one_act calls q c.0.act Act.Taking (record { call = c.0; call_is = c.2; act_is = refl }) w.0))
   ]
 ]
 
 stays_at : (calls : List Call) (q : ℕ) → ((v : ℕ) × Stays calls q v) ⊎ ((v : ℕ) → Stays calls q v → ⊥)
 unfolding Stays
-stays_at calls q = elim (call_at calls q) [
-  | inr none ↦ inr (λ v s. no_call calls q (Act.Send s.0) none s.1)
+stays_at calls q = elim (slice_get_cases calls q).1 [
+  | inr none ↦ inr (λ v s. no_call calls q (Act.Send s.0) none.1 s.1)
   | inl c ↦ elim (is_send c.0.act) [
-    | inr other ↦ inr (λ v s. other s.0 (one_act calls q c.0.act (Act.Send s.0) (record { call = c.0; call_is = c.1; act_is = refl }) s.1))
-    | inl send ↦ sent c.0 c.1 send.0 send.1
+    | inr other ↦ inr (λ v s. other s.0 (one_act calls q c.0.act (Act.Send s.0) (record { call = c.0; call_is = c.2; act_is = refl }) s.1))
+    | inl send ↦ sent c.0 c.2 send.0 send.1
   ]
 ]
   where

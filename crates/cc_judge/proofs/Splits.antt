@@ -6,24 +6,25 @@ use Rattle.cc_judge.specs.Names.{Call, Rules, Step, Tie}
 use Rattle.cc_judge.specs.Order.{EndsBefore, IsLinearizable, IsOfLog, IsOrder}
 use Rattle.cc_judge.specs.Faultless.{IsWritten}
 use Rattle.cc_judge.specs.Splits.{AreLeft, DoTouch, IsFiner, IsSplit, MaySplit, SplitCall, SplitsAreExact}
-use Rattle.cc_judge.proofs.Shares.{end_cases}
-use Rattle.cc_judge.proofs.Cuts.{finer_written, into_finer, none_some, one_call, one_end, some_is, unfiner}
+use Rattle.cc_judge.proofs.Cuts.{finer_written, into_finer, unfiner}
+use Rattle.cc_judge.proofs.Calls.{end_cases, is_some_of, none_some, one_end}
+use Rattle.cc_judge.proofs.Turns.{one_at}
 
 -- ---- a log that is split is finer
 
 module _ (calls cut : List Call) (tie : Tie) (time : ℕ) (may : MaySplit calls tie time) (k : IsSplit tie time calls cut) where
   ended : (p : ℕ) (c d : Call) → SplitCall tie time p c d → IsSome c.end → IsSome d.end
-  ended p c d h some = elim (end_cases c.end) [ inr open_end ↦ absurd (none_some c.end open_end some) | inl e ↦ let n = h.end e.0 e.1 in some_is d.end n.0 n.1 ]
+  ended p c d h some = elim (end_cases c.end) [ inr open_end ↦ absurd (none_some c.end open_end some) | inl e ↦ let n = h.end e.0 e.1 in is_some_of d.end n.0 n.1 ]
 
   had_ended : (p : ℕ) (c d : Call) → SplitCall tie time p c d → IsSome d.end → IsSome c.end
-  had_ended p c d h some = elim (end_cases c.end) [ inr open_end ↦ absurd (none_some d.end (h.open_end open_end) some) | inl e ↦ some_is c.end e.0 e.1 ]
+  had_ended p c d h some = elim (end_cases c.end) [ inr open_end ↦ absurd (none_some d.end (h.open_end open_end) some) | inl e ↦ is_some_of c.end e.0 e.1 ]
 
   -- of the earlier call, and of the later one
   by_end : (c : Call) (e : ℕ) → slice_get calls tie.earlier ≡ Some c → c.end ≡ Some e → time ≤ e
-  by_end c e is ends = may.earlier.until e (ap (λ (x : Call). x.end) (one_call calls tie.earlier may.earlier.call c may.earlier.call_is is) ∙ ends)
+  by_end c e is ends = may.earlier.until e (ap (λ (x : Call). x.end) (one_at calls tie.earlier may.earlier.call c may.earlier.call_is is) ∙ ends)
 
   by_begin : (c : Call) → slice_get calls tie.later ≡ Some c → c.begin ≤ time
-  by_begin c is = subst (λ (x : Call). x.begin ≤ time) (one_call calls tie.later may.later.call c may.later.call_is is) may.later.begun
+  by_begin c is = subst (λ (x : Call). x.begin ≤ time) (one_at calls tie.later may.later.call c may.later.call_is is) may.later.begun
 
   still_before : (a b : ℕ) → EndsBefore calls a b → EndsBefore cut a b
   still_before a b e =
@@ -93,14 +94,14 @@ module _ (calls cut : List Call) (tie : Tie) (time : ℕ) (may : MaySplit calls 
     where
       timed : (p : ℕ) (c d : Call) (f : ℕ) → slice_get calls p ≡ Some c → SplitCall tie time p c d → d.end ≡ Some f → d.begin ≤ f
       timed p c d f is h ends = elim (end_cases c.end) [
-        | inr open_end ↦ absurd (none_some d.end (h.open_end open_end) (some_is d.end f ends))
+        | inr open_end ↦ absurd (none_some d.end (h.open_end open_end) (is_some_of d.end f ends))
         | inl e ↦
             let new = h.end e.0 e.1 in
             let same : f ≡ new.0 = one_end d.end f new.0 ends new.1 in
             let le = written.timed p c e.0 is e.1 in
             elim new.2 [
               | inl early ↦
-                  let first = one_call calls p may.earlier.call c (ap (slice_get calls) early.0 ∙ may.earlier.call_is) is in
+                  let first = one_at calls p may.earlier.call c (ap (slice_get calls) early.0 ∙ may.earlier.call_is) is in
                   let begun : c.begin ≤ time = subst (λ (x : Call). x.begin ≤ time) first may.earlier.begun in
                   let f_is = early.1 in
                   elim h.begin [
@@ -109,7 +110,7 @@ module _ (calls cut : List Call) (tie : Tie) (time : ℕ) (may : MaySplit calls 
                   ]
               | inr free ↦ elim h.begin [
                 | inl late ↦
-                    let second = one_call calls p may.later.call c (ap (slice_get calls) late.0 ∙ may.later.call_is) is in
+                    let second = one_at calls p may.later.call c (ap (slice_get calls) late.0 ∙ may.later.call_is) is in
                     let until : time ≤ e.0 = may.later.until e.0 (ap (λ (x : Call). x.end) second ∙ e.1) in
                     let b_is = late.1 in
                     elim free.1 [ inl low ↦ let at = low.0 in omega (arith, until, at) | inr high ↦ let f_is = high.1 in omega (arith, until, b_is, f_is, same) ]
@@ -132,7 +133,7 @@ module _ (calls cut : List Call) (tie : Tie) (time : ℕ) (may : MaySplit calls 
       let other = k.back b e.other e.other_is in
       let less = e.before in
       elim (end_cases one.0.end) [
-        | inr open_end ↦ absurd (none_some e.one.end (one.2.open_end open_end) (some_is e.one.end e.end e.ended))
+        | inr open_end ↦ absurd (none_some e.one.end (one.2.open_end open_end) (is_some_of e.one.end e.end e.ended))
         | inl f ↦
             let new = one.2.end f.0 f.1 in
             let same : e.end ≡ new.0 = one_end e.one.end e.end new.0 e.ended new.1 in
@@ -175,14 +176,11 @@ step_before [] n s is = absurd (cc (is))
 step_before (x ∷ order) zero s is = (x, refl)
 step_before (x ∷ order) (suc n) s is = step_before order n s is
 
-one_step : (xs : List Step) (p : ℕ) (s t : Step) → slice_get xs p ≡ Some s → slice_get xs p ≡ Some t → s ≡ t
-one_step xs p s t one other = let both : Some s ≡ Some t = sym one ∙ other in cc
-
 here : (calls : List Call) (order : List Step) (n j : ℕ) (s u : Step) (c d : Call) → j ≤ n → n ≤ j → slice_get order n ≡ Some s → slice_get order j ≡ Some u → slice_get calls s.place ≡ Some c → slice_get calls u.place ≡ Some d → d.begin ≡ c.begin
 here calls order n j s u c d by not_before s_is u_is c_is d_is =
     let at : n ≡ j = omega (arith, by, not_before) in
-    let same = one_step order j u s u_is (ap (slice_get order) (sym at) ∙ s_is) in
-    ap (λ (x : Call). x.begin) (one_call calls s.place d c (ap (λ (x : Step). slice_get calls x.place) (sym same) ∙ d_is) c_is)
+    let same = one_at order j u s u_is (ap (slice_get order) (sym at) ∙ s_is) in
+    ap (λ (x : Call). x.begin) (one_at calls s.place d c (ap (λ (x : Step). slice_get calls x.place) (sym same) ∙ d_is) c_is)
 
 latest : (calls : List Call) (order : List Step) → IsOfLog calls order → (upto : ℕ) (s : Step) → slice_get order upto ≡ Some s → Latest calls order upto
 latest calls order of zero s is =
@@ -242,8 +240,8 @@ module _ (rules : Rules) (calls : List Call) (i : ℕ) (tie : Tie) (tie_is : sli
       | inl after ↦ absurd (o.in_time j k s t after s_is t_is (record { one = d; other = c; end = e; one_is = d_is; other_is = c_is; ended = ends; before = less }))
       | inr not_after ↦
           let at : j ≡ k = omega (arith, not_before, not_after) in
-          let same = one_step order k s t (ap (slice_get order) (sym at) ∙ s_is) t_is in
-          let one = one_call calls t.place c d (ap (λ (x : Step). slice_get calls x.place) (sym same) ∙ c_is) d_is in
+          let same = one_at order k s t (ap (slice_get order) (sym at) ∙ s_is) t_is in
+          let one = one_at calls t.place c d (ap (λ (x : Step). slice_get calls x.place) (sym same) ∙ c_is) d_is in
           let begins = ap (λ (x : Call). x.begin) one in
           let timed = written.timed t.place d e d_is ends in
           absurd (omega (arith, less, begins, timed))
@@ -258,7 +256,7 @@ module _ (rules : Rules) (calls : List Call) (i : ℕ) (tie : Tie) (tie_is : sli
       | inl after ↦ absurd (o.in_line i tie tie_is k j t s after t_is s_is second first)
       | inr not_after ↦
           let at : j ≡ k = omega (arith, not_before, not_after) in
-          let same = one_step order k s t (ap (slice_get order) (sym at) ∙ s_is) t_is in
+          let same = one_at order k s t (ap (slice_get order) (sym at) ∙ s_is) t_is in
           absurd (touch.apart (sym first ∙ ap (λ (x : Step). x.place) same ∙ second))
     ]
   ]
@@ -311,7 +309,7 @@ module _ (rules : Rules) (calls : List Call) (i : ℕ) (tie : Tie) (tie_is : sli
                 begun = omega (arith, not_less);
                 until = λ e ends. elim (cases_lt e l.call.begin) [
                   | inl early ↦
-                      let s = o.whole tie.later touch.other touch.other_is (some_is touch.other.end e ends) in
+                      let s = o.whole tie.later touch.other touch.other_is (is_some_of touch.other.end e ends) in
                       let lower = past l.at s.at l.step s.step l.call touch.other e l.step_is s.step_is l.call_is (ap (slice_get calls) s.place_is ∙ touch.other_is) ends early in
                       let after = in_turn p s.at h s.step h_is s.step_is place_is s.place_is in
                       absurd (omega (arith, lower, by, after))
@@ -347,7 +345,7 @@ module _ (rules : Rules) (calls : List Call) (i : ℕ) (tie : Tie) (tie_is : sli
 
   split_exact : (place : ℕ) × (call : Call) × (slice_get calls place ≡ Some call) × MaySplit calls tie call.begin × ((rest : Rules) (cut : List Call) → IsSplit tie call.begin calls cut → AreLeft rules rest cut → IsLinearizable rest cut)
   split_exact =
-      let h = o.whole tie.earlier touch.one touch.one_is (some_is touch.one.end touch.end touch.ended) in
+      let h = o.whole tie.earlier touch.one touch.one_is (is_some_of touch.one.end touch.end touch.ended) in
       let c = cuts_at h.at h.step h.step_is h.place_is in
       (c.0, c.1, c.2.call_is, c.2.may, λ rest cut k l. (order, into_split h.at c.0 h.step c.1 h.step_is h.place_is c.2 rest cut k l))
 

@@ -1,10 +1,11 @@
 -- The sorted calls of a log, and what is found in them.
-use Rattle.std.proofs.Common.{◌≡◌, ◌≢◌, ℕ, zero, suc, ◌+◌, ◌-◌, ◌<◌, ◌≤◌, ◌⊎◌, inl, inr, Bool, true, false, List, [], ◌∷◌, ◌++◌, length, get_or, Option, Some, None, IsSome, IsPermutation, refl, sym, ap, ◌∙◌, subst, arith}
+use Rattle.std.proofs.Common.{◌≡◌, ◌≢◌, ℕ, zero, suc, ◌+◌, ◌-◌, ◌<◌, ◌≤◌, ◌⊎◌, inl, inr, Bool, true, false, List, [], ◌∷◌, ◌++◌, length, get_or, Option, Some, None, IsPermutation, refl, sym, ap, ◌∙◌, subst, arith}
 use Rattle.std.specs.List.{slice_get}
 use Rattle.std.specs.List.Sorted.{IsNonDecreasingBy}
 use Rattle.std.proofs.lemmas.Bool.{cases_lt}
 use Rattle.std.proofs.lemmas.List.Sorted.{Contains-permutation, IsPermutation-sym}
 use Rattle.std.proofs.lemmas.Option.{get_or_from_slice_get, slice_get-get_or, slice_get_within}
+use Rattle.std.proofs.lemmas.List.{length_push}
 use Rattle.cc_judge.specs.Names.{Act, Call, Rules, Index, Lists, Reach, Shut, Spell}
 use Rattle.cc_judge.specs.Faults.{Did, Returned, Passed, WasAccepted, WasClosed, EndedBy}
 use Rattle.cc_judge.specs.Table.{IsIndex}
@@ -13,6 +14,8 @@ use Rattle.cc_judge.specs.Faultless.{IsWritten}
 use Rattle.cc_judge.specs.Sweeps.{EndsAt, IsOpen, IsShutAt, IsSooner, IsDone, IsDoneBy, IsSpell, IsSpellOf, SpellAt, AreSpells, IsLater, AreLists, IsLatestIn, IsLast, IsLatest, AreEnoughIf, AreTaken, LeftsReach, Reaches, HasEndedIf}
 use Rattle.cc_judge.proofs.Counting.{counts_are_right}
 use Rattle.cc_judge.proofs.Listing.{some_is, contains_at, at_contains, pushed_at, at_pushed, last_pushed, rises}
+use Rattle.cc_judge.proofs.Calls.{is_some_of, some_end, sent_one}
+use Rattle.cc_judge.proofs.Turns.{less_or}
 
 -- ---- when the queue was closed
 
@@ -20,9 +23,6 @@ use Rattle.cc_judge.proofs.Listing.{some_is, contains_at, at_contains, pushed_at
 abbrev pub ShutTo : List Call → Option Shut → (upto : ℕ) → Type 0
 ShutTo calls None upto = (call : ℕ) → call < upto → WasClosed calls call → ⊥
 ShutTo calls (Some s) upto = WasClosed calls s.call × EndsAt calls s.call s.time × ((call time : ℕ) → call < upto → WasClosed calls call → EndsAt calls call time → s.time ≤ time)
-
-less_or : (k i : ℕ) → k < i + 1 → (k < i) ⊎ (k ≡ i)
-less_or k i below = elim (cases_lt k i) [ inl less ↦ inl less | inr not_less ↦ inr (omega (arith, below, not_less)) ]
 
 pub one_end : (calls : List Call) (place t u : ℕ) → EndsAt calls place t → EndsAt calls place u → t ≡ u
 one_end calls place t u a b =
@@ -118,14 +118,6 @@ done_before rules calls shut send item end time at ends is later sent = elim sen
           | inr r ↦ let same = r.0 in omega (arith, same, le, by)
         ]
 
-pub some_end : (end : Option ℕ) → IsSome end → (e : ℕ) × (end ≡ Some e)
-some_end None is = cc (is)
-some_end (Some e) is = (e, refl)
-
-pub is_some_of : (o : Option ℕ) (e : ℕ) → o ≡ Some e → IsSome o
-is_some_of None e same = cc (same)
-is_some_of (Some x) e same = refl
-
 -- a send whose item is left returned
 pub left_ended : (rules : Rules) (calls : List Call) (later place : ℕ) → IsLeftBy rules calls later place → (end : ℕ) × EndsAt calls place end
 left_ended rules calls later place left = elim left.sent_by.done [
@@ -135,15 +127,9 @@ left_ended rules calls later place left = elim left.sent_by.done [
     | inr taken ↦
         let did : Did calls place (Act.Send left.item) = left.sent_by.sent in
         let p = taken.1 in
-        absurd (left.untaken taken.0 (record { call = p.took.call; call_is = p.took.call_is; act_is = p.took.act_is ∙ ap Act.Took (one_item calls place p.item left.item p.sent did) }))
+        absurd (left.untaken taken.0 (record { call = p.took.call; call_is = p.took.call_is; act_is = p.took.act_is ∙ ap Act.Took (sent_one calls place p.item left.item p.sent did) }))
   ]
 ]
-  where
-    one_item : (calls : List Call) (place item other : ℕ) → Did calls place (Act.Send item) → Did calls place (Act.Send other) → item ≡ other
-    one_item calls place item other a b =
-        let same : a.call ≡ b.call = some_is a.call b.call (sym a.call_is ∙ b.call_is) in
-        let both : Act.Send item ≡ Act.Send other = sym a.act_is ∙ ap (λ (c : Call). c.act) same ∙ b.act_is in
-        cc
 
 pub left_none : (rules : Rules) (calls : List Call) (place : ℕ) → ((item end : ℕ) (call : Call) → slice_get calls place ≡ Some call → call.act ≡ Act.Send item → call.end ≡ Some end → ((take : ℕ) → Did calls take (Act.Took item) → ⊥) → ⊥) → Since (IsLeftBy rules calls) place None
 left_none rules calls place none later left =
@@ -187,12 +173,6 @@ upto_none P place none (suc time) holds = none time holds
 pub took_one : (calls : List Call) (index : Index) → IsIndex calls index → (item t u : ℕ) → Did calls t (Act.Took item) → Did calls u (Act.Took item) → t ≡ u
 took_one calls index indexed item t u a b =
     let both : Some (Some t) ≡ Some (Some u) = sym (indexed.takes.all t item a) ∙ indexed.takes.all u item b in
-    cc
-
-pub sent_one : (calls : List Call) (place item other : ℕ) → Did calls place (Act.Send item) → Did calls place (Act.Send other) → item ≡ other
-sent_one calls place item other a b =
-    let same : a.call ≡ b.call = some_is a.call b.call (sym a.call_is ∙ b.call_is) in
-    let both : Act.Send item ≡ Act.Send other = sym a.act_is ∙ ap (λ (c : Call). c.act) same ∙ b.act_is in
     cc
 
 pub returned_take : (calls : List Call) (take item : ℕ) → IsWritten calls → Did calls take (Act.Took item) → Returned calls take (Act.Took item)
@@ -314,7 +294,7 @@ pub record LatestTo (spells latest : List Spell) (best : Option Spell) (upto : �
 
 pub latest_more : (spells latest : List Spell) (best : Option Spell) (i : ℕ) (other s : Spell) → slice_get spells i ≡ Some other → IsLater best other s → LatestTo spells latest best i → LatestTo spells (latest ++ s ∷ []) (Some s) (i + 1)
 latest_more spells latest best i other s here is so_far = record {
-  as_many = more_length latest s ∙ ap (λ (n : ℕ). n + 1) so_far.as_many;
+  as_many = length_push latest s ∙ ap (λ (n : ℕ). n + 1) so_far.as_many;
   best_is = λ t same. let e = some_is s t same in let at = from_where in (at.0, at.1, at.2 ∙ ap Some e);
   best_most = λ j t below t_is. (s, refl, up_to j t below t_is);
   each = λ k t t_is. elim (pushed_at latest s t k t_is) [
@@ -329,10 +309,6 @@ latest_more spells latest best i other s here is so_far = record {
   ];
 }
   where
-    more_length : (xs : List Spell) (x : Spell) → length (xs ++ x ∷ []) ≡ length xs + 1
-    more_length [] x = omega arith
-    more_length (y ∷ xs) x = let rest = more_length xs x in omega (arith, rest)
-
     from_where : (j : ℕ) × (j < i + 1) × (slice_get spells j ≡ Some s)
     from_where = elim is.one [
       | inl same ↦ (i, omega arith, here ∙ ap Some (sym same))

@@ -5,6 +5,7 @@ use Rattle.std.proofs.Math.Nat.{div-mul-le_self, mul-le-mul_left, mul-le-mul_rig
 use Rattle.std.proofs.lemmas.Nat.{le-div}
 use Rattle.std.proofs.lemmas.Bool.{cases_lt}
 use Rattle.std.proofs.lemmas.Option.{slice_get_within}
+use Rattle.std.proofs.lemmas.List.{length_push}
 use Rattle.cc_judge.specs.Names.{Call, Explored, Rules, Tie}
 use Rattle.cc_judge.specs.Order.{EndsBefore, IsLinearizable}
 use Rattle.cc_judge.specs.Faults.{Differ}
@@ -12,12 +13,11 @@ use Rattle.cc_judge.specs.Faultless.{IsWritten, NoFault}
 use Rattle.cc_judge.specs.Room.{KeepsRoom}
 use Rattle.cc_judge.specs.Cuts.{AreEach}
 use Rattle.cc_judge.specs.Splits.{AllTouch, AreLeft, AreOpen, AreTiesLeft, DoTouch, EndsInParts, HaveRoom, IsBegunBefore, IsClean, IsExplored, IsExploredAt, IsFiner, IsInParts, IsSplit, IsTieOf, MaySplit, NoneAt, spend}
-use Rattle.cc_judge.proofs.Shares.{end_cases}
-use Rattle.cc_judge.proofs.Cuts.{none_some, one_call, one_end, some_is}
-use Rattle.cc_judge.proofs.Parts.{less_or, slice_has}
-use Rattle.cc_judge.proofs.Listing.{at_pushed, last_pushed}
+use Rattle.cc_judge.proofs.Listing.{at_pushed, last_pushed, pushed_at}
 use Rattle.cc_judge.proofs.Faultless.{faultless_logs_have_orders}
 use Rattle.cc_judge.proofs.Splits.{split_finer, split_before, splits_are_exact}
+use Rattle.cc_judge.proofs.Calls.{end_cases, is_some_of, none_some, one_end}
+use Rattle.cc_judge.proofs.Turns.{one_at, less_or, slice_has}
 
 -- ---- times in parts
 
@@ -47,7 +47,7 @@ module _ (first parts : ℕ) (positive : 0 < parts) where
         let less = slice_get_within calls p c is in
         let d = slice_has cut p (omega (arith, less, long)) in
         let i = each p c d.0 less is d.1 in
-        (d.0, d.1, i.act, λ some. elim (end_cases c.end) [ inr none ↦ absurd (none_some c.end none some) | inl e ↦ let m = part_of c.end d.0.end e.0 i.end e.1 in some_is d.0.end m.0 m.1 ]);
+        (d.0, d.1, i.act, λ some. elim (end_cases c.end) [ inr none ↦ absurd (none_some c.end none some) | inl e ↦ let m = part_of c.end d.0.end e.0 i.end e.1 in is_some_of d.0.end m.0 m.1 ]);
     back = λ p d is.
         let less = slice_get_within cut p d is in
         let c = slice_has calls p (omega (arith, less, long)) in
@@ -68,8 +68,8 @@ pub parts_more : (first parts : ℕ) (calls cut : List Call) (place : ℕ) (x y 
 parts_more first parts calls cut place x y x_is y_is is so_far k c d below c_is d_is = elim (less_or k place below) [
   | inl less ↦ so_far k c d less c_is d_is
   | inr here ↦
-      let one = one_call calls place x c x_is (ap (slice_get calls) (sym here) ∙ c_is) in
-      let other = one_call cut place y d y_is (ap (slice_get cut) (sym here) ∙ d_is) in
+      let one = one_at calls place x c x_is (ap (slice_get calls) (sym here) ∙ c_is) in
+      let other = one_at cut place y d y_is (ap (slice_get cut) (sym here) ∙ d_is) in
       subst (λ (e : Call). IsInParts first parts e d) one (subst (IsInParts first parts x) other is)
 ]
 
@@ -85,32 +85,19 @@ pub record LeftTo (ties : List Tie) (cut : List Call) (rest : List Tie) (upto : 
 pub none_left : (ties : List Tie) (cut : List Call) → LeftTo ties cut [] 0
 none_left ties cut = record { of = λ i tie is. absurd (cc (is)); all = λ i tie less. absurd (omega (arith, less)); still = λ i tie is. absurd (cc (is)); few = omega arith; fewer = λ i tie less. absurd (omega (arith, less)) }
 
-one_tie : (xs : List Tie) (p : ℕ) (s t : Tie) → slice_get xs p ≡ Some s → slice_get xs p ≡ Some t → s ≡ t
-one_tie xs p s t one other = let both : Some s ≡ Some t = sym one ∙ other in cc
-
-longer : (xs : List Tie) (x : Tie) → length (xs ++ x ∷ []) ≡ length xs + 1
-longer [] x = refl
-longer (y ∷ xs) x = let more = longer xs x in omega (arith, more)
-
-pushed : (xs : List Tie) (x y : Tie) (i : ℕ) → slice_get (xs ++ x ∷ []) i ≡ Some y → ((j : ℕ) × (slice_get xs j ≡ Some y)) ⊎ (x ≡ y)
-pushed [] x y zero is = inr (cc)
-pushed [] x y (suc i) is = absurd (cc (is))
-pushed (z ∷ xs) x y zero is = inl (0, is)
-pushed (z ∷ xs) x y (suc i) is = elim (pushed xs x y i is) [ inl had ↦ inl (suc had.0, had.1) | inr new ↦ inr new ]
-
 module _ (ties : List Tie) (cut : List Call) (rest : List Tie) (upto : ℕ) (tie : Tie) (is : slice_get ties upto ≡ Some tie) (so_far : LeftTo ties cut rest upto) where
   pub is_left : (EndsBefore cut tie.earlier tie.later → ⊥) → LeftTo ties cut (rest ++ tie ∷ []) (upto + 1)
   is_left not_before = record {
-    of = λ i t at. elim (pushed rest tie t i at) [ inl had ↦ so_far.of had.0 t had.1 | inr new ↦ (upto, is ∙ ap Some new) ];
+    of = λ i t at. elim (pushed_at rest tie t i at) [ inl had ↦ so_far.of i t had | inr last ↦ (upto, is ∙ ap Some (sym last.1)) ];
     all = λ i t below at. elim (less_or i upto below) [
       | inl less ↦ elim (so_far.all i t less at) [ inl before ↦ inl before | inr had ↦ inr (had.0, at_pushed rest tie t had.0 had.1) ]
-      | inr here ↦ inr (length rest, last_pushed rest tie ∙ ap Some (one_tie ties upto tie t is (ap (slice_get ties) (sym here) ∙ at)))
+      | inr here ↦ inr (length rest, last_pushed rest tie ∙ ap Some (one_at ties upto tie t is (ap (slice_get ties) (sym here) ∙ at)))
     ];
-    still = λ i t at before. elim (pushed rest tie t i at) [ inl had ↦ so_far.still had.0 t had.1 before | inr new ↦ not_before (subst (λ (x : Tie). EndsBefore cut x.earlier x.later) (sym new) before) ];
-    few = let long = longer rest tie in let few = so_far.few in omega (arith, long, few);
+    still = λ i t at before. elim (pushed_at rest tie t i at) [ inl had ↦ so_far.still i t had before | inr last ↦ not_before (subst (λ (x : Tie). EndsBefore cut x.earlier x.later) last.1 before) ];
+    few = let long = length_push rest tie in let few = so_far.few in omega (arith, long, few);
     fewer = λ i t below at before. elim (less_or i upto below) [
-      | inl less ↦ let long = longer rest tie in let fewer = so_far.fewer i t less at before in omega (arith, long, fewer)
-      | inr here ↦ absurd (not_before (subst (λ (x : Tie). EndsBefore cut x.earlier x.later) (one_tie ties upto t tie (ap (slice_get ties) (sym here) ∙ at) is) before))
+      | inl less ↦ let long = length_push rest tie in let fewer = so_far.fewer i t less at before in omega (arith, long, fewer)
+      | inr here ↦ absurd (not_before (subst (λ (x : Tie). EndsBefore cut x.earlier x.later) (one_at ties upto t tie (ap (slice_get ties) (sym here) ∙ at) is) before))
     ];
   }
 
@@ -119,7 +106,7 @@ module _ (ties : List Tie) (cut : List Call) (rest : List Tie) (upto : ℕ) (tie
     of = so_far.of;
     all = λ i t below at. elim (less_or i upto below) [
       | inl less ↦ so_far.all i t less at
-      | inr here ↦ inl (subst (λ (x : Tie). EndsBefore cut x.earlier x.later) (one_tie ties upto tie t is (ap (slice_get ties) (sym here) ∙ at)) before)
+      | inr here ↦ inl (subst (λ (x : Tie). EndsBefore cut x.earlier x.later) (one_at ties upto tie t is (ap (slice_get ties) (sym here) ∙ at)) before)
     ];
     still = so_far.still;
     few = let few = so_far.few in omega (arith, few);
@@ -137,14 +124,14 @@ all_left ties cut rest upto end l = record {
 pub touch_more : (calls : List Call) (ties : List Tie) (i : ℕ) (tie : Tie) → slice_get ties i ≡ Some tie → DoTouch calls tie → ((k : ℕ) (t : Tie) → k < i → slice_get ties k ≡ Some t → DoTouch calls t) → (k : ℕ) (t : Tie) → k < i + 1 → slice_get ties k ≡ Some t → DoTouch calls t
 touch_more calls ties i tie is touch so_far k t below at = elim (less_or k i below) [
   | inl less ↦ so_far k t less at
-  | inr here ↦ subst (DoTouch calls) (one_tie ties i tie t is (ap (slice_get ties) (sym here) ∙ at)) touch
+  | inr here ↦ subst (DoTouch calls) (one_at ties i tie t is (ap (slice_get ties) (sym here) ∙ at)) touch
 ]
 
 -- ---- one cut
 
 module _ (rules rest : Rules) (calls cut : List Call) (tie : Tie) (time : ℕ) (at : IsTieOf rules.ties.items tie) (touch : AllTouch calls rules.ties.items) (may : MaySplit calls tie time) (k : IsSplit tie time calls cut) where
   pub before_now : EndsBefore cut tie.earlier tie.later
-  before_now = let t = touch at.0 tie at.1 in split_before calls cut tie time may k t.one t.one_is (some_is t.one.end t.end t.ended)
+  before_now = let t = touch at.0 tie at.1 in split_before calls cut tie time may k t.one t.one_is (is_some_of t.one.end t.end t.ended)
 
   pub touch_now : AreLeft rules rest cut → AreOpen rest.ties.items cut → AllTouch cut rest.ties.items
   touch_now l still i t is =
@@ -154,7 +141,7 @@ module _ (rules rest : Rules) (calls cut : List Call) (tie : Tie) (time : ℕ) (
       let one = f.there t.earlier had.one had.one_is in
       let other = f.there t.later had.other had.other_is in
       elim (end_cases one.0.end) [
-        | inr none ↦ absurd (none_some one.0.end none (one.3 (some_is had.one.end had.end had.ended)))
+        | inr none ↦ absurd (none_some one.0.end none (one.3 (is_some_of had.one.end had.end had.ended)))
         | inl e ↦ record {
           apart = had.apart;
           one = one.0;
@@ -210,7 +197,7 @@ module _ (rules rest : Rules) (calls cut : List Call) (tie : Tie) (time : ℕ) (
           | inr free ↦ elim free.1 [ inl low ↦ let b_is = low.1 in omega (arith, less, begins, b_is) | inr high ↦ let b_is = high.1 in omega (arith, less, begins, b_is) ]
         ],
         λ e ends. elim (end_cases c.0.end) [
-          | inr none ↦ absurd (none_some d.end (c.2.open_end none) (some_is d.end e ends))
+          | inr none ↦ absurd (none_some d.end (c.2.open_end none) (is_some_of d.end e ends))
           | inl f ↦
               let new = c.2.end f.0 f.1 in
               let same = one_end d.end e new.0 ends new.1 in
@@ -257,7 +244,7 @@ module _ (rules : Rules) (calls : List Call) (tie : Tie) (upto before left : ℕ
   tried_more c now is none spent = record {
     none = λ k d below d_is. elim (less_or k upto below) [
       | inl less ↦ t.none k d less d_is
-      | inr here ↦ subst (λ (x : Call). MaySplit calls tie x.begin → NoneAt rules calls tie x.begin) (one_call calls upto c d is (ap (slice_get calls) (sym here) ∙ d_is)) none
+      | inr here ↦ subst (λ (x : Call). MaySplit calls tie x.begin → NoneAt rules calls tie x.begin) (one_at calls upto c d is (ap (slice_get calls) (sym here) ∙ d_is)) none
     ];
     spent = λ fewer long. let had = t.spent fewer long in let more = spent fewer long in omega (arith, had, more);
   }

@@ -7,10 +7,9 @@ use Rattle.cc_judge.specs.Faults.{Did, Differ}
 use Rattle.cc_judge.specs.Faultless.{IsWritten, NoFault}
 use Rattle.cc_judge.specs.Until.{HaveEnded, IsCallUntil, IsOver, IsUntil, act_until, unreturned}
 use Rattle.cc_judge.specs.Verdict.{AreSentBelow, Stands, StandsFirst}
-use Rattle.cc_judge.proofs.Cuts.{none_some}
-use Rattle.cc_judge.proofs.Shares.{end_cases}
 use Rattle.cc_judge.proofs.Faultless.{faultless_logs_have_orders}
 use Rattle.cc_judge.proofs.NoOrder.{no_order}
+use Rattle.cc_judge.proofs.Calls.{end_cases, none_some}
 
 -- ---- an order of the log until a time: a take that found the queue closed and empty, and hasn't returned, found none
 

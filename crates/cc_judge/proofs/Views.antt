@@ -2,7 +2,7 @@
 use Rattle.std.proofs.Common.{◌≡◌, ◌≢◌, ℕ, zero, suc, ◌<◌, ◌≤◌, ◌⊎◌, inl, inr, false, List, [], ◌∷◌, length, Option, Some, None, IsSome, refl, sym, ap, ◌∙◌, subst, arith}
 use Rattle.std.specs.List.{slice_get}
 use Rattle.std.proofs.lemmas.Bool.{cases_lt}
-use Rattle.std.proofs.lemmas.Option.{slice_get_cases, slice_get_within}
+use Rattle.std.proofs.lemmas.Option.{slice_get_within}
 use Rattle.cc_judge.specs.Names.{Act, Call, Step, Rules}
 use Rattle.cc_judge.specs.Order.{EndsBefore, IsOrder, of_any_capacity}
 use Rattle.cc_judge.specs.Faults.{Did, Differ, FindsNone}
@@ -10,6 +10,8 @@ use Rattle.cc_judge.proofs.Places.{In, Before, before_first, before_second}
 use Rattle.cc_judge.proofs.Weave.{Item, Fate, taken, kept, none, IsOf, Fits, FateFits, Later, later_of}
 use Rattle.cc_judge.proofs.Fifo.{Overtakes, Apart}
 use Rattle.cc_judge.proofs.Complete.{At, Idle, IsIdle, View, Quiet, complete}
+use Rattle.cc_judge.proofs.Calls.{none_some, one_act, none_send, none_taking, none_took}
+use Rattle.cc_judge.proofs.Turns.{slice_has}
 
 -- ---- times
 
@@ -78,12 +80,6 @@ taker (x ∷ calls) item = elim (is_took x.act item) [
     no_taker other nobody zero d = let is = d.call_is in let e : x.act ≡ d.call.act = cc in other (e ∙ d.act_is)
     no_taker other nobody (suc t) d = nobody t (did_less x calls t (Act.Took item) d)
 
-pub one_call : (calls : List Call) (p : ℕ) (act other : Act) (d : Did calls p act) (e : Did calls p other) → d.call ≡ e.call
-one_call calls p act other d e = let both : Some d.call ≡ Some e.call = sym d.call_is ∙ e.call_is in cc
-
-pub one_act : (calls : List Call) (p : ℕ) (act other : Act) → Did calls p act → Did calls p other → act ≡ other
-one_act calls p act other d e = sym d.act_is ∙ ap (λ (c : Call). c.act) (one_call calls p act other d e) ∙ e.act_is
-
 -- ---- a log without faults
 
 -- At this moment no item need be in the queue: of each that was sent before, the take had begun.
@@ -117,11 +113,8 @@ place_of (none act take) = take
 
 -- ---- they have no call in common
 
-pub none_send : (act : Act) (item : ℕ) → FindsNone act → act ≡ Act.Send item → ⊥
-none_send act item finds send = grind arith
-
-pub none_took : (act : Act) (item : ℕ) → FindsNone act → act ≡ Act.Took item → ⊥
-none_took act item finds took = grind arith
+none_idle : (act : Act) → FindsNone act → IsIdle act → ⊥
+none_idle act finds idle = grind arith
 
 -- the call is the one that the item is named by, and no take of an item, or it took the item
 Role : (calls : List Call) → Item → Fate → (place : ℕ) → Type 0
@@ -215,13 +208,9 @@ module _ (calls : List Call) (last : ℕ) (u : Until calls last) (fine : Faultle
           omega (arith, d_is, high_t, t_last),
           omega (arith, a_is, d_is),
           from.1,
-          λ m low high. at_of calls last take m act (λ is. not_taking from.1 is) t (omega (arith, low, a_is, low_t)) (omega (arith, high, d_is, high_t)),
+          λ m low high. at_of calls last take m act (λ is. none_taking act from.1 is) t (omega (arith, low, a_is, low_t)) (omega (arith, high, d_is, high_t)),
         ),
       )
-    where
-      not_taking : FindsNone act → act ≡ Act.Taking → ⊥
-      not_taking (inl is) taking = let e : Act.FoundNone ≡ Act.Taking = sym is ∙ taking in cc
-      not_taking (inr is) taking = let e : Act.Ended ≡ Act.Taking = sym is ∙ taking in cc
 
   fits_of : (x : Item) → IsFrom calls last x x.fate → Fits (At calls) (suc last) x
   unfolding Spans
@@ -312,9 +301,6 @@ record Part (calls : List Call) (last n : ℕ) : Type 0 where
   nones : (p : ℕ) (act : Act) → p < n → (d : Did calls p act) → FindsNone act → IsSome d.call.end → (x : Item) × In x xs × (place_of x.fate ≡ p)
   others : (p : ℕ) (act : Act) → p < n → (d : Did calls p act) → IsIdle act → IsSome d.call.end → (i : Idle) × In i idles × (i.step.place ≡ p)
 
-pub none_some : (o : Option ℕ) → o ≡ None → IsSome o → ⊥
-none_some o open_end some = grind arith
-
 below_or_here : (p n : ℕ) → p < suc n → (p < n) ⊎ (p ≡ n)
 below_or_here p n less = elim (cases_lt p n) [ inl lower ↦ inl lower | inr not_less ↦ inr (omega (arith, less, not_less)) ]
 
@@ -367,7 +353,7 @@ module _ (calls : List Call) (last n : ℕ) (part : Part calls last n) where
     ];
     nones = λ p act less d finds ended. elim (below_or_here p n less) [
       | inl lower ↦ part.nones p act lower d finds ended
-      | inr same ↦ absurd (no_none act finds (subst IsIdle (act_at p act same d) idle))
+      | inr same ↦ absurd (none_idle act finds (subst IsIdle (act_at p act same d) idle))
     ];
     others = λ p act less d is_idle ended. elim (below_or_here p n less) [
       | inl lower ↦ let r = part.others p act lower d is_idle ended in (r.0, inr r.1, r.2)
@@ -377,10 +363,6 @@ module _ (calls : List Call) (last n : ℕ) (part : Part calls last n) where
     where
       act_at : (p : ℕ) (act : Act) → p ≡ n → Did calls p act → c.act ≡ act
       act_at p act same d = one_act calls n c.act act (record { call = c; call_is = is; act_is = refl }) (subst (λ (q : ℕ). Did calls q act) same d)
-
-      no_none : (act : Act) → FindsNone act → IsIdle act → ⊥
-      no_none act (inl finds) is_idle = subst IsIdle finds is_idle
-      no_none act (inr finds) is_idle = subst IsIdle finds is_idle
 
   -- the call needs no step, or is the take of an item
   skip : ((item : ℕ) (d : Did calls n (Act.Send item)) → IsSome d.call.end ⊎ ((t : ℕ) × Did calls t (Act.Took item)) → ⊥) → ((act : Act) (d : Did calls n act) → FindsNone act → IsSome d.call.end → ⊥) → ((act : Act) (d : Did calls n act) → IsIdle act → IsSome d.call.end → ⊥) → Part calls last (suc n)
@@ -427,9 +409,6 @@ module _ (calls : List Call) (last n : ℕ) (part : Part calls last n) where
       not_ended : {other : Act} (d : Did calls n other) → IsSome d.call.end → ⊥
       not_ended {other} d ended = grind (arith, none_some)
 
-pub get_at : (calls : List Call) (n : ℕ) → n < length calls → (c : Call) × (slice_get calls n ≡ Some c)
-get_at calls n less = grind (arith, slice_get_cases calls n)
-
 module _ (calls : List Call) (last : ℕ) (u : Until calls last) (fine : Faultless calls) where
   -- a send whose item a call took
   taken_part : (n : ℕ) → Part calls last n → (item : ℕ) → (s : Did calls n (Act.Send item)) → (t : ℕ) (took : Did calls t (Act.Took item)) → Part calls last (suc n)
@@ -472,11 +451,7 @@ module _ (calls : List Call) (last : ℕ) (u : Until calls last) (fine : Faultle
       (record { call = c; call_is = is; act_is = act_is }, finds, refl, refl, refl, m.1, omega (arith, d), m.3)
       refl
       (λ other s. absurd (none_send act other finds (sym act_is ∙ one_act calls n c.act (Act.Send other) (here calls last n part c is) s)))
-      (λ other d idle. idle_none finds (subst IsIdle (one_act calls n other act d (record { call = c; call_is = is; act_is = act_is })) idle))
-    where
-      idle_none : FindsNone act → IsIdle act → ⊥
-      idle_none (inl f) idle = subst IsIdle f idle
-      idle_none (inr f) idle = subst IsIdle f idle
+      (λ other d idle. none_idle act finds (subst IsIdle (one_act calls n other act d (record { call = c; call_is = is; act_is = act_is })) idle))
 
   idle_part : (n : ℕ) → Part calls last n → (c : Call) → slice_get calls n ≡ Some c → IsIdle c.act → (end : Option ℕ) → c.end ≡ end → Part calls last (suc n)
   idle_part n part c is idle None ended = skip_open calls last n part c is ended (λ item send t took. subst IsIdle send idle)
@@ -512,7 +487,7 @@ module _ (calls : List Call) (last : ℕ) (u : Until calls last) (fine : Faultle
     others = λ p act less d idle ended. absurd (omega (arith, less));
   }
   parts (suc n) within =
-      let g = get_at calls n (omega (arith, within)) in
+      let g = slice_has calls n (omega (arith, within)) in
       one_part n (parts n (omega (arith, within))) g.0 g.1 g.0.act refl
 
   -- ---- all of them

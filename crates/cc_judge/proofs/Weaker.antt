@@ -1,5 +1,5 @@
 -- An order of a log is one of a log that says less of its calls.
-use Rattle.std.proofs.Common.{◌≡◌, ℕ, suc, ◌+◌, ◌≤◌, inl, inr, List, [], ◌∷◌, ◌++◌, length, Option, Some, None, IsSome, refl, sym, ap, ◌∙◌, subst, arith}
+use Rattle.std.proofs.Common.{◌≡◌, ℕ, suc, ◌+◌, ◌≤◌, inl, inr, List, [], ◌∷◌, ◌++◌, length, Some, None, refl, sym, ap, ◌∙◌, subst, arith}
 use Rattle.std.specs.List.{slice_get}
 use Rattle.cc_judge.specs.Names.{Act, Call, Step, Rules}
 use Rattle.cc_judge.specs.Order.{MayHaveDone, IsOrder}
@@ -7,12 +7,7 @@ use Rattle.cc_judge.specs.Faults.{Did, Differ}
 use Rattle.cc_judge.specs.Late.{LateLogsHaveNoFault, Weaker, WindowsAreLinearizable}
 use Rattle.cc_judge.proofs.Late.{late_logs_are_linearizable}
 use Rattle.cc_judge.proofs.Marks.{get_behind, get_front, get_split}
-
-some_of : (o : Option ℕ) → IsSome o → (e : ℕ) × (o ≡ Some e)
-some_of o some = grind arith
-
-is_some : (o : Option ℕ) (e : ℕ) → o ≡ Some e → IsSome o
-is_some o e is = subst IsSome (sym is) refl
+use Rattle.cc_judge.proofs.Calls.{is_some_of, some_end}
 
 -- So a late log, a window, clocks that differ, and takes of which it isn't known what they took accuse no queue that a log with more
 -- in it wouldn't.
@@ -25,9 +20,9 @@ weaken rules calls loose order w o = record {
   once = o.once;
   whole = λ place d is ended.
       let r = w.back place d is in
-      let e = some_of d.end ended in
+      let e = some_end d.end ended in
       let f = r.3 e.0 e.1 in
-      o.whole place r.0 r.1 (is_some r.0.end f.0 f.1);
+      o.whole place r.0 r.1 (is_some_of r.0.end f.0 f.1);
   in_time = λ j k s t less s_is t_is ends.
       let one = w.back t.place ends.one ends.one_is in
       let other = w.back s.place ends.other ends.other_is in

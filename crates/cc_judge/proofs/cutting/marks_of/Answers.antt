@@ -1,7 +1,8 @@
 use Rattle.std.proofs.Common.{◌≡◌, ℕ, ◌+◌, ◌<◌, ◌≤◌, Bool, true, List, length, sym, ap, ◌∙◌, subst, arith}
 use Rattle.std.specs.List.{slice_get, slice_set}
 use Rattle.std.proofs.lemmas.Option.{slice_get-get_or}
-use Rattle.cc_judge.proofs.Parts.{MarkedTo, mark_in, mark_out, marks_all, set_long}
+use Rattle.std.proofs.lemmas.List.{length-set}
+use Rattle.cc_judge.proofs.Parts.{MarkedTo, mark_in, mark_out, marks_all}
 use Rattle.cc_judge.proofs.cutting.marks_of.Goals as goal
 use Rattle.cc_judge.proofs.cutting.marks_of.Goals.{then-place-len, else-place-len}
 
@@ -15,7 +16,7 @@ loop-tie-preserved c =
     elim c.if-place-len.branch [
       | then-place-len w ↦
           let within : c.place_of-place.result < length marks = let test = w.if-place-len.true in let len = c.len.ensures in let is = c.loop-tie.marks.ok.0 in omega (arith, test, len, is) in
-          subst Goes (ap (λ v. v.items) (sym w.marks-is)) (set_long marks c.place_of-place.result true ∙ c.loop-tie.invariant.0, subst (λ (p : ℕ). MarkedTo c.args.ties.now later (slice_set marks p true) (i + 1)) (sym c.place_of-place.ensures) (mark_in c.args.ties.now later marks i _ at _ (ap (slice_get marks) (sym c.place_of-place.ensures) ∙ slice_get-get_or marks c.place_of-place.result true within) c.loop-tie.invariant.1))
+          subst Goes (ap (λ v. v.items) (sym w.marks-is)) (length-set marks c.place_of-place.result true ∙ c.loop-tie.invariant.0, subst (λ (p : ℕ). MarkedTo c.args.ties.now later (slice_set marks p true) (i + 1)) (sym c.place_of-place.ensures) (mark_in c.args.ties.now later marks i _ at _ (ap (slice_get marks) (sym c.place_of-place.ensures) ∙ slice_get-get_or marks c.place_of-place.result true within) c.loop-tie.invariant.1))
       | else-place-len w ↦
           let out : length marks ≤ c.place_of-place.result = let test = w.if-place-len.false in let len = c.len.ensures in let is = c.loop-tie.marks.ok.0 in omega (arith, test, len, is) in
           subst Goes (ap (λ v. v.items) (sym w.marks-is)) (c.loop-tie.invariant.0, mark_out c.args.ties.now later marks i _ at (subst (λ (p : ℕ). length marks ≤ p) c.place_of-place.ensures out) c.loop-tie.invariant.1)

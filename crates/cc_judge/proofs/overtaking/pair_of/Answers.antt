@@ -1,7 +1,8 @@
 use Rattle.std.proofs.Common.{◌≡◌, Some, None, sym, ap, ◌∙◌}
 use Rattle.cc_judge.specs.Names.{Call}
-use Rattle.cc_judge.proofs.Sweeping.{some_end}
-use Rattle.cc_judge.proofs.Judging.{one_call, unsent}
+use Rattle.cc_judge.proofs.Calls.{some_end}
+use Rattle.cc_judge.proofs.Judging.{unsent}
+use Rattle.cc_judge.proofs.Turns.{one_at}
 use Rattle.cc_judge.proofs.overtaking.pair_of.Goals as goal
 
 pub returns-in_err-item-clause-none : goal.returns-in_err-item-clause-none
@@ -19,7 +20,7 @@ returns-in_err-begin-clause-none c = rw c.from_residual-in_err-begin.ensures (λ
 pub returns-in_err-end-clause-none : goal.returns-in_err-end-clause-none
 returns-in_err-end-clause-none c = rw c.from_residual-in_err-end.ensures (λ send item s t.
     let e = some_end t.call.end (c.requires.written.took c.args.take item t) in
-    let both : Some e.0 ≡ None = sym e.1 ∙ ap (λ (x : Call). x.end) (one_call c.args.calls.now c.args.take t.call c.in_ok-call_at.field-0 t.call_is c.in_ok-call_at.ensures.some) ∙ c.in_err-end.was in
+    let both : Some e.0 ≡ None = sym e.1 ∙ ap (λ (x : Call). x.end) (one_at c.args.calls.now c.args.take t.call c.in_ok-call_at.field-0 t.call_is c.in_ok-call_at.ensures.some) ∙ c.in_err-end.was in
     cc)
 
 pub returns-clause-some : goal.returns-clause-some
@@ -30,6 +31,6 @@ returns-clause-some c =
       item = c.in_ok-item.item;
       sent = sent;
       took = took;
-      begins = ap (λ (x : Call). x.begin) (one_call c.args.calls.now c.in_ok-send.send sent.call c.in_ok-begin.field-0 sent.call_is c.in_ok-begin.ensures.some);
-      ends = ap (λ (x : Call). x.end) (one_call c.args.calls.now c.args.take took.call c.in_ok-call_at.field-0 took.call_is c.in_ok-call_at.ensures.some) ∙ c.in_ok-end.was;
+      begins = ap (λ (x : Call). x.begin) (one_at c.args.calls.now c.in_ok-send.send sent.call c.in_ok-begin.field-0 sent.call_is c.in_ok-begin.ensures.some);
+      ends = ap (λ (x : Call). x.end) (one_at c.args.calls.now c.args.take took.call c.in_ok-call_at.field-0 took.call_is c.in_ok-call_at.ensures.some) ∙ c.in_ok-end.was;
     }
