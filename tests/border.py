@@ -30,10 +30,8 @@ STRUCTS = [
 ]
 # Those of the bench, which has items of one word as the library has them.
 OF_THE_BENCH = [("vahepito_config", "Settings", "Config"), ("vahepito_word_item", "TakenItem", "Item")]
-# Types as C has them. The crate lends a pass as a Pass or as a Handle, which has nothing beside it, and its words may
-# be unwritten.
-IN_C = {"u32": "uint32_t", "u64": "uint64_t", "usize": "size_t", "Word": "uint64_t", "Handle": "vahepito_handle",
-        "Raw": "vahepito_handle"}
+# Types as C has them. The crate lends a pass as a Pass or as a Handle, which has nothing beside it.
+IN_C = {"u32": "uint32_t", "u64": "uint64_t", "usize": "size_t", "Handle": "vahepito_handle", "Raw": "vahepito_handle"}
 IN_C.update({name: in_c for in_c, *names in STRUCTS + OF_THE_BENCH for name in names if name})
 # What has no bytes.
 NOTHING = {"Global"}
@@ -124,6 +122,9 @@ def number_of(pattern, path):
 def of_rust(paths, names):
     """Codes, exports and structs of these files, which name what they use: some of the codes and exports."""
     text = re.sub(r" *//[^\n]*", "", "\n".join(path.read_text() for path in paths))
+    # A number that isn't written before a call has a type of the crate's own.
+    for name, written in re.findall(r"\btype (\w+) = MaybeUninit<(\w+)>;", text):
+        text = re.sub(rf"\b{name}\b", written, text)
     module = re.search(r"\bmod code \{(.*?)\n\}", text, re.S)
     codes = re.findall(r"\bconst (\w+): u32 = (\d+);", module[1] if module else text)
     codes = {name: int(number) for name, number in codes}
