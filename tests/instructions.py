@@ -25,13 +25,13 @@ CALLS = 300
 # What the crate's user writes, and the most instructions that it may cost.
 IN_RUST = {
     "send and recv of a word": ("let (s, r) = channel::<u64>(64)?;", "s.send(i).unwrap(); assert_eq!(r.recv(), Ok(i));",
-                                738),
+                                733),
     "try_send and try_recv of a word": ("let (s, r) = channel::<u64>(64)?;",
-                                        "s.try_send(i).unwrap(); assert_eq!(r.try_recv(), Ok(i));", 792),
+                                        "s.try_send(i).unwrap(); assert_eq!(r.try_recv(), Ok(i));", 787),
     "four words": ("let (s, r) = channel::<[u64; 4]>(64)?;",
-                   "s.send([i; 4]).unwrap(); assert_eq!(r.recv(), Ok([i; 4]));", 1094),
+                   "s.send([i; 4]).unwrap(); assert_eq!(r.recv(), Ok([i; 4]));", 1090),
     "two groups": ("let (s, r) = groups::<u64>(64, 2)?;",
-                   "s.send(i).unwrap(); for r in &r { assert_eq!(r.recv(), Ok(i)); }", 1348),
+                   "s.send(i).unwrap(); for r in &r { assert_eq!(r.recv(), Ok(i)); }", 1341),
     "a refused try_send": ("let (s, _r) = channel::<u64>(1)?; s.send(0).unwrap();", "assert!(s.try_send(i).is_err());",
                            148),
     "the same with 4,096 places": (
@@ -41,11 +41,11 @@ IN_RUST = {
     "an empty try_recv": ("let (_s, r) = channel::<u64>(64)?;", "assert!(r.try_recv().is_err() && i < calls);", 67),
     "send, and a select that takes": (
         "let (s, r) = channel::<u64>(64)?;", "s.send(i).unwrap(); select! { recv(r) -> it => assert_eq!(it, Ok(i)) }",
-        947,
+        943,
     ),
     "a select that sends, and recv": (
         "let (s, r) = channel::<u64>(64)?;", "select! { send(s, i) -> it => it.unwrap() } assert_eq!(r.recv(), Ok(i));",
-        1082,
+        1081,
     ),
     "a select of two takes in vain": (
         "let ((_s, r), (_t, q)) = (channel::<u64>(64)?, channel::<u64>(64)?);",
@@ -68,8 +68,8 @@ OPENINGS = {
 BOUNDS = {
     f"send and recv of a word, {name}": (f"let (s, r) = {opening}?;",
                                          "s.send(i).unwrap(); assert_eq!(r.recv(), Ok(i));", limit)
-    for name, opening, limit in (("capacity 64", "channel::<u64>(64)", 741),
-                                 ("without a bound", "unbounded::<u64>()", 761))
+    for name, opening, limit in (("capacity 64", "channel::<u64>(64)", 736),
+                                 ("without a bound", "unbounded::<u64>()", 762))
 }
 # Futures that are ready at their first poll, in a program of their own too.
 CONTEXT = "let context = &mut std::task::Context::from_waker(std::task::Waker::noop());"
@@ -77,11 +77,11 @@ FUTURES = {
     "a try_send, and a ready recv_async": (
         f"let (s, r) = channel::<u64>(64)?; {CONTEXT}",
         "s.try_send(i).unwrap(); assert_eq!(std::pin::pin!(r.recv_async()).poll(context), "
-        "std::task::Poll::Ready(Ok(i)));", 881,
+        "std::task::Poll::Ready(Ok(i)));", 872,
     ),
     "a ready send_async, and a try_recv": (
         f"let (s, r) = channel::<u64>(64)?; {CONTEXT}",
-        "assert!(std::pin::pin!(s.send_async(i)).poll(context).is_ready()); assert_eq!(r.try_recv(), Ok(i));", 901,
+        "assert!(std::pin::pin!(s.send_async(i)).poll(context).is_ready()); assert_eq!(r.try_recv(), Ok(i));", 896,
     ),
 }
 # The pairs of the program in C: by handles, as the Rust crate makes them, and the calls that wait, which take a seat

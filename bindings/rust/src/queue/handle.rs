@@ -7,7 +7,7 @@ pub use super::{Words, code, unexpected};
 use crate::backoff::FOR_OWN_SIDE;
 use crate::event::{Served, wait_without_end};
 use std::ffi::c_void;
-use std::mem::size_of;
+use std::mem::{MaybeUninit, size_of};
 use std::ptr::{null_mut, read_volatile};
 
 #[repr(C)]
@@ -51,21 +51,34 @@ unsafe extern "C" {
     ) -> u32;
     safe fn vahepito_drop(pass: &mut Raw) -> u32;
     safe fn vahepito_begin_close(sender: &mut Raw) -> u32;
-    safe fn vahepito_try_send(_: &mut Raw, body: Word, place: &mut u64, _: &mut u32) -> u32;
+    // These write the item's place, or the total of items at the end, and how many calls were served.
+    safe fn vahepito_try_send(_: &mut Raw, body: Word, place: &mut Word, _: &mut Count) -> u32;
     fn vahepito_try_send_words(
         sender: &mut Raw,
         words: *const Word,
         count: usize,
-        place: &mut u64,
-        served: &mut u32,
+        place: &mut Word,
+        served: &mut Count,
     ) -> u32;
-    safe fn vahepito_turn_send(_: &mut Raw, place: &mut u64, served: &mut u32) -> u32;
-    safe fn vahepito_turn_close(_: &mut Raw, total: &mut u64, served: &mut u32) -> u32;
-    // These write the item, the total of items at the end, and how many calls were served.
-    safe fn vahepito_turn_take(_: &mut Raw, _: &mut Taken, _: &mut u64, _: &mut u32) -> u32;
-    safe fn vahepito_turn_take_words(_: &mut Raw, _: &mut Taken, _: &mut u64, _: &mut u32) -> u32;
-    safe fn vahepito_try_take(_: &mut Raw, _: &mut Taken, _: &mut u64, _: &mut u32) -> u32;
-    safe fn vahepito_try_take_words(_: &mut Raw, _: &mut Taken, _: &mut u64, _: &mut u32) -> u32;
+    safe fn vahepito_turn_send(_: &mut Raw, place: &mut Word, served: &mut Count) -> u32;
+    safe fn vahepito_turn_close(_: &mut Raw, total: &mut Word, served: &mut Count) -> u32;
+    safe fn vahepito_turn_take(_: &mut Raw, _: &mut Taken, _: &mut Word, _: &mut Count) -> u32;
+    safe fn vahepito_turn_take_words(
+        _: &mut Raw,
+        _: &mut Taken,
+        _: &mut Word,
+        _: &mut Count,
+    ) -> u32;
+    safe fn vahepito_try_take(_: &mut Raw, _: &mut Taken, _: &mut Word, _: &mut Count) -> u32;
+    safe fn vahepito_try_take_words(_: &mut Raw, _: &mut Taken, _: &mut Word, _: &mut Count)
+    -> u32;
+}
+
+/// How many calls were served. It isn't read here, and neither are places and totals: nothing is written before the call.
+type Count = MaybeUninit<u32>;
+
+fn unread<T>() -> MaybeUninit<T> {
+    MaybeUninit::uninit()
 }
 
 /// A take writes it, or nothing is read of it.
@@ -107,14 +120,18 @@ impl Handle {
     pub fn send(&mut self, words: &Words, count: usize, line: Served) -> u32 {
         let at = words.as_ptr();
         let code = match count {
-            1 => vahepito_try_send(&mut self.0, words[0], &mut 0, &mut 0),
+            1 => vahepito_try_send(&mut self.0, words[0], &mut unread(), &mut unread()),
             // SAFETY: there are four words, and the library refuses to read more.
-            _ => unsafe { vahepito_try_send_words(&mut self.0, at, count, &mut 0, &mut 0) },
+            _ => unsafe {
+                vahepito_try_send_words(&mut self.0, at, count, &mut unread(), &mut unread())
+            },
         };
         if code != code::WAITING {
             return code;
         }
-        wait_until_served(line, || vahepito_turn_send(&mut self.0, &mut 0, &mut 0))
+        wait_until_served(line, || {
+            vahepito_turn_send(&mut self.0, &mut unread(), &mut unread())
+        })
     }
 
     /// Takes the words of an item, of this number, and waits for the answer in this line. If there is no item, it returns
@@ -123,15 +140,15 @@ impl Handle {
     pub fn take(&mut self, count: usize, line: Served) -> Result<Words, u32> {
         let mut item = NO_ITEM;
         let mut code = match count {
-            1 => vahepito_try_take(&mut self.0, &mut item, &mut 0, &mut 0),
-            _ => vahepito_try_take_words(&mut self.0, &mut item, &mut 0, &mut 0),
+            1 => vahepito_try_take(&mut self.0, &mut item, &mut unread(), &mut unread()),
+            _ => vahepito_try_take_words(&mut self.0, &mut item, &mut unread(), &mut unread()),
         };
         if code == code::WAITING {
             // The closure has a number of its own, so that the compiler knows this one.
             let words = count;
             code = wait_until_served(line, || match words {
-                1 => vahepito_turn_take(&mut self.0, &mut item, &mut 0, &mut 0),
-                _ => vahepito_turn_take_words(&mut self.0, &mut item, &mut 0, &mut 0),
+                1 => vahepito_turn_take(&mut self.0, &mut item, &mut unread(), &mut unread()),
+                _ => vahepito_turn_take_words(&mut self.0, &mut item, &mut unread(), &mut unread()),
             });
         }
         match code {
@@ -146,7 +163,7 @@ impl Handle {
             code::BEGUN => {}
             code => unexpected(code),
         }
-        let mut turn = || vahepito_turn_close(&mut self.0, &mut 0, &mut 0);
+        let mut turn = || vahepito_turn_close(&mut self.0, &mut unread(), &mut unread());
         let code = match turn() {
             code::WAITING => wait_until_served(line, turn),
             code => code,
