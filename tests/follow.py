@@ -10,7 +10,6 @@ numbers of the lines that were changed, and while the pipe is still open. The lo
 that holds up to some hundred items. To follow it takes at most twice the time of judging it, and a tenth of the memory.
 """
 
-import json
 import os
 import random
 import re
@@ -22,7 +21,7 @@ from pathlib import Path
 
 sys.dont_write_bytecode = True
 import windows
-from windows import PROGRAM
+from windows import PROGRAM, judged, text_of
 
 # The calls of the long log, and how many lines before a fault are enough for several parts.
 LONG, LINES = 1_000_000, 60_000
@@ -47,14 +46,9 @@ def made(number, seed, threads=8):
     return sorted(lines, key=lambda call: call["end"])
 
 
-def text_of(calls):
-    return "".join(json.dumps(call, separators=(",", ":")) + "\n" for call in calls)
-
-
-def followed(text):
-    """The status of the program, and what it says."""
-    run = subprocess.run([PROGRAM, "judge", "--follow"], input=text, capture_output=True, text=True, check=False)
-    return run.returncode, run.stdout or run.stderr
+def followed(calls):
+    """The status of the program that follows the log of these calls, and what it says."""
+    return judged(["--follow"], text_of(calls), first="")
 
 
 def exchange(calls, start):
@@ -74,7 +68,8 @@ def again(calls, start):
     """The calls with one more take of an item that was taken before; and the lines of both."""
     first = next(place for place in range(start, len(calls)) if calls[place].get("take") is not None)
     second = next(place for place in range(first + 50, len(calls)) if calls[place].get("take") is not None)
-    return calls[:second] + [calls[second] | {"take": calls[first]["take"]}] + calls[second + 1:], {first + 1, second + 1}
+    taken = calls[second] | {"take": calls[first]["take"]}
+    return calls[:second] + [taken] + calls[second + 1:], {first + 1, second + 1}
 
 
 def reopened(calls, start):
@@ -89,7 +84,7 @@ def reopened(calls, start):
 def is_found(name, plant, calls):
     """Whether a fault that is planted behind several parts is found, with a changed line."""
     changed, lines = plant(calls, LINES * 2 // 3)
-    status, said = followed(text_of(changed))
+    status, said = followed(changed)
     named = {int(line) for line in re.findall(r"\d+", said)}
     if status == 1 and named & lines:
         return True
@@ -117,7 +112,7 @@ def is_cut_clean(calls):
     """Whether no log is accused that ends anywhere, as that of a recorder that is killed."""
     rng, right = random.Random(1), True
     for _ in range(20):
-        status, said = followed(text_of(calls[:rng.randrange(1, len(calls))]))
+        status, said = followed(calls[:rng.randrange(1, len(calls))])
         right &= status == 0
         if status != 0:
             print(f"follow: a log that ends early is accused: {said}", end="")
@@ -131,7 +126,7 @@ def are_recorded_clean():
         calls = windows.record(kind, seed)
         calls.sort(key=lambda call: call["end"])
         for kept in (calls, [call for call in calls if rng.random() < 0.9]):
-            status, said = followed(text_of(kept))
+            status, said = followed(kept)
             right &= status == 0
             if status != 0:
                 print(f"follow: a recorded log is accused: {said}", end="")
@@ -171,7 +166,7 @@ def is_bounded():
 
 def main():
     calls = made(LINES, 1)
-    right = followed(text_of(calls))[0] == 0
+    right = followed(calls)[0] == 0
     for name, plant in [("exchanged", exchange), ("taken again", again), ("reopened", reopened)]:
         right &= is_found(name, plant, calls)
     right &= stops_early(made(4 * LINES, 4))
