@@ -69,7 +69,7 @@ BOUNDS = {
     f"send and recv of a word, {name}": (f"let (s, r) = {opening}?;",
                                          "s.send(i).unwrap(); assert_eq!(r.recv(), Ok(i));", limit)
     for name, opening, limit in (("capacity 64", "channel::<u64>(64)", 736),
-                                 ("without a bound", "unbounded::<u64>()", 762))
+                                 ("without a bound", "unbounded::<u64>()", 761))
 }
 # Futures that are ready at their first poll, in a program of their own too.
 CONTEXT = "let context = &mut std::task::Context::from_waker(std::task::Waker::noop());"
