@@ -4,7 +4,7 @@ use std::alloc::{AllocError, Global};
 /// The program and its version, which is that of the library (`tests/border.py`).
 pub(crate) const VERSION: &[u8] = b"ccq 0.4.0\n";
 
-/// What is said of a task.
+/// The help of a task.
 pub(crate) struct Page {
     /// Its name.
     pub(crate) word: &'static str,
@@ -53,12 +53,12 @@ pub(crate) const PAGES: &[Page] = &[
     },
 ];
 
-/// What is said of the task of this name.
+/// Returns the help of the task of this name.
 fn page_of(word: &str) -> Option<&'static Page> {
     PAGES.iter().find(|page| page.word == word)
 }
 
-/// How the task of this name is called, or else the program.
+/// Returns the usage of the task of this name, or else of the program.
 pub(crate) fn usage(word: &str) -> &'static str {
     match page_of(word) {
         Some(page) => page.usage,

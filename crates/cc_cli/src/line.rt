@@ -9,7 +9,7 @@ use std::alloc::{AllocError, Global};
 /// An option that a line gives.
 #[derive(Clone, Copy)]
 pub struct Given {
-    /// What it says.
+    /// The meaning of the option.
     pub name: Name,
     /// Its number; 1 of a flag.
     pub number: u64,
@@ -20,7 +20,7 @@ pub struct Given {
 pub struct Wanted {
     /// The place of its word.
     pub place: usize,
-    /// What it says.
+    /// The meaning of the option.
     pub name: Name,
     /// The least number that it takes.
     pub least: u64,
@@ -77,7 +77,7 @@ pub struct At {
 pub struct Read {
     /// The option.
     pub given: Option<Given>,
-    /// The reading.
+    /// How far the line is read.
     pub at: At,
 }
 

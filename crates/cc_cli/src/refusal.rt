@@ -141,7 +141,7 @@ fn flag_in(word: &str) -> &str {
     }
 }
 
-/// What is wrong with a line, with a tip, how the task is called, and where help is found.
+/// Returns the report of a fault of a line: what is wrong, a tip, the usage of the task, and where to find help.
 fn complaint(alloc: Global, words: &[String], fault: Fault) -> Result<String, AllocError> {
     let task = word_at(words, 0);
     let mut text = String::from_str(alloc, "error: ")?;
@@ -249,7 +249,7 @@ fn complain<E: Sink>(text: Result<String, AllocError>, errors: &mut E) -> u8
     }
 }
 
-/// Writes a text of help, or the version, and answers the status.
+/// Writes a text of help, or the version, and returns the status.
 fn write_help<W: Sink, E: Sink>(sink: &mut W, errors: &mut E, text: &[u8]) -> u8
     requires writes { W.write_failures sink.old < 2 ^ 64 - 1 }
     requires errors { E.write_failures errors.old < 2 ^ 64 - 1 }

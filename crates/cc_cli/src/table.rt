@@ -19,7 +19,7 @@ pub enum Task {
     Drive,
 }
 
-/// What an option says.
+/// The meaning of an option.
 #[derive(Clone, Copy, PartialEq, Eq)]
 pub enum Name {
     /// The run is shown as a trace.
@@ -34,7 +34,7 @@ pub enum Name {
     Skew,
     /// The time from which on the log is judged.
     From,
-    /// The time until which it is.
+    /// The time until which the log is judged.
     Until,
     /// How many threads send.
     Senders,
@@ -49,9 +49,9 @@ pub enum Name {
 /// An option of a task.
 #[derive(Clone, Copy)]
 pub enum Opt {
-    /// It takes nothing.
+    /// The option takes no value.
     Flag(Name),
-    /// It takes a whole number: from the first to the second.
+    /// The option takes a whole number, from the first to the second.
     Number(Name, u64, u64),
 }
 
@@ -89,7 +89,7 @@ pub fn options(task: Task) -> &'static [(&'static str, Opt)]
     }
 }
 
-/// The option of a task that is written so.
+/// Returns the option of a task that is written like this word.
 pub fn option_named(task: Task, word: &str) -> Option<Opt>
     ensures { result ≡ option_named task word.now }
 {

@@ -259,7 +259,7 @@ pub fn found_in(
     }
 }
 
-/// The end of a call at which a fault shows, if it does at one.
+/// The end of a call at which a fault shows, if the fault shows at the end of a call.
 fn shown_at(calls: &[Call], fault: &Fault) -> Option<u64> {
     let place = match fault {
         Fault::NeverSent { take } | Fault::TakenBeforeSent { take, .. } => *take,

@@ -21,7 +21,7 @@ use std::alloc::{AllocError, Global};
 pub enum Explored {
     /// The log has an order.
     Clean,
-    /// It has none.
+    /// The log has no order.
     NoOrder,
     /// The search was given up between these two calls.
     Stuck(Tie),
@@ -144,7 +144,7 @@ fn has_room(call: Call, more: u64) -> bool
     more < FAR && call.begin < FAR - more && call.end.unwrap_or(0) < FAR - more
 }
 
-/// Whether that holds of each call.
+/// Whether the times of each call, and this number more, are below 2^63.
 fn have_room(calls: &[Call], more: u64) -> bool
     ensures room { IsTrue result → HaveRoom more calls.now }
     ensures others { IsFalse result → HaveRoom more calls.now → ⊥ }
@@ -281,7 +281,7 @@ fn is_in_parts(whole: Call, cut: Call, first: u64, parts: u64) -> bool
     }
 }
 
-/// Whether that holds of the calls of two logs.
+/// Whether each call of the second log, in parts, is the call of the first log at its place.
 fn are_in_parts(calls: &[Call], cut: &[Call], first: u64, parts: u64) -> bool
     requires { 0 < parts }
     ensures { IsTrue result → IsFiner calls.now cut.now }

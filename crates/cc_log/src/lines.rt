@@ -25,9 +25,9 @@ fn newline_in(bytes: &[u8]) -> Option<usize>
 pub struct Lines {
     /// The bytes that were read last.
     pub chunk: Vec<u8>,
-    /// The first of them that isn't given out yet.
+    /// The first of these bytes that isn't given out yet.
     pub start: usize,
-    /// The end of them.
+    /// The end of the bytes that were read last.
     pub end: usize,
     /// Whether the input has ended.
     pub ended: bool,
