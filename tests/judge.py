@@ -1,20 +1,21 @@
 #!/usr/bin/env python3
-"""Compares the verdicts of `ccq judge` on small random logs with a search over all orders of their calls, and sees what it says
-of recorded queues.
+"""Compares the verdicts of `ccq judge` on small random logs with a search over all orders of their calls, and sees
+what it says of recorded queues.
 
 Usage: tests/judge.py [LOGS [FIRST]]
 
-Half of the logs are those of a real queue, half are altered; in one of two some calls haven't returned, and some sends are
-refused. Some queues are closed, or have a capacity; some logs have coarse stamps or times that are far apart, are judged with a skew, begin late, or say how they end. The
-log with the number N is always the same. Without words it makes 1,500 logs, from number 0 on, and those of `RARE`. The search
-knows nothing of the program's: it tries every call that began before each call that is left had ended. `judge undecided` is a
-failure. As many logs are of a bounded queue that holds one item too many, or is full though there is room: a fault that the program finds there has to leave no order of a queue with that capacity, and of a queue
-of one thread each such log has to be found. Without words it also records 80,000 calls each of this crate's channel, of
-std's, of crossbeam's and flume's where Debian's packages of them are, and of a queue with a fault, which has to be found. And
-it records a ring of one's own by a program in Rust and by one in C: as it is, also with stops, with a planted fault,
-which has to be found, while the program is killed, with a file that can't grow, and into a pipe. Logs in other forms
-are refused by their forms. `windows.py` has the windows of logs, `histories.py` those of other tools, and
-`bench/judged/run.py --short` records the queues that this machine has.
+Half of the logs are those of a real queue, half are altered; in one of two some calls haven't returned, and some sends
+are refused. Some queues are closed, or have a capacity; some logs have coarse stamps or times that are far apart, are
+judged with a skew, begin late, or say how they end. The log with the number N is always the same. Without words it
+makes 1,500 logs, from number 0 on, and those of `RARE`. The search knows nothing of the program's: it tries every call
+that began before each call that is left had ended. `judge undecided` is a failure. As many logs are of a bounded queue
+that holds one item too many, or is full though there is room: a fault that the program finds there has to leave no
+order of a queue with that capacity, and of a queue of one thread each such log has to be found. Without words it also
+records 80,000 calls each of this crate's channel, of std's, of crossbeam's and flume's where Debian's packages of them
+are, and of a queue with a fault, which has to be found. And it records a ring of one's own by a program in Rust and by
+one in C: as it is, also with stops, with a planted fault, which has to be found, while the program is killed, with a
+file that can't grow, and into a pipe. Logs in other forms are refused by their forms. `windows.py` has the windows of
+logs, `histories.py` those of other tools, and `bench/judged/run.py --short` records the queues that this machine has.
 """
 
 import gzip
@@ -517,7 +518,8 @@ def main(count=None, first=0):
                 wrong += 1
                 print(f"judge: log {number} has {'an' if right else 'no'} order, and the program says {said}", end="")
         recorded &= judge_bounded(pool, numbers)
-    print(f"judge: {count - wrong} of {count} verdicts are those of a search over all orders; {clean} logs have an order")
+    print(f"judge: {count - wrong} of {count} verdicts are those of a search over all orders; "
+          f"{clean} logs have an order")
     return 1 if wrong or not recorded or not 0 < clean < count else 0
 
 

@@ -74,9 +74,10 @@ unsafe extern "C" {
     -> u32;
 }
 
-/// How many calls were served. It isn't read here, and neither are places and totals: nothing is written before the call.
+/// How many calls were served.
 type Count = MaybeUninit<u32>;
 
+/// Room for a place, a total or a count, which a call writes and nobody reads here.
 fn unread<T>() -> MaybeUninit<T> {
     MaybeUninit::uninit()
 }
