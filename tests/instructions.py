@@ -12,6 +12,7 @@ the counts alone.
 One thread makes all calls. The C program is linked with the archives that bindings/c links. The exit status
 is 0 if no count is above its limit, and 77 without valgrind, cargo or cc, where nothing is counted.
 """
+import functools
 import os
 import re
 import shutil
@@ -168,20 +169,21 @@ def archives():
     return [os.path.join(folder, name) for name in ("libvahepito.a", "libvahepito_heap.a")]
 
 
-def build_rust(room, rows):
-    """The program with a mode for each of these rows, in this folder."""
+def build_rust(room, part, rows):
+    """The program of this name, with a mode for each of these rows. The crate is compiled once for all programs."""
+    folder = os.path.join(room, part)
     arms = "\n        ".join(f'"{name}" => {{ {opening} for i in 0..calls {{ {calls} }} }}'
                              for name, (opening, calls, _) in rows.items())
-    os.makedirs(os.path.join(room, "src"))
-    with open(os.path.join(room, "src", "main.rs"), "w") as file:
+    os.makedirs(os.path.join(folder, "src"))
+    with open(os.path.join(folder, "src", "main.rs"), "w") as file:
         file.write(RUST % arms)
-    with open(os.path.join(room, "Cargo.toml"), "w") as file:
-        file.write('[package]\nname = "counted"\nversion = "0.1.0"\nedition = "2024"\n\n[workspace]\n\n[dependencies]\n'
+    with open(os.path.join(folder, "Cargo.toml"), "w") as file:
+        file.write(f'[package]\nname = "{part}"\nversion = "0.1.0"\nedition = "2024"\n\n[workspace]\n\n[dependencies]\n'
                    f'vahepito = {{ path = "{TOP}/bindings/rust" }}\n')
     target = os.path.join(room, "target")
-    subprocess.run(["cargo", "build", "--quiet", "--release", "--offline", "--target-dir", target], cwd=room,
+    subprocess.run(["cargo", "build", "--quiet", "--release", "--offline", "--target-dir", target], cwd=folder,
                    check=True)
-    return os.path.join(target, "release", "counted")
+    return os.path.join(target, "release", part)
 
 
 def build_c(room):
@@ -194,6 +196,7 @@ def build_c(room):
     return program
 
 
+@functools.cache
 def locked_in(program):
     """The addresses of its locked instructions."""
     told = subprocess.run(["objdump", "-d", "-M", "intel", "--no-show-raw-insn", program], capture_output=True,
@@ -201,18 +204,21 @@ def locked_in(program):
     return {int(at, 16) for at, _ in re.findall(r"^ *([0-9a-f]+):\t(lock |mfence|xchg [^\n]*\[)", told, re.M)}
 
 
-def instructions(command, room):
-    """How many instructions a run of this program executes, and how many locked ones of its own, if it has fixed
-    addresses."""
-    out, addresses = os.path.join(room, "counts"), locked_in(command[0])
-    counted = ["valgrind", "--tool=callgrind", "--dump-instr=yes", "--compress-pos=no", f"--callgrind-out-file={out}",
-               *command]
+def instructions(command, room, wants_locked):
+    """How many instructions a run of this program executes, and if it is asked how many locked ones of its own, for
+    which it has fixed addresses."""
+    out = os.path.join(room, "counts")
+    by_address = ["--dump-instr=yes", "--compress-pos=no"] if wants_locked else []
+    counted = ["valgrind", "--tool=callgrind", *by_address, f"--callgrind-out-file={out}", *command]
     done = subprocess.run(counted, capture_output=True, text=True, check=True)
-    with open(out) as file:
-        # A line behind `calls=` has what was called, and no cost of its own.
-        costs = re.findall(r"^0x([0-9a-f]+) \d+ (\d+)$", re.sub(r"^calls=.*\n.*\n", "", file.read(), flags=re.M), re.M)
-    return int(re.search(r"Collected : (\d+)", done.stderr)[1]), sum(int(cost)
-        for at, cost in costs if int(at, 16) in addresses)
+    counts = [int(re.search(r"Collected : (\d+)", done.stderr)[1])]
+    if wants_locked:
+        with open(out) as file:
+            # A line behind `calls=` has what was called, and no cost of its own.
+            costs = re.findall(r"^0x([0-9a-f]+) \d+ (\d+)$", re.sub(r"^calls=.*\n.*\n", "", file.read(), flags=re.M),
+                               re.M)
+        counts.append(sum(int(cost) for at, cost in costs if int(at, 16) in locked_in(command[0])))
+    return counts
 
 
 def main():
@@ -223,12 +229,12 @@ def main():
     with tempfile.TemporaryDirectory() as room:
         c, rows = build_c(room), []
         for part, of_part in (("calls", IN_RUST), ("openings", OPENINGS), ("bounds", BOUNDS), ("futures", FUTURES)):
-            rust = build_rust(os.path.join(room, part), of_part)
+            rust = build_rust(room, part, of_part)
             rows += [(name, [rust, name], [limit]) for name, (_, _, limit) in of_part.items()]
         rows += [(name, [c, mode], limits) for name, (mode, *limits) in IN_C.items()]
         counts = []
         for name, run, limits in rows:
-            twice, once = (instructions([*run, str(calls)], room) for calls in (2 * CALLS, CALLS))
+            twice, once = (instructions([*run, str(calls)], room, len(limits) > 1) for calls in (2 * CALLS, CALLS))
             differences = [(more - less) / CALLS for more, less in zip(twice, once)]
             counts += zip([name, f"locked in {name}"], differences, limits)
     for name, count, limit in counts:
