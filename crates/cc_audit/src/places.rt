@@ -17,7 +17,6 @@ pub fn sorted(places: Vec<u64>) -> Result<Vec<u64>, AllocError>
 }
 
 /// The least place that occurs twice.
-#[tactic(auto, using(crate::proofs::InOrder::rises_more))]
 pub fn first_double(places: &[u64]) -> Option<u64>
     requires { IsNonDecreasing places.now }
     ensures { IsLeast (λ p. 2 ≤ count_by (λ x. x == p) places.now) result }
@@ -46,7 +45,6 @@ pub fn first_stranger(sent: &[u64], taken: &[u64]) -> Option<u64>
 }
 
 /// The least place that was not taken, if a greater one was.
-#[tactic(auto, using(crate::proofs::InOrder::filled_more, crate::proofs::InOrder::none_left_out))]
 pub fn first_gap(taken: &[u64]) -> Option<u64>
     requires { IsNonDecreasing taken.now }
     ensures { IsLeast (λ p. (Contains taken.now p → ⊥) × Any (λ x. p < x) taken.now) result }
