@@ -8,11 +8,11 @@ ghost use Rattle.cc_runs.specs.Codes as codes;
 ghost use Rattle.cc_runs.specs.Codes.{behind};
 
 use crate::board::{Board, Stepper};
-use cc_model::{Answer, Entry, TakeAnswer};
+use cc_model::{Answer, Entry, Item, TakeAnswer};
 use cc_runs::{
-    BodyWords, CODE, Chain, Counting, Event, Job, Kind, NodeField, Parcel, Phase, Round, Sending,
-    Served, Taking, Word, body_words, further_words, item_of, request_in, ret_of, sender_reads,
-    tag_of,
+    BodyWords, CODE, Chain, Counting, Event, Job, Kind, NodeField, Parcel, Phase, Request, Round,
+    Sending, Served, Taking, Word, body_words, further_words, item_of, request_in, ret_of,
+    sender_reads, tag_of,
 };
 
 /// A sender writes its request, a receiver has none.
@@ -154,21 +154,7 @@ impl Board {
                 let word = Word::Node(chain, own, NodeField::State);
                 self.stores(who, Kind::ResetState, word, 1, Phase::Exchange { call })
             }
-            Phase::Exchange { call } => {
-                let word = Word::Tail(chain);
-                self.enter(chain, call);
-                let after = Stepper {
-                    node: self.load(word) - 1,
-                    ..who
-                };
-                self.stores(
-                    after,
-                    Kind::Exchange,
-                    word,
-                    own + 1,
-                    after_exchange(chain, own, call),
-                )
-            }
+            Phase::Exchange { call } => self.exchange(who, call),
             Phase::WriteTag { put, request } => {
                 let word = Word::Node(chain, own, NodeField::Tag);
                 let goes = Phase::WriteBody {
@@ -182,29 +168,8 @@ impl Board {
                 put,
                 request,
                 index,
-            } => {
-                let word = Word::Node(chain, own, NodeField::Body(index));
-                let goes = if index < further_words(request.tag) {
-                    Phase::WriteBody {
-                        put,
-                        request,
-                        index: index + 1,
-                    }
-                } else {
-                    Phase::Link { put }
-                };
-                self.stores(
-                    who,
-                    Kind::WriteRequest,
-                    word,
-                    request.body.word(index),
-                    goes,
-                )
-            }
-            Phase::Link { put } => {
-                let word = Word::Node(chain, own, NodeField::Next);
-                self.stores(who, Kind::Link, word, put + 1, Phase::ReadState)
-            }
+            } => self.write_body(who, put, request, index),
+            Phase::Link { put } => self.link(who, put),
             Phase::ReadState => {
                 let state = self.load(Word::Node(chain, own, NodeField::State));
                 self.loads(who, Kind::ReadState, after_state(own, state))
@@ -235,25 +200,9 @@ impl Board {
                 };
                 self.stores(who, Kind::WriteAnswer, word, tag_of(item), goes)
             }
-            Phase::WriteAnswerBody { job, item, index } => {
-                let word = Word::Node(chain, job.round.at, NodeField::Body(index));
-                let goes = if index < further_words(tag_of(item)) {
-                    Phase::WriteAnswerBody {
-                        job,
-                        item,
-                        index: index + 1,
-                    }
-                } else {
-                    Phase::MarkDone { job }
-                };
-                self.stores(
-                    who,
-                    Kind::WriteAnswer,
-                    word,
-                    body_words(item).word(index),
-                    goes,
-                )
-            }
+            Phase::WriteAnswerBody { job, item, index } => self.write_answer_body(
+                who, job, item, index,
+            ),
             Phase::MarkDone { job } => {
                 let word = Word::Node(chain, job.round.at, NodeField::State);
                 self.stores(
@@ -294,5 +243,88 @@ impl Board {
             }
         };
         Some(kind)
+    }
+
+    /// The exchange of the tail, which puts the call into the history.
+    #[inline(always)]
+    fn exchange(&mut self, who: Stepper, call: Entry) -> Kind
+        requires { CanStep self.old who (Phase.Exchange call) }
+        ensures { Stepped self.old who (Phase.Exchange call) result self.new }
+    {
+        let (chain, own) = (who.chain, who.node);
+        let word = Word::Tail(chain);
+        self.enter(chain, call);
+        let after = Stepper {
+            node: self.load(word) - 1,
+            ..who
+        };
+        self.stores(
+            after,
+            Kind::Exchange,
+            word,
+            own + 1,
+            after_exchange(chain, own, call),
+        )
+    }
+
+    /// A word of the request's body is written, and its words are written one by one.
+    #[inline(always)]
+    fn write_body(&mut self, who: Stepper, put: u64, request: Request, index: u32) -> Kind
+        requires { CanStep self.old who (Phase.WriteBody put request index) }
+        ensures { Stepped self.old who (Phase.WriteBody put request index) result self.new }
+    {
+        let word = Word::Node(who.chain, who.node, NodeField::Body(index));
+        let goes = if index < further_words(request.tag) {
+            Phase::WriteBody {
+                put,
+                request,
+                index: index + 1,
+            }
+        } else {
+            Phase::Link { put }
+        };
+        self.stores(
+            who,
+            Kind::WriteRequest,
+            word,
+            request.body.word(index),
+            goes,
+        )
+    }
+
+    /// The node that the exchange found gets the one that was put as its next.
+    #[inline(always)]
+    fn link(&mut self, who: Stepper, put: u64) -> Kind
+        requires { CanStep self.old who (Phase.Link put) }
+        ensures { Stepped self.old who (Phase.Link put) result self.new }
+    {
+        let (chain, own) = (who.chain, who.node);
+        let word = Word::Node(chain, own, NodeField::Next);
+        self.stores(who, Kind::Link, word, put + 1, Phase::ReadState)
+    }
+
+    /// A word of the item's body is written into the caller's node, and its words are written one by one.
+    #[inline(always)]
+    fn write_answer_body(&mut self, who: Stepper, job: Job, item: Item, index: u32) -> Kind
+        requires { CanStep self.old who (Phase.WriteAnswerBody job item index) }
+        ensures { Stepped self.old who (Phase.WriteAnswerBody job item index) result self.new }
+    {
+        let word = Word::Node(who.chain, job.round.at, NodeField::Body(index));
+        let goes = if index < further_words(tag_of(item)) {
+            Phase::WriteAnswerBody {
+                job,
+                item,
+                index: index + 1,
+            }
+        } else {
+            Phase::MarkDone { job }
+        };
+        self.stores(
+            who,
+            Kind::WriteAnswer,
+            word,
+            body_words(item).word(index),
+            goes,
+        )
     }
 }

@@ -1,5 +1,4 @@
-use Rattle.std.proofs.Common.{refl, arith}
-use Rattle.std.proofs.lemmas.Grind.{common_steps}
+use Rattle.std.proofs.Common.{refl}
 use Rattle.cc_machine.specs.Names.{Phase}
 use Rattle.cc_machine.proofs.Steps.{row}
 use Rattle.cc_machine.proofs.board.Board.send.Goals as goal
@@ -47,11 +46,3 @@ returns-in-WriteLast c =
 pub returns-in-WriteCount : goal.returns-in-WriteCount
 returns-in-WriteCount c =
     let e = c.stores-in-WriteCount.ensures in row (Phase.Sending c.args.job) c.in-WriteCount.is e.kind e.state e.keeps refl refl refl refl refl
-
-pub returns-then-index-further_words : goal.returns-then-index-further_words
-returns-then-index-further_words c =
-    let e = c.loads-then-index-further_words.ensures in row (Phase.Sending c.args.job) c.in-ReadBody.is e.kind e.state e.keeps refl refl (grind (arith, common_steps, c.load-found.ensures, c.with_word.ensures, c.further_words.ensures.words, c.if-index-further_words.true)) refl refl
-
-pub returns-else-index-further_words : goal.returns-else-index-further_words
-returns-else-index-further_words c =
-    let e = c.loads-in-ReadBody.ensures in row (Phase.Sending c.args.job) c.in-ReadBody.is e.kind e.state e.keeps refl refl (grind (arith, common_steps, c.load-found.ensures, c.with_word.ensures, c.further_words.ensures.words, c.if-index-further_words.false)) refl refl
