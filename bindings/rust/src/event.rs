@@ -14,7 +14,7 @@
 //! Wakers and items have calls that the user wrote: a waker's clone, wake and drop; an item's clone and drop; the drop
 //! of a panic's payload. Each may block, call the channel, or panic. None runs while a lock or a seat is held. This
 //! table has every place at which one runs, what was done before it, and what becomes of its panic. [`Panics`] catches
-//! panics, and [`send_by`](crate::channel::body::send_by) forgets an item that the queue has.
+//! panics, and [`Offer::send_by`](crate::channel::body::Offer::send_by) forgets an item that the queue has.
 //! `tests/channel/user_code.rs` makes each of them panic.
 //!
 //! | user code | place | done before it | its panic |

@@ -8,12 +8,15 @@
 //! their type. A handle knows the type. It packs what it sends, and unpacks what the channel gives it.
 #![allow(unsafe_code)]
 
+use super::core::{NotSent, Sent};
+use super::pool::SeatGuard;
 use crate::event::ignore_panics;
-use crate::queue::handle::{Words, code};
+use crate::queue::handle::{Word, Words, code};
 use std::marker::PhantomData;
 use std::mem::{ManuallyDrop, MaybeUninit, forget, size_of};
 use std::panic::{AssertUnwindSafe, catch_unwind, resume_unwind};
 use std::process::abort;
+use std::ptr;
 use std::sync::atomic::{AtomicUsize, Ordering};
 use std::sync::{Arc, Mutex};
 
@@ -139,6 +142,23 @@ unsafe fn open<T>(words: &Words) -> Option<T> {
     Some(unsafe { Box::from_raw(at) }.item)
 }
 
+/// How many shares there are of an item, if it lies in a box: of the first word of one of this kind, which somebody owns for as long
+/// as the word is borrowed.
+#[inline(always)]
+fn shares_of<'a>(word: &'a Word, kind: &Kind) -> Option<&'a AtomicUsize> {
+    // SAFETY: then the word is a pointer to a `Boxed<T>`, which begins with them, and is there as long as this share is.
+    let shares = || unsafe { &*ptr::from_ref(word).cast::<*const AtomicUsize>().read() };
+    kind.is_boxed.then(shares)
+}
+
+/// Sets that number.
+#[inline(always)]
+fn set_shares_of(word: &Word, kind: &Kind, groups: usize) {
+    if let Some(shares) = shares_of(word, kind) {
+        shares.store(groups, Ordering::Relaxed);
+    }
+}
+
 /// An item on its way, as the words of a body. It owns the item, or its group's share of it.
 pub struct Item {
     words: Words,
@@ -179,21 +199,25 @@ impl Item {
         Item { words, kind }
     }
 
+    /// Of this one word.
+    #[inline(always)]
+    fn of_word(word: Word, kind: &'static Kind) -> Item {
+        let other = Word::uninit();
+        let words = [word, other, other, other];
+        Item { words, kind }
+    }
+
     /// How many shares of it there are, if it lies in a box.
     #[inline]
     fn shares(&self) -> Option<&AtomicUsize> {
-        // SAFETY: then the word is a pointer to a `Boxed<T>`, which begins with them, and is there as long as this share is.
-        let shares = || unsafe { &*get::<*const AtomicUsize>(&self.words) };
-        self.kind.is_boxed.then(shares)
+        shares_of(&self.words[0], self.kind)
     }
 
     /// Sets the number of shares of an item that the caller alone has: the groups that are to get it, or
     /// 1 for its one owner.
     #[inline]
     fn set_shares(&self, groups: usize) {
-        if let Some(shares) = self.shares() {
-            shares.store(groups, Ordering::Relaxed);
-        }
+        set_shares_of(&self.words[0], self.kind, groups);
     }
 
     /// The item. If other groups are to take it, a copy: this runs user code. A panic of the copy is raised again
@@ -209,23 +233,24 @@ impl Item {
             // SAFETY: the words are the item, by `pack`, and it isn't used after this, nor dropped.
             return unsafe { get(&this.words) };
         }
-        // SAFETY: the caller says so, and the item is in a box, by `pack`.
-        unsafe { ManuallyDrop::into_inner(this).unpack_boxed() }
+        // SAFETY: the caller says so, and the item is in a box, by `pack`, so that it has one word.
+        unsafe { Item::unpack_boxed(this.words[0], this.kind) }
     }
 
     /// The item in its box, or a copy.
     ///
     /// # Safety
     ///
-    /// The item is a `T` that lies in a box.
-    unsafe fn unpack_boxed<T>(self) -> T {
-        if let (Some(copy), Some(shares)) = (self.kind.copy, self.shares()) {
+    /// It is the word of an item of this kind, a `T` that lies in a box, and that isn't used after this.
+    #[inline(never)]
+    unsafe fn unpack_boxed<T>(word: Word, kind: &'static Kind) -> T {
+        let this = ManuallyDrop::new(Item::of_word(word, kind));
+        if let (Some(copy), Some(shares)) = (this.kind.copy, this.shares()) {
             if shares.load(Ordering::Acquire) != 1 {
                 // SAFETY: the caller says so.
-                return unsafe { self.copy(copy) };
+                return unsafe { ManuallyDrop::into_inner(this).copy(copy) };
             }
         }
-        let this = ManuallyDrop::new(self);
         // SAFETY: the caller says so. The item isn't used after this, nor dropped.
         unsafe { open(&this.words) }.expect("nobody else has a share")
     }
@@ -263,6 +288,147 @@ impl Drop for Item {
 /// An item that is to be sent, until it is.
 pub type Unsent = Option<Item>;
 
+/// An item that was refused.
+#[inline]
+pub fn put_back(item: Unsent) -> Item {
+    item.expect("a refused item is put back")
+}
+
+/// Why an item isn't sent, and the item.
+pub type Refused = (NotSent, Item);
+
+/// Why a take gives no item.
+#[derive(Clone, Copy)]
+pub enum NoItem {
+    Empty,
+    Ended,
+}
+
+/// What a take of an item of one word gives: two words, which a call returns in registers. If it is forgotten, its item leaks.
+#[must_use]
+pub struct Answer {
+    /// The item's kind, if there is an item; else the word says by 1 that the channel has ended, and by 0 that it hasn't.
+    kind: Option<&'static Kind>,
+    word: Word,
+}
+
+impl Answer {
+    /// # Safety
+    ///
+    /// As of [`Item::taken`]. The kind has one word.
+    #[inline(always)]
+    pub unsafe fn taken(word: Word, kind: &'static Kind) -> Answer {
+        Answer {
+            kind: Some(kind),
+            word,
+        }
+    }
+
+    #[inline(always)]
+    pub fn none(why: NoItem) -> Answer {
+        Answer {
+            kind: None,
+            word: Word::new(matches!(why, NoItem::Ended).into()),
+        }
+    }
+
+    #[inline(always)]
+    pub fn item(self) -> Result<Item, NoItem> {
+        let Some(kind) = self.kind else {
+            // SAFETY: without a kind the word was written by `none`.
+            let has_ended = unsafe { self.word.assume_init() } != 0;
+            return Err([NoItem::Empty, NoItem::Ended][usize::from(has_ended)]);
+        };
+        Ok(Item::of_word(self.word, kind))
+    }
+}
+
+/// Of an item of one word.
+impl From<Result<Item, NoItem>> for Answer {
+    fn from(taken: Result<Item, NoItem>) -> Answer {
+        let item = match taken {
+            Ok(item) => ManuallyDrop::new(item),
+            Err(why) => return Answer::none(why),
+        };
+        assert!(item.kind.words == 1, "the item has one word");
+        // SAFETY: the item is forgotten.
+        unsafe { Answer::taken(item.words[0], item.kind) }
+    }
+}
+
+/// An item of one word that its owner lends to a call which sends it. The call gets the word in a register.
+pub struct Lent(Word);
+
+/// Sends an item of a kind of one word by this call, which says whether it is sent: then it isn't here any more. If the call
+/// panics, the item leaks.
+#[inline(always)]
+pub fn lend(item: Item, send: impl FnOnce(Lent) -> Sent) -> Result<(), Refused> {
+    let item = ManuallyDrop::new(item);
+    match send(Lent(item.words[0])) {
+        Ok(()) => Ok(()),
+        Err(why) => Err((why, ManuallyDrop::into_inner(item))),
+    }
+}
+
+/// What a call sends. It is here still if the call returns an error.
+pub trait Offer {
+    /// Sends it by this seat to all groups that the queue has, and returns the call's code. The channel's items have this kind.
+    ///
+    /// No user code runs between the queue's acceptance and the moment at which the item isn't here any more.
+    fn send_by(&mut self, kind: &'static Kind, seat: &mut SeatGuard) -> u32;
+
+    /// Lets this send it, which wants it in memory.
+    fn by_itself(&mut self, kind: &'static Kind, send: impl FnOnce(&mut Unsent) -> Sent) -> Sent;
+}
+
+impl Offer for Lent {
+    #[inline(always)]
+    fn send_by(&mut self, kind: &'static Kind, seat: &mut SeatGuard) -> u32 {
+        set_shares_of(&self.0, kind, seat.pass().0.shares);
+        let unwinds = Unwinds;
+        let code = seat.send_word(self.0);
+        forget(unwinds);
+        code
+    }
+
+    #[inline(always)]
+    fn by_itself(&mut self, kind: &'static Kind, send: impl FnOnce(&mut Unsent) -> Sent) -> Sent {
+        send_lent(self.0, kind, send)
+    }
+}
+
+/// Sends an item that is lent, as one in memory. If it isn't sent, its lender has it.
+#[cold]
+#[inline(never)]
+fn send_lent(word: Word, kind: &'static Kind, send: impl FnOnce(&mut Unsent) -> Sent) -> Sent {
+    let item = Item::of_word(word, kind);
+    item.set_shares(1);
+    send(&mut ManuallyDrop::new(Some(item)))
+}
+
+impl Offer for Unsent {
+    #[inline(always)]
+    fn send_by(&mut self, _: &'static Kind, seat: &mut SeatGuard) -> u32 {
+        let sent = self.as_ref().expect("the item isn't sent yet");
+        let (pass, line) = seat.pass();
+        sent.set_shares(pass.shares);
+        let unwinds = Unwinds;
+        let code = pass.handle.send(&sent.words, sent.kind.words, line);
+        forget(unwinds);
+        if code == code::ACCEPTED {
+            forget(self.take());
+        } else {
+            sent.set_shares(1);
+        }
+        code
+    }
+
+    #[inline(always)]
+    fn by_itself(&mut self, _: &'static Kind, send: impl FnOnce(&mut Unsent) -> Sent) -> Sent {
+        send(self)
+    }
+}
+
 /// Ends the program if a call of the queue panics, which may have its item by then.
 struct Unwinds;
 
@@ -270,22 +436,4 @@ impl Drop for Unwinds {
     fn drop(&mut self) {
         abort();
     }
-}
-
-/// Sends an item to this number of groups, by this call of the queue, and returns the call's code.
-///
-/// No user code runs between the queue's acceptance and the moment at which the item isn't here any more.
-#[inline]
-pub fn send_by(item: &mut Unsent, groups: usize, send: impl FnOnce(&Words, usize) -> u32) -> u32 {
-    let sent = item.as_ref().expect("the item isn't sent yet");
-    sent.set_shares(groups);
-    let unwinds = Unwinds;
-    let code = send(&sent.words, sent.kind.words);
-    forget(unwinds);
-    if code == code::ACCEPTED {
-        forget(item.take());
-    } else {
-        sent.set_shares(1);
-    }
-    code
 }

@@ -9,7 +9,7 @@
 //!
 //! **Order of locks**: the groups, all seats, the row, a line. A holder of a seat makes one call of the queue, and
 //! takes no other lock; that of a row takes the row's lock. User code (an item's drop or copy, a waker) runs while none is held.
-use super::body::{Item, Kind, Unsent, send_by};
+use super::body::{Answer, Item, Kind, Lent, NoItem, Offer, Unsent};
 use super::pool::{Pool, QueueHandle, SeatGuard};
 use super::rendezvous::Rendezvous;
 use super::row::{Row, Shape};
@@ -142,6 +142,12 @@ pub fn or_closed(sent: Sent) -> Try<Sent> {
         Err(NotSent::NoMemory) => Err(Again::soon()),
         sent => Ok(sent),
     }
+}
+
+/// The item of a take, or why there is none.
+#[inline]
+pub fn or_none(taken: Try<Option<Item>>) -> Result<Item, NoItem> {
+    taken.map_err(|_| NoItem::Empty)?.ok_or(NoItem::Ended)
 }
 
 /// The kind of a channel: how an item goes from its senders to its receivers.
@@ -288,8 +294,7 @@ impl Core {
     /// held, it gets its others.
     #[inline]
     fn acquire_seat<'a>(&'a self, side: &'a Side) -> SeatGuard<'a> {
-        let seat = side.seats.try_acquire();
-        seat.unwrap_or_else(|| self.acquire_another_seat(side))
+        side.seats.acquire_or(|| self.acquire_another_seat(side))
     }
 
     #[cold]
@@ -304,29 +309,56 @@ impl Core {
     }
 
     /// Tries to send this item.
-    #[inline]
+    #[inline(never)]
     pub fn try_send(&self, item: &mut Unsent) -> Sent {
-        if let Some(rendezvous) = self.rendezvous() {
-            return rendezvous.try_send(item);
-        }
         if self.finds_no_room() {
             return Err(NotSent::Full);
         }
+        self.try_to_send(item)
+    }
+
+    /// Tries to send this item of one word.
+    #[inline(always)]
+    pub fn try_send_word(&self, item: Lent) -> Sent {
+        match self.senders.has_found_none() {
+            true => self.look_and_send_word(item),
+            false => self.send_word(item),
+        }
+    }
+
+    #[inline(never)]
+    fn look_and_send_word(&self, item: Lent) -> Sent {
+        match self.still_finds_no_room() {
+            true => Err(NotSent::Full),
+            false => self.send_word(item),
+        }
+    }
+
+    #[inline(never)]
+    fn send_word(&self, mut item: Lent) -> Sent {
+        self.try_to_send(&mut item)
+    }
+
+    #[inline(always)]
+    fn try_to_send(&self, item: &mut impl Offer) -> Sent {
+        if let Some(rendezvous) = self.rendezvous() {
+            return item.by_itself(self.kind, move |it| rendezvous.try_send(it));
+        }
         let mut seat = self.acquire_seat(&self.senders);
         if self.reserved.load(Ordering::SeqCst) > 0 {
-            return self.send_beside_reserved(item, seat);
+            return item.by_itself(self.kind, move |it| self.send_beside_reserved(it, seat));
         }
         let code = self.send_by(&mut seat, item);
         self.end_send(item, code, seat)
     }
 
     /// Ends a send by this seat, to which the queue gave this code.
-    #[inline]
-    pub fn end_send(&self, item: &mut Unsent, code: u32, seat: SeatGuard) -> Sent {
+    #[inline(always)]
+    pub fn end_send(&self, item: &mut impl Offer, code: u32, seat: SeatGuard) -> Sent {
         if code != code::ACCEPTED {
-            return self.send_further(item, code, seat);
+            return item.by_itself(self.kind, move |it| self.send_further(it, code, seat));
         }
-        drop(seat);
+        seat.give_back();
         self.notify_item();
         Ok(())
     }
@@ -342,24 +374,32 @@ impl Core {
     }
 
     /// Sends by this seat. Returns the queue's code. If the item is accepted, somebody has to be notified of it.
-    #[inline]
-    pub fn send_by(&self, seat: &mut SeatGuard, item: &mut Unsent) -> u32 {
-        let (pass, line) = seat.pass();
-        let code = send_by(item, pass.shares, |words, count| {
-            hands_over(self);
-            pass.handle.send(words, count, line)
-        });
-        match code {
-            code::ACCEPTED => seat.count_one(),
-            code::FULL | code::CLOSED | code::SPENT | code::WORN => {}
-            code => unexpected(code),
+    #[inline(always)]
+    pub fn send_by(&self, seat: &mut SeatGuard, item: &mut impl Offer) -> u32 {
+        hands_over(self);
+        let code = item.send_by(self.kind, seat);
+        if code == code::ACCEPTED {
+            seat.count_one();
+        } else if ![code::FULL, code::CLOSED, code::SPENT, code::WORN].contains(&code) {
+            unexpected(code);
         }
         code
     }
 
     #[inline]
     pub fn notify_item(&self) {
-        self.groups.iter().for_each(|group| group.line.notify_one());
+        self.groups.first.line.notify_one();
+        if !self.groups.others.is_empty() {
+            self.notify_other_groups();
+        }
+    }
+
+    #[cold]
+    fn notify_other_groups(&self) {
+        self.groups
+            .others
+            .iter()
+            .for_each(|group| group.line.notify_one());
     }
 
     /// After the queue of this seat refused an item with this code: there is another queue now, if it gives no error.
@@ -390,7 +430,7 @@ impl Core {
     /// Tries to take an item for a group. It gives None at the end of the channel.
     #[inline]
     pub fn try_recv(&self, group: usize) -> Try<Option<Item>> {
-        if self.finds_no_item(group) {
+        if self.finds_no_item(self.groups.of(group)) {
             return Err(Again::WhenNotified);
         }
         self.take_if_there(group)
@@ -402,7 +442,7 @@ impl Core {
         if let Some(rendezvous) = self.rendezvous() {
             return rendezvous.try_take();
         }
-        match self.take_words(group, self.kind.words) {
+        match self.take_in_seat(group, Core::take_by) {
             Ok(item) => Ok(Some(item)),
             Err((code, seat)) => self.take_further(group, code, seat),
         }
@@ -411,26 +451,87 @@ impl Core {
     /// Takes an item, if there is one in the queue that a seat of the group is at.
     #[inline]
     pub fn take(&self, group: usize) -> Option<Item> {
-        self.take_words(group, self.kind.words).ok()
+        if self.rendezvous().is_some() {
+            return None;
+        }
+        self.take_in_seat(group, Core::take_by).ok()
     }
 
-    /// The same of items of one word: the other words aren't copied.
-    #[inline]
-    pub fn take_word(&self, group: usize) -> Option<Item> {
-        self.take_words(group, 1).ok()
+    /// The same of items of one word.
+    #[inline(never)]
+    pub fn take_word(&self, group: usize) -> Answer {
+        if self.rendezvous().is_some() {
+            return Answer::none(NoItem::Empty);
+        }
+        let taken = self.take_in_seat(group, Core::take_word_by);
+        taken.unwrap_or_else(|_| Answer::none(NoItem::Empty))
+    }
+
+    /// Tries to take an item of one word for a group.
+    #[inline(always)]
+    pub fn try_take_word(&self, group: usize) -> Answer {
+        let side = self.groups.of(group);
+        match side.has_found_none() {
+            true => self.look_and_take_word(side, group),
+            false => self.take_word_of(side, group),
+        }
+    }
+
+    #[inline(never)]
+    fn look_and_take_word(&self, side: &Side, group: usize) -> Answer {
+        match self.still_finds_no_item(side) {
+            true => Answer::none(NoItem::Empty),
+            false => self.take_word_of(side, group),
+        }
+    }
+
+    /// The same of this group, which has this number, without a look.
+    #[inline(never)]
+    fn take_word_of(&self, side: &Side, group: usize) -> Answer {
+        if self.rendezvous().is_some() {
+            return self.take_word_if_there(group);
+        }
+        match self.take_of(side, Core::take_word_by) {
+            Ok(item) => item,
+            Err((code, seat)) => self.take_word_further(group, code, seat),
+        }
+    }
+
+    #[cold]
+    fn take_word_if_there(&self, group: usize) -> Answer {
+        or_none(self.take_if_there(group)).into()
+    }
+
+    #[cold]
+    fn take_word_further(&self, group: usize, code: u32, seat: SeatGuard) -> Answer {
+        or_none(self.take_further(group, code, seat)).into()
     }
 
     /// Takes by a seat of this group. If there is no item, it gives the queue's code, and the seat.
     #[inline(always)]
-    fn take_words(&self, group: usize, words: usize) -> Result<Item, (u32, SeatGuard<'_>)> {
-        let mut seat = self.acquire_seat(self.groups.of(group));
-        let item = match self.take_by(&mut seat, words) {
+    fn take_in_seat<R>(
+        &self,
+        group: usize,
+        take: impl FnOnce(&Core, &mut SeatGuard) -> Result<R, u32>,
+    ) -> Result<R, (u32, SeatGuard<'_>)> {
+        self.take_of(self.groups.of(group), take)
+    }
+
+    /// The same of this group.
+    #[inline(always)]
+    fn take_of<'a, R>(
+        &'a self,
+        group: &'a Side,
+        take: impl FnOnce(&Core, &mut SeatGuard) -> Result<R, u32>,
+    ) -> Result<R, (u32, SeatGuard<'a>)> {
+        let mut seat = self.acquire_seat(group);
+        let item = match take(self, &mut seat) {
             // The count doesn't panic, so nothing has to drop the item: the compiler leaves it in registers.
             Ok(item) => ManuallyDrop::new(item),
             Err(code) => return Err((code, seat)),
         };
         seat.count_one();
-        drop(seat);
+        seat.give_back();
         has_taken(self);
         self.senders.line.notify_one();
         Ok(ManuallyDrop::into_inner(item))
@@ -461,17 +562,24 @@ impl Core {
         iter::from_fn(move || self.try_recv(group).ok().flatten())
     }
 
-    /// Takes an item by this seat, of as many words as the kind has: a caller that knows the number gets no others. Gives the queue's
-    /// code if there is none.
+    /// Takes an item by this seat. Gives the queue's code if there is none.
     #[allow(unsafe_code)]
     #[inline]
-    pub fn take_by(&self, seat: &mut SeatGuard, words: usize) -> Result<Item, u32> {
-        assert!(words == self.kind.words, "the kind says how many words");
+    pub fn take_by(&self, seat: &mut SeatGuard) -> Result<Item, u32> {
         let (pass, line) = seat.pass();
-        let words = pass.handle.take(words, line)?;
+        let words = pass.handle.take(self.kind.words, line)?;
         // SAFETY: what is in the queue was sent as the words of items of this kind; each was
         // for as many groups as the queue has; and a group takes each item of the queue once.
         Ok(unsafe { Item::taken(words, self.kind) })
+    }
+
+    /// The same of an item of one word.
+    #[allow(unsafe_code)]
+    #[inline(always)]
+    fn take_word_by(&self, seat: &mut SeatGuard) -> Result<Answer, u32> {
+        let word = seat.take_word()?;
+        // SAFETY: as of `take_by`. The queue gives no item of more words by this call.
+        Ok(unsafe { Answer::taken(word, self.kind) })
     }
 
     /// Closes the channel. Returns whether it was open.

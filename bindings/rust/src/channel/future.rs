@@ -6,7 +6,7 @@
 //!
 //! **Panics of wakers** that are dropped end in the poll that is done, whose result would be lost; another poll
 //! raises the first of them again at its end, and so does the drop of a future.
-use super::body::{Item, Unsent};
+use super::body::{Item, Unsent, put_back};
 use super::core::{Core, SENDERS, Sent, or_closed};
 use super::rendezvous::Waiter;
 use super::select::Case;
@@ -192,7 +192,7 @@ impl<'a, T> SendFuture<'a, T> {
     pub(super) fn new(sender: Cow<'a, Sender<T>>, item: T) -> Self {
         SendFuture {
             state: Some(Waiting::No),
-            item: sender.pack(item),
+            item: Some(sender.pack(item)),
             sender,
         }
     }
@@ -228,7 +228,7 @@ impl<T> Future for SendFuture<'_, T> {
             item,
         } = &mut *self;
         let sent = poll_send(state, sender.core(), item, context.waker());
-        sent.map(|sent| sent.map_err(|_| SendError(sender.unpack(item.take()))))
+        sent.map(|sent| sent.map_err(|_| SendError(sender.unpack(put_back(item.take())))))
     }
 }
 

@@ -10,8 +10,9 @@
 
 use crate::backoff::{Contention, FOR_A_LOOK, FOR_OWN_SIDE};
 use crate::event::{Apart, Event, Panics, Served, lock, wait_without_end};
-use crate::queue::handle::Handle;
+use crate::queue::handle::{Handle, NO_ITEM, Taken, Word, code, word_of};
 use std::cell::{Cell, UnsafeCell};
+use std::mem::ManuallyDrop;
 use std::sync::atomic::{AtomicBool, AtomicU16, AtomicU64, AtomicUsize, Ordering};
 use std::sync::{Mutex, OnceLock};
 use std::thread::available_parallelism;
@@ -140,6 +141,29 @@ impl<'a> SeatGuard<'a> {
         (pass, Served { line, contention })
     }
 
+    /// Sends this word by its pass, and waits for the answer: the code of a send.
+    #[inline(always)]
+    pub fn send_word(&mut self, word: Word) -> u32 {
+        match self.pass().0.handle.try_send_word(word) {
+            code::WAITING => self.pool.wait_for_send(self.seat),
+            code => code,
+        }
+    }
+
+    /// Takes a word by its pass, and waits for the answer. If there is no item, it returns the code of the take.
+    #[inline(always)]
+    pub fn take_word(&mut self) -> Result<Word, u32> {
+        let mut item = NO_ITEM;
+        let code = match self.pass().0.handle.try_take_word(&mut item) {
+            code::WAITING => self.pool.wait_for_take(self.seat, &mut item),
+            code => code,
+        };
+        match code {
+            code::GOT => Ok(word_of(&item)),
+            code => Err(code),
+        }
+    }
+
     /// Wakes the waiters that the call of this seat may have served. The holder does so before it waits for a lock: the lock may be theirs.
     pub fn wake_served(&self) {
         if self.pool.served.was_used() {
@@ -158,23 +182,26 @@ impl<'a> SeatGuard<'a> {
         self.seat.number as usize - 1
     }
 
-    #[cold]
-    fn end_round(&self, count: u64) {
-        if count == 0 {
-            let number = self.index() + 1;
-            self.pool.used.fetch_max(number, Ordering::AcqRel);
-        }
-        self.seat.contention.look_next();
-    }
-
     /// Counts an item that went through the seat.
     #[inline]
     pub fn count_one(&mut self) {
         let count = self.seat.count.load(Ordering::Relaxed);
         if count % ROUND == 0 {
-            self.end_round(count);
+            self.pool.end_round(self.seat, count);
         }
         self.seat.count.store(count + 1, Ordering::Release);
+    }
+
+    /// The seat, which stays held.
+    fn keep(self) -> &'a Seat {
+        ManuallyDrop::new(self).seat
+    }
+
+    /// Gives the seat back. This is its drop within the caller, to which the guard's address says nothing.
+    #[inline(always)]
+    pub fn give_back(self) {
+        let pool = self.pool;
+        pool.give_back(self.keep());
     }
 }
 
@@ -200,12 +227,7 @@ fn store_and_wake(seat: &Seat, held: bool, served: &Event) {
 impl Drop for SeatGuard<'_> {
     #[inline]
     fn drop(&mut self) {
-        if self.pool.served.was_used() {
-            store_and_wake(self.seat, false, &self.pool.served);
-        } else {
-            self.seat.held.store(false, Ordering::Release);
-        }
-        self.pool.free.notify_one();
+        self.pool.give_back_far(self.seat);
     }
 }
 
@@ -213,8 +235,23 @@ impl Drop for SeatGuard<'_> {
 static NEXT: AtomicUsize = AtomicUsize::new(0);
 
 thread_local! {
-    /// Which seat this thread tries first, of each pool.
-    static HINT: Cell<usize> = Cell::new(NEXT.fetch_add(1, Ordering::Relaxed));
+    /// Which seat this thread tries first, of each pool, by the lowest bits; 0 before the first question.
+    static HINT: Cell<usize> = const { Cell::new(0) };
+}
+
+/// Which seat this thread tries first.
+fn hint() -> usize {
+    match HINT.get() {
+        0 => begin_at(NEXT.fetch_add(1, Ordering::Relaxed)),
+        hint => hint,
+    }
+}
+
+/// This thread tries this seat first from now on.
+fn begin_at(seat: usize) -> usize {
+    let hint = MOST + seat % MOST;
+    HINT.set(hint);
+    hint
 }
 
 impl Pool {
@@ -271,11 +308,15 @@ impl Pool {
         let first = self.first.count();
         match self.used.load(Ordering::Acquire) {
             0 | 1 => first,
-            used => {
-                let others = self.others().iter().take(used - 1);
-                first + others.map(|it| it.0.count()).sum::<u64>()
-            }
+            used => self.count_others(first, used - 1),
         }
+    }
+
+    /// With this number of the first one, and of so many others.
+    #[inline(never)]
+    fn count_others(&self, first: u64, others: usize) -> u64 {
+        let others = self.others().iter().take(others);
+        first + others.map(|it| it.0.count()).sum::<u64>()
     }
 
     /// The seat that this thread tries first.
@@ -283,17 +324,24 @@ impl Pool {
     fn seat(&self) -> &Seat {
         match self.others() {
             [] => &self.first,
-            others => self.seat_at(others, HINT.get()),
+            others => match HINT.get() {
+                0 => self.seat_of_new_thread(),
+                hint => self.seat_at(others, hint),
+            },
         }
+    }
+
+    #[cold]
+    #[inline(never)]
+    fn seat_of_new_thread(&self) -> &Seat {
+        self.seat_at(self.others(), hint())
     }
 
     /// The seat at this index, of which the lowest bits count.
     #[inline]
     fn seat_at<'a>(&'a self, others: &'a [Other], at: usize) -> &'a Seat {
-        match at & others.len() {
-            0 => &self.first,
-            other => &others[other - 1].0,
-        }
+        let other = others.get((at & others.len()).wrapping_sub(1));
+        other.map_or(&self.first, |it| &it.0)
     }
 
     /// Whether several items went through the seat that this thread tries first, since this was last asked of it.
@@ -310,14 +358,58 @@ impl Pool {
         (!was_held).then(|| SeatGuard { pool: self, seat })
     }
 
-    /// Acquires the seat that this thread tries first, if it is free, and none of its calls contends.
-    #[inline]
-    pub fn try_acquire(&self) -> Option<SeatGuard<'_>> {
-        let seat = self.seat();
-        if seat.contention.asks() {
-            return None;
+    /// Acquires the seat that this thread tries first, if it is free, and none of its calls contends; else a seat of this
+    /// pool by another way. So a caller's guard has the caller's pool, for which it needs no register.
+    #[inline(always)]
+    pub fn acquire_or<'a>(&'a self, another: impl FnOnce() -> SeatGuard<'a>) -> SeatGuard<'a> {
+        let mut seat = self.seat();
+        if seat.contention.asks() || seat.held.swap(true, Ordering::SeqCst) {
+            seat = another().keep();
         }
-        self.try_seat(seat)
+        SeatGuard { pool: self, seat }
+    }
+
+    /// Gives a seat back that is held, and wakes those that wait for it.
+    #[inline(always)]
+    fn give_back(&self, seat: &Seat) {
+        if self.served.was_used() {
+            store_and_wake(seat, false, &self.served);
+        } else {
+            seat.held.store(false, Ordering::Release);
+        }
+        self.free.notify_one();
+    }
+
+    /// Turns the send of this seat until it is answered. The seat says where its pass is, for which a caller needs no register.
+    #[cold]
+    #[inline(never)]
+    fn wait_for_send(&self, seat: &Seat) -> u32 {
+        let mut held = ManuallyDrop::new(SeatGuard { pool: self, seat });
+        let (pass, line) = held.pass();
+        pass.handle.wait_for_send(line)
+    }
+
+    /// The same of its take.
+    #[cold]
+    #[inline(never)]
+    fn wait_for_take(&self, seat: &Seat, item: &mut Taken) -> u32 {
+        let mut held = ManuallyDrop::new(SeatGuard { pool: self, seat });
+        let (pass, line) = held.pass();
+        pass.handle.wait_for_take(item, line)
+    }
+
+    #[inline(never)]
+    fn give_back_far(&self, seat: &Seat) {
+        self.give_back(seat);
+    }
+
+    /// Before the first item of a seat, and each 64th one.
+    #[cold]
+    fn end_round(&self, seat: &Seat, count: u64) {
+        if count == 0 {
+            self.used.fetch_max(seat.number as usize, Ordering::AcqRel);
+        }
+        seat.contention.look_next();
     }
 
     /// The same if its calls may contend, by a thread that holds no lock, once others have gone ahead.
@@ -343,13 +435,13 @@ impl Pool {
 
     #[cold]
     pub fn acquire_another(&self) -> SeatGuard<'_> {
-        let hint = HINT.get();
+        let hint = hint();
         let (at, held) = self.wait_for_free(|| {
             let others = self.others();
             let mut around = hint..=hint + others.len();
             around.find_map(|at| Some((at, self.try_seat(self.seat_at(others, at))?)))
         });
-        HINT.set(at % MOST);
+        begin_at(at);
         held
     }
 
@@ -388,6 +480,12 @@ impl Pool {
     fn sees_each_free(&self, becomes_free: impl Fn(&Seat) -> bool) -> bool {
         let is_free = |seat: &Seat| !seat.is_held() || becomes_free(seat);
         is_free(&self.first) && self.others().iter().all(|it| is_free(&it.0))
+    }
+
+    /// Whether there is one seat, and that is free now.
+    #[inline(always)]
+    pub fn is_one_free(&self) -> bool {
+        !self.first.is_held() && self.others().is_empty()
     }
 
     /// Waits until this seat was free once, in line.

@@ -1,6 +1,6 @@
 //! The receivers of a channel.
-use super::body::{Item, Kind, Of};
-use super::core::{Core, SENDERS};
+use super::body::{Item, Kind, NoItem, Of};
+use super::core::{Core, SENDERS, or_none};
 use super::future::RecvFuture;
 use super::select::Case;
 use super::side::Source;
@@ -54,11 +54,14 @@ impl Source {
 }
 
 impl<T> Receiver<T> {
-    /// Of items of one word the other words aren't copied.
-    const TAKE: fn(&Core, usize) -> Option<Item> = match Kind::is_one_word::<T>() {
-        true => Core::take_word,
-        false => Core::take,
-    };
+    /// Takes an item of the channel, if it has a queue and that has one: one of a word in a register.
+    #[inline(always)]
+    fn take(core: &Core, group: usize) -> Option<Item> {
+        match Kind::is_one_word::<T>() {
+            true => core.take_word(group).item().ok(),
+            false => core.take(group),
+        }
+    }
 
     /// An item of the channel.
     #[allow(unsafe_code)]
@@ -89,23 +92,26 @@ impl<T> Receiver<T> {
     /// ```
     #[inline]
     pub fn try_recv(&self) -> Result<T, TryRecvError> {
-        if matches!(self.0.case(), Case::Of(core, group) if core.finds_no_item(group)) {
-            return Err(TryRecvError::Empty);
+        match &self.0 {
+            Source::Channel(core, group) if Kind::is_one_word::<T>() => {
+                self.answer(core.try_take_word(*group as usize).item())
+            }
+            _ => self.try_item(),
         }
-        self.take_if_there()
     }
 
-    /// Without the look that comes first.
+    /// The same of an item that has several words, and of a timer.
     #[inline(never)]
-    fn take_if_there(&self) -> Result<T, TryRecvError> {
-        let taken = match self.0.case() {
-            Case::Of(core, group) => core.take_if_there(group),
-            Case::Timer(timer) => timer.try_take(),
-        };
+    fn try_item(&self) -> Result<T, TryRecvError> {
+        self.answer(or_none(self.0.case().try_take()))
+    }
+
+    #[inline(always)]
+    fn answer(&self, taken: Result<Item, NoItem>) -> Result<T, TryRecvError> {
         match taken {
-            Ok(Some(item)) => Ok(self.unpack(item)),
-            Ok(None) => Err(TryRecvError::Disconnected),
-            Err(_) => Err(TryRecvError::Empty),
+            Ok(item) => Ok(self.unpack(item)),
+            Err(NoItem::Ended) => Err(TryRecvError::Disconnected),
+            Err(NoItem::Empty) => Err(TryRecvError::Empty),
         }
     }
 
@@ -113,7 +119,7 @@ impl<T> Receiver<T> {
     #[inline]
     fn recv_until(&self, until: Option<Instant>) -> Result<T, RecvTimeoutError> {
         let taken = match self.0.case() {
-            Case::Of(core, group) if core.rendezvous().is_none() => Self::TAKE(core, group),
+            Case::Of(core, group) => Self::take(core, group),
             _ => None,
         };
         if let Some(item) = taken {

@@ -72,7 +72,7 @@ impl Core {
             return Some(left_by_lost);
         }
         for seats in &mut others {
-            left_by_lost.extend(iter::from_fn(|| self.take_by(&mut seats[0], words).ok()));
+            left_by_lost.extend(iter::from_fn(|| self.take_by(&mut seats[0]).ok()));
             for seat in seats {
                 seat.pass().0.handle = Handle::empty();
             }

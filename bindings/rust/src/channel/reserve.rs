@@ -21,16 +21,19 @@ impl Core {
     /// Whether there seems to be an item for this group, or none will come. If it says no, there was none at
     /// some moment of this call.
     pub fn seems_to_have_item(&self, group: usize) -> Try<()> {
-        self.look_for_item(group, Pool::wait_for_holders)
+        self.look_for_item(self.side(group), Pool::wait_for_holders)
     }
 
     /// It says yes if it doesn't see each seat of the senders free.
     #[inline(always)]
-    fn look_for_item(&self, group: usize, sees_each_free: impl Fn(&Pool) -> bool) -> Try<()> {
+    fn look_for_item(&self, group: &Side, sees_each_free: impl Fn(&Pool) -> bool) -> Try<()> {
         // In this order, so that the number of items is never too small.
-        let taken = self.side(group).seats.count();
-        let has_item = || taken < self.senders.seats.count();
-        let seems = has_item() || !sees_each_free(&self.senders.seats) || has_item();
+        let taken = group.seats.count();
+        let senders = &self.senders.seats;
+        let has_item = || taken < senders.count();
+        // The look without the seats is cheaper, unless there is one.
+        let is_seen = senders.is_one_free();
+        let seems = !is_seen && (has_item() || !sees_each_free(senders)) || has_item();
         Again::unless(seems || self.is_closed())
     }
 
@@ -67,22 +70,27 @@ impl Core {
 
     /// Whether the last try of this group found no item, and a look finds none now.
     #[inline]
-    pub fn finds_no_item(&self, group: usize) -> bool {
-        // A send under way whose thread doesn't run may have one: the queue's own answer doesn't wait for that thread.
-        let look = || self.look_for_item(group, Pool::pause_for_holders);
-        finds_none_again(self.groups.of(group), look)
+    pub fn finds_no_item(&self, group: &Side) -> bool {
+        group.has_found_none() && self.still_finds_no_item(group)
     }
 
-    /// Whether the last send found no room, and a look finds none now. Beside a take under way whose thread doesn't run
-    /// the queue is asked.
+    /// The look. A send under way whose thread doesn't run may have an item: the queue's own answer doesn't wait for that thread.
+    #[inline(always)]
+    pub fn still_finds_no_item(&self, group: &Side) -> bool {
+        group.note_look(self.look_for_item(group, Pool::pause_for_holders))
+    }
+
+    /// Whether the last send found no room, and a look finds none now.
     #[inline]
     pub fn finds_no_room(&self) -> bool {
-        finds_none_again(&self.senders, || self.look_for_room())
+        self.senders.has_found_none() && self.still_finds_no_room()
     }
 
-    #[cold]
-    fn look_for_room(&self) -> Try<()> {
-        self.has_room_beside(0, Pool::pause_for_holders)
+    /// The look. Beside a take under way whose thread doesn't run the queue is asked.
+    #[inline(always)]
+    pub fn still_finds_no_room(&self) -> bool {
+        let look = self.has_room_beside(0, Pool::pause_for_holders);
+        self.senders.note_look(look)
     }
 
     /// Whether there is room beside the reserved places, of which these are the caller's, or none will come. If it says no, there
@@ -199,12 +207,19 @@ impl Core {
     }
 }
 
-/// Whether the last try of this side found nothing, and this look finds nothing now.
-#[inline]
-fn finds_none_again(side: &Side, look: impl FnOnce() -> Try<()>) -> bool {
-    side.found_none.load(Ordering::Relaxed) && {
-        let finds_none = look().is_err();
-        side.found_none.store(finds_none, Ordering::Relaxed);
-        finds_none
+impl Side {
+    /// Whether its last try found nothing.
+    #[inline(always)]
+    pub fn has_found_none(&self) -> bool {
+        self.found_none.load(Ordering::Relaxed)
+    }
+
+    /// After that, and a look: whether there is nothing now.
+    #[inline(always)]
+    fn note_look(&self, look: Try<()>) -> bool {
+        if look.is_ok() {
+            self.found_none.store(false, Ordering::Relaxed);
+        }
+        look.is_err()
     }
 }

@@ -894,7 +894,8 @@ impl<'a> SelectedOperation<'a> {
     pub fn send<T>(mut self, sender: &Sender<T>, item: T) -> Result<(), SendError<T>> {
         self.check(sender);
         let send = |core: &Core, item: &mut Unsent| core.complete(&mut self.begun, item);
-        sender.send_by(item, send, |_, item| SendError(item))
+        let sent = sender.send_by(Some(sender.pack(item)), send);
+        sent.map_err(|(_, item)| SendError(item))
     }
 }
 

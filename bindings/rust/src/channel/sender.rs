@@ -1,5 +1,5 @@
 //! The senders of a channel.
-use super::body::{Item, Of, Unsent};
+use super::body::{Item, Kind, Of, Refused, Unsent, lend, put_back};
 use super::core::{Core, NotSent, SENDERS, Sent};
 use super::future::SendFuture;
 use super::side::Target;
@@ -40,35 +40,38 @@ impl<T> Sender<T> {
     /// An item for the channel.
     #[allow(unsafe_code)]
     #[inline]
-    pub(super) fn pack(&self, item: T) -> Unsent {
+    pub(super) fn pack(&self, item: T) -> Item {
         // SAFETY: the channel was opened for items of `T`, with a kind of that type; its handles come from each other.
-        Some(unsafe { Item::pack(item, self.core().kind) })
+        unsafe { Item::pack(item, self.core().kind) }
     }
 
     /// An item that this channel didn't send.
     #[allow(unsafe_code)]
     #[inline]
-    pub(super) fn unpack(&self, item: Unsent) -> T {
-        let item = item.expect("a refused item is put back");
+    pub(super) fn unpack(&self, item: Item) -> T {
         // SAFETY: as of `pack`.
         unsafe { item.unpack() }
     }
 
     /// Sends an item by this call. If it isn't sent, the error has it.
     #[inline(always)]
-    pub(super) fn send_by<E>(
+    pub(super) fn send_by(
         &self,
-        item: T,
+        mut item: Unsent,
         send: impl FnOnce(&Core, &mut Unsent) -> Sent,
-        error: impl FnOnce(NotSent, T) -> E,
-    ) -> Result<(), E> {
-        let mut item = self.pack(item);
+    ) -> Result<(), (NotSent, T)> {
         if let Err(why) = send(self.core(), &mut item) {
-            return Err(error(why, self.unpack(item)));
+            return Err((why, self.unpack(put_back(item))));
         }
         // Without a look whether there is something to drop.
         forget(item);
         Ok(())
+    }
+
+    /// Tries to send an item of one word, in a register.
+    #[inline(always)]
+    fn try_word(&self, item: T) -> Result<(), Refused> {
+        lend(self.pack(item), |it| self.core().try_send_word(it))
     }
 
     /// Sends, if there is room. It doesn't wait for room; but if another thread serves the calls of
@@ -89,7 +92,13 @@ impl<T> Sender<T> {
     /// # Ok::<(), vahepito::OpenError>(())
     /// ```
     pub fn try_send(&self, item: T) -> Result<(), TrySendError<T>> {
-        self.send_by(item, Core::try_send, |why, item| match why {
+        let sent = match Kind::is_one_word::<T>() {
+            true => self
+                .try_word(item)
+                .map_err(|(why, item)| (why, self.unpack(item))),
+            false => self.send_by(Some(self.pack(item)), Core::try_send),
+        };
+        sent.map_err(|(why, item)| match why {
             NotSent::Closed => TrySendError::Disconnected(item),
             _ => TrySendError::Full(item),
         })
@@ -98,11 +107,24 @@ impl<T> Sender<T> {
     /// Sends, and waits for room until this moment.
     #[inline]
     fn send_until(&self, item: T, until: Option<Instant>) -> Result<(), SendTimeoutError<T>> {
-        let send = |core: &Core, item: &mut Unsent| core.send_until(item, until);
-        self.send_by(item, send, |why, item| match why {
+        let sent = self.send_item(item, until);
+        sent.map_err(|(why, item)| match why {
             NotSent::Closed => SendTimeoutError::Disconnected(item),
             _ => SendTimeoutError::Timeout(item),
         })
+    }
+
+    /// The same, with the reason if it isn't sent.
+    #[inline(always)]
+    fn send_item(&self, item: T, until: Option<Instant>) -> Result<(), (NotSent, T)> {
+        if !Kind::is_one_word::<T>() {
+            let send = |core: &Core, item: &mut Unsent| core.send_until(item, until);
+            return self.send_by(Some(self.pack(item)), send);
+        }
+        let Err((_, item)) = self.try_word(item) else {
+            return Ok(());
+        };
+        self.send_by(Some(item), |core, item| core.send_later(item, until))
     }
 
     /// Sends, and waits while there is no room. It parks after a few tries.
@@ -120,8 +142,8 @@ impl<T> Sender<T> {
     /// ```
     #[inline]
     pub fn send(&self, item: T) -> Result<(), SendError<T>> {
-        let send = |core: &Core, item: &mut Unsent| core.send_until(item, None);
-        self.send_by(item, send, |_, item| SendError(item))
+        let sent = self.send_item(item, None);
+        sent.map_err(|(_, item)| SendError(item))
     }
 
     /// Sends, and waits for room, but not longer than this.

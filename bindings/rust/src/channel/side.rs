@@ -109,8 +109,9 @@ impl Core {
         sent.or_else(|_| self.send_later(item, until))
     }
 
+    /// The same after a try: tries to send until it is done, or until this moment.
     #[cold]
-    fn send_later(&self, item: &mut Unsent, until: Option<Instant>) -> Sent {
+    pub fn send_later(&self, item: &mut Unsent, until: Option<Instant>) -> Sent {
         if let Some(rendezvous) = self.rendezvous() {
             return self.meet_to_send(rendezvous, item, until);
         }

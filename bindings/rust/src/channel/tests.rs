@@ -264,7 +264,7 @@ fn a_reserved_place_counts_once() {
         });
         for number in 0..rounds(10_000) {
             assert_eq!(core.reserve(), Ok(()));
-            assert_eq!(core.send_to_room(&mut sender.pack(number)), Ok(()));
+            assert_eq!(core.send_to_room(&mut Some(sender.pack(number))), Ok(()));
             (0..200).for_each(|_| std::hint::spin_loop());
             assert_eq!(receiver.try_recv(), Ok(number));
         }

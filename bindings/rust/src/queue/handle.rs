@@ -2,8 +2,8 @@
 //! keeps what they ask for. No other file calls them.
 #![allow(unsafe_code)]
 
-use super::{Config, OpenError, Word};
-pub use super::{Words, code, unexpected};
+use super::{Config, OpenError};
+pub use super::{Word, Words, code, unexpected};
 use crate::backoff::FOR_OWN_SIDE;
 use crate::event::{Served, wait_without_end};
 use std::ffi::c_void;
@@ -31,7 +31,7 @@ const fn number(digits: &str) -> u32 {
 
 /// An item with all words of its body, by words: place, sender and number, count, and the words. It has room
 /// for an item of one word, too, whose body is the third.
-type Taken = [Word; 7];
+pub type Taken = [Word; 7];
 
 // SAFETY, of the calls that are called safe: a pass is empty, or was filled by `vahepito_open_words`, since its
 // type and the field of a handle are private; a handle isn't copied, so that a call has it alone, by `&mut`;
@@ -83,19 +83,20 @@ fn unread<T>() -> MaybeUninit<T> {
 }
 
 /// A take writes it, or nothing is read of it.
-const NO_ITEM: Taken = [Word::uninit(); 7];
+pub const NO_ITEM: Taken = [Word::uninit(); 7];
 
-/// The words of the body of an item that the library has just written, one by one: what reads two fields
-/// at once waits until both are written.
-#[inline]
-fn words_of(item: &Taken, count: usize) -> Words {
+/// A word of an item that the library has just written, by itself: what reads two fields at once waits until both are
+/// written.
+#[inline(always)]
+fn field_of(item: &Taken, at: usize) -> Word {
     // SAFETY: it is read from a reference.
-    let read = |at: usize| unsafe { read_volatile(&item[at]) };
-    let other = Word::uninit();
-    match count {
-        1 => [read(2), other, other, other],
-        _ => [3, 4, 5, 6].map(read),
-    }
+    unsafe { read_volatile(&item[at]) }
+}
+
+/// The word of an item of one word, in the same way.
+#[inline(always)]
+pub fn word_of(item: &Taken) -> Word {
+    field_of(item, 2)
 }
 
 /// One pass of a queue. It is empty, or `open` filled it; it isn't copied, and its drop lets the
@@ -121,15 +122,27 @@ impl Handle {
     pub fn send(&mut self, words: &Words, count: usize, line: Served) -> u32 {
         let at = words.as_ptr();
         let code = match count {
-            1 => vahepito_try_send(&mut self.0, words[0], &mut unread(), &mut unread()),
+            1 => self.try_send_word(words[0]),
             // SAFETY: there are four words, and the library refuses to read more.
             _ => unsafe {
                 vahepito_try_send_words(&mut self.0, at, count, &mut unread(), &mut unread())
             },
         };
-        if code != code::WAITING {
-            return code;
+        match code {
+            code::WAITING => self.wait_for_send(line),
+            code => code,
         }
+    }
+
+    /// Begins to send this word, and makes one turn of the call: the code of a send, or that it waits.
+    #[inline(always)]
+    pub fn try_send_word(&mut self, word: Word) -> u32 {
+        vahepito_try_send(&mut self.0, word, &mut unread(), &mut unread())
+    }
+
+    /// Waits for the answer of a send that began, in this line: the code of the send.
+    #[inline]
+    pub fn wait_for_send(&mut self, line: Served) -> u32 {
         wait_until_served(line, || {
             vahepito_turn_send(&mut self.0, &mut unread(), &mut unread())
         })
@@ -141,21 +154,37 @@ impl Handle {
     pub fn take(&mut self, count: usize, line: Served) -> Result<Words, u32> {
         let mut item = NO_ITEM;
         let mut code = match count {
-            1 => vahepito_try_take(&mut self.0, &mut item, &mut unread(), &mut unread()),
+            1 => self.try_take_word(&mut item),
             _ => vahepito_try_take_words(&mut self.0, &mut item, &mut unread(), &mut unread()),
         };
         if code == code::WAITING {
-            // The closure has a number of its own, so that the compiler knows this one.
-            let words = count;
-            code = wait_until_served(line, || match words {
-                1 => vahepito_turn_take(&mut self.0, &mut item, &mut unread(), &mut unread()),
-                _ => vahepito_turn_take_words(&mut self.0, &mut item, &mut unread(), &mut unread()),
-            });
+            code = match count {
+                1 => self.wait_for_take(&mut item, line),
+                _ => wait_until_served(line, || {
+                    vahepito_turn_take_words(&mut self.0, &mut item, &mut unread(), &mut unread())
+                }),
+            };
         }
-        match code {
-            code::GOT => Ok(words_of(&item, count)),
-            code => Err(code),
+        let other = Word::uninit();
+        match (code, count) {
+            (code::GOT, 1) => Ok([word_of(&item), other, other, other]),
+            (code::GOT, _) => Ok([3, 4, 5, 6].map(|at| field_of(&item, at))),
+            (code, _) => Err(code),
         }
+    }
+
+    /// Begins to take an item of one word, and makes one turn of the call: the code of a take, or that it waits.
+    #[inline(always)]
+    pub fn try_take_word(&mut self, item: &mut Taken) -> u32 {
+        vahepito_try_take(&mut self.0, item, &mut unread(), &mut unread())
+    }
+
+    /// Waits for the answer of such a take that began, in this line: the code of the take.
+    #[inline]
+    pub fn wait_for_take(&mut self, item: &mut Taken, line: Served) -> u32 {
+        wait_until_served(line, || {
+            vahepito_turn_take(&mut self.0, item, &mut unread(), &mut unread())
+        })
     }
 
     /// Closes the queue, and waits for the answer in this line. Returns whether it was open.

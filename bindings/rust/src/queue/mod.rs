@@ -28,7 +28,7 @@ use std::mem::{MaybeUninit, replace};
 pub const IS_PROVED: bool = cfg!(not(feature = "unproved"));
 
 /// One word of a body. It may have bytes that nobody wrote.
-type Word = MaybeUninit<u64>;
+pub type Word = MaybeUninit<u64>;
 
 /// The words of a body, of which some may not be used.
 pub type Words = [Word; 4];
@@ -75,6 +75,8 @@ pub mod code {
     pub const EMPTY: u32 = 24;
     pub const ENDED: u32 = 25;
     pub const BAD_GROUPS: u32 = 26;
+    #[cfg(feature = "unproved")]
+    pub const WIDE: u32 = 30;
 }
 
 /// A code that the call doesn't return.

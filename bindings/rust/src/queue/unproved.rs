@@ -1,14 +1,27 @@
 //! The queue of the feature `unproved`: std's `VecDeque` under std's `Mutex`, with the calls and the answers of the
 //! proved one. It builds for any target, and nothing of it is proved.
 use super::{Config, MOST_GROUPS, OpenError};
-pub use super::{Words, code, unexpected};
+pub use super::{Word, Words, code, unexpected};
 use crate::event::Served;
 use std::collections::VecDeque;
 use std::sync::{Arc, Mutex, PoisonError};
 
+/// Room for an item of one word: the word and others.
+pub type Taken = Words;
+
+/// A take writes it, or nothing is read of it.
+pub const NO_ITEM: Taken = [Word::uninit(); 4];
+
+/// The word of an item of one word.
+pub fn word_of(item: &Taken) -> Word {
+    item[0]
+}
+
 /// The part that the handles of a queue share.
 struct Queue {
     capacity: usize,
+    /// How many words an item has.
+    words: usize,
     /// How many items it still accepts.
     life: u64,
     closed: bool,
@@ -41,6 +54,21 @@ impl Handle {
 
     /// Sends these words, and returns the code of the send.
     pub fn send(&mut self, words: &Words, _count: usize, _line: Served) -> u32 {
+        self.try_send(words)
+    }
+
+    /// The same of one word.
+    pub fn try_send_word(&mut self, word: Word) -> u32 {
+        let other = Word::uninit();
+        self.try_send(&[word, other, other, other])
+    }
+
+    /// No call of this queue waits.
+    pub fn wait_for_send(&mut self, _line: Served) -> u32 {
+        code::WAITING
+    }
+
+    fn try_send(&mut self, words: &Words) -> u32 {
         let Some(left) = self.sends.checked_sub(1) else {
             return code::WORN;
         };
@@ -62,6 +90,10 @@ impl Handle {
 
     /// Takes the words of an item. If there is none, it returns the code of the take.
     pub fn take(&mut self, _count: usize, _line: Served) -> Result<Words, u32> {
+        self.try_take()
+    }
+
+    fn try_take(&mut self) -> Result<Words, u32> {
         self.call(|queue| {
             let Some(&words) = queue.items.get(queue.taken[self.group]) else {
                 return Err([code::EMPTY, code::ENDED][usize::from(queue.closed)]);
@@ -75,6 +107,26 @@ impl Handle {
         })
     }
 
+    /// Takes an item of one word, and returns the code of the take.
+    pub fn try_take_word(&mut self, item: &mut Taken) -> u32 {
+        if self.call(|queue| queue.words) != 1 {
+            return code::WIDE;
+        }
+        let taken = self.try_take();
+        taken.map_or_else(
+            |code| code,
+            |words| {
+                *item = words;
+                code::GOT
+            },
+        )
+    }
+
+    /// No call of this queue waits.
+    pub fn wait_for_take(&mut self, _item: &mut Taken, _line: Served) -> u32 {
+        code::WAITING
+    }
+
     /// Closes the queue. Returns whether it was open.
     pub fn close(&mut self, _line: Served) -> bool {
         self.call(|queue| !std::mem::replace(&mut queue.closed, true))
@@ -85,7 +137,7 @@ impl Handle {
 pub fn fill(
     config: &Config,
     groups: u32,
-    _words: usize,
+    words: usize,
     senders: &mut [Handle],
     receivers: &mut [Handle],
 ) -> Result<(), OpenError> {
@@ -101,6 +153,7 @@ pub fn fill(
     refused.map_err(|_| OpenError::NoMemory)?;
     let queue = Arc::new(Mutex::new(Queue {
         capacity,
+        words,
         life: config.life,
         closed: false,
         items,
