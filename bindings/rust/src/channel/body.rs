@@ -142,11 +142,11 @@ unsafe fn open<T>(words: &Words) -> Option<T> {
     Some(unsafe { Box::from_raw(at) }.item)
 }
 
-/// How many shares there are of an item, if it lies in a box: of the first word of one of this kind, which somebody owns for as long
-/// as the word is borrowed.
+/// How many shares there are of an item of this kind, if it lies in a box. The word is its first one, and somebody owns
+/// the item for as long as the word is borrowed.
 #[inline(always)]
 fn shares_of<'a>(word: &'a Word, kind: &Kind) -> Option<&'a AtomicUsize> {
-    // SAFETY: then the word is a pointer to a `Boxed<T>`, which begins with them, and is there as long as this share is.
+    // SAFETY: then the word is a pointer to a `Boxed<T>`, which begins with them, and is there as long as its share is.
     let shares = || unsafe { &*ptr::from_ref(word).cast::<*const AtomicUsize>().read() };
     kind.is_boxed.then(shares)
 }
@@ -304,10 +304,11 @@ pub enum NoItem {
     Ended,
 }
 
-/// What a take of an item of one word gives: two words, which a call returns in registers. If it is forgotten, its item leaks.
+/// What a take of an item of one word gives: two words, which a call returns in registers. If it is dropped, its item
+/// leaks.
 #[must_use]
 pub struct Answer {
-    /// The item's kind, if there is an item; else the word says by 1 that the channel has ended, and by 0 that it hasn't.
+    /// The item's kind, if there is an item. Without one the word is 1 if the channel has ended, and 0 if it hasn't.
     kind: Option<&'static Kind>,
     word: Word,
 }
@@ -359,7 +360,7 @@ impl From<Result<Item, NoItem>> for Answer {
 /// An item of one word that its owner lends to a call which sends it. The call gets the word in a register.
 pub struct Lent(Word);
 
-/// Sends an item of a kind of one word by this call, which says whether it is sent: then it isn't here any more. If the call
+/// Sends an item of one word by this call, which says whether it is sent: then it isn't here any more. If the call
 /// panics, the item leaks.
 #[inline(always)]
 pub fn lend(item: Item, send: impl FnOnce(Lent) -> Sent) -> Result<(), Refused> {
@@ -372,7 +373,8 @@ pub fn lend(item: Item, send: impl FnOnce(Lent) -> Sent) -> Result<(), Refused> 
 
 /// What a call sends. It is here still if the call returns an error.
 pub trait Offer {
-    /// Sends it by this seat to all groups that the queue has, and returns the call's code. The channel's items have this kind.
+    /// Sends it by this seat to all groups that the queue has, and returns the call's code. The items of the channel
+    /// have this kind.
     ///
     /// No user code runs between the queue's acceptance and the moment at which the item isn't here any more.
     fn send_by(&mut self, kind: &'static Kind, seat: &mut SeatGuard) -> u32;

@@ -197,7 +197,8 @@ impl<'a> SeatGuard<'a> {
         ManuallyDrop::new(self).seat
     }
 
-    /// Gives the seat back. This is its drop within the caller, to which the guard's address says nothing.
+    /// Gives the seat back. This is the drop, in the caller's own code: so the guard has no address there, and stays in
+    /// registers.
     #[inline(always)]
     pub fn give_back(self) {
         let pool = self.pool;
@@ -358,8 +359,8 @@ impl Pool {
         (!was_held).then(|| SeatGuard { pool: self, seat })
     }
 
-    /// Acquires the seat that this thread tries first, if it is free, and none of its calls contends; else a seat of this
-    /// pool by another way. So a caller's guard has the caller's pool, for which it needs no register.
+    /// Acquires the seat that this thread tries first, if it is free and its calls don't contend; or else another seat
+    /// of this pool by this. The guard has the pool that the caller has, and so needs no register for it.
     #[inline(always)]
     pub fn acquire_or<'a>(&'a self, another: impl FnOnce() -> SeatGuard<'a>) -> SeatGuard<'a> {
         let mut seat = self.seat();
@@ -380,7 +381,8 @@ impl Pool {
         self.free.notify_one();
     }
 
-    /// Turns the send of this seat until it is answered. The seat says where its pass is, for which a caller needs no register.
+    /// Turns the send of this seat until it is answered. The seat says where its pass is, so a caller needs no register
+    /// for that.
     #[cold]
     #[inline(never)]
     fn wait_for_send(&self, seat: &Seat) -> u32 {
@@ -398,6 +400,7 @@ impl Pool {
         pass.handle.wait_for_take(item, line)
     }
 
+    /// The same by a call, for a drop that is rare.
     #[inline(never)]
     fn give_back_far(&self, seat: &Seat) {
         self.give_back(seat);

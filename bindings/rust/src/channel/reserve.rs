@@ -74,7 +74,8 @@ impl Core {
         group.has_found_none() && self.still_finds_no_item(group)
     }
 
-    /// The look. A send under way whose thread doesn't run may have an item: the queue's own answer doesn't wait for that thread.
+    /// The look. A send under way whose thread doesn't run may have an item: the queue's own answer doesn't wait for
+    /// that thread.
     #[inline(always)]
     pub fn still_finds_no_item(&self, group: &Side) -> bool {
         group.note_look(self.look_for_item(group, Pool::pause_for_holders))
