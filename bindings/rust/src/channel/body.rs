@@ -8,10 +8,10 @@
 //! their type. A handle knows the type. It packs what it sends, and unpacks what the channel gives it.
 #![allow(unsafe_code)]
 
-use super::core::{NotSent, Sent};
+use super::core::{Core, NotSent, Sent};
 use super::pool::SeatGuard;
 use crate::event::ignore_panics;
-use crate::queue::handle::{Word, Words, code};
+use crate::queue::handle::{Word, Words, code, hands_over};
 use std::marker::PhantomData;
 use std::mem::{ManuallyDrop, MaybeUninit, forget, size_of};
 use std::panic::{AssertUnwindSafe, catch_unwind, resume_unwind};
@@ -373,11 +373,10 @@ pub fn lend(item: Item, send: impl FnOnce(Lent) -> Sent) -> Result<(), Refused> 
 
 /// What a call sends. It is here still if the call returns an error.
 pub trait Offer {
-    /// Sends it by this seat to all groups that the queue has, and returns the call's code. The items of the channel
-    /// have this kind.
+    /// Sends it by this seat of the channel to all groups that the queue has, and returns the call's code.
     ///
     /// No user code runs between the queue's acceptance and the moment at which the item isn't here any more.
-    fn send_by(&mut self, kind: &'static Kind, seat: &mut SeatGuard) -> u32;
+    fn send_by(&mut self, core: &Core, seat: &mut SeatGuard) -> u32;
 
     /// Lets this send it, which wants it in memory.
     fn by_itself(&mut self, kind: &'static Kind, send: impl FnOnce(&mut Unsent) -> Sent) -> Sent;
@@ -385,8 +384,9 @@ pub trait Offer {
 
 impl Offer for Lent {
     #[inline(always)]
-    fn send_by(&mut self, kind: &'static Kind, seat: &mut SeatGuard) -> u32 {
-        set_shares_of(&self.0, kind, seat.pass().0.shares);
+    fn send_by(&mut self, core: &Core, seat: &mut SeatGuard) -> u32 {
+        set_shares_of(&self.0, core.kind, seat.pass().0.shares);
+        hands_over(core);
         let unwinds = Unwinds;
         let code = seat.send_word(self.0);
         forget(unwinds);
@@ -410,10 +410,11 @@ fn send_lent(word: Word, kind: &'static Kind, send: impl FnOnce(&mut Unsent) -> 
 
 impl Offer for Unsent {
     #[inline(always)]
-    fn send_by(&mut self, _: &'static Kind, seat: &mut SeatGuard) -> u32 {
+    fn send_by(&mut self, core: &Core, seat: &mut SeatGuard) -> u32 {
         let sent = self.as_ref().expect("the item isn't sent yet");
         let (pass, line) = seat.pass();
         sent.set_shares(pass.shares);
+        hands_over(core);
         let unwinds = Unwinds;
         let code = pass.handle.send(&sent.words, sent.kind.words, line);
         forget(unwinds);

@@ -15,7 +15,7 @@ use super::rendezvous::Rendezvous;
 use super::row::{Row, Shape};
 use crate::backoff::PACE;
 use crate::event::{Again, Apart, Event, Panics, Try, lock};
-use crate::queue::handle::{Handle, code, hands_over, has_taken, unexpected};
+use crate::queue::handle::{Handle, code, has_taken, unexpected};
 use crate::queue::{self, Config, OpenError, Passes};
 use std::iter;
 use std::mem::ManuallyDrop;
@@ -376,8 +376,7 @@ impl Core {
     /// Sends by this seat. Returns the queue's code. If the item is accepted, somebody has to be notified of it.
     #[inline(always)]
     pub fn send_by(&self, seat: &mut SeatGuard, item: &mut impl Offer) -> u32 {
-        hands_over(self);
-        let code = item.send_by(self.kind, seat);
+        let code = item.send_by(self, seat);
         if code == code::ACCEPTED {
             seat.count_one();
         } else if ![code::FULL, code::CLOSED, code::SPENT, code::WORN].contains(&code) {
