@@ -16,4 +16,5 @@ pub mod Service
 pub mod Scan
 pub mod Waiting
 pub mod Lasts
+pub mod InPlace
 pub mod RefusedClaims

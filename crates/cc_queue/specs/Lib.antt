@@ -9,6 +9,7 @@ pub mod Calls
 pub mod Met
 pub mod Counted
 pub mod Noted
+pub mod InPlace
 pub mod Opened
 pub mod Receipts
 pub mod Group

@@ -26,6 +26,7 @@ pub use Rattle.cc_runs.specs.declared.word.Chain.{Chain}
 pub use Rattle.cc_audit.specs.declared.receipt.SendReceipt.{SendReceipt}
 pub use Rattle.cc_audit.specs.declared.receipt.TakeReceipt.{TakeReceipt}
 pub use Rattle.cc_audit.specs.declared.receipt.Verdict.{Verdict}
+pub use Rattle.cc_queue.specs.declared.in_place.SenderCall.{SenderCall}
 pub use Rattle.cc_queue.specs.declared.passes.SenderSeat.{SenderSeat}
 pub use Rattle.cc_queue.specs.declared.passes.ReceiverSeat.{ReceiverSeat}
 pub use Rattle.cc_queue.specs.declared.passes.Turn.{Turn}

@@ -1,8 +1,8 @@
 -- The facts of every pass, idle or with a pending call.
 use Rattle.std.specs.Arc.{arc_value}
-use Rattle.std.specs.Prelude.{◌≡◌, ◌<◌, ◌≤◌, List, [], ◌∷◌, ◌++◌, Ok}
+use Rattle.std.specs.Prelude.{◌≡◌, ◌<◌, ◌≤◌, Bool, true, false, List, [], ◌∷◌, ◌++◌, Ok}
 use Rattle.cc_model.specs.Config.{config_fault}
-use Rattle.cc_queue.specs.Names.{Config, Call, Entry, Pass, Served, Chain, Phase, SenderSeat, ReceiverSeat}
+use Rattle.cc_queue.specs.Names.{Config, Call, Entry, Pass, Served, Chain, Phase, SenderCall, SenderSeat, ReceiverSeat, Turn}
 use Rattle.cc_steps.specs.Topic.{Topic}
 use Rattle.cc_steps.specs.Walk.{Walk, IsOf}
 use Rattle.cc_queue.specs.Work.{IsOn}
@@ -65,3 +65,28 @@ pub record MadeLast (Is : Call → Type 0) (made : List Entry) : Type 0 where
   pub entry : Entry
   pub last : made ≡ before ++ entry ∷ []
   pub is : Is entry.call
+
+-- the sender of this seat waits in a call, and that is such a one
+abbrev pub IsCalling : (Call → Type 0) → SenderSeat → Type 0
+IsCalling Is s = KeepsSender s Phase.ReadState × MadeLast Is s.seat.made
+
+-- after a turn of such a call the sender of this seat still waits in it, or has none
+abbrev pub KeepsAfter : {C P A : Type 0} → (Call → Type 0) → Turn C P A → SenderSeat → Type 0
+KeepsAfter Is (Turn.Waiting same) s = IsCalling Is s
+KeepsAfter Is (Turn.Done back answer served) s = KeepsSender s Phase.Idle
+
+-- the phase of a receiver after a turn of its take
+abbrev pub phase_after : {C P A : Type 0} → Turn C P A → Phase
+phase_after (Turn.Waiting same) = Phase.ReadState
+phase_after (Turn.Done back answer served) = Phase.Idle
+
+-- the sender of this seat has this call
+abbrev pub HasCall : SenderCall → SenderSeat → Type 0
+HasCall SenderCall.None s = KeepsSender s Phase.Idle
+HasCall SenderCall.Send s = IsCalling IsSend s
+HasCall SenderCall.Close s = IsCalling IsClose s
+
+-- the receiver of this seat has a take, or none
+abbrev pub HasTake : Bool → ReceiverSeat → Type 0
+HasTake true r = KeepsReceiver r Phase.ReadState
+HasTake false r = KeepsReceiver r Phase.Idle

@@ -1,13 +1,13 @@
 //! Looks at how many items a queue has accepted, how many each group has taken, and whether the queue is shut. A look is one load, takes
 //! memory and never waits. A pass that looks sees all calls that had ended before.
-ghost use Rattle.std.specs.Prelude.{◌≡◌, nat_lt, IsTrue};
+ghost use Rattle.std.specs.Prelude.{◌≡◌, nat_lt, IsTrue, false};
 ghost use Rattle.cc_runs.specs.Words.{exists, groups, layout_of};
 ghost use Rattle.cc_steps.specs.Names.{Word};
-ghost use Rattle.cc_steps.specs.Walk.{IsOf};
+ghost use Rattle.cc_steps.specs.Walk.{IsOf, Walk};
+ghost use Rattle.cc_queue.specs.Names.{SenderCall};
 ghost use Rattle.cc_queue.specs.Counted.{in_word, Found, LooksAnswerEmpty, LooksAnswerFull};
 
-use crate::meets::Meets;
-use crate::passes::{Receiver, Sender};
+use crate::in_place::{HeldReceiver, HeldSender};
 use crate::queue::Queue;
 use cc_runs::Object;
 use cc_steps::counts::watch;
@@ -34,16 +34,28 @@ pub fn looks_answer_empty()
     ensures { LooksAnswerEmpty }
 {}
 
-/// A pass that has no call, a sender or a receiver, looks at a word of the list.
-pub trait Looks: Meets {
+/// A pass that stays in one place, a sender or a receiver, looks at a word of the list if it has no call.
+pub trait Looks {
+    /// The view that clauses have of the pass.
+    ghost walk: { Self → Walk };
+
+    /// It has no call.
+    ghost is_idle: { Self → Type 0 };
+
     /// The number in the word, in the run that the pass has seen now.
     fn look(&mut self, queue: &Queue, object: Object) -> u64
-        requires here { IsOf queue.now (Self.walk self.old) }
+        requires here { IsOf queue.now (walk self.old) }
+        requires idle { is_idle self.old }
         requires there { IsTrue (exists (layout_of queue.now.setting.config) (Word.Object object)) }
-        ensures { Found (in_word object) (Self.walk self.old) (Self.walk self.new) result };
+        ensures found { Found (in_word object) (walk self.old) (walk self.new) result }
+        ensures idle { is_idle self.new };
 }
 
-impl Looks for Sender {
+impl Looks for HeldSender {
+    ghost walk = { λ s. s.pass };
+
+    ghost is_idle = { λ s. s.call ≡ SenderCall.None };
+
     #[inline(always)]
     fn look(&mut self, queue: &Queue, object: Object) -> u64 {
         let found = watch(&queue.words, &mut self.at.seat, object);
@@ -52,7 +64,11 @@ impl Looks for Sender {
     }
 }
 
-impl Looks for Receiver {
+impl Looks for HeldReceiver {
+    ghost walk = { λ r. r.pass };
+
+    ghost is_idle = { λ r. r.takes ≡ false };
+
     #[inline(always)]
     fn look(&mut self, queue: &Queue, object: Object) -> u64 {
         let found = watch(&queue.words, &mut self.at.seat, object);

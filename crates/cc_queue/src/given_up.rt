@@ -49,7 +49,7 @@ impl GivenUp {
 }
 
 /// The seat of a sender, without its share of the queue.
-fn sender_seat(at: SenderSeat) -> GivenUp
+pub(crate) fn sender_seat(at: SenderSeat) -> GivenUp
     requires still { HasStopped at.seat }
     requires named { name at.seat ≡ Pass.Sender at.number }
     ensures { result ≡ at.seat }
@@ -69,7 +69,7 @@ fn sender_seat(at: SenderSeat) -> GivenUp
 }
 
 /// The seat of a receiver, without its share of the queue.
-fn receiver_seat(at: ReceiverSeat) -> GivenUp
+pub(crate) fn receiver_seat(at: ReceiverSeat) -> GivenUp
     requires still { HasStopped at.seat }
     requires named { name at.seat ≡ Pass.Receiver at.number }
     ensures { result ≡ at.seat }

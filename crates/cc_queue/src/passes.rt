@@ -58,14 +58,13 @@ pub struct PendingSend {
 
 impl Model for PendingSend {
     ghost use Rattle.cc_steps.specs.Walk.{Walk};
-    ghost use Rattle.cc_queue.specs.Names.{Phase};
-    ghost use Rattle.cc_queue.specs.Passes.{KeepsSender, MadeLast, IsSend};
+    ghost use Rattle.cc_queue.specs.Passes.{IsCalling, IsSend};
 
     ghost Value = { Walk };
 
     ghost view = { λ s. s.at.seat };
 
-    ghost invariant = { λ s. KeepsSender s.at Phase.ReadState × MadeLast IsSend s.at.seat.made };
+    ghost invariant = { λ s. IsCalling IsSend s.at };
 }
 
 /// A sender whose close is pending. It must be used up, by a turn or by `abandon`.
@@ -75,14 +74,13 @@ pub struct PendingClose {
 
 impl Model for PendingClose {
     ghost use Rattle.cc_steps.specs.Walk.{Walk};
-    ghost use Rattle.cc_queue.specs.Names.{Phase};
-    ghost use Rattle.cc_queue.specs.Passes.{KeepsSender, MadeLast, IsClose};
+    ghost use Rattle.cc_queue.specs.Passes.{IsCalling, IsClose};
 
     ghost Value = { Walk };
 
     ghost view = { λ s. s.at.seat };
 
-    ghost invariant = { λ s. KeepsSender s.at Phase.ReadState × MadeLast IsClose s.at.seat.made };
+    ghost invariant = { λ s. IsCalling IsClose s.at };
 }
 
 /// A receiver of a queue that has no call, numbered from 1.

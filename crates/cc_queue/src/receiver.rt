@@ -1,30 +1,31 @@
 //! The calls of a receiver.
 ghost use Rattle.std.specs.Prelude.{◌≡◌, ◌+◌, ◌<◌, ◌≤◌, ◌^◌, ◌∷◌, ◌++◌, []};
-ghost use Rattle.cc_queue.specs.Names.{Answer, Call, Chain, Pass};
+ghost use Rattle.cc_queue.specs.Names.{Answer, Call, Chain, Pass, Phase};
 ghost use Rattle.cc_steps.specs.Walk.{IsOf};
-ghost use Rattle.cc_queue.specs.Calls.{Begun, BegunAndTurned, Turned};
+ghost use Rattle.cc_queue.specs.Calls.{Begun, Turned};
+ghost use Rattle.cc_queue.specs.Passes.{KeepsReceiver, phase_after};
 ghost use Rattle.cc_queue.specs.Group.{Ranked};
 ghost use Rattle.cc_queue.specs.Headline.{name};
 ghost use Rattle.cc_queue.specs.Work.{IsOn};
 
-use crate::passes::{PendingTake, Receiver, Turn};
+use crate::passes::{PendingTake, Receiver, ReceiverSeat, Turn};
 use crate::queue::Queue;
 use crate::{begins, turns};
 use cc_model::TakeAnswer;
 use cc_runs::Chain;
 use cc_steps::words::ChainWords;
 
-/// Begins a take on the words of its walk.
+/// Begins a take of the receiver of this seat, on the words of its walk.
 #[inline(always)]
-fn begun_take(words: &ChainWords<'_>, receiver: Receiver) -> PendingTake
-    requires here { IsOf words.now.topic receiver }
-    requires chain { IsOn receiver words.now.chain }
-    ensures { Begun receiver Call.Take result }
+pub(crate) fn begun_take(words: &ChainWords<'_>, at: &mut ReceiverSeat)
+    requires here { IsOf words.now.topic at.old.seat }
+    requires chain { IsOn at.old.seat words.now.chain }
+    requires idle { KeepsReceiver at.old Phase.Idle }
+    ensures begun { Begun at.old.seat Call.Take at.new.seat }
+    ensures pending { KeepsReceiver at.new Phase.ReadState }
 {
-    let Receiver { mut at } = receiver;
     at.node = begins::begin_take(words, &mut at.seat, at.group, at.node);
     at.seat.is_sound();
-    PendingTake { at }
 }
 
 /// Begins a take.
@@ -32,30 +33,32 @@ pub fn begin_take(queue: &Queue, receiver: Receiver) -> PendingTake
     requires { IsOf queue.now receiver }
     ensures { Begun receiver Call.Take result }
 {
-    let at = &receiver.at;
+    let Receiver { mut at } = receiver;
     let words = queue.words().on(&at.seat, Chain::Take(at.group));
-    begun_take(&words, receiver)
+    begun_take(&words, &mut at);
+    PendingTake { at }
 }
 
-/// One turn of a take on the words of its walk.
+/// One turn of a take of the receiver of this seat, on the words of its walk.
 #[inline(always)]
-fn turned_take(
+pub(crate) fn turned_take(
     queue: &Queue,
     words: &ChainWords<'_>,
-    pending: PendingTake,
-) -> Turn<PendingTake, Receiver, TakeAnswer>
-    requires here { IsOf queue.now pending }
+    at: &mut ReceiverSeat,
+) -> Turn<(), (), TakeAnswer>
+    requires here { IsOf queue.now at.old.seat }
     requires topic { words.now.topic ≡ queue.now }
-    requires chain { IsOn pending words.now.chain }
-    ensures { Turned (λ p. p) (λ r. r) Answer.Take pending result }
+    requires chain { IsOn at.old.seat words.now.chain }
+    requires pending { KeepsReceiver at.old Phase.ReadState }
+    ensures turned { Turned (λ _. at.new.seat) (λ _. at.new.seat) Answer.Take at.old.seat result }
+    ensures keeps { KeepsReceiver at.new (phase_after result) }
 {
-    let PendingTake { mut at } = pending;
     let turn = turns::turn_take(queue.words(), words, &mut at.seat, at.group, at.node);
     at.seat.is_sound();
     match turn {
-        None => Turn::Waiting(PendingTake { at }),
+        None => Turn::Waiting(()),
         Some((answer, served)) => Turn::Done {
-            pass: Receiver { at },
+            pass: (),
             answer,
             served,
         },
@@ -69,21 +72,20 @@ pub fn turn_take(queue: &Queue, pending: PendingTake) -> Turn<PendingTake, Recei
     requires { IsOf queue.now pending }
     ensures { Turned (λ p. p) (λ r. r) Answer.Take pending result }
 {
-    let at = &pending.at;
+    let PendingTake { mut at } = pending;
     let words = queue.words().resume(&at.seat, Chain::Take(at.group));
-    turned_take(queue, &words, pending)
-}
-
-/// Begins a take and turns it once, in one walk: nothing lies between the begin and the turn.
-#[inline(always)]
-pub fn try_take(queue: &Queue, receiver: Receiver) -> Turn<PendingTake, Receiver, TakeAnswer>
-    requires { IsOf queue.now receiver }
-    ensures { BegunAndTurned (λ p. p) (λ r. r) Answer.Take receiver Call.Take result }
-{
-    let at = &receiver.at;
-    let words = queue.words().on(&at.seat, Chain::Take(at.group));
-    let pending = begun_take(&words, receiver);
-    turned_take(queue, &words, pending)
+    match turned_take(queue, &words, &mut at) {
+        Turn::Waiting(()) => Turn::Waiting(PendingTake { at }),
+        Turn::Done {
+            pass: (),
+            answer,
+            served,
+        } => Turn::Done {
+            pass: Receiver { at },
+            answer,
+            served,
+        },
+    }
 }
 
 impl Receiver {

@@ -1,31 +1,40 @@
 //! The calls of a sender.
 ghost use Rattle.std.specs.Prelude.{◌≡◌, ◌+◌, ◌<◌, ◌≤◌, ◌^◌, ◌∷◌, ◌++◌, [], nat_le, IfOk, OnOk, IfErr, OnErr};
-ghost use Rattle.cc_queue.specs.Names.{Answer, Call, Chain};
+ghost use Rattle.cc_queue.specs.Names.{Answer, Call, Chain, Phase};
 ghost use Rattle.cc_steps.specs.Walk.{IsOf};
-ghost use Rattle.cc_queue.specs.Calls.{Begun, BegunAndTurned, Turned};
+ghost use Rattle.cc_queue.specs.Calls.{Begun, Turned};
+ghost use Rattle.cc_queue.specs.Passes.{KeepsSender, IsCalling, KeepsAfter, IsSend, IsClose};
 
 use crate::begins::begin_request;
-use crate::passes::{PendingClose, PendingSend, Sender, Turn};
+use crate::passes::{PendingClose, PendingSend, Sender, SenderSeat, Turn};
 use crate::queue::Queue;
 use crate::turns::{close_answer, send_answer, turn_request};
 use cc_model::{Body, Call, CloseAnswer, SendAnswer};
 use cc_runs::{BodyWords, Chain, Request, packed, words_in};
 use cc_steps::words::ChainWords;
 
-/// Begins a send on the words of its walk.
+/// The sender has begun as many sends as one sender may.
+pub struct Worn;
+
+/// Begins a send of the sender of this seat, on the words of its walk. Err leaves the seat as it is.
 #[inline(always)]
-fn begun_send(words: &ChainWords<'_>, sender: Sender, body: Body) -> Result<PendingSend, Sender>
-    requires here { IsOf words.now.topic sender }
+pub(crate) fn begun_send(
+    words: &ChainWords<'_>,
+    at: &mut SenderSeat,
+    body: Body,
+) -> Result<(), Worn>
+    requires here { IsOf words.now.topic at.old.seat }
     requires chain { words.now.chain ≡ Chain.Send }
-    ensures begun { IfOk result (λ q. Begun sender (Call.Send body) q) }
-    ensures may { OnOk result (sender.stand.begun < sender.setting.config.per_sender) }
-    ensures same { IfErr result (λ s. s ≡ sender) }
-    ensures worn { OnErr result (sender.setting.config.per_sender ≤ sender.stand.begun) }
+    requires idle { KeepsSender at.old Phase.Idle }
+    ensures begun { IfOk result (λ _. Begun at.old.seat (Call.Send body) at.new.seat) }
+    ensures pending { OnOk result (IsCalling IsSend at.new) }
+    ensures may { OnOk result (at.old.seat.stand.begun < at.old.seat.setting.config.per_sender) }
+    ensures same { OnErr result (at.new ≡ at.old) }
+    ensures worn { OnErr result (at.old.seat.setting.config.per_sender ≤ at.old.seat.stand.begun) }
 {
-    if sender.at.begun >= sender.at.limit {
-        return Err(sender);
+    if at.begun >= at.limit {
+        return Err(Worn);
     }
-    let Sender { mut at } = sender;
     at.begun += 1;
     let request = Request {
         tag: packed(at.number, at.begun, body),
@@ -33,7 +42,7 @@ fn begun_send(words: &ChainWords<'_>, sender: Sender, body: Body) -> Result<Pend
     };
     at.node = begin_request(words, &mut at.seat, at.node, Call::Send(body), request);
     at.seat.is_sound();
-    Ok(PendingSend { at })
+    Ok(())
 }
 
 /// Begins a send of this body. Err hands the sender back unchanged, if it has begun as many sends as one sender may.
@@ -46,7 +55,28 @@ pub fn begin_send(queue: &Queue, sender: Sender, body: Body) -> Result<PendingSe
     ensures worn { OnErr result (sender.setting.config.per_sender ≤ sender.stand.begun) }
 {
     let words = queue.words().on(&sender.at.seat, Chain::Send);
-    begun_send(&words, sender, body)
+    let Sender { mut at } = sender;
+    match begun_send(&words, &mut at, body) {
+        Ok(()) => Ok(PendingSend { at }),
+        Err(Worn) => Err(Sender { at }),
+    }
+}
+
+/// Begins a close of the sender of this seat, on the words of its walk.
+#[inline(always)]
+pub(crate) fn begun_close(words: &ChainWords<'_>, at: &mut SenderSeat)
+    requires here { IsOf words.now.topic at.old.seat }
+    requires chain { words.now.chain ≡ Chain.Send }
+    requires idle { KeepsSender at.old Phase.Idle }
+    ensures begun { Begun at.old.seat Call.Close at.new.seat }
+    ensures pending { IsCalling IsClose at.new }
+{
+    let request = Request {
+        tag: 0,
+        body: BodyWords::none(),
+    };
+    at.node = begin_request(words, &mut at.seat, at.node, Call::Close, request);
+    at.seat.is_sound();
 }
 
 /// Begins a close.
@@ -56,33 +86,29 @@ pub fn begin_close(queue: &Queue, sender: Sender) -> PendingClose
 {
     let words = queue.words().on(&sender.at.seat, Chain::Send);
     let Sender { mut at } = sender;
-    let request = Request {
-        tag: 0,
-        body: BodyWords::none(),
-    };
-    at.node = begin_request(&words, &mut at.seat, at.node, Call::Close, request);
-    at.seat.is_sound();
+    begun_close(&words, &mut at);
     PendingClose { at }
 }
 
-/// One turn of a send on the words of its walk.
+/// One turn of a send of the sender of this seat, on the words of its walk.
 #[inline(always)]
-fn turned_send(
+pub(crate) fn turned_send(
     queue: &Queue,
     words: &ChainWords<'_>,
-    pending: PendingSend,
-) -> Turn<PendingSend, Sender, SendAnswer>
-    requires here { IsOf queue.now pending }
+    at: &mut SenderSeat,
+) -> Turn<(), (), SendAnswer>
+    requires here { IsOf queue.now at.old.seat }
     requires walk { words.now ≡ record { topic = queue.now; chain = Chain.Send } }
-    ensures { Turned (λ p. p) (λ s. s) Answer.Send pending result }
+    requires pending { IsCalling IsSend at.old }
+    ensures turned { Turned (λ _. at.new.seat) (λ _. at.new.seat) Answer.Send at.old.seat result }
+    ensures keeps { KeepsAfter IsSend result at.new }
 {
-    let PendingSend { mut at } = pending;
     let turn = turn_request(queue.words(), words, &mut at.seat, at.node);
     at.seat.is_sound();
     match turn {
-        None => Turn::Waiting(PendingSend { at }),
+        None => Turn::Waiting(()),
         Some((ret, served)) => Turn::Done {
-            pass: Sender { at },
+            pass: (),
             answer: send_answer(ret),
             served,
         },
@@ -97,25 +123,44 @@ pub fn turn_send(queue: &Queue, pending: PendingSend) -> Turn<PendingSend, Sende
     ensures { Turned (λ p. p) (λ s. s) Answer.Send pending result }
 {
     let words = queue.words().resume(&pending.at.seat, Chain::Send);
-    turned_send(queue, &words, pending)
+    let PendingSend { mut at } = pending;
+    match turned_send(queue, &words, &mut at) {
+        Turn::Waiting(()) => Turn::Waiting(PendingSend { at }),
+        Turn::Done {
+            pass: (),
+            answer,
+            served,
+        } => Turn::Done {
+            pass: Sender { at },
+            answer,
+            served,
+        },
+    }
 }
 
-/// Begins a send of this body and turns it once, in one walk: nothing lies between the begin and the turn. Err is as at `begin_send`.
+/// One turn of a close of the sender of this seat, on the words of its walk.
 #[inline(always)]
-pub fn try_send(
+pub(crate) fn turned_close(
     queue: &Queue,
-    sender: Sender,
-    body: Body,
-) -> Result<Turn<PendingSend, Sender, SendAnswer>, Sender>
-    requires { IsOf queue.now sender }
-    ensures tried { IfOk result (λ t. BegunAndTurned (λ p. p) (λ s. s) Answer.Send sender (Call.Send body) t) }
-    ensures may { OnOk result (sender.stand.begun < sender.setting.config.per_sender) }
-    ensures same { IfErr result (λ s. s ≡ sender) }
-    ensures worn { OnErr result (sender.setting.config.per_sender ≤ sender.stand.begun) }
+    words: &ChainWords<'_>,
+    at: &mut SenderSeat,
+) -> Turn<(), (), CloseAnswer>
+    requires here { IsOf queue.now at.old.seat }
+    requires walk { words.now ≡ record { topic = queue.now; chain = Chain.Send } }
+    requires pending { IsCalling IsClose at.old }
+    ensures turned { Turned (λ _. at.new.seat) (λ _. at.new.seat) Answer.Close at.old.seat result }
+    ensures keeps { KeepsAfter IsClose result at.new }
 {
-    let words = queue.words().on(&sender.at.seat, Chain::Send);
-    let pending = begun_send(&words, sender, body)?;
-    Ok(turned_send(queue, &words, pending))
+    let turn = turn_request(queue.words(), words, &mut at.seat, at.node);
+    at.seat.is_sound();
+    match turn {
+        None => Turn::Waiting(()),
+        Some((ret, served)) => Turn::Done {
+            pass: (),
+            answer: close_answer(ret),
+            served,
+        },
+    }
 }
 
 /// One turn of a close, as of a send.
@@ -125,13 +170,15 @@ pub fn turn_close(queue: &Queue, pending: PendingClose) -> Turn<PendingClose, Se
 {
     let words = queue.words().resume(&pending.at.seat, Chain::Send);
     let PendingClose { mut at } = pending;
-    let turn = turn_request(queue.words(), &words, &mut at.seat, at.node);
-    at.seat.is_sound();
-    match turn {
-        None => Turn::Waiting(PendingClose { at }),
-        Some((ret, served)) => Turn::Done {
+    match turned_close(queue, &words, &mut at) {
+        Turn::Waiting(()) => Turn::Waiting(PendingClose { at }),
+        Turn::Done {
+            pass: (),
+            answer,
+            served,
+        } => Turn::Done {
             pass: Sender { at },
-            answer: close_answer(ret),
+            answer,
             served,
         },
     }

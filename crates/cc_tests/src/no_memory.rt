@@ -1,12 +1,13 @@
 //! Begins and turns after an opening, which take no memory.
 ghost use Rattle.std.specs.Prelude.{◌≡◌, ◌+◌};
 ghost use Rattle.cc_steps.specs.Walk.{IsOf, fresh_from};
+ghost use Rattle.cc_queue.specs.declared.in_place.SenderCall.{SenderCall};
 
 use crate::waiting::{next_receiver, next_sender};
 use cc_model::{Body, CloseAnswer, Config, Item, SendAnswer, TakeAnswer};
 use cc_queue::{
-    Live, OpenFault, Opened, PendingSend, Queue, Receiver, Sender, Turn, begin_close, begin_send,
-    try_send, try_take, turn_close, turn_send,
+    HeldReceiver, HeldSender, Live, OpenFault, Opened, PendingSend, Queue, Receiver, Sender, Turn,
+    begin_close, begin_send, turn_close, turn_send,
 };
 use std::process::Abort;
 
@@ -32,15 +33,42 @@ fn begins<R: Abort>(rt: &R, queue: &Queue, sender: Sender, body: u64) -> Pending
     }
 }
 
-/// A send that waits, begun and turned at once.
-fn waits<R: Abort>(rt: &R, queue: &Queue, sender: Sender, body: u64) -> PendingSend
+/// A send that waits, begun and turned at once by a sender that stays in its place.
+fn waits<R: Abort>(rt: &R, queue: &Queue, sender: Sender, body: u64) -> HeldSender
     requires { IsOf queue.now sender }
-    ensures { IsOf queue.now result }
+    ensures here { IsOf queue.now result.pass }
+    ensures sends { result.call ≡ SenderCall.Send }
 {
-    match try_send(queue, sender, Body::one(body)) {
-        Ok(Turn::Waiting(pending)) => pending,
-        Ok(Turn::Done { answer, .. }) => panic!(rt; "the send is answered {answer:?}"),
-        Err(_) => panic!(rt; "the sender is worn"),
+    let mut held = HeldSender::of(sender);
+    match held.try_send(queue, Body::one(body)) {
+        Ok(Turn::Waiting(())) => held,
+        Ok(Turn::Done { answer, .. }) => {
+            held.abandon();
+            panic!(rt; "the send is answered {answer:?}")
+        }
+        Err(_) => {
+            held.abandon();
+            panic!(rt; "the sender is worn")
+        }
+    }
+}
+
+/// A turn of that send, which was accepted at this place, and served by another one.
+fn was_served<R: Abort>(rt: &R, queue: &Queue, mut held: HeldSender, place: u64)
+    requires here { IsOf queue.now held.pass }
+    requires sends { held.call ≡ SenderCall.Send }
+{
+    let turn = held.turn_send(queue);
+    held.abandon();
+    match turn {
+        Turn::Waiting(()) => panic!(rt; "the send waits"),
+        Turn::Done {
+            pass: (),
+            answer,
+            served,
+        } => {
+            assert_eq!(rt; (answer, served), (SendAnswer::Accepted { place }, 0));
+        }
     }
 }
 
@@ -65,8 +93,8 @@ fn is_sent<R: Abort>(rt: &R, queue: &Queue, pending: PendingSend, place: u64, se
     }
 }
 
-/// A take that gets the first sender's item at once.
-fn gets_the_first<R: Abort>(rt: &R, queue: &Queue, receiver: Receiver) -> Receiver
+/// A take that gets the first sender's item at once, by a receiver that stays in its place.
+fn gets_the_first<R: Abort>(rt: &R, queue: &Queue, receiver: Receiver)
     requires { IsOf queue.now receiver }
 {
     let first = Item {
@@ -75,18 +103,17 @@ fn gets_the_first<R: Abort>(rt: &R, queue: &Queue, receiver: Receiver) -> Receiv
         number: 1,
         body: Body::one(7),
     };
-    match try_take(queue, receiver) {
-        Turn::Waiting(pending) => {
-            pending.abandon();
-            panic!(rt; "the take waits")
-        }
+    let mut held = HeldReceiver::of(receiver);
+    let turn = held.try_take(queue);
+    held.abandon();
+    match turn {
+        Turn::Waiting(()) => panic!(rt; "the take waits"),
         Turn::Done {
-            pass,
+            pass: (),
             answer,
             served,
         } => {
             assert_eq!(rt; (answer, served), (TakeAnswer::Got(first), 1));
-            pass
         }
     }
 }
@@ -136,7 +163,7 @@ fn rows<R: Abort>(rt: &R, queue: &Queue, one: Sender, two: Sender, receiver: Rec
     let one = begins(rt, queue, one, 7);
     let two = waits(rt, queue, two, 9);
     let mut one = is_sent(rt, queue, one, 0, 2);
-    is_sent(rt, queue, two, 1, 0);
+    was_served(rt, queue, two, 1);
     let mut receiver = receiver;
     one.meet(&mut receiver);
     gets_the_first(rt, queue, receiver);

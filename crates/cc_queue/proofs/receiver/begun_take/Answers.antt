@@ -1,5 +1,6 @@
+use Rattle.std.proofs.Common.{refl}
 use Rattle.cc_queue.proofs.Headline.{begun_so}
 use Rattle.cc_queue.proofs.receiver.begun_take.Goals as goal
 
-pub returns : goal.returns
-returns c = begun_so _ _ _ _ _ c.receiver.view_is c.receiver.invariant.list c.is_sound.ensures c.begin_take.ensures.entered c.begin_take.ensures.pending
+pub returns-clause-begun : goal.returns-clause-begun
+returns-clause-begun c = begun_so _ _ _ _ _ refl c.requires.idle.list c.is_sound.ensures c.begin_take-at.ensures.entered c.begin_take-at.ensures.pending

@@ -1,5 +1,6 @@
+use Rattle.std.proofs.Common.{refl}
 use Rattle.cc_queue.proofs.Headline.{begun_so}
 use Rattle.cc_queue.proofs.sender.begun_send.Goals as goal
 
 pub returns-clause-begun : goal.returns-clause-begun
-returns-clause-begun c = begun_so _ _ _ _ _ c.sender.view_is c.sender.invariant.list c.is_sound.ensures c.begin_request.ensures.entered c.begin_request.ensures.pending
+returns-clause-begun c = begun_so _ _ _ _ _ refl c.requires.idle.list c.is_sound.ensures c.begin_request-at.ensures.entered c.begin_request-at.ensures.pending

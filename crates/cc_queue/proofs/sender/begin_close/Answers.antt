@@ -1,5 +1,0 @@
-use Rattle.cc_queue.proofs.Headline.{begun_so}
-use Rattle.cc_queue.proofs.sender.begin_close.Goals as goal
-
-pub returns : goal.returns
-returns c = begun_so _ _ _ _ _ c.sender.view_is c.sender.invariant.list c.is_sound.ensures c.begin_request.ensures.entered c.begin_request.ensures.pending
