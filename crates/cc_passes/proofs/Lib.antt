@@ -3,5 +3,4 @@ pub mod HandleBoxValues
 pub mod Values
 pub mod Quiet
 pub mod AbandonedValues
-pub mod Trying
 pub mod RefusedClaims

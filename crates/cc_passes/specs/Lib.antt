@@ -1,3 +1,4 @@
+pub mod AnyPass
 pub mod Names
 pub mod HandleBox
 pub mod ReturnCodes

@@ -10,7 +10,9 @@ pub use Rattle.cc_model.specs.declared.call.Answer.{Answer}
 pub use Rattle.cc_model.specs.declared.config.Config.{Config}
 pub use Rattle.cc_model.specs.declared.config.ConfigFault.{ConfigFault}
 pub use Rattle.cc_runs.specs.declared.setting.Served.{Served}
-pub use Rattle.cc_passes.specs.declared.handle_inner.AnyPass.{AnyPass}
+pub use Rattle.cc_queue.specs.declared.in_place.SenderCall.{SenderCall}
+pub use Rattle.cc_passes.specs.AnyPass.{AnyPass}
+pub use Rattle.cc_passes.specs.declared.handle_inner.HeldPass.{HeldPass}
 pub use Rattle.cc_passes.specs.declared.open_handles.Settings.{Settings}
 pub use Rattle.cc_passes.specs.declared.looks.Count.{Count}
 pub use Rattle.cc_passes.specs.declared.items.TakenItem.{TakenItem}

@@ -1,51 +1,51 @@
 //! A close, by the pass of a handle.
 ghost use Rattle.std.specs.Prelude.{◌≡◌, Some};
 ghost use Rattle.cc_steps.specs.Walk.{IsOf};
-ghost use Rattle.cc_passes.specs.Passes.{walk_of};
+ghost use Rattle.cc_passes.specs.Passes.{sender_as};
 ghost use Rattle.cc_passes.specs.Calls.{BeginsClose, TurnsClose};
 
-use crate::handle_inner::{AnyPass, HandleInner, with_pass};
-use crate::refusals::{no_idle_sender, no_pending_sender};
+use crate::handle_inner::{HandleInner, HeldPass};
 use crate::results::closed_as;
-use crate::return_codes::{BEGUN, WAITING};
-use cc_queue::{Queue, Turn, begin_close, turn_close};
+use crate::return_codes::{BEGUN, BUSY, NO_PASS, NOT_BEGUN, WAITING, WRONG_SIDE};
+use cc_queue::{HeldSender, Queue, SenderCall, Turn};
 
-/// Begins a close, if the pass can.
+/// Begins a close, if the sender has no call.
 #[inline(always)]
-fn begun(queue: &Queue, pass: AnyPass) -> (AnyPass, u32)
-    requires { IsOf queue.now (walk_of pass) }
-    ensures here { IsOf queue.now (walk_of result.0) }
-    ensures begins { BeginsClose (Some pass) (Some result.0) result.1 }
+fn begun(queue: &Queue, sender: &mut HeldSender) -> u32
+    requires { IsOf queue.now sender.old.pass }
+    ensures here { IsOf queue.now sender.new.pass }
+    ensures begins { BeginsClose (Some (sender_as sender.old)) (Some (sender_as sender.new)) result }
 {
-    let why = no_idle_sender(&pass);
-    match pass {
-        AnyPass::Sender(sender) => (AnyPass::Closing(begin_close(queue, sender)), BEGUN),
-        other => (other, why),
+    match sender.call() {
+        SenderCall::None => {
+            sender.begin_close(queue);
+            BEGUN
+        }
+        SenderCall::Send | SenderCall::Close => BUSY,
     }
 }
 
-/// One turn of a close, if the pass has one.
+/// One turn of a close, if the sender has one.
 #[inline(always)]
-fn turned(queue: &Queue, pass: AnyPass, total: &mut u64, served: &mut u32) -> (AnyPass, u32)
-    requires pass { IsOf queue.now (walk_of pass) }
+fn turned(queue: &Queue, sender: &mut HeldSender, total: &mut u64, served: &mut u32) -> u32
+    requires pass { IsOf queue.now sender.old.pass }
     requires numbers { (total.old ≡ 0) × (served.old ≡ 0) }
-    ensures here { IsOf queue.now (walk_of result.0) }
-    ensures turns { TurnsClose (Some pass) (Some result.0) (record { code = result.1; number = total.new; served = served.new }) }
+    ensures here { IsOf queue.now sender.new.pass }
+    ensures turns { TurnsClose (Some (sender_as sender.old)) (Some (sender_as sender.new)) (record { code = result; number = total.new; served = served.new }) }
 {
-    let why = no_pending_sender(&pass);
-    match pass {
-        AnyPass::Closing(pending) => match turn_close(queue, pending) {
-            Turn::Waiting(pending) => (AnyPass::Closing(pending), WAITING),
+    match sender.call() {
+        SenderCall::Close => match sender.turn_close(queue) {
+            Turn::Waiting(()) => WAITING,
             Turn::Done {
-                pass: sender,
+                pass: (),
                 answer,
                 served: now,
             } => {
                 *served = now;
-                (AnyPass::Sender(sender), closed_as(answer, total))
+                closed_as(answer, total)
             }
         },
-        other => (other, why),
+        SenderCall::None | SenderCall::Send => NOT_BEGUN,
     }
 }
 
@@ -56,7 +56,11 @@ impl HandleInner {
         ensures begins { BeginsClose self.old.pass self.new.pass result }
         ensures same { self.new.words ≡ self.old.words }
     {
-        with_pass!(self, |queue, pass| begun(queue, pass))
+        match &mut self.pass {
+            Some(HeldPass::Sender(sender)) => begun(&self.queue, sender),
+            Some(HeldPass::Receiver(_)) => WRONG_SIDE,
+            None => NO_PASS,
+        }
     }
 
     /// One turn of a close. An answer alone writes the numbers.
@@ -66,6 +70,10 @@ impl HandleInner {
         ensures turns { TurnsClose self.old.pass self.new.pass (record { code = result; number = total.new; served = served.new }) }
         ensures same { self.new.words ≡ self.old.words }
     {
-        with_pass!(self, |queue, pass| turned(queue, pass, total, served))
+        match &mut self.pass {
+            Some(HeldPass::Sender(sender)) => turned(&self.queue, sender, total, served),
+            Some(HeldPass::Receiver(_)) => WRONG_SIDE,
+            None => NO_PASS,
+        }
     }
 }

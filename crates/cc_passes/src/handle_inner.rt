@@ -1,26 +1,22 @@
 //! The content of a handle's box.
 ghost use Rattle.std.specs.Prelude.{◌≡◌, Some, None};
-ghost use Rattle.cc_steps.specs.Walk.{IsOf};
-ghost use Rattle.cc_passes.specs.Passes.{walk_of, abandoned_of, holding};
+ghost use Rattle.cc_passes.specs.Passes.{walk_of, pass_as, abandoned_of, holding, IsHeldOf};
 
 use crate::abandoned::Abandoned;
-use cc_queue::{GivenUp, PendingClose, PendingSend, PendingTake, Queue, Receiver, Sender};
+use cc_queue::{GivenUp, HeldReceiver, HeldSender, Queue};
 use std::marker::Model;
 use std::mem::ManuallyDrop;
 
-/// A pass, by what it is and whether it has a call.
-pub enum AnyPass {
-    Sender(Sender),
-    Sending(PendingSend),
-    Closing(PendingClose),
-    Receiver(Receiver),
-    Taking(PendingTake),
+/// A pass, which stays in its place while its calls are made.
+pub enum HeldPass {
+    Sender(HeldSender),
+    Receiver(HeldReceiver),
 }
 
 /// A line of the processor's memory that nobody uses, 64 bytes.
 type Spare = [u64; 8];
 
-/// The pass of a handle with its own share of the queue. It has none only inside a call. Each call writes the pass and
+/// The pass of a handle with its own share of the queue, and none once the pass is given up. Each call writes the pass and
 /// reads the share; with an unused line on either side of the pass no call writes to a line that another handle's
 /// calls read.
 #[repr(C)]
@@ -29,25 +25,25 @@ pub struct HandleInner {
     /// How many words a body of the queue has at most.
     pub(crate) longest: u32,
     before: Spare,
-    pub(crate) pass: Option<AnyPass>,
+    pub(crate) pass: Option<HeldPass>,
     behind: Spare,
 }
 
 impl Model for HandleInner {
-    ghost use Rattle.cc_passes.specs.Passes.{Holding, IsPassOf};
+    ghost use Rattle.cc_passes.specs.Passes.{Holding, held_as, IsHeldOf};
 
     ghost Value = { Holding };
 
-    ghost view = { λ k. record { pass = k.pass; words = k.longest } };
+    ghost view = { λ k. record { pass = held_as k.pass; words = k.longest } };
 
-    ghost invariant = { λ k. IsPassOf k.queue k.pass };
+    ghost invariant = { λ k. IsHeldOf k.queue k.pass };
 }
 
 impl HandleInner {
     /// A pass and a share of its queue, whose bodies have at most this number of words.
-    pub(crate) fn new(queue: Queue, longest: u32, pass: AnyPass) -> HandleInner
-        requires { IsOf queue (walk_of pass) }
-        ensures { result ≡ holding longest pass }
+    pub(crate) fn new(queue: Queue, longest: u32, pass: HeldPass) -> HandleInner
+        requires { IsHeldOf queue (Some pass) }
+        ensures { result ≡ holding longest (pass_as pass) }
     {
         HandleInner {
             queue,
@@ -70,15 +66,12 @@ impl HandleInner {
 }
 
 /// Gives a pass up, with its call if it had begun one. It did nothing more.
-pub fn give_up(pass: AnyPass) -> GivenUp
-    ensures { result ≡ walk_of pass }
+pub fn give_up(pass: HeldPass) -> GivenUp
+    ensures { result ≡ walk_of (pass_as pass) }
 {
     match pass {
-        AnyPass::Sender(sender) => sender.abandon(),
-        AnyPass::Sending(pending) => pending.abandon(),
-        AnyPass::Closing(pending) => pending.abandon(),
-        AnyPass::Receiver(receiver) => receiver.abandon(),
-        AnyPass::Taking(pending) => pending.abandon(),
+        HeldPass::Sender(sender) => sender.abandon(),
+        HeldPass::Receiver(receiver) => receiver.abandon(),
     }
 }
 
@@ -96,30 +89,3 @@ impl Drop for HandleInner {
         }
     }
 }
-
-/// Puts a pass back, into the place from which it was taken: nothing is there, and so nothing is looked for.
-pub(crate) fn put(place: &mut Option<AnyPass>, pass: AnyPass)
-    requires place { place.old ≡ None }
-    ensures { place.new ≡ Some pass }
-{
-    if let Some(_) = place.replace(pass) {
-        unreachable!()
-    }
-}
-
-/// Runs a step with the pass, and puts the pass back that the step returns: the step's code. Without a pass the code is NO_PASS.
-macro_rules! with_pass {
-    ($inner:expr, |$queue:ident, $pass:ident| $step:expr) => {
-        match $inner.pass.take() {
-            Some($pass) => {
-                let $queue = &$inner.queue;
-                let ($pass, code) = $step;
-                $crate::handle_inner::put(&mut $inner.pass, $pass);
-                code
-            }
-            None => $crate::return_codes::NO_PASS,
-        }
-    };
-}
-
-pub(crate) use with_pass;

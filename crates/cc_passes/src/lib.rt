@@ -14,7 +14,6 @@ pub mod items;
 pub mod looks;
 pub mod open_handles;
 pub mod raw_box;
-mod refusals;
 mod results;
 pub mod return_codes;
 pub mod sends;

@@ -1,8 +1,8 @@
 //! The opening of a queue for C.
 ghost use Rattle.std.specs.Prelude.{◌≡◌, ◌≢◌, ◌*◌, length, map, IfOk, IfErr, OnOk, Some};
 ghost use Rattle.cc_queue.specs.Opened.{HasOpened};
-ghost use Rattle.cc_steps.specs.Walk.{IsOf, fresh_from};
-ghost use Rattle.cc_passes.specs.Passes.{walk_of, holding};
+ghost use Rattle.cc_steps.specs.Walk.{fresh_from};
+ghost use Rattle.cc_passes.specs.Passes.{pass_as, holding, IsHeldOf};
 ghost use Rattle.cc_passes.specs.Names.{AnyPass};
 ghost use Rattle.cc_passes.specs.declared.return_codes.TheConstants.{DONE};
 ghost use Rattle.std.specs.List.{list_all};
@@ -11,13 +11,13 @@ ghost use Rattle.cc_passes.specs.OpenHandles.{config_of, field_code, are_free, r
 ghost use Rattle.cc_passes.specs.Items.{are_few};
 
 use crate::handle::Handle;
-use crate::handle_inner::{AnyPass, HandleInner, give_up};
+use crate::handle_inner::{HandleInner, HeldPass, give_up};
 use crate::return_codes::{
     BAD_BOUND, BAD_CAPACITY, BAD_GROUPS, BAD_HANDLES, BAD_LIFE, BAD_PER_SENDER, BAD_RECEIVERS,
     BAD_SENDERS, BAD_WORDS,
 };
 use cc_model::{CheckedConfig, Config, ConfigFault};
-use cc_queue::{Opened, Queue, Receiver, Sender};
+use cc_queue::{HeldReceiver, HeldSender, Opened, Queue, Receiver, Sender};
 use std::alloc::{AllocError, Global};
 
 /// The configuration of an opening, as C gives it. The number of groups of receivers is a further argument: the four bytes
@@ -120,10 +120,10 @@ pub fn held(
     alloc: Global,
     queue: &Queue,
     words: u32,
-    pass: AnyPass,
+    pass: HeldPass,
 ) -> Result<Box<HandleInner>, AllocError>
-    requires { IsOf queue.now (walk_of pass) }
-    ensures { IfOk result (λ k. k.value ≡ holding words pass) }
+    requires { IsHeldOf queue.now (Some pass) }
+    ensures { IfOk result (λ k. k.value ≡ holding words (pass_as pass)) }
 {
     match queue.share() {
         Ok(queue) => Ok(Box::new(alloc, HandleInner::new(queue, words, pass))?),
@@ -148,7 +148,7 @@ fn keep_senders(
 {
     let mut all = Vec::new(alloc);
     for _row in 0..senders.len() {
-        let pass = AnyPass::Sender(senders.remove(0));
+        let pass = HeldPass::Sender(HeldSender::of(senders.remove(0)));
         all.push(held(alloc, queue, words, pass)?)?;
     }
     Ok(all)
@@ -169,7 +169,7 @@ fn keep_receivers(
 {
     let mut all = Vec::new(alloc);
     for _row in 0..receivers.len() {
-        let pass = AnyPass::Receiver(receivers.remove(0));
+        let pass = HeldPass::Receiver(HeldReceiver::of(receivers.remove(0)));
         all.push(held(alloc, queue, words, pass)?)?;
     }
     Ok(all)

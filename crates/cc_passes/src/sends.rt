@@ -1,18 +1,19 @@
 //! A send, by the pass of a handle.
 ghost use Rattle.std.specs.Prelude.{◌≡◌, Some};
-ghost use Rattle.cc_steps.specs.Topic.{Topic};
 ghost use Rattle.cc_steps.specs.Walk.{IsOf, Walk};
 ghost use Rattle.cc_queue.specs.Calls.{Turned};
-ghost use Rattle.cc_passes.specs.Names.{Answer};
-ghost use Rattle.cc_passes.specs.Passes.{walk_of};
+ghost use Rattle.cc_queue.specs.InPlace.{call_after};
+ghost use Rattle.cc_passes.specs.Names.{Answer, SenderCall};
+ghost use Rattle.cc_passes.specs.Passes.{with_call, sender_as};
 ghost use Rattle.cc_passes.specs.Calls.{fitting, BeginsSend, SendTurns, TurnsSend, TriesSend};
 
-use crate::handle_inner::{AnyPass, HandleInner, with_pass};
-use crate::refusals::{no_idle_sender, no_pending_sender};
+use crate::handle_inner::{HandleInner, HeldPass};
 use crate::results::sent_as;
-use crate::return_codes::{BAD_WORDS, BEGUN, LONG, WAITING, WORN};
+use crate::return_codes::{
+    BAD_WORDS, BEGUN, BUSY, LONG, NO_PASS, NOT_BEGUN, WAITING, WORN, WRONG_SIDE,
+};
 use cc_model::{Body, SendAnswer};
-use cc_queue::{PendingSend, Queue, Sender, Turn, begin_send, try_send, turn_send};
+use cc_queue::{HeldSender, Queue, SenderCall, Turn, Worn};
 
 /// The body of these words, if a body may have that many; or the code for which there is none.
 fn fitting(words: &[u64], longest: u32) -> Result<Body, u32>
@@ -28,94 +29,81 @@ fn fitting(words: &[u64], longest: u32) -> Result<Body, u32>
     }
 }
 
-/// Begins a send of this body, if there is one and the pass can.
+/// Begins a send of this body, if there is one and the sender has no call.
 #[inline(always)]
-fn begun(queue: &Queue, pass: AnyPass, body: Result<Body, u32>) -> (AnyPass, u32)
-    requires { IsOf queue.now (walk_of pass) }
-    ensures here { IsOf queue.now (walk_of result.0) }
-    ensures begins { BeginsSend body (Some pass) (Some result.0) result.1 }
+fn begun(queue: &Queue, sender: &mut HeldSender, body: Result<Body, u32>) -> u32
+    requires { IsOf queue.now sender.old.pass }
+    ensures here { IsOf queue.now sender.new.pass }
+    ensures begins { BeginsSend body (Some (sender_as sender.old)) (Some (sender_as sender.new)) result }
 {
-    match pass {
-        AnyPass::Sender(sender) => match body {
-            Ok(body) => match begin_send(queue, sender, body) {
-                Ok(pending) => (AnyPass::Sending(pending), BEGUN),
-                Err(sender) => (AnyPass::Sender(sender), WORN),
+    match sender.call() {
+        SenderCall::None => match body {
+            Ok(body) => match sender.begin_send(queue, body) {
+                Ok(()) => BEGUN,
+                Err(Worn) => WORN,
             },
-            Err(why) => (AnyPass::Sender(sender), why),
+            Err(why) => why,
         },
-        other => {
-            let why = no_idle_sender(&other);
-            (other, why)
-        }
+        SenderCall::Send | SenderCall::Close => BUSY,
     }
 }
 
-/// The pass and the code after a turn. An answer alone writes the numbers.
+/// The code after a turn. An answer alone writes the numbers.
 #[inline(always)]
-fn after(
-    turn: Turn<PendingSend, Sender, SendAnswer>,
-    place: &mut u64,
-    served: &mut u32,
-) -> (AnyPass, u32)
+fn after(turn: Turn<(), (), SendAnswer>, place: &mut u64, served: &mut u32) -> u32
     requires { (place.old ≡ 0) × (served.old ≡ 0) }
-    ensures here { (z : Topic) (v : Walk) → IsOf z v → Turned (λ p. p) (λ s. s) Answer.Send v turn → IsOf z (walk_of result.0) }
-    ensures turns { (v : Walk) → Turned (λ p. p) (λ s. s) Answer.Send v turn → SendTurns v (Some result.0) (record { code = result.1; number = place.new; served = served.new }) }
+    ensures { (v w : Walk) → Turned (λ _. w) (λ _. w) Answer.Send v turn → SendTurns v (Some (with_call (call_after SenderCall.Send turn) w)) (record { code = result; number = place.new; served = served.new }) }
 {
     match turn {
-        Turn::Waiting(pending) => (AnyPass::Sending(pending), WAITING),
+        Turn::Waiting(()) => WAITING,
         Turn::Done {
-            pass: sender,
+            pass: (),
             answer,
             served: now,
         } => {
             *served = now;
-            (AnyPass::Sender(sender), sent_as(answer, place))
+            sent_as(answer, place)
         }
     }
 }
 
-/// One turn of a send, if the pass has one.
+/// One turn of a send, if the sender has one.
 #[inline(always)]
-fn turned(queue: &Queue, pass: AnyPass, place: &mut u64, served: &mut u32) -> (AnyPass, u32)
-    requires pass { IsOf queue.now (walk_of pass) }
+fn turned(queue: &Queue, sender: &mut HeldSender, place: &mut u64, served: &mut u32) -> u32
+    requires pass { IsOf queue.now sender.old.pass }
     requires numbers { (place.old ≡ 0) × (served.old ≡ 0) }
-    ensures here { IsOf queue.now (walk_of result.0) }
-    ensures turns { TurnsSend (Some pass) (Some result.0) (record { code = result.1; number = place.new; served = served.new }) }
+    ensures here { IsOf queue.now sender.new.pass }
+    ensures turns { TurnsSend (Some (sender_as sender.old)) (Some (sender_as sender.new)) (record { code = result; number = place.new; served = served.new }) }
 {
-    let why = no_pending_sender(&pass);
-    match pass {
-        AnyPass::Sending(pending) => after(turn_send(queue, pending), place, served),
-        other => (other, why),
+    match sender.call() {
+        SenderCall::Send => after(sender.turn_send(queue), place, served),
+        SenderCall::None | SenderCall::Close => NOT_BEGUN,
     }
 }
 
-/// Begins a send of this body, if there is one and the pass can, and turns it once.
-#[tactic(auto, using(crate::proofs::Trying::begun, crate::proofs::Trying::worn))]
+/// Begins a send of this body, if there is one and the sender has no call, and turns it once.
 #[inline(always)]
 fn tried(
     queue: &Queue,
-    pass: AnyPass,
+    sender: &mut HeldSender,
     body: Result<Body, u32>,
     place: &mut u64,
     served: &mut u32,
-) -> (AnyPass, u32)
-    requires pass { IsOf queue.now (walk_of pass) }
+) -> u32
+    requires pass { IsOf queue.now sender.old.pass }
     requires numbers { (place.old ≡ 0) × (served.old ≡ 0) }
-    ensures here { IsOf queue.now (walk_of result.0) }
-    ensures tries { TriesSend body (Some pass) (Some result.0) (record { code = result.1; number = place.new; served = served.new }) }
+    ensures here { IsOf queue.now sender.new.pass }
+    ensures tries { TriesSend body (Some (sender_as sender.old)) (Some (sender_as sender.new)) (record { code = result; number = place.new; served = served.new }) }
 {
-    match pass {
-        AnyPass::Sender(sender) => match body {
-            Ok(body) => match try_send(queue, sender, body) {
+    match sender.call() {
+        SenderCall::None => match body {
+            Ok(body) => match sender.try_send(queue, body) {
                 Ok(turn) => after(turn, place, served),
-                Err(sender) => (AnyPass::Sender(sender), WORN),
+                Err(Worn) => WORN,
             },
-            Err(why) => (AnyPass::Sender(sender), why),
+            Err(why) => why,
         },
-        other => {
-            let why = no_idle_sender(&other);
-            (other, why)
-        }
+        SenderCall::Send | SenderCall::Close => BUSY,
     }
 }
 
@@ -133,7 +121,11 @@ impl HandleInner {
         ensures begins { BeginsSend body self.old.pass self.new.pass result }
         ensures same { self.new.words ≡ self.old.words }
     {
-        with_pass!(self, |queue, pass| begun(queue, pass, body))
+        match &mut self.pass {
+            Some(HeldPass::Sender(sender)) => begun(&self.queue, sender, body),
+            Some(HeldPass::Receiver(_)) => WRONG_SIDE,
+            None => NO_PASS,
+        }
     }
 
     /// One turn of a send. An answer alone writes the numbers.
@@ -143,7 +135,11 @@ impl HandleInner {
         ensures turns { TurnsSend self.old.pass self.new.pass (record { code = result; number = place.new; served = served.new }) }
         ensures same { self.new.words ≡ self.old.words }
     {
-        with_pass!(self, |queue, pass| turned(queue, pass, place, served))
+        match &mut self.pass {
+            Some(HeldPass::Sender(sender)) => turned(&self.queue, sender, place, served),
+            Some(HeldPass::Receiver(_)) => WRONG_SIDE,
+            None => NO_PASS,
+        }
     }
 
     /// Begins a send of this body, if there is one, and if it was begun turns it once.
@@ -153,6 +149,10 @@ impl HandleInner {
         ensures tries { TriesSend body self.old.pass self.new.pass (record { code = result; number = place.new; served = served.new }) }
         ensures same { self.new.words ≡ self.old.words }
     {
-        with_pass!(self, |queue, pass| tried(queue, pass, body, place, served))
+        match &mut self.pass {
+            Some(HeldPass::Sender(sender)) => tried(&self.queue, sender, body, place, served),
+            Some(HeldPass::Receiver(_)) => WRONG_SIDE,
+            None => NO_PASS,
+        }
     }
 }

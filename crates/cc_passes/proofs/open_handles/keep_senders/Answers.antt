@@ -1,6 +1,8 @@
-use Rattle.std.proofs.Common.{◌+◌, ◌<◌, length, arith}
+use Rattle.std.proofs.Common.{◌+◌, ◌<◌, length, ap, ◌∙◌, arith}
 use Rattle.cc_queue.proofs.Seated.{other_seats}
+use Rattle.cc_queue.specs.InPlace.{SenderHeld}
 use Rattle.cc_passes.specs.Names.{AnyPass}
+use Rattle.cc_passes.specs.Passes.{sender_as, holding}
 use Rattle.cc_passes.proofs.Filling.{next_held}
 use Rattle.cc_passes.proofs.open_handles.keep_senders.Goals as goal
 
@@ -10,6 +12,6 @@ loop-row-preserved c =
     let some : 0 < length row.senders.items = omega (arith, c.loop-row-test.true, c.len-row-end.ensures, before.0.0) in (
       (omega (arith, c.remove.ensures.len, before.0.0), omega (arith, c.in_ok-push.ensures.len, before.0.1)),
       other_seats z row._row (row._row + 1) row.senders.items c.remove.new.self.items (omega arith) some before.1 c.remove.ensures.items,
-      next_held (λ b. b.value) AnyPass.Sender c.args.words z 0 row._row row.senders.items row.all.items c.push.new.self.items c.remove.result c.in_ok-held.field-0 some before.1 c.remove.ensures.value c.in_ok-held.ensures
+      next_held (λ b. b.value) AnyPass.Sender c.args.words z 0 row._row row.senders.items row.all.items c.push.new.self.items c.remove.result c.in_ok-held.field-0 some before.1 c.remove.ensures.value (c.in_ok-held.ensures ∙ ap (λ (h : SenderHeld). holding c.args.words (sender_as h)) c.of.ensures)
           (omega (arith, before.0.1)) before.2 c.in_ok-push.ensures.items,
     )
