@@ -378,7 +378,7 @@ pub trait Offer {
     /// No user code runs between the queue's acceptance and the moment at which the item isn't here any more.
     fn send_by(&mut self, core: &Core, seat: &mut SeatGuard) -> u32;
 
-    /// Lets this send it, which wants it in memory.
+    /// Sends the item by this call, which takes items in memory.
     fn by_itself(&mut self, kind: &'static Kind, send: impl FnOnce(&mut Unsent) -> Sent) -> Sent;
 }
 

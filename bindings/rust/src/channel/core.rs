@@ -484,7 +484,7 @@ impl Core {
         }
     }
 
-    /// The same of this group, which has this number, without a look.
+    /// Takes an item of one word for this group, which has this number, without a look first.
     #[inline(never)]
     fn take_word_of(&self, side: &Side, group: usize) -> Answer {
         if self.rendezvous().is_some() {
@@ -516,7 +516,7 @@ impl Core {
         self.take_of(self.groups.of(group), take)
     }
 
-    /// The same of this group.
+    /// Takes by a seat of this group, as above.
     #[inline(always)]
     fn take_of<'a, R>(
         &'a self,

@@ -313,7 +313,7 @@ impl Pool {
         }
     }
 
-    /// With this number of the first one, and of so many others.
+    /// The number of items that went through the first seat, which is given, and through this number of other seats.
     #[inline(never)]
     fn count_others(&self, first: u64, others: usize) -> u64 {
         let others = self.others().iter().take(others);
@@ -359,8 +359,8 @@ impl Pool {
         (!was_held).then(|| SeatGuard { pool: self, seat })
     }
 
-    /// Acquires the seat that this thread tries first, if it is free and its calls don't contend; or else another seat
-    /// of this pool by this. The guard has the pool that the caller has, and so needs no register for it.
+    /// Acquires the seat that this thread tries first, if that is free and its calls don't contend. Else `another`
+    /// acquires a seat of this pool. The guard has the caller's pool, and so needs no register for the pool.
     #[inline(always)]
     pub fn acquire_or<'a>(&'a self, another: impl FnOnce() -> SeatGuard<'a>) -> SeatGuard<'a> {
         let mut seat = self.seat();
@@ -382,7 +382,7 @@ impl Pool {
     }
 
     /// Turns the send of this seat until it is answered. The seat says where its pass is, so a caller needs no register
-    /// for that.
+    /// for the pass.
     #[cold]
     #[inline(never)]
     fn wait_for_send(&self, seat: &Seat) -> u32 {
@@ -400,7 +400,7 @@ impl Pool {
         pass.handle.wait_for_take(item, line)
     }
 
-    /// The same by a call, for a drop that is rare.
+    /// Gives the seat back as above, by a call: for the drop, which is rare.
     #[inline(never)]
     fn give_back_far(&self, seat: &Seat) {
         self.give_back(seat);

@@ -54,7 +54,7 @@ impl Source {
 }
 
 impl<T> Receiver<T> {
-    /// Takes an item of the channel, if it has a queue and that has one: one of a word in a register.
+    /// Takes an item, if the channel has a queue, and the queue an item. An item of one word comes in a register.
     #[inline(always)]
     fn take(core: &Core, group: usize) -> Option<Item> {
         match Kind::is_one_word::<T>() {

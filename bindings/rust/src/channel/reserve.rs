@@ -31,7 +31,7 @@ impl Core {
         let taken = group.seats.count();
         let senders = &self.senders.seats;
         let has_item = || taken < senders.count();
-        // Beside one seat, which is free, one count is enough. Else a count alone is cheaper than a look at all seats.
+        // If there is one seat and it is free, one count is enough. Else a count alone is cheaper than a look at seats.
         let is_seen = senders.is_one_free();
         let seems = !is_seen && (has_item() || !sees_each_free(senders)) || has_item();
         Again::unless(seems || self.is_closed())
