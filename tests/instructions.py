@@ -26,13 +26,13 @@ CALLS = 300
 # What the crate's user writes, and the most instructions that it may cost.
 IN_RUST = {
     "send and recv of a word": ("let (s, r) = channel::<u64>(64)?;", "s.send(i).unwrap(); assert_eq!(r.recv(), Ok(i));",
-                                632),
+                                645),
     "try_send and try_recv of a word": ("let (s, r) = channel::<u64>(64)?;",
-                                        "s.try_send(i).unwrap(); assert_eq!(r.try_recv(), Ok(i));", 658),
+                                        "s.try_send(i).unwrap(); assert_eq!(r.try_recv(), Ok(i));", 669),
     "four words": ("let (s, r) = channel::<[u64; 4]>(64)?;",
                    "s.send([i; 4]).unwrap(); assert_eq!(r.recv(), Ok([i; 4]));", 1008),
     "two groups": ("let (s, r) = groups::<u64>(64, 2)?;",
-                   "s.send(i).unwrap(); for r in &r { assert_eq!(r.recv(), Ok(i)); }", 1241),
+                   "s.send(i).unwrap(); for r in &r { assert_eq!(r.recv(), Ok(i)); }", 1265),
     "a refused try_send": ("let (s, _r) = channel::<u64>(1)?; s.send(0).unwrap();", "assert!(s.try_send(i).is_err());",
                            135),
     "the same with 4,096 places": (
@@ -46,7 +46,7 @@ IN_RUST = {
     ),
     "a select that sends, and recv": (
         "let (s, r) = channel::<u64>(64)?;", "select! { send(s, i) -> it => it.unwrap() } assert_eq!(r.recv(), Ok(i));",
-        996,
+        1013,
     ),
     "a select of two takes in vain": (
         "let ((_s, r), (_t, q)) = (channel::<u64>(64)?, channel::<u64>(64)?);",
@@ -62,15 +62,15 @@ OPENINGS = {
     f"an opening for {name}, a pair and the drop": ("",
                                                     f"let (s, r) = channel::<u64>({places})?; s.send(i).unwrap(); "
                                                     f"assert_eq!(r.recv(), Ok(i));", limit)
-    for name, places, limit in (("one item", 1, 10455), ("64 items", 64, 19634))
+    for name, places, limit in (("one item", 1, 10574), ("64 items", 64, 19634))
 }
 # The same pair with a bound and without one, in a program of their own too. By the limits the second one costs at most
 # a twentieth more.
 BOUNDS = {
     f"send and recv of a word, {name}": (f"let (s, r) = {opening}?;",
                                          "s.send(i).unwrap(); assert_eq!(r.recv(), Ok(i));", limit)
-    for name, opening, limit in (("capacity 64", "channel::<u64>(64)", 632),
-                                 ("without a bound", "unbounded::<u64>()", 663))
+    for name, opening, limit in (("capacity 64", "channel::<u64>(64)", 645),
+                                 ("without a bound", "unbounded::<u64>()", 679))
 }
 # Futures that are ready at their first poll, in a program of their own too.
 CONTEXT = "let context = &mut std::task::Context::from_waker(std::task::Waker::noop());"
@@ -78,11 +78,11 @@ FUTURES = {
     "a try_send, and a ready recv_async": (
         f"let (s, r) = channel::<u64>(64)?; {CONTEXT}",
         "s.try_send(i).unwrap(); assert_eq!(std::pin::pin!(r.recv_async()).poll(context), "
-        "std::task::Poll::Ready(Ok(i)));", 791,
+        "std::task::Poll::Ready(Ok(i)));", 816,
     ),
     "a ready send_async, and a try_recv": (
         f"let (s, r) = channel::<u64>(64)?; {CONTEXT}",
-        "assert!(std::pin::pin!(s.send_async(i)).poll(context).is_ready()); assert_eq!(r.try_recv(), Ok(i));", 748,
+        "assert!(std::pin::pin!(s.send_async(i)).poll(context).is_ready()); assert_eq!(r.try_recv(), Ok(i));", 757,
     ),
 }
 # The pairs of the program in C: by handles, as the Rust crate makes them, and the calls that wait, which take a seat
@@ -90,8 +90,8 @@ FUTURES = {
 # and an addition; and for each call that waits one, by which it takes a seat.
 IN_C = {
     "vahepito_try_send and vahepito_try_take": ("handles", 498, 4),
-    "vahepito_send and vahepito_take": ("waits", 634, 6),
-    "the same by the twentieth thread, with 8 places": ("few", 634, 6),
+    "vahepito_send and vahepito_take": ("waits", 644, 6),
+    "the same by the twentieth thread, with 8 places": ("few", 644, 6),
 }
 RUST = """#![allow(unused_imports)]
 use vahepito::{after, channel, groups, never, select, unbounded};

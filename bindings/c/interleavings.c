@@ -62,6 +62,7 @@
 #define syscall model_futex
 /* A call that waits for its answer parks at once in the models whose calls combine, and never in the others. */
 #define VAHEPITO_SERVED_TIME model_served_time()
+#define VAHEPITO_PROCESSORS 0 /* which only say when a call parks */
 #define VAHEPITO_SPIN_TIME 0
 #define VAHEPITO_AHEAD 0
 static uint64_t model_load(const void *place), model_served_time(void);

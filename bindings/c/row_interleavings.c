@@ -98,6 +98,7 @@ void model_free(void *memory);
 #define syscall model_futex
 /* Calls that wait for a seat or for their answer don't park here. */
 #define VAHEPITO_SERVED_TIME UINT64_MAX
+#define VAHEPITO_PROCESSORS 0
 #define VAHEPITO_SPIN_TIME 0
 #define VAHEPITO_AHEAD 0
 #include SOURCE

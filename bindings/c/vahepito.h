@@ -33,8 +33,9 @@
  * **Waits.** A call spins for a microsecond, yields for four, and then parks. It parks at once if an item has taken
  * more than 20 microseconds since the last wait for the same thing. A parked call takes no
  * processor time; the call that makes room or an item wakes it. Each call, those whose names end in _now too, also
- * waits for its answer while another thread serves its side: it spins for 20 microseconds, and then parks. So a thread
- * of high priority lets the thread that it waits for run. A signal ends no wait, and no call is a cancellation point. A
+ * waits for its answer while another thread serves its side: it spins for 150 microseconds, and then parks; for 2, if
+ * it may have that thread's processor (x86-64; elsewhere for 20 on any). So a thread of high priority lets the thread
+ * that it waits for run. A signal ends no wait, and no call is a cancellation point. A
  * moment is one of CLOCK_MONOTONIC, as clock_gettime gives it and vahepito_after computes it; NULL is none. If its
  * nanoseconds aren't from 0 to 999,999,999, it has come.
  *

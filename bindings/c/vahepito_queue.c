@@ -54,8 +54,9 @@
 #include <time.h>
 #include <unistd.h>
 
-/* As <unistd.h> declares it, which does so only with some feature macros. */
+/* As <unistd.h> and <sched.h> declare them, which do so only with some feature macros. */
 extern long syscall(long number, ...);
+extern int sched_getcpu(void);
 
 /* Each wait is a time by the clock, in nanoseconds, since a pause takes 4 ns on one processor and 60 on another.
  * bindings/WAITS.md has the reasons.
@@ -69,10 +70,21 @@ extern long syscall(long number, ...);
 #define VAHEPITO_YIELD_TIME 4000
 #endif
 
-/* How long a call spins until it parks for an answer or a seat. It doesn't yield. */
-#ifndef VAHEPITO_SERVED_TIME
-#define VAHEPITO_SERVED_TIME 20000
+/* Whether a thread can ask in some nanoseconds on which processor it runs. */
+#ifndef VAHEPITO_PROCESSORS
+#if defined(__x86_64__)
+#define VAHEPITO_PROCESSORS 1
+#else
+#define VAHEPITO_PROCESSORS 0
 #endif
+#endif
+
+/* How long a call spins until it parks for an answer or a seat. It doesn't yield. After OF_A_CALL, in which a call that
+ * runs is over, it parks if the thread of another seat was last on its processor. */
+#ifndef VAHEPITO_SERVED_TIME
+#define VAHEPITO_SERVED_TIME (VAHEPITO_PROCESSORS ? 150000 : 20000)
+#endif
+enum { OF_A_CALL = 1500 };
 
 /* The pause after the first look, and the longest one: each is twice as long as the one before. A call that waits for
  * the other side, from QUICK_CAPACITY on, begins with the longest one if its side passed QUICK_ITEMS since the wait
@@ -132,6 +144,16 @@ static long call_futex(const void *word, int operation, uint32_t value, const st
     return answer;
 }
 
+/* The processor on which this thread ran when it last asked, from 1; 0 if it isn't known. */
+static __thread uint32_t thread_processor;
+
+/* Asks on which processor this thread runs. The answer may be old at once. */
+static __attribute__((noinline, cold)) void ask_processor(void) {
+    if (!VAHEPITO_PROCESSORS) return;
+    const int processor = sched_getcpu();
+    thread_processor = processor < 0 ? 0 : 1 + (uint32_t)processor;
+}
+
 /* Changes the counts, if they are these; else gives what they are. */
 static inline bool change_counts(call_line *line, uint64_t *counts, uint64_t next) {
     return __atomic_compare_exchange_n(&line->counts, counts, next, 0, __ATOMIC_SEQ_CST, __ATOMIC_SEQ_CST);
@@ -185,6 +207,7 @@ static bool park_in_line(call_line *line, const struct timespec *moment) {
             if (change_counts(line, &counts, next)) return is_notified;
         } else {
             const long answer = call_futex(&line->counts, FUTEX_WAIT_BITSET, 0, moment);
+            ask_processor();
             is_over = answer == -ETIMEDOUT || answer == -EINVAL;
             counts = __atomic_load_n(&line->counts, __ATOMIC_SEQ_CST);
         }
@@ -241,17 +264,17 @@ static void spin_until(uint64_t moment) {
     while ((int64_t)(moment - clock_moment()) > 0) pause_processor();
 }
 
-/* How a call passes the time between its looks, before it parks: since when, which is 0 before the first look, and the
- * next pause. */
+/* How a call passes the time between its looks, before it parks: since when, which is 0 before the first look; the
+ * next pause; and how much of the time was over at the last look. */
 typedef struct {
-    uint64_t begin, pause;
+    uint64_t begin, pause, spent;
 } wait_time;
 
 /* After a look that found nothing: spins, or yields, if the time for it isn't over. Returns whether it isn't. */
 static bool pass_time(wait_time *it, uint64_t spins, uint64_t yields) {
     const uint64_t now = clock_moment();
     if (it->begin == 0) it->begin = now;
-    const uint64_t spent = now - it->begin;
+    const uint64_t spent = it->spent = now - it->begin;
     if (spent < spins) {
         spin_until(now + it->pause);
         it->pause = 2 * it->pause < LONGEST_PAUSE ? 2 * it->pause : LONGEST_PAUSE;
@@ -262,42 +285,6 @@ static bool pass_time(wait_time *it, uint64_t spins, uint64_t yields) {
     }
     return true;
 }
-
-/* How a call waits for its answer or for a seat: it spins, and then parks. */
-typedef struct {
-    served_line *line;
-    wait_time time;
-    bool is_over; /* whether it has spun for long enough */
-} served_wait;
-
-/* Before a look of a call that is about to park. A call that ends after this changes `ended`. That is loaded first: an
- * end that takes this call's PARKED away changes it later. */
-static uint32_t begin_look(const served_wait *backoff) {
-    if (!backoff->is_over) return 0;
-    const uint32_t ended = __atomic_load_n(&backoff->line->ended, __ATOMIC_SEQ_CST);
-    (void)__atomic_exchange_n(&backoff->line->waiting, PARKED, __ATOMIC_SEQ_CST);
-    keep_order();
-    return ended;
-}
-
-/* After a look that found nothing. */
-static void end_look(served_wait *backoff, uint32_t ended) {
-    const struct timespec time = {0, 1000000};
-    if (backoff->is_over) (void)call_futex(&backoff->line->ended, FUTEX_WAIT, ended, &time);
-    else backoff->is_over = !pass_time(&backoff->time, VAHEPITO_SERVED_TIME, 0);
-}
-
-/* Makes a call, whose code is `code`, again and again while `again` holds, and passes the time in between. */
-#define CALL_WHILE(line, code, call, again)                     \
-    do {                                                        \
-        served_wait backoff = {line, {0, FIRST_PAUSE}, false};  \
-        for (;;) {                                              \
-            const uint32_t ended = begin_look(&backoff);        \
-            code = call;                                        \
-            if (!(again)) break;                                \
-            end_look(&backoff, ended);                          \
-        }                                                       \
-    } while (0)
 
 /* ---- the queue */
 
@@ -323,6 +310,7 @@ typedef struct {
     uintptr_t is_taken; /* 0; or TAKEN; or the address of the queue that its call has found */
     uint64_t contention;
     uint32_t quiet; /* at the ends of how many of its last calls no call was parked */
+    uint32_t processor; /* where its call's thread was when it last asked, from 1; 0: it isn't known, or it is parked */
 } __attribute__((aligned(64))) call_seat;
 
 /* After this number of calls of a seat at whose ends no call was parked, seats are given back by a store again. */
@@ -380,10 +368,88 @@ static inline call_seat *seat_at(vahepito_queue *queue, size_t own) {
     return (call_seat *)(void *)((char *)queue->seats + own);
 }
 
+/* How many items pass between two such questions. */
+enum { ASK_EACH = 64 };
+
+/* After the item at this place. */
+static inline void ask_at_times(uint64_t place) {
+    if (VAHEPITO_PROCESSORS && __builtin_expect(place % ASK_EACH == 0, 0)) ask_processor();
+}
+
+/* What a seat says of the thread of its call. */
+static inline void note_processor(call_seat *seat, uint32_t processor) {
+    if (VAHEPITO_PROCESSORS) __atomic_store_n(&seat->processor, processor, __ATOMIC_RELAXED);
+}
+
+/* Whether the thread of another seat was last on this thread's processor. It may have been preempted, and then needs
+ * that. */
+static bool is_beside_another(const vahepito_queue *queue, const call_seat *own) {
+    if (!VAHEPITO_PROCESSORS) return false;
+    ask_processor();
+    const uint32_t here = thread_processor;
+    for (const call_seat *seat = queue->seats; here != 0 && seat < &queue->seats[queue->places]; seat++)
+        if (seat != own && __atomic_load_n(&seat->processor, __ATOMIC_RELAXED) == here &&
+            __atomic_load_n(&seat->is_taken, __ATOMIC_RELAXED) != 0)
+            return true;
+    return false;
+}
+
+/* How a call waits for its answer, in this seat, or for a seat: it spins, and then parks. */
+typedef struct {
+    vahepito_queue *queue;
+    call_seat *seat; /* NULL if it has none */
+    wait_time time;
+    bool is_over; /* whether it has spun for long enough */
+} served_wait;
+
+/* Before a look of a call that is about to park. A call that ends after this changes `ended`. That is loaded first: an
+ * end that takes this call's PARKED away changes it later. */
+static uint32_t begin_look(const served_wait *backoff) {
+    served_line *const line = &backoff->queue->served;
+    if (!backoff->is_over) return 0;
+    const uint32_t ended = __atomic_load_n(&line->ended, __ATOMIC_SEQ_CST);
+    (void)__atomic_exchange_n(&line->waiting, PARKED, __ATOMIC_SEQ_CST);
+    keep_order();
+    return ended;
+}
+
+/* Until an end wakes the line, or a millisecond is over. Then the thread may run on another processor. */
+static void park_for_end(const served_wait *backoff, uint32_t ended) {
+    const struct timespec time = {0, 1000000};
+    if (backoff->seat) note_processor(backoff->seat, 0);
+    (void)call_futex(&backoff->queue->served.ended, FUTEX_WAIT, ended, &time);
+    ask_processor();
+    if (backoff->seat) note_processor(backoff->seat, thread_processor);
+}
+
+/* After a look that found nothing. */
+static void end_look(served_wait *backoff, uint32_t ended) {
+    if (backoff->is_over) park_for_end(backoff, ended);
+    else
+        backoff->is_over = !pass_time(&backoff->time, VAHEPITO_SERVED_TIME, 0) ||
+                           (backoff->time.spent >= OF_A_CALL && is_beside_another(backoff->queue, backoff->seat));
+}
+
+/* Makes a call, whose code is `code`, again and again while `again` holds, and passes the time in between. The call is
+ * in this seat; with NULL it waits for one. */
+#define CALL_WHILE(queue, seat, code, call, again)                     \
+    do {                                                               \
+        served_wait backoff = {queue, seat, {0, FIRST_PAUSE, 0}, false}; \
+        for (;;) {                                                     \
+            const uint32_t ended = begin_look(&backoff);               \
+            code = call;                                               \
+            if (!(again)) break;                                       \
+            end_look(&backoff, ended);                                 \
+        }                                                              \
+    } while (0)
+
 /* What a seat says that is taken stays. */
 static inline bool try_seat(call_seat *seat) {
     uintptr_t none = 0;
-    return __atomic_compare_exchange_n(&seat->is_taken, &none, TAKEN, false, __ATOMIC_SEQ_CST, __ATOMIC_SEQ_CST);
+    if (!__atomic_compare_exchange_n(&seat->is_taken, &none, TAKEN, false, __ATOMIC_SEQ_CST, __ATOMIC_SEQ_CST))
+        return false;
+    note_processor(seat, thread_processor);
+    return true;
 }
 
 static inline uint32_t seat_number(const vahepito_queue *queue, const call_seat *seat) {
@@ -406,7 +472,7 @@ static uint32_t enter_seat(vahepito_queue *queue) {
 /* The number of a seat, once one is free. */
 static __attribute__((noinline)) uint32_t sit_down(vahepito_queue *queue) {
     uint32_t seat;
-    CALL_WHILE(&queue->served, seat, enter_seat(queue), seat == 0);
+    CALL_WHILE(queue, NULL, seat, enter_seat(queue), seat == 0);
     return seat;
 }
 
@@ -689,7 +755,8 @@ static uint32_t close_last(vahepito_queue *queue, uint64_t *total) {
     vahepito_handle *const pass = pass_of(queue->last, queue, 0, seat);
     uint32_t code, served;
     (void)vahepito_begin_close(pass);
-    CALL_WHILE(&queue->served, code, vahepito_turn_close(pass, total, &served), code == VAHEPITO_WAITING);
+    CALL_WHILE(queue, &queue->seats[seat - 1], code, vahepito_turn_close(pass, total, &served),
+               code == VAHEPITO_WAITING);
     *total += queue->last->base;
     stand_up(queue, seat);
     return code;
@@ -781,8 +848,9 @@ static uint32_t after_send(send_request *it, uint32_t seat, queue_part *part, ui
     uint32_t served;
     if (code == VAHEPITO_WAITING) {
         const uint64_t begin = VAHEPITO_AHEAD == 0 ? 0 : clock_moment();
-        CALL_WHILE(&queue->served, code, vahepito_turn_send(pass, &it->place, &served), code == VAHEPITO_WAITING);
-        note_answered(&queue->seats[seat - 1], 0, begin);
+        call_seat *const own = &queue->seats[seat - 1];
+        CALL_WHILE(queue, own, code, vahepito_turn_send(pass, &it->place, &served), code == VAHEPITO_WAITING);
+        note_answered(own, 0, begin);
     }
     if (code == VAHEPITO_ACCEPTED) it->place += part->base;
     else if (code == VAHEPITO_FULL) (void)__atomic_fetch_or(&queue->special, WAS_FULL, __ATOMIC_RELAXED);
@@ -869,9 +937,10 @@ static uint32_t after_take(take_request *it, uint32_t seat, queue_part *part, ui
     uint32_t served;
     if (code == VAHEPITO_WAITING) {
         const uint64_t begin = VAHEPITO_AHEAD == 0 ? 0 : clock_moment();
-        CALL_WHILE(&it->queue->served, code, vahepito_turn_take_words(pass, it->item, &it->total, &served),
+        call_seat *const own = &it->queue->seats[seat - 1];
+        CALL_WHILE(it->queue, own, code, vahepito_turn_take_words(pass, it->item, &it->total, &served),
                    code == VAHEPITO_WAITING);
-        note_answered(&it->queue->seats[seat - 1], it->group, begin);
+        note_answered(own, it->group, begin);
     }
     if (code == VAHEPITO_GOT) it->item->place += part->base;
     else if (code == VAHEPITO_ENDED) it->total += part->base, it->number = part->number;
@@ -947,7 +1016,7 @@ static uint64_t place_of(uint32_t nothing, const void *request) {
 static uint32_t try_for_some_time(const vahepito_queue *queue, side_pace *pace, void *request, uint32_t nothing) {
     const bool is_quick =
         queue->config.capacity >= QUICK_CAPACITY && __atomic_load_n(&pace->is_quick, __ATOMIC_RELAXED) != 0;
-    wait_time time = {0, is_quick ? LONGEST_PAUSE : FIRST_PAUSE};
+    wait_time time = {0, is_quick ? LONGEST_PAUSE : FIRST_PAUSE, 0};
     uint32_t code = nothing;
     if (VAHEPITO_SPIN_TIME == 0 || is_slow_side(pace)) return nothing;
     while (code == nothing && pass_time(&time, VAHEPITO_SPIN_TIME, VAHEPITO_YIELD_TIME))
@@ -1039,6 +1108,7 @@ static inline __attribute__((always_inline)) uint32_t send_item(vahepito_queue *
                 number += part->base;
                 give_seat_back(queue, seat);
                 notify_items(queue, false);
+                ask_at_times(number);
                 if (place) *place = number;
                 return VAHEPITO_ACCEPTED;
             }
@@ -1156,6 +1226,7 @@ static inline __attribute__((always_inline)) uint32_t take_item(vahepito_queue *
                 item->place += part->base;
                 give_seat_back(queue, seat);
                 notify_room(queue);
+                ask_at_times(item->place);
                 if (total) *total = 0;
                 return VAHEPITO_GOT;
             }

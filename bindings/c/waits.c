@@ -168,6 +168,33 @@ static void longer_slices(void) {
     check(slice_now() == before, "and the others keep their slices");
 }
 
+/* Whether a call in the first seat would park soon, while the thread of the second seat is as many processors from this
+ * thread's; or parked. */
+static bool parks_beside(uint32_t distance, bool is_parked) {
+    call_seat *const seat = &queue->seats[1];
+    bool parks;
+    do {
+        ask_processor();
+        check(try_seat(seat), "the seat is free");
+        const uint32_t here = seat->processor;
+        note_processor(seat, is_parked ? 0 : here + distance);
+        parks = is_beside_another(queue, &queue->seats[0]);
+        check(!is_beside_another(queue, seat), "a call isn't beside itself");
+        note_processor(seat, here);
+        give_seat_back(queue, seat);
+        if (here == thread_processor) return parks; /* else the thread has moved meanwhile */
+    } while (true);
+}
+
+static void who_has_a_needed_processor_parks(void) {
+    open_for_one();
+    check(parks_beside(0, false) == VAHEPITO_PROCESSORS, "a call parks soon beside a thread of its processor");
+    check(!parks_beside(1, false), "and not beside one of another processor");
+    check(!parks_beside(0, true), "or beside one that is parked");
+    check(!is_beside_another(queue, &queue->seats[0]), "or beside a free seat");
+    free_queue();
+}
+
 static void *takes_two(void *unused) {
     for (int item = 0; item < 2; item++)
         check(vahepito_take(queue, 1, NULL, NULL) == VAHEPITO_GOT, "a take gets an item of a batch");
@@ -290,6 +317,7 @@ int main(void) {
     waiting_is_parking();
     pace_is_noted();
     longer_slices();
+    who_has_a_needed_processor_parks();
     batches_wake_at_once();
     signals_and_cancellation();
     moments();

@@ -3,6 +3,7 @@
 //!
 //! Each wait is a time by the clock, since a pause takes 4 ns on one processor and 60 on another. `bindings/WAITS.md` has
 //! the reasons.
+use crate::scheduler::KNOWS_PROCESSORS;
 use std::hint::spin_loop;
 use std::ops::RangeInclusive;
 use std::sync::OnceLock;
@@ -41,9 +42,15 @@ pub const PACE: Duration = Duration::from_micros(20);
 /// Until a call that has a seat is over, if it runs: a call takes some hundred nanoseconds.
 pub const FOR_A_LOOK: Wait = micros(1, 0);
 /// Until the own side goes on. A thread that parks beside threads that compute is woken at once, and then waits some
-/// milliseconds for a processor; with yields before the park the slowest calls last longer. The thread sanitizer sees
-/// neither std's parks nor what std does within its locks: under it no thread parks here.
-pub const FOR_OWN_SIDE: Wait = micros(20, if cfg!(vahepito_tsan) { u64::MAX } else { 0 });
+/// milliseconds for a processor; with yields before the park the slowest calls last longer. So it is long, unless a
+/// preempted call of the side may need this thread's processor: where that isn't known, the wait is short. The thread
+/// sanitizer sees neither std's parks nor what std does within its locks: under it no thread parks here.
+pub const FOR_OWN_SIDE: Wait = micros(
+    if KNOWS_PROCESSORS { 150 } else { 20 },
+    if cfg!(vahepito_tsan) { u64::MAX } else { 0 },
+);
+/// A call that runs is over by then. So a call that isn't may be preempted.
+const OF_A_CALL: Duration = Duration::from_nanos(1500);
 
 /// The pause after the first try: as long as a service. Each try takes the call's cache line from the thread that is
 /// about to write the answer there. Each further pause is twice as long, up to the longest.
@@ -55,6 +62,16 @@ impl Wait {
     pub fn try_until<T>(
         &self,
         until: Option<Instant>,
+        attempt: impl FnMut() -> Option<T>,
+    ) -> Option<T> {
+        self.try_unless(|| false, until, attempt)
+    }
+
+    /// The same, and it is time to park too if this holds and a call that runs would be over.
+    pub fn try_unless<T>(
+        &self,
+        parks_now: impl Fn() -> bool,
+        until: Option<Instant>,
         mut attempt: impl FnMut() -> Option<T>,
     ) -> Option<T> {
         let (begin, mut pause) = (Instant::now(), FIRST_PAUSE);
@@ -64,7 +81,7 @@ impl Wait {
         loop {
             let done = attempt();
             let spent = begin.elapsed();
-            if done.is_some() || spent >= all {
+            if done.is_some() || spent >= all || (spent >= OF_A_CALL && parks_now()) {
                 return done;
             }
             if spent < spins {

@@ -40,8 +40,9 @@
 //! `tests/channel/wakeups.rs` searches all interleavings of these steps in small models, and finds the lost wake-up
 //! if one of them is left out; `tests/channel/looks.rs` does the same for a look at the counts of seats, and `tests/channel/served.rs` for calls that
 //! another one serves.
-use crate::backoff::{Contention, PACE, Wait, for_others};
+use crate::backoff::{PACE, Wait, for_others};
 use crate::numbered::Numbered;
+use crate::scheduler::ask_processor;
 use std::any::Any;
 use std::cell::RefCell;
 use std::mem::{forget, replace, swap};
@@ -132,12 +133,28 @@ impl<T> Deref for Apart<T> {
 #[derive(Clone, Copy)]
 pub struct Ticket(u64);
 
-/// The line in which a call waits until another one has served it, or handed over to it; and whether the calls of its
-/// seat contend.
-#[derive(Clone, Copy)]
-pub struct Served<'a> {
-    pub line: &'a Event,
-    pub contention: &'a Contention,
+/// How a call of the queue waits until another one has served it, or handed over to it.
+pub trait Served {
+    /// Turns the call until it is answered.
+    fn wait<R>(self, turn: impl FnMut() -> Option<R>) -> R;
+}
+
+/// What a thread knows of its side, and says of itself, while it waits.
+pub trait Side {
+    /// Whether it parks now: another thread of the side may need its processor.
+    fn parks_now(&self) -> bool;
+
+    /// It parks, or it runs again.
+    fn note_park(&self, parks: bool);
+}
+
+/// Nothing is known.
+impl Side for () {
+    fn parks_now(&self) -> bool {
+        false
+    }
+
+    fn note_park(&self, _: bool) {}
 }
 
 /// A line in which callers wait.
@@ -303,14 +320,16 @@ impl Parker {
         self.parks.store(parks, Ordering::Relaxed);
     }
 
-    /// Until it is woken, or this moment. It may be woken by a notification of an earlier wait.
+    /// Until it is woken, or this moment. It may be woken by a notification of an earlier wait. After a park the thread
+    /// may run on another processor.
     pub fn park(&self, until: Option<Instant>) {
         while !self.woken.swap(false, Ordering::SeqCst) {
             match until.map(|until| until.saturating_duration_since(Instant::now())) {
                 None => thread::park(),
-                Some(Duration::ZERO) => return,
+                Some(Duration::ZERO) => break,
                 Some(rest) => thread::park_timeout(rest),
             }
+            ask_processor();
         }
     }
 }
@@ -368,14 +387,18 @@ pub fn poll_until<R>(until: Option<Instant>, mut poll: impl FnMut(&Waker) -> Pol
     })
 }
 
-/// Tries until it is done. It tries again each millisecond at the latest, since a notification may be missed.
+/// Tries until it is done, as a thread of this side. It tries again each millisecond at the latest, since a
+/// notification may be missed.
 pub fn wait_without_end<R>(
     event: &Event,
     before: &Wait,
+    side: &dyn Side,
     mut attempt: impl FnMut() -> Option<R>,
 ) -> R {
-    let attempt = || attempt().ok_or_else(Again::soon);
-    wait(event, before, None, attempt).expect("it waits without end")
+    let mut done = None;
+    let again = || attempt().ok_or_else(Again::soon);
+    wait_in_line(event, before, None, side, &mut keep(&mut done, again));
+    done.expect("it waits without end")
 }
 
 /// Tries until it is done, or until this moment: then None. After this wait it parks, and waits for notifications
@@ -384,14 +407,19 @@ pub fn wait<R>(
     event: &Event,
     before: &Wait,
     until: Option<Instant>,
-    mut attempt: impl FnMut() -> Try<R>,
+    attempt: impl FnMut() -> Try<R>,
 ) -> Option<R> {
     let mut done = None;
-    wait_in_line(event, before, until, &mut || {
-        done = Some(attempt()?);
-        Ok(())
-    })?;
+    wait_in_line(event, before, until, &(), &mut keep(&mut done, attempt))?;
     done
+}
+
+/// These tries, which put the result here.
+fn keep<R>(done: &mut Option<R>, mut attempt: impl FnMut() -> Try<R>) -> impl FnMut() -> Try<()> {
+    move || {
+        *done = Some(attempt()?);
+        Ok(())
+    }
 }
 
 /// The same, compiled once for all attempts.
@@ -400,9 +428,10 @@ fn wait_in_line(
     event: &Event,
     before: &Wait,
     until: Option<Instant>,
+    side: &dyn Side,
     attempt: &mut dyn FnMut() -> Try<()>,
 ) -> Option<()> {
-    if let Some(done) = before.try_until(until, || attempt().ok()) {
+    if let Some(done) = before.try_unless(|| side.parks_now(), until, || attempt().ok()) {
         return Some(done);
     }
     Parker::with(|parker| {
@@ -416,7 +445,11 @@ fn wait_in_line(
                     event.pass_on(ticket, &mut Panics::default());
                     return Some(done);
                 }
-                Err(again) => parker.park(again.before(until)),
+                Err(again) => {
+                    side.note_park(true);
+                    parker.park(again.before(until));
+                    side.note_park(false);
+                }
             }
             event.leave(ticket, &mut Panics::default());
             if let Ok(done) = attempt() {

@@ -6,8 +6,8 @@ mod channel;
 mod event;
 mod numbered;
 mod queue;
-mod slice;
+mod scheduler;
 
 pub use channel::*;
 pub use queue::{IS_PROVED, OpenError};
-pub use slice::lengthen_slice;
+pub use scheduler::lengthen_slice;

@@ -4,16 +4,21 @@
 //! To acquire a seat is one exchange, and to give it back one store, after which the line is looked at. A
 //! caller that finds none free tries a few times more, and then parks: see [`event`](crate::event).
 //!
+//! A held seat says on which processor its holder was last. A call that waits parks soon if the holder of another seat
+//! was on its own processor: that thread may be preempted, and the call may need it. If none was, the call spins for
+//! longer: a thread that parks may have to wait for a processor once its call is served.
+//!
 //! **A side begins with one seat**, which is enough as long as one thread at a time calls. A call that finds the seat held asks
 //! for the other seats ([`Core::acquire_seat`](super::core::Core::acquire_seat)). They are added once, while all seats are held.
 #![allow(unsafe_code)]
 
 use crate::backoff::{Contention, FOR_A_LOOK, FOR_OWN_SIDE};
-use crate::event::{Apart, Event, Panics, Served, lock, wait_without_end};
+use crate::event::{Apart, Event, Panics, Served, Side, lock, wait_without_end};
 use crate::queue::handle::{Handle, NO_ITEM, Taken, Word, code, word_of};
+use crate::scheduler::{KNOWS_PROCESSORS, ask_processor, last_processor};
 use std::cell::{Cell, UnsafeCell};
 use std::mem::ManuallyDrop;
-use std::sync::atomic::{AtomicBool, AtomicU16, AtomicU64, AtomicUsize, Ordering};
+use std::sync::atomic::{AtomicBool, AtomicU16, AtomicU32, AtomicU64, AtomicUsize, Ordering};
 use std::sync::{Mutex, OnceLock};
 use std::thread::available_parallelism;
 use std::time::{Duration, Instant};
@@ -60,14 +65,27 @@ impl QueueHandle {
     }
 }
 
+/// What a free seat says.
+const FREE: u32 = 0;
+/// What a held seat says at least. Its holder's processor is added, from 1.
+const HELD: u32 = 1;
+
+/// What a seat says that this thread holds.
+#[inline]
+fn holder() -> u32 {
+    HELD + last_processor()
+}
+
 /// A cache line for itself.
 #[repr(align(64))]
 struct Seat {
-    held: AtomicBool,
+    /// [`FREE`], or what [`holder`] returned to the thread that holds it. [`HELD`] while that is parked, or if nobody
+    /// knows where it runs.
+    held: AtomicU32,
     /// At the ends of how many of its last calls no call was parked. The holder alone writes it.
     quiet: AtomicU16,
     /// Its number among the seats, from 1.
-    number: u32,
+    number: u16,
     contention: Contention,
     /// How many items went through it. The holder alone writes it.
     count: AtomicU64,
@@ -77,7 +95,7 @@ struct Seat {
 }
 
 // SAFETY: `pass` is reached by the holder of the seat alone ([`SeatGuard`]), and there is one at a time:
-// whoever sets `held` from false to true, until it is set back. Threads so have the pass one after
+// whoever exchanges `FREE` in `held`, until that is stored there again. Threads so have the pass one after
 // another, each with what the one before it did, by an acquire and a release; which is to send it from
 // one to the next, and `QueueHandle` is `Send`.
 unsafe impl Sync for Seat where QueueHandle: Send {}
@@ -100,6 +118,13 @@ pub struct Pool {
     served: Apart<Event>,
 }
 
+/// A call in a seat, which waits until another one has served it.
+#[derive(Clone, Copy)]
+pub struct InSeat<'a> {
+    pool: &'a Pool,
+    seat: &'a Seat,
+}
+
 /// A seat that is held, until the drop.
 pub struct SeatGuard<'a> {
     pub pool: &'a Pool,
@@ -107,9 +132,9 @@ pub struct SeatGuard<'a> {
 }
 
 impl Seat {
-    fn new(number: u32, pass: QueueHandle) -> Seat {
+    fn new(number: u16, pass: QueueHandle) -> Seat {
         Seat {
-            held: AtomicBool::new(false),
+            held: AtomicU32::new(FREE),
             quiet: AtomicU16::new(0),
             number,
             contention: Contention::default(),
@@ -126,19 +151,27 @@ impl Seat {
 
     #[inline]
     fn is_held(&self) -> bool {
-        self.held.load(Ordering::SeqCst)
+        self.held.load(Ordering::SeqCst) != FREE
+    }
+
+    /// Acquires it, if it is free. A seat that is held keeps its mark.
+    #[inline(always)]
+    fn try_hold(&self) -> bool {
+        let order = (Ordering::SeqCst, Ordering::SeqCst);
+        let held = self.held.compare_exchange(FREE, holder(), order.0, order.1);
+        held.is_ok()
     }
 }
 
 impl<'a> SeatGuard<'a> {
     /// Its pass, and where a call of the pass waits until it is served.
     #[inline]
-    pub fn pass(&mut self) -> (&mut QueueHandle, Served<'a>) {
+    pub fn pass(&mut self) -> (&mut QueueHandle, InSeat<'a>) {
         // SAFETY: this is the holder of the seat, so there is no other reference to its pass; and this
         // one lasts no longer than the borrow of `self`, which gives the seat back at its drop.
         let pass = unsafe { &mut *self.seat.pass.get() };
-        let (line, contention) = (&*self.pool.served, &self.seat.contention);
-        (pass, Served { line, contention })
+        let (pool, seat) = (self.pool, self.seat);
+        (pass, InSeat { pool, seat })
     }
 
     /// Sends this word by its pass, and waits for the answer: the code of a send.
@@ -167,19 +200,19 @@ impl<'a> SeatGuard<'a> {
     /// Wakes the waiters that the call of this seat may have served. The holder does so before it waits for a lock: the lock may be theirs.
     pub fn wake_served(&self) {
         if self.pool.served.was_used() {
-            store_and_wake(self.seat, true, &self.pool.served);
+            store_and_wake(self.seat, holder(), &self.pool.served);
         }
     }
 
     /// Closes the queue of its pass. Returns whether that was open.
     pub fn close(&mut self) -> bool {
-        let (pass, line) = self.pass();
-        pass.handle.close(line)
+        let (pass, in_seat) = self.pass();
+        pass.handle.close(in_seat)
     }
 
     /// Its index among the seats, from 0.
     pub fn index(&self) -> usize {
-        self.seat.number as usize - 1
+        usize::from(self.seat.number) - 1
     }
 
     /// Counts an item that went through the seat.
@@ -212,7 +245,7 @@ const FORGET_AFTER: u16 = 1024;
 /// Gives a seat back, or keeps it, by an exchange. The exchange waits until the stores of the seat's call are in memory: one of them may
 /// have served a waiter of this line. Then it wakes all waiters.
 #[cold]
-fn store_and_wake(seat: &Seat, held: bool, served: &Event) {
+fn store_and_wake(seat: &Seat, held: u32, served: &Event) {
     let is_quiet = !served.has_waiters();
     let before = seat.quiet.load(Ordering::Relaxed);
     let quiet = if is_quiet { before + 1 } else { 0 };
@@ -230,6 +263,35 @@ impl Drop for SeatGuard<'_> {
     fn drop(&mut self) {
         self.pool.give_back_far(self.seat);
     }
+}
+
+impl Served for InSeat<'_> {
+    fn wait<R>(self, turn: impl FnMut() -> Option<R>) -> R {
+        let line = &self.pool.served;
+        let wait = || wait_without_end(line, &FOR_OWN_SIDE, &self, turn);
+        self.seat.contention.note_served(wait)
+    }
+}
+
+impl Side for InSeat<'_> {
+    fn parks_now(&self) -> bool {
+        self.pool
+            .is_beside_holder(|it| it.number != self.seat.number)
+    }
+
+    fn note_park(&self, parks: bool) {
+        let held = if parks { HELD } else { holder() };
+        self.seat.held.store(held, Ordering::Relaxed);
+    }
+}
+
+/// A thread that has no seat.
+impl Side for Pool {
+    fn parks_now(&self) -> bool {
+        self.is_beside_holder(|_| true)
+    }
+
+    fn note_park(&self, _: bool) {}
 }
 
 /// The seat at which the next thread begins.
@@ -355,8 +417,7 @@ impl Pool {
     /// Acquires this seat, if it is free.
     #[inline]
     fn try_seat<'a>(&'a self, seat: &'a Seat) -> Option<SeatGuard<'a>> {
-        let was_held = seat.held.swap(true, Ordering::SeqCst);
-        (!was_held).then(|| SeatGuard { pool: self, seat })
+        seat.try_hold().then(|| SeatGuard { pool: self, seat })
     }
 
     /// Acquires the seat that this thread tries first, if that is free and its calls don't contend. Else `another`
@@ -364,7 +425,7 @@ impl Pool {
     #[inline(always)]
     pub fn acquire_or<'a>(&'a self, another: impl FnOnce() -> SeatGuard<'a>) -> SeatGuard<'a> {
         let mut seat = self.seat();
-        if seat.contention.asks() || seat.held.swap(true, Ordering::SeqCst) {
+        if seat.contention.asks() || !seat.try_hold() {
             seat = another().keep();
         }
         SeatGuard { pool: self, seat }
@@ -374,9 +435,9 @@ impl Pool {
     #[inline(always)]
     fn give_back(&self, seat: &Seat) {
         if self.served.was_used() {
-            store_and_wake(seat, false, &self.served);
+            store_and_wake(seat, FREE, &self.served);
         } else {
-            seat.held.store(false, Ordering::Release);
+            seat.held.store(FREE, Ordering::Release);
         }
         self.free.notify_one();
     }
@@ -387,8 +448,8 @@ impl Pool {
     #[inline(never)]
     fn wait_for_send(&self, seat: &Seat) -> u32 {
         let mut held = ManuallyDrop::new(SeatGuard { pool: self, seat });
-        let (pass, line) = held.pass();
-        pass.handle.wait_for_send(line)
+        let (pass, in_seat) = held.pass();
+        pass.handle.wait_for_send(in_seat)
     }
 
     /// The same of its take.
@@ -396,8 +457,8 @@ impl Pool {
     #[inline(never)]
     fn wait_for_take(&self, seat: &Seat, item: &mut Taken) -> u32 {
         let mut held = ManuallyDrop::new(SeatGuard { pool: self, seat });
-        let (pass, line) = held.pass();
-        pass.handle.wait_for_take(item, line)
+        let (pass, in_seat) = held.pass();
+        pass.handle.wait_for_take(item, in_seat)
     }
 
     /// Gives the seat back as above, by a call: for the drop, which is rare.
@@ -410,9 +471,11 @@ impl Pool {
     #[cold]
     fn end_round(&self, seat: &Seat, count: u64) {
         if count == 0 {
-            self.used.fetch_max(seat.number as usize, Ordering::AcqRel);
+            self.used
+                .fetch_max(usize::from(seat.number), Ordering::AcqRel);
         }
         seat.contention.look_next();
+        ask_processor();
     }
 
     /// The same if its calls may contend, by a thread that holds no lock, once others have gone ahead.
@@ -433,7 +496,7 @@ impl Pool {
 
     /// Waits in line for a free seat. The holder's look at the line may come before this thread sees the store that frees the seat.
     fn wait_for_free<R>(&self, attempt: impl FnMut() -> Option<R>) -> R {
-        wait_without_end(&self.free, &FOR_OWN_SIDE, attempt)
+        wait_without_end(&self.free, &FOR_OWN_SIDE, self, attempt)
     }
 
     #[cold]
@@ -454,6 +517,14 @@ impl Pool {
             0 => Some(&self.first),
             at => Some(&self.others().get(at - 1)?.0),
         })
+    }
+
+    /// Whether the holder of such a seat was last on this thread's processor.
+    fn is_beside_holder(&self, is_such: impl Fn(&Seat) -> bool) -> bool {
+        KNOWS_PROCESSORS && ask_processor() != 0 && {
+            let beside = |it: &Seat| it.held.load(Ordering::Relaxed) == holder() && is_such(it);
+            self.seats().any(beside)
+        }
     }
 
     /// Acquires each seat that is free.
@@ -507,5 +578,76 @@ impl Pool {
     pub fn acquire_all(&self) -> Vec<SeatGuard<'_>> {
         let acquire = |seat| self.wait_for_free(|| self.try_seat(seat));
         self.seats().map(acquire).collect()
+    }
+}
+
+#[cfg(test)]
+mod tests {
+    use super::{FREE, HELD, Pool, QueueHandle, Seat};
+    use crate::backoff::FOR_OWN_SIDE;
+    use crate::event::Side;
+    use crate::queue::handle::Handle;
+    use crate::scheduler::{KNOWS_PROCESSORS, ask_processor};
+    use std::sync::atomic::Ordering;
+
+    fn pool() -> Pool {
+        Pool::new((0..4).map(|_| QueueHandle::new(Handle::empty(), 0, 1)))
+    }
+
+    /// Whether this holds, with the processor of this thread meanwhile.
+    fn on_one_processor(holds: impl Fn(u32) -> bool) -> bool {
+        loop {
+            let here = ask_processor();
+            let held = holds(here);
+            if ask_processor() == here {
+                return held;
+            }
+        }
+    }
+
+    #[test]
+    fn a_thread_parks_soon_beside_the_holder_of_another_seat_alone() {
+        let pool = pool();
+        let [own, other] = [1, 2].map(|hint| pool.seat_at(pool.others(), hint));
+        let parks_beside = |of: fn(u32) -> u32| {
+            on_one_processor(|here| {
+                let (mut own, other) = (pool.try_seat(own).unwrap(), pool.try_seat(other).unwrap());
+                other.seat.held.store(of(here), Ordering::Relaxed);
+                own.pass().1.parks_now()
+            })
+        };
+        assert_eq!(parks_beside(|here| HELD + here), KNOWS_PROCESSORS);
+        assert!(!parks_beside(|here| HELD + here + 1));
+        assert!(!parks_beside(|_| HELD));
+        assert!(!parks_beside(|_| FREE));
+        let parks_for_a_seat = |_| pool.try_seat(own).is_some_and(|_held| pool.parks_now());
+        assert_eq!(on_one_processor(parks_for_a_seat), KNOWS_PROCESSORS);
+    }
+
+    #[test]
+    fn a_seat_says_where_its_holder_runs_unless_that_parks() {
+        let pool = pool();
+        let says = |seat: &Seat| seat.held.load(Ordering::Relaxed);
+        assert!(on_one_processor(|here| {
+            let mut guard = pool.acquire();
+            let (seat, in_seat) = (guard.seat, guard.pass().1);
+            let begin = says(seat);
+            in_seat.note_park(true);
+            let parked = says(seat);
+            in_seat.note_park(false);
+            [begin, parked, says(seat)] == [HELD + here, HELD, HELD + here]
+        }));
+        assert!(pool.seats().all(|seat| says(seat) == FREE));
+    }
+
+    #[test]
+    fn a_wait_that_parks_soon_tries_a_few_times() {
+        let mut tries = 0;
+        let attempt = || {
+            tries += 1;
+            None::<()>
+        };
+        assert_eq!(FOR_OWN_SIDE.try_unless(|| true, None, attempt), None);
+        assert!((1..=5).contains(&tries), "{tries}");
     }
 }

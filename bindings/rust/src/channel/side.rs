@@ -92,7 +92,9 @@ impl Core {
         }
         // Another thread may be dropping the last one, which then wakes the side's line: this waits until all is done
         // that comes of it. Nobody else waits there any more, so it takes away no notification.
-        wait_without_end(&side.line, &FOR_OTHERS, || side.is_lost().then_some(()));
+        wait_without_end(&side.line, &FOR_OTHERS, &(), || {
+            side.is_lost().then_some(())
+        });
         drop(lock(&self.groups_lock));
         None
     }

@@ -4,8 +4,7 @@
 
 use super::{Config, OpenError};
 pub use super::{Word, Words, code, unexpected};
-use crate::backoff::FOR_OWN_SIDE;
-use crate::event::{Served, wait_without_end};
+use crate::event::Served;
 use std::ffi::c_void;
 use std::mem::{MaybeUninit, size_of};
 use std::ptr::{null_mut, read_volatile};
@@ -119,7 +118,7 @@ impl Handle {
 
     /// Sends these words, of this number, and waits for the answer in this line: the code of a send.
     #[inline]
-    pub fn send(&mut self, words: &Words, count: usize, line: Served) -> u32 {
+    pub fn send(&mut self, words: &Words, count: usize, served: impl Served) -> u32 {
         let at = words.as_ptr();
         let code = match count {
             1 => self.try_send_word(words[0]),
@@ -129,7 +128,7 @@ impl Handle {
             },
         };
         match code {
-            code::WAITING => self.wait_for_send(line),
+            code::WAITING => self.wait_for_send(served),
             code => code,
         }
     }
@@ -140,18 +139,18 @@ impl Handle {
         vahepito_try_send(&mut self.0, word, &mut unread(), &mut unread())
     }
 
-    /// Waits for the answer of a send that began, in this line: the code of the send.
+    /// Waits until a send that began is served: its code.
     #[inline]
-    pub fn wait_for_send(&mut self, line: Served) -> u32 {
-        wait_until_served(line, || {
+    pub fn wait_for_send(&mut self, served: impl Served) -> u32 {
+        wait_until_served(served, || {
             vahepito_turn_send(&mut self.0, &mut unread(), &mut unread())
         })
     }
 
-    /// Takes the words of an item, of this number, and waits for the answer in this line. If there is no item, it returns
+    /// Takes the words of an item, of this number, and waits until the take is served. If there is no item, it returns
     /// the code of the take.
     #[inline]
-    pub fn take(&mut self, count: usize, line: Served) -> Result<Words, u32> {
+    pub fn take(&mut self, count: usize, served: impl Served) -> Result<Words, u32> {
         let mut item = NO_ITEM;
         let mut code = match count {
             1 => self.try_take_word(&mut item),
@@ -159,8 +158,8 @@ impl Handle {
         };
         if code == code::WAITING {
             code = match count {
-                1 => self.wait_for_take(&mut item, line),
-                _ => wait_until_served(line, || {
+                1 => self.wait_for_take(&mut item, served),
+                _ => wait_until_served(served, || {
                     vahepito_turn_take_words(&mut self.0, &mut item, &mut unread(), &mut unread())
                 }),
             };
@@ -179,38 +178,36 @@ impl Handle {
         vahepito_try_take(&mut self.0, item, &mut unread(), &mut unread())
     }
 
-    /// Waits for the answer of such a take that began, in this line: the code of the take.
+    /// Waits until such a take that began is served: its code.
     #[inline]
-    pub fn wait_for_take(&mut self, item: &mut Taken, line: Served) -> u32 {
-        wait_until_served(line, || {
+    pub fn wait_for_take(&mut self, item: &mut Taken, served: impl Served) -> u32 {
+        wait_until_served(served, || {
             vahepito_turn_take(&mut self.0, item, &mut unread(), &mut unread())
         })
     }
 
-    /// Closes the queue, and waits for the answer in this line. Returns whether it was open.
-    pub fn close(&mut self, line: Served) -> bool {
+    /// Closes the queue, and waits until the close is served. Returns whether it was open.
+    pub fn close(&mut self, served: impl Served) -> bool {
         match vahepito_begin_close(&mut self.0) {
             code::BEGUN => {}
             code => unexpected(code),
         }
         let mut turn = || vahepito_turn_close(&mut self.0, &mut unread(), &mut unread());
         let code = match turn() {
-            code::WAITING => wait_until_served(line, turn),
+            code::WAITING => wait_until_served(served, turn),
             code => code,
         };
         code == code::SHUT
     }
 }
 
-/// Turns a call until it is answered. It waits in this line, in which each call of its side wakes it at its end.
+/// Turns a call until it is answered.
 #[cold]
-fn wait_until_served(served: Served, mut turn: impl FnMut() -> u32) -> u32 {
-    let turn = || match turn() {
+fn wait_until_served(served: impl Served, mut turn: impl FnMut() -> u32) -> u32 {
+    served.wait(|| match turn() {
         code::WAITING => None,
         code => Some(code),
-    };
-    let Served { line, contention } = served;
-    contention.note_served(|| wait_without_end(line, &FOR_OWN_SIDE, turn))
+    })
 }
 
 impl Drop for Handle {

@@ -1,8 +1,7 @@
 //! The answers of each call that the channel makes, on one thread.
 use super::handle::{Handle, Words, code};
 use super::{Config, OpenError, open};
-use crate::backoff::Contention;
-use crate::event::{Event, Served};
+use crate::event::Served;
 use std::mem::MaybeUninit;
 
 const SMALL: Config = Config::new(2, 2, 2);
@@ -19,18 +18,21 @@ fn body(first: u64) -> Words {
     [0, 1, 2, 3].map(|more| MaybeUninit::new(first.wrapping_add(more)))
 }
 
-/// Makes a call while no other one waits.
-fn alone<R>(call: impl FnOnce(Served) -> R) -> R {
-    let (line, contention) = (&Event::default(), &Contention::default());
-    call(Served { line, contention })
+/// No other call is made, so none waits.
+struct Alone;
+
+impl Served for Alone {
+    fn wait<R>(self, _: impl FnMut() -> Option<R>) -> R {
+        unreachable!("a call waits alone")
+    }
 }
 
 fn close(sender: &mut Handle) -> bool {
-    alone(|line| sender.close(line))
+    sender.close(Alone)
 }
 
 fn send(sender: &mut Handle, word: u64) -> u32 {
-    alone(|line| sender.send(&body(word), 1, line))
+    sender.send(&body(word), 1, Alone)
 }
 
 /// The first words of a body, of this number.
@@ -42,7 +44,7 @@ fn values(words: Words, count: usize) -> Vec<u64> {
 }
 
 fn take(receiver: &mut Handle) -> Result<u64, u32> {
-    alone(|line| receiver.take(1, line)).map(|words| values(words, 1)[0])
+    receiver.take(1, Alone).map(|words| values(words, 1)[0])
 }
 
 #[test]
@@ -98,9 +100,9 @@ fn all_bodies_pass() {
     for count in 1..=4 {
         let mut sides = open(&SMALL, 1, count).unwrap();
         for first in [0, 1, u64::from(u32::MAX), 1 << 56, u64::MAX] {
-            let sent = alone(|line| sides[0][0].send(&body(first), count, line));
+            let sent = sides[0][0].send(&body(first), count, Alone);
             assert_eq!(sent, code::ACCEPTED);
-            let taken = alone(|line| sides[1][0].take(count, line));
+            let taken = sides[1][0].take(count, Alone);
             let taken = taken.map(|words| values(words, count));
             assert_eq!(taken, Ok(values(body(first), count)));
         }

@@ -53,7 +53,7 @@ impl Handle {
     }
 
     /// Sends these words, and returns the code of the send.
-    pub fn send(&mut self, words: &Words, _count: usize, _line: Served) -> u32 {
+    pub fn send(&mut self, words: &Words, _count: usize, _served: impl Served) -> u32 {
         self.try_send(words)
     }
 
@@ -64,7 +64,7 @@ impl Handle {
     }
 
     /// No call of this queue waits.
-    pub fn wait_for_send(&mut self, _line: Served) -> u32 {
+    pub fn wait_for_send(&mut self, _served: impl Served) -> u32 {
         code::WAITING
     }
 
@@ -89,7 +89,7 @@ impl Handle {
     }
 
     /// Takes the words of an item. If there is none, it returns the code of the take.
-    pub fn take(&mut self, _count: usize, _line: Served) -> Result<Words, u32> {
+    pub fn take(&mut self, _count: usize, _served: impl Served) -> Result<Words, u32> {
         self.try_take()
     }
 
@@ -123,12 +123,12 @@ impl Handle {
     }
 
     /// No call of this queue waits.
-    pub fn wait_for_take(&mut self, _item: &mut Taken, _line: Served) -> u32 {
+    pub fn wait_for_take(&mut self, _item: &mut Taken, _served: impl Served) -> u32 {
         code::WAITING
     }
 
     /// Closes the queue. Returns whether it was open.
-    pub fn close(&mut self, _line: Served) -> bool {
+    pub fn close(&mut self, _served: impl Served) -> bool {
         self.call(|queue| !std::mem::replace(&mut queue.closed, true))
     }
 }

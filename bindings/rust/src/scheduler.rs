@@ -1,7 +1,37 @@
-//! A longer slice of the processor, for threads that ask for it.
+//! What the crate asks of the system's scheduler: on which processor a thread runs; and a longer slice, for threads
+//! that ask for it.
 #![allow(unsafe_code)]
 
+use std::cell::Cell;
 use std::io;
+
+/// Whether a thread can ask in some nanoseconds on which processor it runs. The thread sanitizer doesn't see parks, for
+/// which this is.
+pub const KNOWS_PROCESSORS: bool = cfg!(all(
+    target_os = "linux",
+    target_arch = "x86_64",
+    not(vahepito_tsan)
+));
+
+thread_local! {
+    /// The processor on which this thread ran when it last asked, from 1; 0 if it isn't known.
+    static PROCESSOR: Cell<u32> = const { Cell::new(0) };
+}
+
+/// The processor on which this thread ran when it last asked, from 1; 0 if it isn't known.
+#[inline]
+pub fn last_processor() -> u32 {
+    PROCESSOR.get()
+}
+
+/// Asks on which processor this thread runs. The answer may be old at once.
+pub fn ask_processor() -> u32 {
+    #[cfg(target_os = "linux")]
+    if KNOWS_PROCESSORS {
+        PROCESSOR.set(of_linux::processor());
+    }
+    last_processor()
+}
 
 /// Lets the calling thread, and threads that it starts later, keep a processor for 12 milliseconds before another
 /// thread gets it; Linux gives them about 3.
@@ -65,6 +95,12 @@ mod of_linux {
 
     unsafe extern "C" {
         fn syscall(number: c_long, ...) -> c_long;
+        safe fn sched_getcpu() -> c_int;
+    }
+
+    /// The processor on which this thread runs, from 1; 0 if the C library doesn't know it.
+    pub fn processor() -> u32 {
+        u32::try_from(sched_getcpu()).map_or(0, |it| 1 + it)
     }
 
     /// Makes one of these calls for this thread. One of them has a third argument, the size; the other one has flags
