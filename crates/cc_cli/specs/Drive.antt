@@ -4,7 +4,7 @@ use Rattle.std.specs.Io.KnownBytes.{Keeps, Appends}
 use Rattle.cc_model.specs.Items.{IsPrefix}
 use Rattle.cc_io.specs.Written.{word_text}
 use Rattle.cc_audit.specs.declared.receipt.Verdict.{Verdict}
-use Rattle.cc_plan.specs.Report.{verdict_text}
+use Rattle.cc_report.specs.Report.{verdict_text}
 use Rattle.cc_io.specs.FaultLine.{Told, no_memory_line}
 use Rattle.cc_drive.specs.declared.config.DriveConfig.{DriveConfig}
 use Rattle.cc_drive.specs.declared.config.DriveEnd.{DriveEnd}

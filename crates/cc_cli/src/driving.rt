@@ -10,7 +10,7 @@ use crate::gate::gates_of;
 use cc_audit::Verdict;
 use cc_drive::{DriveConfig, DriveEnd, DriveFault, Gate, drive};
 use cc_io::{Pen, Sink, WriteFault, out_of_memory, told};
-use cc_plan::write_verdict;
+use cc_report::write_verdict;
 use std::alloc::Global;
 use std::sync::Wait;
 use std::thread::Threads;

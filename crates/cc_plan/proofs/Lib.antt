@@ -2,7 +2,6 @@ pub mod Trees
 pub mod Each
 pub mod CompactCalls
 pub mod Digits
-pub mod Lines
 pub mod Valid
 pub mod Copied
 pub mod Positions

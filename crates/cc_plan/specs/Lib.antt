@@ -17,5 +17,4 @@ pub mod Receipts
 pub mod ReceiptsShape
 pub mod ReceiptsValues
 pub mod ReceiptsOf
-pub mod Report
 pub mod Refused

@@ -1,4 +1,4 @@
-//! The texts of the program: plans and receipts as they are read, reports as they are written.
+//! Plans and receipts as they are read, and where an input is refused.
 #![tactic(auto)]
 
 mod clauses;
@@ -6,7 +6,6 @@ mod fault;
 mod place;
 mod plan;
 mod receipts;
-mod report;
 mod tree;
 mod version;
 
@@ -18,5 +17,4 @@ pub use place::{
 };
 pub use plan::{Calls, Plan, read_plan};
 pub use receipts::{Receipts, read_receipts};
-pub use report::{Report, write_body, write_report, write_verdict};
 pub use tree::{has_only, is_word, read_json};

@@ -8,7 +8,7 @@ use Rattle.cc_machine.specs.View.{View, state_in}
 use Rattle.cc_io.specs.Written.{Writes}
 use Rattle.cc_plan.specs.Plan.{PlanValue}
 use Rattle.cc_plan.specs.PlanOf.{plan_of}
-use Rattle.cc_plan.specs.Report.{report_text}
+use Rattle.cc_report.specs.Report.{report_text}
 use Rattle.cc_io.specs.Input.{Reads}
 use Rattle.cc_play.specs.Play.{IsHistoryVerdict, Worked, WorksOn}
 use Rattle.cc_play.specs.Schedule.{setting_of, run_of}

@@ -1,8 +1,8 @@
 -- The texts of the elements of a list, which were made of others, or are known by names of their own.
 use Rattle.std.proofs.Common.{◌≡◌, ◌<◌, ℕ, ◌+◌, length, get_or, subst, List, [], ◌∷◌, ◌++◌, map, refl, ap}
 use Rattle.cc_io.specs.Written.{Desk, Pens}
-use Rattle.cc_plan.specs.Report.{texts}
-use Rattle.cc_plan.proofs.Lines.{UpTo, one_more}
+use Rattle.cc_report.specs.Report.{texts}
+use Rattle.cc_report.proofs.Lines.{UpTo, one_more}
 
 pub over_map : {A B : Type 0} (f : A → B) (text : ℕ → B → List ℕ) (n : ℕ) (xs : List A) → texts text n (map f xs) ≡ texts (λ i x. text i (f x)) n xs
 over_map f text n [] = refl

@@ -3,7 +3,7 @@ use Rattle.std.specs.Prelude.{ℕ, ◌++◌, List, codes}
 use Rattle.cc_model.specs.Body.{words_of}
 use Rattle.cc_io.specs.Written.{word_text}
 use Rattle.cc_plan.specs.Plan.{PlanValue}
-use Rattle.cc_plan.specs.Report.{texts, words_text}
+use Rattle.cc_report.specs.Report.{texts, words_text}
 use Rattle.cc_show.specs.Names.{Call, ShownEvent, Kind}
 use Rattle.cc_show.specs.declared.page.TheConstants.{FRONT, MIDDLE, BACK}
 

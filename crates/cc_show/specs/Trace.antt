@@ -1,7 +1,7 @@
 -- The text of a trace: the events of a run as lines of JSON.
 use Rattle.std.specs.Prelude.{ℕ, ◌+◌, ◌++◌, List, codes}
 use Rattle.cc_io.specs.Written.{word_text}
-use Rattle.cc_plan.specs.Report.{texts, pass_text}
+use Rattle.cc_report.specs.Report.{texts, pass_text}
 use Rattle.cc_show.specs.Names.{Chain, ShownEvent, ItemField, Kind, NodeField, Object, Word}
 
 -- the name of a kind

@@ -3,7 +3,7 @@ ghost use Rattle.std.specs.Prelude.{◌≡◌, ◌<◌, ◌+◌, ◌-◌, ◌^�
 ghost use Rattle.cc_model.specs.HistoryRoom.{lists};
 ghost use Rattle.cc_io.specs.Written.{Writes};
 ghost use Rattle.cc_plan.specs.Plan.{plan_value};
-ghost use Rattle.cc_plan.specs.Report.{report_text};
+ghost use Rattle.cc_report.specs.Report.{report_text};
 ghost use Rattle.cc_show.specs.Show.{Shows, failed_reads_of, failed_writes_of, shown_text};
 
 use crate::fault::ShowFault;
@@ -13,8 +13,9 @@ use crate::text::write_page;
 use crate::trace::write_trace;
 use cc_audit::Verdict;
 use cc_io::{Sink, Source, WriteFault, read_input};
-use cc_plan::{Plan, Report, read_plan};
+use cc_plan::{Plan, read_plan};
 use cc_play::play::audit_of;
+use cc_report::Report;
 use std::alloc::Global;
 
 /// Reads a plan from the source, plays its schedule on a machine event by event, and writes its run to the sink. A page has

@@ -4,7 +4,7 @@ ghost use Rattle.cc_model.specs.HistoryRoom.{lists};
 ghost use Rattle.cc_io.specs.Written.{Writes, Pens, desk};
 ghost use Rattle.cc_plan.specs.Calls.{calls_in};
 ghost use Rattle.cc_plan.specs.Plan.{plan_value};
-ghost use Rattle.cc_plan.specs.Report.{words_text, report_text};
+ghost use Rattle.cc_report.specs.Report.{words_text, report_text};
 ghost use Rattle.cc_show.specs.Page.{call_text, calls_text, senders_text, config_text, event_text, events_text, run_text, front_text, told_text, page_text};
 
 use crate::kinds::kind_number;
@@ -12,7 +12,8 @@ use crate::page::{BACK, FRONT, MIDDLE};
 use crate::player::ShownEvent;
 use cc_io::{Pen, Sink, WriteFault, write_bytes};
 use cc_model::Call;
-use cc_plan::{Calls, Plan, Report, write_body, write_report};
+use cc_plan::{Calls, Plan};
+use cc_report::{Report, write_body, write_report};
 
 /// Writes the page of a plan's events and of a report, and stops at the first write that fails.
 #[tactic(auto, using(cc_io::proofs::Writing::both_out, cc_io::proofs::Writing::first_failed), unfolding(crate::specs::Page::page_text))]
@@ -94,7 +95,7 @@ fn write_config<W: Sink>(sink: &mut W, pen: &mut Pen, plan: &Plan)
 }
 
 /// Writes a line for each sender.
-#[tactic(auto, using(cc_plan::proofs::Lines::none))]
+#[tactic(auto, using(cc_report::proofs::Lines::none))]
 fn write_senders<W: Sink>(sink: &mut W, pen: &mut Pen, senders: &[Calls])
     requires { pen.old.failed ≡ false → W.write_failures sink.old < 2 ^ 64 - 1 }
     ensures { Pens (desk pen.old (W.bytes_written sink.old) (W.write_failures sink.old))
@@ -108,7 +109,7 @@ fn write_senders<W: Sink>(sink: &mut W, pen: &mut Pen, senders: &[Calls])
 }
 
 /// Writes the calls of a sender.
-#[tactic(auto, using(cc_plan::proofs::Lines::none))]
+#[tactic(auto, using(cc_report::proofs::Lines::none))]
 fn write_calls<W: Sink>(sink: &mut W, pen: &mut Pen, calls: &Calls)
     requires { pen.old.failed ≡ false → W.write_failures sink.old < 2 ^ 64 - 1 }
     ensures { Pens (desk pen.old (W.bytes_written sink.old) (W.write_failures sink.old))
@@ -136,7 +137,7 @@ fn write_call<W: Sink>(sink: &mut W, pen: &mut Pen, call: Call)
 }
 
 /// Writes how often each receiver takes.
-#[tactic(auto, using(cc_plan::proofs::Lines::none, cc_plan::proofs::Lines::all))]
+#[tactic(auto, using(cc_report::proofs::Lines::none, cc_report::proofs::Lines::all))]
 fn write_receivers<W: Sink>(sink: &mut W, pen: &mut Pen, takes: &[u32])
     requires { pen.old.failed ≡ false → W.write_failures sink.old < 2 ^ 64 - 1 }
     ensures { Pens (desk pen.old (W.bytes_written sink.old) (W.write_failures sink.old))
@@ -148,7 +149,7 @@ fn write_receivers<W: Sink>(sink: &mut W, pen: &mut Pen, takes: &[u32])
 }
 
 /// Writes the events.
-#[tactic(auto, using(cc_plan::proofs::Lines::none, cc_plan::proofs::Lines::all))]
+#[tactic(auto, using(cc_report::proofs::Lines::none, cc_report::proofs::Lines::all))]
 fn write_events<W: Sink>(sink: &mut W, pen: &mut Pen, events: &[ShownEvent])
     requires { pen.old.failed ≡ false → W.write_failures sink.old < 2 ^ 64 - 1 }
     ensures { Pens (desk pen.old (W.bytes_written sink.old) (W.write_failures sink.old))

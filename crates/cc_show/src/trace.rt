@@ -1,7 +1,7 @@
 //! The text of a trace: the events of a run as lines of JSON.
 ghost use Rattle.std.specs.Prelude.{◌≡◌, ◌<◌, ◌^◌, ◌-◌, false, is_err};
 ghost use Rattle.cc_io.specs.Written.{Writes, Pens, desk};
-ghost use Rattle.cc_plan.specs.Report.{pass_text};
+ghost use Rattle.cc_report.specs.Report.{pass_text};
 ghost use Rattle.cc_show.specs.Trace.{kind_name, chain_text, object_text, node_field_text, item_field_text, word_name, line_text, trace_text};
 
 use crate::player::ShownEvent;
@@ -23,7 +23,7 @@ pub fn write_trace<W: Sink>(sink: &mut W, events: &[ShownEvent]) -> Result<(), W
 }
 
 /// A line for each event, numbered from 1.
-#[tactic(auto, using(cc_plan::proofs::Lines::none, cc_plan::proofs::Lines::all))]
+#[tactic(auto, using(cc_report::proofs::Lines::none, cc_report::proofs::Lines::all))]
 fn write_lines<W: Sink>(sink: &mut W, pen: &mut Pen, events: &[ShownEvent])
     requires { pen.old.failed ≡ false → W.write_failures sink.old < 2 ^ 64 - 1 }
     ensures { Pens (desk pen.old (W.bytes_written sink.old) (W.write_failures sink.old))
@@ -52,7 +52,7 @@ fn write_line<W: Sink>(sink: &mut W, pen: &mut Pen, number: u64, event: ShownEve
     pen.text(sink, b"}\n")
 }
 
-#[tactic(auto, unfolding(cc_plan::specs::Report::pass_text))]
+#[tactic(auto, unfolding(cc_report::specs::Report::pass_text))]
 fn write_pass<W: Sink>(sink: &mut W, pen: &mut Pen, pass: Pass)
     requires { pen.old.failed ≡ false → W.write_failures sink.old < 2 ^ 64 - 1 }
     ensures { Pens (desk pen.old (W.bytes_written sink.old) (W.write_failures sink.old))

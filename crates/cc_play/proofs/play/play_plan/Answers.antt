@@ -1,7 +1,7 @@
 use Rattle.std.proofs.Common.{◌≡◌, ℕ, List, subst, sym}
 use Rattle.cc_model.specs.HistoryRoom.{lists}
 use Rattle.cc_plan.specs.Plan.{plan_value}
-use Rattle.cc_plan.specs.Report.{report_text}
+use Rattle.cc_report.specs.Report.{report_text}
 use Rattle.cc_play.specs.Names.{Verdict}
 use Rattle.cc_play.specs.Play.{IsHistoryVerdict, IsReport}
 use Rattle.cc_play.proofs.Clean.{reported}

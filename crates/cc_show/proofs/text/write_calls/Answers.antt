@@ -1,6 +1,6 @@
 use Rattle.std.proofs.Common.{arith}
 use Rattle.cc_plan.specs.Calls.{calls_in}
-use Rattle.cc_plan.proofs.Lines.{all}
+use Rattle.cc_report.proofs.Lines.{all}
 use Rattle.cc_show.proofs.Texts.{named_more}
 use Rattle.cc_show.proofs.text.write_calls.Goals as goal
 

@@ -1,7 +1,7 @@
 use Rattle.cc_plan.specs.Calls.{calls_in}
 use Rattle.cc_show.specs.Page.{call_text}
 use Rattle.cc_io.specs.Written.{desk}
-use Rattle.cc_plan.proofs.Lines.{UpTo}
+use Rattle.cc_report.proofs.Lines.{UpTo}
 use Rattle.cc_show.proofs.text.write_calls.Given as goal
 
 -- the calls so far

@@ -1,4 +1,4 @@
-use Rattle.cc_plan.proofs.Lines.{one_more}
+use Rattle.cc_report.proofs.Lines.{one_more}
 use Rattle.cc_show.proofs.text.write_events.Goals as goal
 
 pub loop-event-preserved : goal.loop-event-preserved

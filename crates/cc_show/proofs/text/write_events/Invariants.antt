@@ -1,6 +1,6 @@
 use Rattle.cc_show.specs.Page.{event_text}
 use Rattle.cc_io.specs.Written.{desk}
-use Rattle.cc_plan.proofs.Lines.{UpTo}
+use Rattle.cc_report.proofs.Lines.{UpTo}
 use Rattle.cc_show.proofs.text.write_events.Given as goal
 
 -- the events so far

@@ -1,7 +1,7 @@
 use Rattle.std.specs.Prelude.{codes}
 use Rattle.cc_io.specs.Written.{word_text}
 use Rattle.cc_io.specs.Written.{desk}
-use Rattle.cc_plan.proofs.Lines.{UpTo}
+use Rattle.cc_report.proofs.Lines.{UpTo}
 use Rattle.cc_show.proofs.text.write_receivers.Given as goal
 
 -- the receivers so far

@@ -1,5 +1,5 @@
 use Rattle.cc_io.proofs.Writing.{then}
-use Rattle.cc_plan.proofs.Lines.{all}
+use Rattle.cc_report.proofs.Lines.{all}
 use Rattle.cc_show.proofs.Texts.{over_map, named_more}
 use Rattle.cc_show.proofs.text.write_senders.Goals as goal
 

@@ -2,7 +2,7 @@ use Rattle.std.specs.Prelude.{◌++◌, codes}
 use Rattle.cc_plan.specs.Calls.{calls_in}
 use Rattle.cc_show.specs.Page.{calls_text}
 use Rattle.cc_io.specs.Written.{desk}
-use Rattle.cc_plan.proofs.Lines.{UpTo}
+use Rattle.cc_report.proofs.Lines.{UpTo}
 use Rattle.cc_show.proofs.text.write_senders.Given as goal
 
 -- the senders so far

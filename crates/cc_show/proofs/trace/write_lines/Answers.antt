@@ -1,5 +1,5 @@
 use Rattle.std.proofs.Common.{arith}
-use Rattle.cc_plan.proofs.Lines.{one_more}
+use Rattle.cc_report.proofs.Lines.{one_more}
 use Rattle.cc_show.proofs.trace.write_lines.Goals as goal
 
 pub loop-i-preserved : goal.loop-i-preserved

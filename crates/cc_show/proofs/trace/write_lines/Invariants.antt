@@ -1,7 +1,7 @@
 use Rattle.std.specs.Prelude.{◌+◌}
 use Rattle.cc_show.specs.Trace.{line_text}
 use Rattle.cc_io.specs.Written.{desk}
-use Rattle.cc_plan.proofs.Lines.{UpTo}
+use Rattle.cc_report.proofs.Lines.{UpTo}
 use Rattle.cc_show.proofs.trace.write_lines.Given as goal
 
 -- the lines so far

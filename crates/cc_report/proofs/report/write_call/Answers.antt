@@ -1,6 +1,6 @@
 use Rattle.cc_io.proofs.Writing.{then}
-use Rattle.cc_plan.specs.Report.{call_text}
-use Rattle.cc_plan.proofs.report.write_call.Goals as goal
+use Rattle.cc_report.specs.Report.{call_text}
+use Rattle.cc_report.proofs.report.write_call.Goals as goal
 
 pub returns-in-Send : goal.returns-in-Send
 unfolding call_text

@@ -1,7 +1,7 @@
 use Rattle.std.specs.Prelude.{codes}
 use Rattle.cc_io.specs.Written.{desk, word_text}
-use Rattle.cc_plan.proofs.Lines.{UpTo}
-use Rattle.cc_plan.proofs.report.write_body.Given as goal
+use Rattle.cc_report.proofs.Lines.{UpTo}
+use Rattle.cc_report.proofs.report.write_body.Given as goal
 
 -- the words so far
 abbrev pub invariant-loop-word : goal.invariant-loop-word

@@ -1,6 +1,6 @@
 use Rattle.cc_io.proofs.Writing.{then}
-use Rattle.cc_plan.specs.Report.{item_text}
-use Rattle.cc_plan.proofs.report.write_item.Goals as goal
+use Rattle.cc_report.specs.Report.{item_text}
+use Rattle.cc_report.proofs.report.write_item.Goals as goal
 
 pub returns : goal.returns
 unfolding item_text

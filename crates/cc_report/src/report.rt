@@ -3,7 +3,7 @@ ghost use Rattle.std.specs.Prelude.{◌≡◌, ◌<◌, ◌^◌, ◌-◌, false,
 ghost use Rattle.cc_model.specs.Body.{words_of};
 ghost use Rattle.cc_model.specs.HistoryRoom.{lists};
 ghost use Rattle.cc_io.specs.Written.{Writes, Pens, desk};
-ghost use Rattle.cc_plan.specs.Report.{pass_text, words_text, call_text, item_text, answer_text, caller_in, caller_text, line_text, lines_text, groups_text, verdict_text, report_text};
+ghost use Rattle.cc_report.specs.Report.{pass_text, words_text, call_text, item_text, answer_text, caller_in, caller_text, line_text, lines_text, groups_text, verdict_text, report_text};
 
 use cc_audit::Verdict;
 use cc_io::{Pen, Sink, WriteFault};

@@ -3,7 +3,7 @@ use Rattle.std.specs.Prelude.{ℕ, ◌+◌, ◌==◌, List, [], ◌∷◌, ◌++
 use Rattle.std.specs.List.{slice_get}
 use Rattle.cc_model.specs.Body.{words_of}
 use Rattle.cc_model.specs.Record.{Side, Record}
-use Rattle.cc_plan.specs.Names.{Pass, Call, Item, Entry, Answer, SendAnswer, CloseAnswer, TakeAnswer, Verdict, Caller}
+use Rattle.cc_report.specs.Names.{Pass, Call, Item, Entry, Answer, SendAnswer, CloseAnswer, TakeAnswer, Verdict, Caller}
 use Rattle.cc_io.specs.Written.{word_text}
 
 -- the texts of a list's elements, one after another, each by its place, from n

@@ -1,8 +1,8 @@
 use Rattle.std.specs.List.{slice_get}
 use Rattle.cc_io.specs.Written.{desk}
-use Rattle.cc_plan.specs.Report.{line_text}
-use Rattle.cc_plan.proofs.Lines.{UpTo}
-use Rattle.cc_plan.proofs.report.write_lines.Given as goal
+use Rattle.cc_report.specs.Report.{line_text}
+use Rattle.cc_report.proofs.Lines.{UpTo}
+use Rattle.cc_report.proofs.report.write_lines.Given as goal
 
 -- the lines so far
 abbrev pub invariant-loop-i : goal.invariant-loop-i

@@ -1,8 +1,8 @@
 use Rattle.cc_model.specs.HistoryRoom.{lists}
 use Rattle.cc_io.specs.Written.{desk}
-use Rattle.cc_plan.specs.Report.{caller_in, lines_text}
-use Rattle.cc_plan.proofs.Lines.{UpTo}
-use Rattle.cc_plan.proofs.report.write_groups.Given as goal
+use Rattle.cc_report.specs.Report.{caller_in, lines_text}
+use Rattle.cc_report.proofs.Lines.{UpTo}
+use Rattle.cc_report.proofs.report.write_groups.Given as goal
 
 -- the groups so far
 abbrev pub invariant-loop-group : goal.invariant-loop-group

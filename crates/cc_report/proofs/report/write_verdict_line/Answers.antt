@@ -1,6 +1,6 @@
 use Rattle.cc_io.proofs.Writing.{then}
-use Rattle.cc_plan.specs.Report.{verdict_text}
-use Rattle.cc_plan.proofs.report.write_verdict_line.Goals as goal
+use Rattle.cc_report.specs.Report.{verdict_text}
+use Rattle.cc_report.proofs.report.write_verdict_line.Goals as goal
 
 pub returns-in-Clean : goal.returns-in-Clean
 unfolding verdict_text

@@ -1,6 +1,6 @@
 use Rattle.std.proofs.Common.{arith}
-use Rattle.cc_plan.proofs.Lines.{one_more}
-use Rattle.cc_plan.proofs.report.write_lines.Goals as goal
+use Rattle.cc_report.proofs.Lines.{one_more}
+use Rattle.cc_report.proofs.report.write_lines.Goals as goal
 
 pub loop-i-preserved : goal.loop-i-preserved
 loop-i-preserved g c =

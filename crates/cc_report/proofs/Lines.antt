@@ -3,7 +3,7 @@ use Rattle.std.proofs.Common.{◌≡◌, ◌<◌, ◌≤◌, ◌+◌, ℕ, List,
 use Rattle.std.proofs.lemmas.List.{drop_all}
 use Rattle.cc_io.specs.Written.{Desk, Pens}
 use Rattle.cc_io.proofs.Writing.{then, still}
-use Rattle.cc_plan.specs.Report.{texts}
+use Rattle.cc_report.specs.Report.{texts}
 
 -- the pen went on by the texts of the elements before place i
 pub record UpTo {A : Type 0} (old new : Desk) (text : ℕ → A → List ℕ) (xs : List A) (i : ℕ) : Type 0 where

@@ -1,6 +1,6 @@
 use Rattle.cc_io.proofs.Writing.{then}
-use Rattle.cc_plan.specs.Report.{report_text}
-use Rattle.cc_plan.proofs.report.write_parts.Goals as goal
+use Rattle.cc_report.specs.Report.{report_text}
+use Rattle.cc_report.proofs.report.write_parts.Goals as goal
 
 pub returns : goal.returns
 unfolding report_text

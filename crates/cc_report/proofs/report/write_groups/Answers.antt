@@ -3,8 +3,8 @@ use Rattle.std.proofs.Math.ListN.{get_or-map}
 use Rattle.std.proofs.lemmas.List.{length-map}
 use Rattle.cc_model.specs.Record.{silent}
 use Rattle.cc_model.specs.HistoryRoom.{SideRoom, lists}
-use Rattle.cc_plan.proofs.Lines.{one_more}
-use Rattle.cc_plan.proofs.report.write_groups.Goals as goal
+use Rattle.cc_report.proofs.Lines.{one_more}
+use Rattle.cc_report.proofs.report.write_groups.Goals as goal
 
 pub loop-group-preserved : goal.loop-group-preserved
 loop-group-preserved g c =
