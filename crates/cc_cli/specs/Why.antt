@@ -1,6 +1,6 @@
 -- The meaning of the status of `why`.
 use Rattle.std.specs.Prelude.{ℕ, ◌≡◌, ◌⊎◌, List, Option, Some, None}
-use Rattle.cc_plan.specs.Why.{IsDue, kind_of}
+use Rattle.cc_place.specs.Why.{IsDue, kind_of}
 use Rattle.cc_io.specs.Input.{Reads}
 use Rattle.cc_cli.specs.Failures.{FailsBy}
 use Rattle.cc_cli.specs.Names.{PlanFault}

@@ -7,7 +7,8 @@ use crate::input::Reasoned;
 use crate::reading::{tell_reason, tell_unread};
 use crate::why_line::line_of;
 use cc_io::{InputFault, Sink, Source, out_of_memory, read_input, told, write_bytes};
-use cc_plan::{PlanFault, explain};
+use cc_place::explain;
+use cc_plan::PlanFault;
 use std::alloc::Global;
 
 /// Why an input is refused, if it is.

@@ -1,6 +1,6 @@
 //! The line with the place of a fault.
 
-use cc_plan::{
+use cc_place::{
     Check, Explained, Found, Kind, Misfit, Place, Stranger, Table, Trail, ValueKind, Wanted,
     line_and_column,
 };

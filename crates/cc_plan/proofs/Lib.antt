@@ -4,5 +4,4 @@ pub mod CompactCalls
 pub mod Digits
 pub mod Valid
 pub mod Copied
-pub mod Positions
 pub mod RefusedClaims

@@ -1,21 +1,12 @@
 -- The clauses refuse these claims.
-use Rattle.std.proofs.Common.{◌≡◌, [], ◌∷◌, true, Some, Ok, Err, codes, arith}
+use Rattle.std.proofs.Common.{◌≡◌, true, Some, Ok, Err, codes}
 use Rattle.serde_json.specs.Data.{Data, Members, put}
 use Rattle.serde_json.specs.Find.{get}
-use Rattle.cc_plan.specs.Names.{Kind}
 use Rattle.cc_plan.specs.Plan.{PlanValue}
 use Rattle.cc_plan.specs.PlanOf.{plan_of_lists, plan_of_values, values_of_tree, with_known_passes}
 use Rattle.cc_plan.specs.PlanShape.{has_lists, has_numbers, has_plan_shape}
-use Rattle.cc_plan.specs.Position.{column_after}
 use Rattle.cc_plan.specs.Refusal.{Refusal, wrong_shape}
-use Rattle.cc_plan.specs.Why.{kind_in}
 use Rattle.cc_plan.specs.Refused.{RefusedClaims, small_plan, with_stranger}
-
-of_bytes : column_after (195 ∷ 188 ∷ []) ≡ 3 → ⊥
-of_bytes is = absurd (omega (arith, is))
-
-of_both : (rows : Data) → kind_in (Data.object (Members.member (codes "accepted") rows Members.no_members)) ≡ Kind.Plan → ⊥
-of_both rows is = absurd (cc is)
 
 first_counts : get (codes "life") (Data.object (put (codes "life") Data.null (put (codes "life") (Data.boolean true) Members.no_members))) ≡ Some (Data.boolean true) → ⊥
 first_counts is = absurd (cc is)
@@ -33,8 +24,6 @@ admitted p is = absurd (cc is)
 
 pub claims_refused : RefusedClaims
 claims_refused = record {
-  columns_of_bytes = of_bytes;
-  receipts_of_both_lists = of_both;
   first_member_counts = first_counts;
   bound_is_reported_first = bound_first;
   each_plan_is_refused = small_plan_refused;

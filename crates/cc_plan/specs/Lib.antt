@@ -3,8 +3,6 @@ pub mod Json
 pub mod Closures
 pub mod Refusal
 pub mod Answers
-pub mod Why
-pub mod Position
 pub mod CompactCall
 pub mod Calls
 pub mod Plan

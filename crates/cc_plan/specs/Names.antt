@@ -6,6 +6,5 @@ pub use Rattle.cc_model.specs.declared.config.Config.{Config}
 pub use Rattle.cc_audit.specs.declared.receipt.SendReceipt.{SendReceipt}
 pub use Rattle.cc_audit.specs.declared.receipt.TakeReceipt.{TakeReceipt}
 pub use Rattle.cc_plan.specs.declared.fault.PlanFault.{PlanFault}
-pub use Rattle.cc_plan.specs.declared.place.wanted.Kind.{Kind}
 pub use Rattle.cc_plan.specs.declared.plan.Plan.{Plan}
 pub use Rattle.cc_plan.specs.declared.receipts.Receipts.{Receipts}

@@ -2,12 +2,10 @@
 use Rattle.std.specs.Prelude.{◌≡◌, ℕ, [], ◌∷◌, true, Some, Ok, Err, codes}
 use Rattle.serde_json.specs.Data.{Data, Items, Members, Num, put}
 use Rattle.serde_json.specs.Find.{get}
-use Rattle.cc_plan.specs.Names.{Kind, Pass}
+use Rattle.cc_plan.specs.Names.{Pass}
 use Rattle.cc_plan.specs.Plan.{PlanValue}
 use Rattle.cc_plan.specs.PlanOf.{config_of, plan_of_values, values_of_tree, with_known_passes}
-use Rattle.cc_plan.specs.Position.{column_after}
 use Rattle.cc_plan.specs.Refusal.{Refusal, wrong_shape}
-use Rattle.cc_plan.specs.Why.{kind_in}
 
 -- a claim that doesn't hold
 abbrev pub Refused : Type 0 → Type 0
@@ -30,10 +28,6 @@ abbrev pub with_stranger : PlanValue
 with_stranger = record { version = 1; config = config_of 1 1 1 1 1 1; senders = [] ∷ []; receivers = 0 ∷ []; schedule = (Pass.Sender 2, 1) ∷ [] }
 
 pub record RefusedClaims : Type 0 where
-  -- behind a character of two bytes, alone in its line, comes column 3
-  pub columns_of_bytes : Refused (column_after (195 ∷ 188 ∷ []) ≡ 3)
-  -- an object with one of the two rows of receipts is read as a plan
-  pub receipts_of_both_lists : (rows : Data) → Refused (kind_in (Data.object (Members.member (codes "accepted") rows Members.no_members)) ≡ Kind.Plan)
   -- of two members of one key the first has the value
   pub first_member_counts : Refused (get (codes "life") (Data.object (put (codes "life") Data.null (put (codes "life") (Data.boolean true) Members.no_members))) ≡ Some (Data.boolean true))
   -- the capacity and the bound are out of their ranges, and the bound is reported

@@ -1,20 +1,17 @@
-//! Plans and receipts as they are read, and where an input is refused.
+//! Plans and receipts, and how they are read.
 #![tactic(auto)]
 
 mod clauses;
 mod fault;
-mod place;
 mod plan;
 mod receipts;
 mod tree;
-mod version;
+pub mod version;
 
 pub use clauses::clauses_refuse;
 pub use fault::PlanFault;
-pub use place::{
-    Check, Explained, Found, Kind, Misfit, Place, Stranger, Table, Trail, ValueKind, Wanted,
-    explain, line_and_column,
-};
-pub use plan::{Calls, Plan, read_plan};
-pub use receipts::{Receipts, read_receipts};
-pub use tree::{has_only, is_word, read_json};
+pub use plan::shape::{is_plan_key, named};
+pub use plan::{Calls, Plan, plan_in, read_plan};
+pub use receipts::shape::is_receipts_key;
+pub use receipts::{Receipts, read_receipts, receipts_in};
+pub use tree::{has_only, is_word, parse, read_json};

@@ -1,13 +1,9 @@
 //! The refusal of an input, with its place.
 ghost use Rattle.std.specs.Prelude.{◌≡◌, IfOk};
 ghost use Rattle.serde_json.specs.View.{view};
-ghost use Rattle.cc_plan.specs.Why.{IsDue, IsDueOf, Tells, kind_in, kind_of};
+ghost use Rattle.cc_place.specs.Why.{IsDue, IsDueOf, Tells, kind_in, kind_of};
 
-use crate::fault::PlanFault;
-use crate::plan::plan_in;
-use crate::receipts::receipts_in;
-use crate::tree::parse;
-use crate::version;
+use cc_plan::{PlanFault, parse, plan_in, receipts_in, version};
 use serde_json::Value;
 use std::alloc::{AllocError, Global};
 
@@ -88,7 +84,7 @@ pub struct Explained {
 }
 
 /// Reads an input, as a plan or as receipts, and returns why it is refused, if it is, and the place of that.
-#[tactic(auto, unfolding(crate::specs::PlanOf::plan_of, crate::specs::ReceiptsOf::receipts_of))]
+#[tactic(auto, unfolding(cc_plan::specs::PlanOf::plan_of, cc_plan::specs::ReceiptsOf::receipts_of))]
 pub fn explain(alloc: Global, bytes: &[u8]) -> Result<Explained, AllocError>
     ensures fault { IfOk result (λ why. IsDue (kind_of bytes.now) why.fault bytes.now) }
     ensures kind { IfOk result (λ why. why.table.kind ≡ kind_of bytes.now) }

@@ -1,6 +1,6 @@
 use Rattle.std.proofs.Common.{◌≡◌, ◌+◌, ◌≤◌, take}
-use Rattle.cc_plan.specs.Position.{column_after, line_after}
-use Rattle.cc_plan.proofs.place.position.after.Given as goal
+use Rattle.cc_place.specs.Position.{column_after, line_after}
+use Rattle.cc_place.proofs.place.position.after.Given as goal
 
 abbrev pub invariant-loop-byte : goal.invariant-loop-byte
 invariant-loop-byte l = record {

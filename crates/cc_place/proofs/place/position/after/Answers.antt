@@ -1,7 +1,7 @@
 use Rattle.std.proofs.Common.{◌≤◌, ◌+◌, get_or, sym, subst, arith}
-use Rattle.cc_plan.specs.Position.{begins_character, is_line_feed}
-use Rattle.cc_plan.proofs.Positions.{column_few, column_more, line_more, one_few}
-use Rattle.cc_plan.proofs.place.position.after.Goals as goal
+use Rattle.cc_place.specs.Position.{begins_character, is_line_feed}
+use Rattle.cc_place.proofs.Positions.{column_few, column_more, line_more, one_few}
+use Rattle.cc_place.proofs.place.position.after.Goals as goal
 
 pub loop-byte-preserved : goal.loop-byte-preserved
 loop-byte-preserved c =

@@ -4,11 +4,8 @@ use super::stray::stray;
 use super::walk::{Found, Trail, ValueKind, key_at, root, value_at};
 use super::wanted::{Check, Kind, Table, Wanted, fits_length, keys, wanted_at, wanted_inside};
 use super::{Misfit, Place, Stranger};
-use crate::fault::PlanFault;
-use crate::plan::shape::{is_plan_key, named};
-use crate::receipts::shape::is_receipts_key;
-use crate::tree::{elements, is_word};
 use cc_model::is_within;
+use cc_plan::{PlanFault, is_plan_key, is_receipts_key, is_word, named};
 use json::Scratch;
 use serde_json::{Map, Value};
 use std::alloc::{AllocError, Global};
@@ -202,7 +199,7 @@ fn stranger_place(
 
 /// The length of the array at a key.
 fn length_at(tree: &Value, key: &str) -> usize {
-    tree.get(key).and_then(elements).map_or(0, <[Value]>::len)
+    tree.get(key).and_then(Value::as_array).map_or(0, Vec::len)
 }
 
 /// The place at which an input is no JSON; none of one that is too long.

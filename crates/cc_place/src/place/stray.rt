@@ -3,7 +3,7 @@ ghost use Rattle.std.specs.Prelude.{◌≡◌, IfOk, is_some};
 ghost use Rattle.cc_plan.specs.Json.{json_of};
 
 use super::walk::{MAX_DEPTH, is_space, sign_before, trimmed};
-use crate::tree::read_json;
+use cc_plan::read_json;
 use json::{Reader, Scratch, Token};
 use std::alloc::{AllocError, Global};
 

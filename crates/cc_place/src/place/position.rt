@@ -1,6 +1,6 @@
 //! The line and the column of a place in a text.
 ghost use Rattle.std.specs.Prelude.{◌≡◌, ◌+◌, ◌<◌, ◌^◌, take, if◌then◌else◌};
-ghost use Rattle.cc_plan.specs.Position.{begins_character, column_after, is_line_feed, line_after};
+ghost use Rattle.cc_place.specs.Position.{begins_character, column_after, is_line_feed, line_after};
 
 /// The line and the column of the byte at a place, both from 1: a line ends with a line feed, and a column is a character.
 pub fn line_and_column(text: &[u8], place: usize) -> (usize, usize)

@@ -2,7 +2,7 @@
 use Rattle.std.proofs.Common.{◌≡◌, ℕ, ◌+◌, ◌++◌, ◌<◌, ◌≤◌, ◌||◌, Bool, true, false, List, [], ◌∷◌, length, take, get_or, if◌then◌else◌, refl, ap, ◌∙◌, arith}
 use Rattle.std.proofs.lemmas.List.{take_more}
 use Rattle.std.specs.List.{list_any}
-use Rattle.cc_plan.specs.Position.{begins_character, column_after, count, is_line_feed, last_line, line_after}
+use Rattle.cc_place.specs.Position.{begins_character, column_after, count, is_line_feed, last_line, line_after}
 
 abbrev pub one : Bool → ℕ
 one b = if b then 1 else 0

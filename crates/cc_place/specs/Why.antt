@@ -6,7 +6,7 @@ use Rattle.cc_plan.specs.Answers.{Refuses}
 use Rattle.cc_plan.specs.PlanOf.{plan_of, plan_of_tree}
 use Rattle.cc_plan.specs.ReceiptsOf.{receipts_of, receipts_of_tree}
 use Rattle.cc_plan.specs.Refusal.{Refusal, tree_of}
-use Rattle.cc_plan.specs.Names.{PlanFault, Kind}
+use Rattle.cc_place.specs.Names.{PlanFault, Kind}
 
 -- ---- what an input is read as
 

@@ -1,0 +1,4 @@
+pub mod Names
+pub mod Why
+pub mod Position
+pub mod Refused
