@@ -37,7 +37,7 @@ pub fn ask_processor() -> u32 {
 /// thread gets it; Linux gives them about 3.
 ///
 /// A call is long if the thread that serves its side loses its processor. With this fewer do: of 16 senders one send of
-/// 10,000 takes some ten microseconds or more, and not some milliseconds (`docs/BENCH.md`). Others pay for it: a thread
+/// 10,000 takes some twenty microseconds or more, and not some hundred (`docs/BENCH.md`). Others pay for it: a thread
 /// that gets ready on such a processor, another program's too, may wait up to 12 milliseconds for it. No call of the
 /// crate asks for it by itself. It needs Linux 6.12 or later, and no privilege.
 ///
