@@ -94,6 +94,10 @@ struct Seat {
     pass: UnsafeCell<QueueHandle>,
 }
 
+/// With seats of two lines an item takes 1.25 times as long at 1/1.
+#[cfg(not(feature = "unproved"))]
+const _: () = assert!(size_of::<Seat>() == 64);
+
 // SAFETY: `pass` is reached by the holder of the seat alone ([`SeatGuard`]), and there is one at a time:
 // whoever exchanges `FREE` in `held`, until that is stored there again. Threads so have the pass one after
 // another, each with what the one before it did, by an acquire and a release; which is to send it from
