@@ -64,8 +64,8 @@ impl Handle {
     }
 
     /// No call of this queue waits.
-    pub fn wait_for_send(&mut self, _served: impl Served) -> u32 {
-        code::WAITING
+    pub fn wait_for_send(&mut self, served: impl Served) -> u32 {
+        served.wait(|| unreachable!("a call of this queue doesn't wait"))
     }
 
     fn try_send(&mut self, words: &Words) -> u32 {
@@ -123,8 +123,8 @@ impl Handle {
     }
 
     /// No call of this queue waits.
-    pub fn wait_for_take(&mut self, _item: &mut Taken, _served: impl Served) -> u32 {
-        code::WAITING
+    pub fn wait_for_take(&mut self, _item: &mut Taken, served: impl Served) -> u32 {
+        self.wait_for_send(served)
     }
 
     /// Closes the queue. Returns whether it was open.
