@@ -384,7 +384,6 @@ static inline void note_processor(call_seat *seat, uint32_t processor) {
 /* Whether the thread of another seat was last on this thread's processor. It may have been preempted, and then needs
  * that. */
 static bool is_beside_another(const vahepito_queue *queue, const call_seat *own) {
-    if (!VAHEPITO_PROCESSORS) return false;
     ask_processor();
     const uint32_t here = thread_processor;
     for (const call_seat *seat = queue->seats; here != 0 && seat < &queue->seats[queue->places]; seat++)
@@ -424,23 +423,26 @@ static void park_for_end(const served_wait *backoff, uint32_t ended) {
 
 /* After a look that found nothing. */
 static void end_look(served_wait *backoff, uint32_t ended) {
-    if (backoff->is_over) park_for_end(backoff, ended);
-    else
-        backoff->is_over = !pass_time(&backoff->time, VAHEPITO_SERVED_TIME, 0) ||
-                           (backoff->time.spent >= OF_A_CALL && is_beside_another(backoff->queue, backoff->seat));
+    if (backoff->is_over) {
+        park_for_end(backoff, ended);
+    } else {
+        const bool is_spent = !pass_time(&backoff->time, VAHEPITO_SERVED_TIME, 0);
+        const bool is_late = backoff->time.spent >= OF_A_CALL;
+        backoff->is_over = is_spent || (is_late && is_beside_another(backoff->queue, backoff->seat));
+    }
 }
 
 /* Makes a call, whose code is `code`, again and again while `again` holds, and passes the time in between. The call is
  * in this seat; with NULL it waits for one. */
-#define CALL_WHILE(queue, seat, code, call, again)                     \
-    do {                                                               \
+#define CALL_WHILE(queue, seat, code, call, again)                       \
+    do {                                                                 \
         served_wait backoff = {queue, seat, {0, FIRST_PAUSE, 0}, false}; \
-        for (;;) {                                                     \
-            const uint32_t ended = begin_look(&backoff);               \
-            code = call;                                               \
-            if (!(again)) break;                                       \
-            end_look(&backoff, ended);                                 \
-        }                                                              \
+        for (;;) {                                                       \
+            const uint32_t ended = begin_look(&backoff);                 \
+            code = call;                                                 \
+            if (!(again)) break;                                         \
+            end_look(&backoff, ended);                                   \
+        }                                                                \
     } while (0)
 
 /* What a seat says that is taken stays. */

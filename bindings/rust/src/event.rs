@@ -139,17 +139,17 @@ pub trait Served {
     fn wait<R>(self, turn: impl FnMut() -> Option<R>) -> R;
 }
 
-/// What a thread knows of its side, and says of itself, while it waits.
-pub trait Side {
-    /// Whether it parks now: another thread of the side may need its processor.
+/// When a thread that waits parks, and what it says of that.
+pub trait Parks {
+    /// Whether it parks now: another thread of its side may need its processor.
     fn parks_now(&self) -> bool;
 
     /// It parks, or it runs again.
     fn note_park(&self, parks: bool);
 }
 
-/// Nothing is known.
-impl Side for () {
+/// A thread that parks when its time to spin is over, and says nothing of that.
+impl Parks for () {
     fn parks_now(&self) -> bool {
         false
     }
@@ -387,18 +387,15 @@ pub fn poll_until<R>(until: Option<Instant>, mut poll: impl FnMut(&Waker) -> Pol
     })
 }
 
-/// Tries until it is done, as a thread of this side. It tries again each millisecond at the latest, since a
-/// notification may be missed.
+/// Tries until it is done. It tries again each millisecond at the latest, since a notification may be missed.
 pub fn wait_without_end<R>(
     event: &Event,
     before: &Wait,
-    side: &dyn Side,
+    parks: &dyn Parks,
     mut attempt: impl FnMut() -> Option<R>,
 ) -> R {
-    let mut done = None;
-    let again = || attempt().ok_or_else(Again::soon);
-    wait_in_line(event, before, None, side, &mut keep(&mut done, again));
-    done.expect("it waits without end")
+    let attempt = || attempt().ok_or_else(Again::soon);
+    wait(event, before, None, parks, attempt).expect("it waits without end")
 }
 
 /// Tries until it is done, or until this moment: then None. After this wait it parks, and waits for notifications
@@ -407,19 +404,15 @@ pub fn wait<R>(
     event: &Event,
     before: &Wait,
     until: Option<Instant>,
-    attempt: impl FnMut() -> Try<R>,
+    parks: &dyn Parks,
+    mut attempt: impl FnMut() -> Try<R>,
 ) -> Option<R> {
     let mut done = None;
-    wait_in_line(event, before, until, &(), &mut keep(&mut done, attempt))?;
-    done
-}
-
-/// These tries, which put the result here.
-fn keep<R>(done: &mut Option<R>, mut attempt: impl FnMut() -> Try<R>) -> impl FnMut() -> Try<()> {
-    move || {
-        *done = Some(attempt()?);
+    wait_in_line(event, before, until, parks, &mut || {
+        done = Some(attempt()?);
         Ok(())
-    }
+    })?;
+    done
 }
 
 /// The same, compiled once for all attempts.
@@ -428,10 +421,10 @@ fn wait_in_line(
     event: &Event,
     before: &Wait,
     until: Option<Instant>,
-    side: &dyn Side,
+    parks: &dyn Parks,
     attempt: &mut dyn FnMut() -> Try<()>,
 ) -> Option<()> {
-    if let Some(done) = before.try_unless(|| side.parks_now(), until, || attempt().ok()) {
+    if let Some(done) = before.try_unless(|| parks.parks_now(), until, || attempt().ok()) {
         return Some(done);
     }
     Parker::with(|parker| {
@@ -446,9 +439,9 @@ fn wait_in_line(
                     return Some(done);
                 }
                 Err(again) => {
-                    side.note_park(true);
+                    parks.note_park(true);
                     parker.park(again.before(until));
-                    side.note_park(false);
+                    parks.note_park(false);
                 }
             }
             event.leave(ticket, &mut Panics::default());

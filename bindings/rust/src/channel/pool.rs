@@ -13,9 +13,9 @@
 #![allow(unsafe_code)]
 
 use crate::backoff::{Contention, FOR_A_LOOK, FOR_OWN_SIDE};
-use crate::event::{Apart, Event, Panics, Served, Side, lock, wait_without_end};
+use crate::event::{Apart, Event, Panics, Parks, Served, lock, wait_without_end};
 use crate::queue::handle::{Handle, NO_ITEM, Taken, Word, code, word_of};
-use crate::scheduler::{KNOWS_PROCESSORS, ask_processor, last_processor};
+use crate::scheduler::{ask_processor, last_processor};
 use std::cell::{Cell, UnsafeCell};
 use std::mem::ManuallyDrop;
 use std::sync::atomic::{AtomicBool, AtomicU16, AtomicU32, AtomicU64, AtomicUsize, Ordering};
@@ -277,7 +277,7 @@ impl Served for InSeat<'_> {
     }
 }
 
-impl Side for InSeat<'_> {
+impl Parks for InSeat<'_> {
     fn parks_now(&self) -> bool {
         self.pool
             .is_beside_holder(|it| it.number != self.seat.number)
@@ -290,7 +290,7 @@ impl Side for InSeat<'_> {
 }
 
 /// A thread that has no seat.
-impl Side for Pool {
+impl Parks for Pool {
     fn parks_now(&self) -> bool {
         self.is_beside_holder(|_| true)
     }
@@ -525,10 +525,9 @@ impl Pool {
 
     /// Whether the holder of such a seat was last on this thread's processor.
     fn is_beside_holder(&self, is_such: impl Fn(&Seat) -> bool) -> bool {
-        KNOWS_PROCESSORS && ask_processor() != 0 && {
-            let beside = |it: &Seat| it.held.load(Ordering::Relaxed) == holder() && is_such(it);
-            self.seats().any(beside)
-        }
+        let is_known = ask_processor() != 0;
+        let is_beside = |it: &Seat| it.held.load(Ordering::Relaxed) == holder() && is_such(it);
+        is_known && self.seats().any(is_beside)
     }
 
     /// Acquires each seat that is free.
@@ -589,7 +588,7 @@ impl Pool {
 mod tests {
     use super::{FREE, HELD, Pool, QueueHandle, Seat};
     use crate::backoff::FOR_OWN_SIDE;
-    use crate::event::Side;
+    use crate::event::Parks;
     use crate::queue::handle::Handle;
     use crate::scheduler::{KNOWS_PROCESSORS, ask_processor};
     use std::sync::atomic::Ordering;

@@ -46,7 +46,7 @@ impl Source {
                 Some(rendezvous) => core.meet_to_take(rendezvous, until),
                 None => core.wait(group, until, attempt),
             },
-            Case::Timer(timer) => wait(&timer.line, &FOR_OTHERS, until, attempt),
+            Case::Timer(timer) => wait(&timer.line, &FOR_OTHERS, until, &(), attempt),
         };
         let taken = taken.ok_or(RecvTimeoutError::Timeout)?;
         taken.ok_or(RecvTimeoutError::Disconnected)

@@ -144,7 +144,7 @@ impl Core {
         }
         let (begin, passed) = (Instant::now(), other.count());
         let before_park = for_others(own.is_slow.load(Ordering::Relaxed));
-        let done = wait(&own.line, before_park, until, attempt);
+        let done = wait(&own.line, before_park, until, &(), attempt);
         own.note_wait(begin.elapsed(), other.count() - passed);
         done
     }
