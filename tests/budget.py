@@ -2,15 +2,15 @@
 """Whether the gate stays within its price: the processor seconds of its parts, and the limit of CONTRIBUTING.md.
 
 Usage: tests/budget.py --yard           prints the time, and the processor seconds of a fixed piece of work, now
-       tests/budget.py --yards          prints them now, and again every ten minutes until it is killed
+       tests/budget.py --yards          prints them now, and again every four minutes until it is killed
        tests/budget.py PARTS YARDS      compares: PARTS has a line `SECONDS END NAME` for each part, one after another,
                                         YARDS the lines of --yards
 
 The piece of work is the proof of the toolchain's own template of a library, from nothing. CONTRIBUTING.md has the
 limit, in processor minutes, and the seconds that this work takes on the host of its table. A part counts less on a
-slower host, by as much as the work took longer while the part ran: by the mean of what was measured then, or else by
-what was measured nearest to it. For a host's speed changes with its load, and four proofs at once are another load than
-one test. The exit status is 0 if the sum of all parts is within the limit, and 127 if there is no git or rt to measure.
+slower host, by as much as the host was slower while the part ran: by the mean of the speeds that were measured then, or
+else by the speed that was measured nearest to it. For a host's speed changes with its load, and four proofs at once are
+another load than one test. The exit status is 0 if the sum of all parts is within the limit, and 127 if there is no git or rt to measure.
 """
 
 import os
@@ -29,7 +29,7 @@ TOP = Path(__file__).resolve().parent.parent
 LIMIT = re.compile(r"\*\*The limit is (\d+) processor minutes\*\*, on a host on which `tests/budget\.py --yard` "
                    r"prints (\d+\.\d)")
 SHOWN = 12  # the costliest parts, each on a line of its own
-PAUSE = 600  # seconds between two measurements of --yards
+PAUSE = 240  # seconds between two measurements of --yards
 
 
 def yard() -> float:
@@ -64,12 +64,12 @@ def print_yards() -> None:
         time.sleep(PAUSE)
 
 
-def yard_between(yards: list[tuple[float, float]], start: float, end: float) -> float:
-    """What the work took between these times: the mean, or of none the nearest."""
-    within = [seconds for at, seconds in yards if start <= at <= end]
+def speed_between(yards: list[tuple[float, float]], start: float, end: float) -> float:
+    """How often the host does the work in a second, between these times: the mean, or of none the nearest."""
+    within = [1 / seconds for at, seconds in yards if start <= at <= end]
     if within:
         return sum(within) / len(within)
-    return min(yards, key=lambda it: abs(it[0] - (start + end) / 2))[1]
+    return 1 / min(yards, key=lambda it: abs(it[0] - (start + end) / 2))[1]
 
 
 def verdict(parts: list[tuple[float, float, str]], yards: list[tuple[float, float]], text: str) -> tuple[list[str],
@@ -81,7 +81,7 @@ def verdict(parts: list[tuple[float, float, str]], yards: list[tuple[float, floa
         return ["budget: CONTRIBUTING.md has no limit, or nothing was measured"], False
     minutes, there = int(found[1]), float(found[2])
     starts = [parts[0][1], *(end for _, end, _ in parts)]
-    counted = [seconds * there / yard_between(yards, start, end) for start, (seconds, end, _) in zip(starts, parts)]
+    counted = [seconds * there * speed_between(yards, start, end) for start, (seconds, end, _) in zip(starts, parts)]
     spent, price = sum(seconds for seconds, _, _ in parts) / 60, sum(counted) / 60
     said = [f"budget: {seconds:8.1f} s, counted as {as_there:8.1f} s  {name}"
             for as_there, (seconds, _, name) in sorted(zip(counted, parts), reverse=True)[:SHOWN]]
