@@ -161,26 +161,31 @@ fn make(calls: &[Call], call: usize, models: &mut [Model; 2]) -> Option<u128> {
 
 /// Whether there is such an order.
 fn is_linear(calls: &[Call], start: [Model; 2]) -> bool {
-    let (all, mut seen) = ((1_u128 << calls.len()) - 1, HashSet::new());
-    let mut left = vec![(0, start)];
-    while let Some((made, models)) = left.pop() {
-        if made == all {
-            return true;
-        }
-        if !seen.insert((made, models.clone())) {
-            continue;
-        }
-        let rest = (0..calls.len()).filter(|call| made & 1 << call == 0);
-        let first_end = rest.clone().map(|call| calls[call].1).min();
-        let ready = rest.filter(|&call| Some(calls[call].0) < first_end);
-        let may_be = ready.clone().fold(0, |all, call| all | 1 << call);
-        for call in ready {
-            let mut next = models.clone();
-            let now = make(calls, call, &mut next).filter(|now| now & !may_be == 0);
-            left.extend(now.map(|now| (made | now, next)));
-        }
+    rest_is_linear(calls, 0, start, &mut HashSet::new())
+}
+
+/// Whether there is one of the other calls, when these are made and the channels are so. A state that was seen
+/// before has none.
+fn rest_is_linear(
+    calls: &[Call],
+    made: u128,
+    models: [Model; 2],
+    seen: &mut HashSet<(u128, [Model; 2])>,
+) -> bool {
+    let rest = (0..calls.len()).filter(|call| made & 1 << call == 0);
+    let Some(first_end) = rest.clone().map(|call| calls[call].1).min() else {
+        return true;
+    };
+    if !seen.insert((made, models.clone())) {
+        return false;
     }
-    false
+    let ready = rest.filter(|&call| calls[call].0 < first_end);
+    let may_be = ready.clone().fold(0, |all, call| all | 1 << call);
+    ready.clone().any(|call| {
+        let mut next = models.clone();
+        let now = make(calls, call, &mut next).filter(|now| now & !may_be == 0);
+        now.is_some_and(|now| rest_is_linear(calls, made | now, next, seen))
+    })
 }
 
 fn sends(sender: &Sender<u32>, item: u32, time: Option<Duration>) -> Outcome {
