@@ -1263,6 +1263,8 @@ static void make(struct move move) {
     else take_effect(&raws[move.number / PLACES / SIDES], move.number / PLACES % SIDES, pending_at(move.number));
 }
 
+static size_t most_states; /* of a model that the search visits */
+
 /* Searches the states that follow this one, if it is new. */
 static void explore(void) {
     struct move moves[PROCESSES * PROCESSES];
@@ -1281,6 +1283,7 @@ static void explore(void) {
         if (place->other & 1) fault = "the processes make steps forever";
         return;
     }
+    if (state_count == most_states) return;
     *place_of(it) = (struct seen){it.one, it.other | 1};
     state_count++;
     saved_size += size;
@@ -1296,8 +1299,8 @@ static void explore(void) {
     place_of(it)->other &= ~UINT64_C(1);
 }
 
-/* Searches all states of a model. Returns whether one is wrong. */
-static bool search(const struct model *it) {
+/* Searches all states of a model, or only its first ones. Returns whether one is wrong. */
+static bool search(const struct model *it, size_t most) {
     vahepito_attributes attributes = VAHEPITO_ATTRIBUTES;
     model = it;
     memset(&world, 0, sizeof world);
@@ -1311,6 +1314,7 @@ static bool search(const struct model *it) {
     memset(memory, 0, sizeof memory);
     memset(stacks, 0, sizeof stacks);
     memset(seen, 0, seen_room * sizeof *seen);
+    most_states = most;
     state_count = saved_size = depth = 0;
     fault = NULL;
     attributes.capacity = it->capacity, attributes.groups = it->groups, attributes.places = it->places,
@@ -1386,21 +1390,25 @@ int main(int count, char **words) {
     const char *const word = count > 1 ? words[1] : "";
     const bool faults = strcmp(word, "--faults") == 0, few = strcmp(word, "--few") == 0,
                sizes = strcmp(word, "--sizes") == 0;
+    /* Most faults are near the first states of some model. */
+    static const size_t most[] = {4000, 32000, SIZE_MAX};
+    enum { ROUNDS = sizeof most / sizeof *most };
+    const size_t models_count = few ? FEW : sizeof models / sizeof *models;
     size_t all = 0;
     if (faults && count > 2) wanted = words[2];
     has_rules = !faults || wanted;
     grow();
-    for (size_t at = 0; at < (few ? FEW : sizeof models / sizeof *models); at++) {
-        const bool found = search(&models[at]);
-        all += state_count;
-        if (sizes || (found && !faults))
-            fprintf(stderr, "%s: %zu states\n", model->calls, state_count);
-        if (!found || (wanted && strcmp(fault, wanted) != 0)) continue;
-        if (faults) return printf("%s: %s\n", model->calls, fault) < 0;
-        fprintf(stderr, "%s, after these steps:\n", fault);
-        print_path();
-        return 1;
-    }
+    for (size_t round = faults ? 0 : ROUNDS - 1; round < ROUNDS; round++)
+        for (size_t at = 0; at < models_count; at++) {
+            const bool found = search(&models[at], most[round]);
+            all += state_count;
+            if (sizes || (found && !faults)) fprintf(stderr, "%s: %zu states\n", model->calls, state_count);
+            if (!found || (wanted && strcmp(fault, wanted) != 0)) continue;
+            if (faults) return printf("%s: %s\n", model->calls, fault) < 0;
+            fprintf(stderr, "%s, after these steps:\n", fault);
+            print_path();
+            return 1;
+        }
     if (faults) return 1;
     printf("the row is one queue\n");
     return all > 1000 ? 0 : 1;
