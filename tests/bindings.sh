@@ -51,17 +51,24 @@ fi
 # A search over the interleavings of a model calls nothing: once is enough.
 searches=(--skip interleaving --skip the_search)
 chosen=(--tests)
+# The tests in src search for orders of many recorded calls. Optimized they take a third of the time, compiling included.
+level=1
 # Without valgrind and the rest no lines are needed.
 if [ -n "$quick" ]; then
     export VAHEPITO_ROUNDS=${VAHEPITO_ROUNDS:-5} CARGO_PROFILE_DEV_DEBUG=none
     chosen=(--test threads --test hand_over)
+    level=0
 fi
-limit=600 step 'Rust: tests' cargo "${options[@]}" test
+in_src=(env "CARGO_PROFILE_TEST_OPT_LEVEL=$level" cargo "${options[@]}" test --lib)
+beside_src=(cargo "${options[@]}" test --test '*')
+limit=600 step 'Rust: tests in src' "${in_src[@]}"
+limit=600 step 'Rust: tests beside src' "${beside_src[@]}"
+step 'Rust: tests in the documentation' cargo "${options[@]}" test --doc
 limit=600 step 'Rust: tests with the feature strict' env CARGO_PROFILE_DEV_DEBUG=none "VAHEPITO_ROUNDS=${VAHEPITO_ROUNDS:-25}" cargo "${options[@]}" test "${chosen[@]}" --features strict -- "${searches[@]}"
 limit=600 step 'Rust: tests with the feature unproved' env CARGO_PROFILE_DEV_DEBUG=none "VAHEPITO_ROUNDS=${VAHEPITO_ROUNDS:-5}" cargo "${options[@]}" test "${chosen[@]}" --features unproved -- "${searches[@]}"
 mkdir "$room/logs"
 step 'Rust: calls over tiny queues and rows are recorded' env "VAHEPITO_LOGS=$room/logs" \
-    "VAHEPITO_ROUNDS=${VAHEPITO_ROUNDS:-50}" cargo "${options[@]}" test --lib judged -- --ignored
+    "VAHEPITO_ROUNDS=${VAHEPITO_ROUNDS:-50}" "${in_src[@]}" judged -- --ignored
 step 'Rust: the recorded calls are judged' "$top/tests/judged_rows.py" "$room/logs"
 step 'Rust: the recorder' cargo "${options[@]}" test --manifest-path record/Cargo.toml
 step 'Rust: the recorder with stops' cargo "${options[@]}" test --manifest-path record/Cargo.toml --all-features --lib
@@ -111,8 +118,9 @@ host=$(rustc -vV | sed -n 's/^host: //p')
 if has valgrind; then
     lost='definite,indirect'
     valgrind="valgrind -q --fair-sched=yes --error-exitcode=99 --leak-check=full --show-leak-kinds=$lost --errors-for-leak-kinds=$lost"
-    limit=600 step 'Rust: under valgrind' env "CARGO_TARGET_$(tr 'a-z-' 'A-Z_' <<<"$host")_RUNNER=$valgrind" \
-        VAHEPITO_ROUNDS=1 cargo "${options[@]}" test --tests -- "${fewer[@]}"
+    under=("CARGO_TARGET_$(tr 'a-z-' 'A-Z_' <<<"$host")_RUNNER=$valgrind" VAHEPITO_ROUNDS=1)
+    limit=600 step 'Rust: tests in src under valgrind' env "${under[@]}" "${in_src[@]}" -- "${fewer[@]}"
+    limit=600 step 'Rust: tests beside src under valgrind' env "${under[@]}" "${beside_src[@]}" -- "${fewer[@]}"
 else
     skip 'Rust: under valgrind' 'valgrind is not on this machine'
 fi
