@@ -2,7 +2,7 @@
 """Whether the gate stays within its price: the processor seconds of its parts, and the limit of CONTRIBUTING.md.
 
 Usage: tests/budget.py --yard           prints the time, and the processor seconds of a fixed piece of work, now
-       tests/budget.py --yards          prints them now, and again every four minutes until it is killed
+       tests/budget.py --yards          prints them now, and again every five minutes until it is killed
        tests/budget.py PARTS YARDS      compares: PARTS has a line `SECONDS END NAME` for each part, one after another,
                                         YARDS the lines of --yards
 
@@ -29,7 +29,7 @@ TOP = Path(__file__).resolve().parent.parent
 LIMIT = re.compile(r"\*\*The limit is (\d+) processor minutes\*\*, on a host on which `tests/budget\.py --yard` "
                    r"prints (\d+\.\d)")
 SHOWN = 12  # the costliest parts, each on a line of its own
-PAUSE = 240  # seconds between two measurements of --yards
+PAUSE = 300  # seconds between two measurements of --yards
 
 
 def yard() -> float:
