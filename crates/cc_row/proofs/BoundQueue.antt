@@ -23,10 +23,10 @@ use Rattle.cc_runs.proofs.ChainLaws.{out_rank, chain_laws}
 use Rattle.cc_runs.proofs.Chains.Frame.{hold_here, hold_apart}
 use Rattle.cc_runs.proofs.Chains.Others.{IsOther, side_other}
 use Rattle.cc_runs.proofs.Chains.Serving.{Chains, chains_hold, sending_where}
-use Rattle.cc_runs.proofs.Chains.Ties.{Holds}
+use Rattle.cc_runs.proofs.Chains.Ties.{ghost_of, Holds}
 use Rattle.cc_runs.proofs.Chains.View.{pass_on, post_at}
 use Rattle.cc_runs.proofs.ListRuns.Facts.{lists}
-use Rattle.cc_runs.proofs.ListRuns.Runs.{Whole}
+use Rattle.cc_runs.proofs.ListRuns.Runs.{AfterRun}
 use Rattle.cc_runs.proofs.ListRuns.FromChains.{after_runs, of_setting}
 use Rattle.cc_runs.proofs.Counts.State.{Late, late_at, either_count, count_now}
 use Rattle.cc_row.specs.Names.{Config, Call, Entry, Answer, SendAnswer, Chain, Setting, Served, Move}
@@ -205,8 +205,8 @@ module _ (c : Config) (checked : config_fault c ≡ Ok tt) (moves : List Move) (
   ch : Chains (lists c) (reached (lists c) moves)
   ch = chains_hold (lists c) (in_range c checked).bound.0 moves run
 
-  whole : Whole c (reached (lists c) moves)
-  whole = (after_runs c (in_range c checked) moves run).whole
+  whole : AfterRun c moves
+  whole = after_runs c (in_range c checked) moves run
 
   never : (p : ℕ) (job : Job) (service : Sending) → (t.stand p).phase ≡ Phase.Sending job service → ⊥
   never p job service stands = grind (
@@ -236,15 +236,15 @@ idle_counted c serves checked moves run idle =
 pub idle_answered : (c : Setting) → config_fault c.config ≡ Ok tt → (moves : List Move) → IsRun c moves → Nobody c (reached c moves) → length (reached c moves).history.sends.calls ≤ length (reached c moves).history.sends.answers
 idle_answered c checked moves run idle =
     let w : Holds c Chain.Send (reached c moves) = (chains_hold c (in_range c.config checked).bound.0 moves run).holds Chain.Send tt in
-    elim (cases_lt w.ghost.marked w.ghost.calls) [
+    elim (cases_lt (ghost_of w).marked (ghost_of w).calls) [
       | inl some ↦
-          let n : ℕ = w.ghost.pass_of w.ghost.marked in
-          let rank : 3 ≤ (post_at Chain.Send ((reached c moves).stand (pass_on c Chain.Send (w.ghost.pass_of w.ghost.marked)))).rank = w.inv.calls.open_low w.ghost.marked (omega arith) some in
-          let low : (post_at Chain.Send ((reached c moves).stand (pass_on c Chain.Send (w.ghost.pass_of w.ghost.marked)))).rank ≤ 2 =
-          out_rank Chain.Send ((reached c moves).stand (pass_on c Chain.Send (w.ghost.pass_of w.ghost.marked))).node ((reached c moves).stand (pass_on c Chain.Send (w.ghost.pass_of w.ghost.marked))).phase
-          (is_out ((reached c moves).stand (pass_on c Chain.Send (w.ghost.pass_of w.ghost.marked))).phase (idle (pass_on c Chain.Send (w.ghost.pass_of w.ghost.marked)) (on_send c (w.ghost.pass_of w.ghost.marked) (w.ties.pass_in w.ghost.marked some)))) in
+          let n : ℕ = (ghost_of w).pass_of (ghost_of w).marked in
+          let rank : 3 ≤ (post_at Chain.Send ((reached c moves).stand (pass_on c Chain.Send ((ghost_of w).pass_of (ghost_of w).marked)))).rank = w.inv.calls.open_low (ghost_of w).marked (omega arith) some in
+          let low : (post_at Chain.Send ((reached c moves).stand (pass_on c Chain.Send ((ghost_of w).pass_of (ghost_of w).marked)))).rank ≤ 2 =
+          out_rank Chain.Send ((reached c moves).stand (pass_on c Chain.Send ((ghost_of w).pass_of (ghost_of w).marked))).node ((reached c moves).stand (pass_on c Chain.Send ((ghost_of w).pass_of (ghost_of w).marked))).phase
+          (is_out ((reached c moves).stand (pass_on c Chain.Send ((ghost_of w).pass_of (ghost_of w).marked))).phase (idle (pass_on c Chain.Send ((ghost_of w).pass_of (ghost_of w).marked)) (on_send c ((ghost_of w).pass_of (ghost_of w).marked) (w.ties.pass_in (ghost_of w).marked some)))) in
           absurd (omega (arith, rank, low))
-      | inr all ↦ omega (arith, all, w.ties.calls_are, w.ties.answers_are, w.inv.calls.in_order)
+      | inr all ↦ omega (arith, all, w.inv.calls.in_order)
     ]
   where
     is_out : (at : Phase) → IsIdle at → IsOut at

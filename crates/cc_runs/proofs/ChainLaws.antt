@@ -22,7 +22,7 @@ use Rattle.cc_runs.proofs.Chains.View.{view, pass_on, post_of, post_at, serving,
 use Rattle.cc_runs.proofs.Chains.Frame.{answer_first}
 use Rattle.cc_runs.proofs.Chains.Registers.{IsChain, call_at, answer_at, no_call, no_answer, OnTake, IsAnswer, HasRead, coded_words, tag_word, words_told, IsChainOf}
 use Rattle.cc_runs.proofs.Chains.Facts.{own_node, some_words, coded_first, got_item}
-use Rattle.cc_runs.proofs.Chains.Ties.{Holds}
+use Rattle.cc_runs.proofs.Chains.Ties.{ghost_of, Holds}
 use Rattle.cc_runs.proofs.Chains.Others.{IsOn}
 use Rattle.cc_runs.proofs.Chains.Safe as safe
 use Rattle.cc_runs.proofs.Chains.Read as read
@@ -142,34 +142,34 @@ module _ (c : Setting) (r : InRange c.config) (s : State) (k : Chains c s) (x : 
   serves_at at e = grind (arith, serves_next, serves_send)
 
   -- the word of its answer that the pass reads next
-  its_read : (at : Phase) → Here at → HasRead c.served x (answer_at (answers_on x s.history) ((k.holds x ok).ghost.at on.number)) at
-  its_read at e = subst (λ (z : Stand). HasRead c.served x (answer_at (answers_on x s.history) ((k.holds x ok).ghost.at on.number)) z.phase) (there at e) ((k.holds x ok).ties.read on.number on.inside)
+  its_read : (at : Phase) → Here at → HasRead c.served x (answer_at (answers_on x s.history) ((ghost_of (k.holds x ok)).at on.number)) at
+  its_read at e = subst (λ (z : Stand). HasRead c.served x (answer_at (answers_on x s.history) ((ghost_of (k.holds x ok)).at on.number)) z.phase) (there at e) ((k.holds x ok).ties.read on.number on.inside)
 
-  word_of_it : (at : Phase) (j : ℕ) → Here at → IsReading at → j < answer_long (answer_at (answers_on x s.history) ((k.holds x ok).ghost.at on.number)) →
-      answer_words x (λ (f : NodeField). s.mem (Word.Node x own f)) j ≡ coded_words c.served x (answer_at (answers_on x s.history) ((k.holds x ok).ghost.at on.number)) j
+  word_of_it : (at : Phase) (j : ℕ) → Here at → IsReading at → j < answer_long (answer_at (answers_on x s.history) ((ghost_of (k.holds x ok)).at on.number)) →
+      answer_words x (λ (f : NodeField). s.mem (Word.Node x own f)) j ≡ coded_words c.served x (answer_at (answers_on x s.history) ((ghost_of (k.holds x ok)).at on.number)) j
   word_of_it at j e reading less = read.word_at c x ok r.bound.0 s on.number (s.stand p).begun own on.inside (k.holds x ok) at j (there at e) (reading_post x own at reading) less
 
-  reads_word : (at : Phase) → Here at → IsReading at → IsAnswer c.served x (answer_at (answers_on x s.history) ((k.holds x ok).ghost.at on.number)) →
-      ReadsWord c.served s x own (answer_at (answers_on x s.history) ((k.holds x ok).ghost.at on.number)) at
+  reads_word : (at : Phase) → Here at → IsReading at → IsAnswer c.served x (answer_at (answers_on x s.history) ((ghost_of (k.holds x ok)).at on.number)) →
+      ReadsWord c.served s x own (answer_at (answers_on x s.history) ((ghost_of (k.holds x ok)).at on.number)) at
   reads_word Phase.ReadAnswer e reading sided =
-      sym (answer_first x (λ (f : NodeField). s.mem (Word.Node x own f))) ∙ word_of_it Phase.ReadAnswer 0 e tt (omega (arith, some_words (answer_at (answers_on x s.history) ((k.holds x ok).ghost.at on.number))))
-      ∙ coded_first c.served x (answer_at (answers_on x s.history) ((k.holds x ok).ghost.at on.number))
+      sym (answer_first x (λ (f : NodeField). s.mem (Word.Node x own f))) ∙ word_of_it Phase.ReadAnswer 0 e tt (omega (arith, some_words (answer_at (answers_on x s.history) ((ghost_of (k.holds x ok)).at on.number))))
+      ∙ coded_first c.served x (answer_at (answers_on x s.history) ((ghost_of (k.holds x ok)).at on.number))
   reads_word (Phase.ReadAnswerTag at) e reading sided =
-      let item = item_read c.served x (answer_at (answers_on x s.history) ((k.holds x ok).ghost.at on.number)) _ sided (its_read (Phase.ReadAnswerTag at) e) (λ h. h.0) in
-      let long : answer_long (answer_at (answers_on x s.history) ((k.holds x ok).ghost.at on.number)) ≡ further_words (tag_of item.0) + 3 = ap answer_long item.1 in (
+      let item = item_read c.served x (answer_at (answers_on x s.history) ((ghost_of (k.holds x ok)).at on.number)) _ sided (its_read (Phase.ReadAnswerTag at) e) (λ h. h.0) in
+      let long : answer_long (answer_at (answers_on x s.history) ((ghost_of (k.holds x ok)).at on.number)) ≡ further_words (tag_of item.0) + 3 = ap answer_long item.1 in (
         item.0,
         item.1,
-        tag_read c.served x (answer_at (answers_on x s.history) ((k.holds x ok).ghost.at on.number)) (λ (f : NodeField). s.mem (Word.Node x own f)) _ (its_read (Phase.ReadAnswerTag at) e) (word_of_it (Phase.ReadAnswerTag at) 1 e tt (omega (arith, long)))
+        tag_read c.served x (answer_at (answers_on x s.history) ((ghost_of (k.holds x ok)).at on.number)) (λ (f : NodeField). s.mem (Word.Node x own f)) _ (its_read (Phase.ReadAnswerTag at) e) (word_of_it (Phase.ReadAnswerTag at) 1 e tt (omega (arith, long)))
             ∙ ap tag_word item.1,
       )
   reads_word (Phase.ReadAnswerBody at i) e reading sided =
-      let item = item_read c.served x (answer_at (answers_on x s.history) ((k.holds x ok).ghost.at on.number)) _ sided (its_read (Phase.ReadAnswerBody at i) e) (λ h. h.0) in
+      let item = item_read c.served x (answer_at (answers_on x s.history) ((ghost_of (k.holds x ok)).at on.number)) _ sided (its_read (Phase.ReadAnswerBody at i) e) (λ h. h.0) in
       let had = safe.on_take x _ (its_read (Phase.ReadAnswerBody at i) e) in
-      let long : answer_long (answer_at (answers_on x s.history) ((k.holds x ok).ghost.at on.number)) ≡ further_words (tag_of item.0) + 3 = ap answer_long item.1 in
+      let long : answer_long (answer_at (answers_on x s.history) ((ghost_of (k.holds x ok)).at on.number)) ≡ further_words (tag_of item.0) + 3 = ap answer_long item.1 in
       let low : i ≤ further_words (tag_of item.0) = omega (arith, had.3, ap further_words (had.2 ∙ ap tag_word item.1)) in (
         item.0,
         item.1,
-        body_read c.served x (answer_at (answers_on x s.history) ((k.holds x ok).ghost.at on.number)) (λ (f : NodeField). s.mem (Word.Node x own f)) i _ (its_read (Phase.ReadAnswerBody at i) e) (word_of_it (Phase.ReadAnswerBody at i) (suc (suc i)) e tt (omega (arith, long, low)))
+        body_read c.served x (answer_at (answers_on x s.history) ((ghost_of (k.holds x ok)).at on.number)) (λ (f : NodeField). s.mem (Word.Node x own f)) i _ (its_read (Phase.ReadAnswerBody at i) e) (word_of_it (Phase.ReadAnswerBody at i) (suc (suc i)) e tt (omega (arith, long, low)))
             ∙ ap (λ (z : Answer). word (words_told z) i) item.1,
       )
   reads_word _ e reading sided = absurd reading
@@ -178,12 +178,12 @@ module _ (c : Setting) (r : InRange c.config) (s : State) (k : Chains c s) (x : 
   reads_at none at e reading =
       let v : Holds c x s = k.holds x ok in
       let rank : (post_at x (s.stand (pass_on c x on.number))).rank ≡ 6 = ap (λ (z : Stand). (post_at x z).rank) (there at e) ∙ ap (λ z. z.rank) (reading_post x own at reading) in
-      let a : HasAnswer c x s.history (pass_at c.config (pass_on c x on.number)) ((k.holds x ok).ghost.at on.number) =
+      let a : HasAnswer c x s.history (pass_at c.config (pass_on c x on.number)) ((ghost_of (k.holds x ok)).at on.number) =
       answer_on c x s (k.holds x ok) none on.number on.inside ((k.holds x ok).inv.passes.late on.number on.inside rank) ((k.holds x ok).inv.passes.at_is on.number on.inside (omega (arith, rank))) in
       record {
         before = a.before;
-        entry = call_at (calls_on x s.history) ((k.holds x ok).ghost.at on.number);
-        answer = answer_at (answers_on x s.history) ((k.holds x ok).ghost.at on.number);
+        entry = call_at (calls_on x s.history) ((ghost_of (k.holds x ok)).at on.number);
+        answer = answer_at (answers_on x s.history) ((ghost_of (k.holds x ok)).at on.number);
         last = ap (λ (z : ℕ). calls_of (pass_at c.config z) s.history) on.pass_is ∙ a.last;
         word = reads_word at e reading a.sided;
       }
@@ -193,23 +193,23 @@ module _ (c : Setting) (r : InRange c.config) (s : State) (k : Chains c s) (x : 
   within_at combining =
       let v : Holds c x s = k.holds x ok in
       let rank : (post_at x (s.stand (pass_on c x on.number))).rank ≡ 5 = ap (λ (z : ℕ). (post_at x (s.stand z)).rank) (sym on.pass_is) ∙ combining_rank x (s.stand p).node (s.stand p).phase combining in
-      let mine : v.ghost.server ≡ on.number + 1 = v.inv.server.server_is on.number on.inside rank in
-      let called : v.ghost.at on.number < length (calls_on x s.history) = omega (arith, v.ties.calls_are, v.inv.passes.at_in on.number on.inside (omega (arith, rank))) in
-      let its : v.ghost.pass_of (v.ghost.at on.number) ≡ on.number = v.inv.passes.at_is on.number on.inside (omega (arith, rank)) in
+      let mine : (ghost_of v).server ≡ on.number + 1 = v.inv.server.server_is on.number on.inside rank in
+      let called : (ghost_of v).at on.number < length (calls_on x s.history) = omega (arith, v.inv.passes.at_in on.number on.inside (omega (arith, rank))) in
+      let its : (ghost_of v).pass_of ((ghost_of v).at on.number) ≡ on.number = v.inv.passes.at_is on.number on.inside (omega (arith, rank)) in
       record {
-        own = v.ghost.at on.number;
+        own = (ghost_of v).at on.number;
         last = record {
-          entry = call_at (calls_on x s.history) (v.ghost.at on.number);
-          its = slice_get-get_or (calls_on x s.history) (v.ghost.at on.number) no_call called;
-          who_is = (v.ties.entered (v.ghost.at on.number) (omega (arith, v.ties.calls_are))).pass_is ∙ ap (λ (z : ℕ). pass_at c.config (pass_on c x z)) its ∙ ap (λ (z : ℕ). pass_at c.config z) (sym on.pass_is);
+          entry = call_at (calls_on x s.history) ((ghost_of v).at on.number);
+          its = slice_get-get_or (calls_on x s.history) ((ghost_of v).at on.number) no_call called;
+          who_is = (v.ties.entered ((ghost_of v).at on.number) (omega arith)).pass_is ∙ ap (λ (z : ℕ). pass_at c.config (pass_on c x z)) its ∙ ap (λ (z : ℕ). pass_at c.config z) (sym on.pass_is);
           none_later = λ j later after is same.
-              let below : j < v.ghost.calls = omega (arith, v.ties.calls_are, slice_get_within (calls_on x s.history) j later is) in
-              let theirs : named c x (v.ghost.pass_of j) ≡ named c x on.number =
-              sym (name_is c x (v.ghost.pass_of j) (v.ties.pass_in j below)) ∙ sym (v.ties.entered j below).pass_is ∙ ap (λ (z : Entry). z.pass) (get_or_from_slice_get (calls_on x s.history) j later no_call is) ∙ same
+              let below : j < (ghost_of v).calls = omega (arith, slice_get_within (calls_on x s.history) j later is) in
+              let theirs : named c x ((ghost_of v).pass_of j) ≡ named c x on.number =
+              sym (name_is c x ((ghost_of v).pass_of j) (v.ties.pass_in j below)) ∙ sym (v.ties.entered j below).pass_is ∙ ap (λ (z : Entry). z.pass) (get_or_from_slice_get (calls_on x s.history) j later no_call is) ∙ same
               ∙ ap (λ (z : ℕ). pass_at c.config z) on.pass_is ∙ name_is c x on.number on.inside in
-              v.inv.passes.at_last on.number j after below (same_number x (v.ghost.pass_of j) on.number theirs);
+              v.inv.passes.at_last on.number j after below (same_number x ((ghost_of v).pass_of j) on.number theirs);
         };
-        low = omega (arith, v.ties.answers_are, v.inv.server.server_low on.number mine, v.inv.calls.in_order);
+        low = omega (arith, v.inv.server.server_low on.number mine, v.inv.calls.in_order);
         high = most v mine;
       }
     where
@@ -217,15 +217,15 @@ module _ (c : Setting) (r : InRange c.config) (s : State) (k : Chains c s) (x : 
       same_number Chain.Send a b e = let next : a + 1 ≡ b + 1 = cc in omega arith
       same_number (Chain.Take g) a b e = let next : g * c.config.receivers + a + 1 ≡ g * c.config.receivers + b + 1 = cc in omega arith
 
-      most : (v : Holds c x s) → v.ghost.server ≡ on.number + 1 → length (answers_on x s.history) ≤ v.ghost.at on.number + c.config.bound
+      most : (v : Holds c x s) → (ghost_of v).server ≡ on.number + 1 → length (answers_on x s.history) ≤ (ghost_of v).at on.number + c.config.bound
       most v mine = elim (cases_eq (post_at x (s.stand (pass_on c x on.number))).stage 2) [
         | inl two ↦
-            omega (arith, v.ties.answers_are, v.inv.serving.decided on.number mine two, v.inv.server.server_at on.number mine (omega (arith, two)), v.inv.server.server_bound on.number mine (omega (arith, two)))
-        | inr other ↦ omega (arith, v.ties.answers_are, v.inv.serving.undecided on.number mine other, v.inv.server.server_most on.number mine)
+            omega (arith, v.inv.serving.decided on.number mine two, v.inv.server.server_at on.number mine (omega (arith, two)), v.inv.server.server_bound on.number mine (omega (arith, two)))
+        | inr other ↦ omega (arith, v.inv.serving.undecided on.number mine other, v.inv.server.server_most on.number mine)
       ]
 
 ordered_on : (c : Setting) (s : State) (k : Chains c s) (x : Chain) → IsChain c x → length (answers_on x s.history) ≤ length (calls_on x s.history)
-ordered_on c s k x ok = omega (arith, (k.holds x ok).ties.calls_are, (k.holds x ok).ties.answers_are, (k.holds x ok).inv.calls.in_order2, (k.holds x ok).inv.calls.in_order)
+ordered_on c s k x ok = omega (arith, (k.holds x ok).inv.calls.in_order2, (k.holds x ok).inv.calls.in_order)
 
 -- every side's lists
 ordered_by : (c : Setting) (s : State) (k : Chains c s) (what : Served) → c.served ≡ what → (what ≡ Served.Counter → (g : ℕ) → side (Chain.Take g) s.history ≡ silent) → length s.history.takes ≡ groups c.config → (x : Chain) → length (answers_on x s.history) ≤ length (calls_on x s.history)
@@ -262,9 +262,9 @@ untouched_on c s k x ok p q i on_p on_q ne out is (inr its) =
     let target : (post_at x (s.stand (pass_on c x on_q.number))).target ≡ (post_at x (s.stand q)).target = ap (λ (z : ℕ). (post_at x (s.stand z)).target) (sym on_q.pass_is) in
     let low : (post_at x (s.stand (pass_on c x on_p.number))).rank ≤ 2 = subst (λ (z : ℕ). (post_at x (s.stand z)).rank ≤ 2) on_p.pass_is (out_rank x (s.stand p).node (s.stand p).phase out) in
     let node_is : (post_at x (s.stand (pass_on c x on_p.number))).node ≡ (s.stand p).node = ap (λ (z : ℕ). (post_at x (s.stand z)).node) (sym on_p.pass_is) ∙ own_node x (s.stand p).node (s.stand p).phase in
-    let head : (post_at x (s.stand (pass_on c x on_q.number))).target ≡ v.ghost.chain v.ghost.marked = v.inv.server.server_target on_q.number (v.inv.server.server_is on_q.number on_q.inside rank) in
-    node_apart (passes_on c x) c.config.bound (view c x s) v.ghost v.inv on_p.number v.ghost.marked on_p.inside (omega arith) (omega (arith, v.inv.calls.in_order, v.inv.calls.in_order2))
-    (λ more same. absurd (omega (arith, low, v.inv.calls.open_low v.ghost.marked (omega arith) more, ap (λ (z : ℕ). (post_at x (s.stand (pass_on c x z))).rank) same))) (sym head ∙ target ∙ sym its.1 ∙ is ∙ sym node_is)
+    let head : (post_at x (s.stand (pass_on c x on_q.number))).target ≡ (ghost_of v).chain (ghost_of v).marked = v.inv.server.server_target on_q.number (v.inv.server.server_is on_q.number on_q.inside rank) in
+    node_apart (passes_on c x) c.config.bound (view c x s) (ghost_of v) v.inv on_p.number (ghost_of v).marked on_p.inside (omega arith) (omega (arith, v.inv.calls.in_order, v.inv.calls.in_order2))
+    (λ more same. absurd (omega (arith, low, v.inv.calls.open_low (ghost_of v).marked (omega arith) more, ap (λ (z : ℕ). (post_at x (s.stand (pass_on c x z))).rank) same))) (sym head ∙ target ∙ sym its.1 ∙ is ∙ sym node_is)
 
 untouched_by : (c : Setting) (s : State) (k : Chains c s) (p q : ℕ) (f : NodeField) (pn : p < passes c) (qn : q < passes c) → p ≢ q → IsOut (s.stand p).phase →
     word_of (operation c (chain_of c.config q) (s.stand q).node (s.stand q).phase) ≢ Word.Node (chain_of c.config p) (s.stand p).node f

@@ -14,6 +14,7 @@ use Rattle.cc_runs.specs.Run.{IsRun, reached, passes}
 use Rattle.cc_runs.specs.ChainLaws.{IsLastAnswer}
 use Rattle.cc_runs.specs.Ready.{IsStepSafe, IsReady}
 use Rattle.cc_runs.specs.ChainLaws.{IsEntering, IsLastPending, CallsWaitForTheirLink}
+use Rattle.cc_runs.proofs.Chains.Ties.{ghost_of}
 use Rattle.cc_runs.proofs.Ranges.{InRange, in_range}
 use Rattle.cc_runs.proofs.Counted.{Counts, senders_only}
 use Rattle.cc_runs.proofs.CounterRuns.{counter_holds}
@@ -40,10 +41,10 @@ module _ (c : Setting) (s : State) (k : Chains c s) where
   -- of a chain that there is
   of_chain : (x y : Chain) → IsOther x y → IsChain c y → (p j : ℕ) → p < members c x → j < length (calls_on y s.history) → is_pass (named c x p) (call_at (calls_on y s.history) j).pass ≡ false
   of_chain x y o ok p j inside less =
-      let below : j < (k.holds y ok).ghost.calls = omega (arith, (k.holds y ok).ties.calls_are) in
-      let is : IsCall c y ((k.holds y ok).ghost.pass_of j) (call_at (calls_on y s.history) j) = (k.holds y ok).ties.entered j below in
-      let within : (k.holds y ok).ghost.pass_of j < members c y = (k.holds y ok).ties.pass_in j below in
-      ap (λ (z : Pass). is_pass (named c x p) z) (is.pass_is ∙ name_is c y ((k.holds y ok).ghost.pass_of j) within) ∙ apart_names c x y p ((k.holds y ok).ghost.pass_of j) o inside within
+      let below : j < (ghost_of (k.holds y ok)).calls = omega arith in
+      let is : IsCall c y ((ghost_of (k.holds y ok)).pass_of j) (call_at (calls_on y s.history) j) = (k.holds y ok).ties.entered j below in
+      let within : (ghost_of (k.holds y ok)).pass_of j < members c y = (k.holds y ok).ties.pass_in j below in
+      ap (λ (z : Pass). is_pass (named c x p) z) (is.pass_is ∙ name_is c y ((ghost_of (k.holds y ok)).pass_of j) within) ∙ apart_names c x y p ((ghost_of (k.holds y ok)).pass_of j) o inside within
 
   not_other_by : (what : Served) → c.served ≡ what → (what ≡ Served.Counter → (g : ℕ) → side (Chain.Take g) s.history ≡ silent) → length s.history.takes ≡ groups c.config → (x : Chain) → NotOther c x s.history
   not_other_by what e none many x p inside Chain.Send o j less = of_chain x Chain.Send o tt p j inside less

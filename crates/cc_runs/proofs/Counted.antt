@@ -14,7 +14,7 @@ use Rattle.cc_runs.proofs.ReadWords.{behind_word}
 use Rattle.cc_runs.proofs.Chains.Frame.{hold_here, hold_apart}
 use Rattle.cc_runs.proofs.Chains.View.{post_of, post_at}
 use Rattle.cc_runs.proofs.Chains.Registers.{call_at, answer_at, no_answer, HasService}
-use Rattle.cc_runs.proofs.Chains.Ties.{Holds}
+use Rattle.cc_runs.proofs.Chains.Ties.{ghost_of, Holds}
 use Rattle.cc_runs.proofs.Chains.Own.{sends_where, takes_where}
 
 -- a combiner that has read the counter knows how many answers there are
@@ -169,7 +169,7 @@ module _ (c : Setting) (counter : c.served ≡ Served.Counter) (s : State) (k : 
       counts_on c s p inside k (advanced c Chain.Send record { begun = begun; node = own; phase = Phase.Exchange call } (found (Phase.Exchange call))) (next (Phase.Exchange call)) refl refl refl
       (omega (arith, old, waits_is (Phase.Exchange call) e, length_push s.history.sends.calls call)) tt (begun_is (Phase.Exchange call) e) (omega arith)
 
-  me : (at : Phase) → Here at → (post_of Chain.Send own at).rank ≡ 5 → w.ghost.server ≡ p + 1
+  me : (at : Phase) → Here at → (post_of Chain.Send own at).rank ≡ 5 → (ghost_of w).server ≡ p + 1
   me at e five = w.inv.server.server_is p member (ap (λ (z : Stand). (post_at Chain.Send z).rank) e ∙ five)
 
   others : (at : Phase) → Here at → (post_of Chain.Send own at).rank ≡ 5 → (q : ℕ) → q < passes c → q ≢ p → (n : ℕ) → HasCount n (s.stand q).phase
@@ -183,8 +183,8 @@ module _ (c : Setting) (counter : c.served ≡ Served.Counter) (s : State) (k : 
       (others (Phase.Counting job (Counting.WriteCount count)) e refl) refl (ap (λ (z : ℕ). z + 1) is) (ap (λ (z : ℕ). s.history.sends.answers ++ Answer.Send (SendAnswer.Accepted z) ∷ []) is) refl (sym (ap gone e)) (λ n. tt)
       (begun_is (Phase.Counting job (Counting.WriteCount count)) e) (omega arith)
 
-  serves_at : (at : Phase) → Here at → (post_of Chain.Send own at).rank ≡ 5 → HasService c.served Chain.Send (call_at s.history.sends.calls w.ghost.marked) (answer_at s.history.sends.answers w.ghost.marked) at
-  serves_at at e five = subst (λ (z : Stand). HasService c.served Chain.Send (call_at s.history.sends.calls w.ghost.marked) (answer_at s.history.sends.answers w.ghost.marked) z.phase) e (w.ties.served p (me at e five))
+  serves_at : (at : Phase) → Here at → (post_of Chain.Send own at).rank ≡ 5 → HasService c.served Chain.Send (call_at s.history.sends.calls (ghost_of w).marked) (answer_at s.history.sends.answers (ghost_of w).marked) at
+  serves_at at e five = subst (λ (z : Stand). HasService c.served Chain.Send (call_at s.history.sends.calls (ghost_of w).marked) (answer_at s.history.sends.answers (ghost_of w).marked) z.phase) e (w.ties.served p (me at e five))
 
   counting_step : (job : Job) (service : Counting) → Here (Phase.Counting job service) → Counts c (next (Phase.Counting job service))
   counting_step job Counting.ReadTag e = quiet (Phase.Counting job Counting.ReadTag) _ e refl refl tt refl refl refl

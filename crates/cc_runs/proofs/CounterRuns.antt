@@ -14,7 +14,7 @@ use Rattle.cc_runs.proofs.Ranges.{InRange, in_range}
 use Rattle.cc_runs.proofs.Counted.{Counts, HasCount, gone, total, total_most, total_none, counts_on, counts_step, senders_only, not_both}
 use Rattle.cc_runs.proofs.Chains.View.{post_of}
 use Rattle.cc_runs.proofs.Chains.Registers.{answer_at, HasService, call_at}
-use Rattle.cc_runs.proofs.Chains.Ties.{Holds}
+use Rattle.cc_runs.proofs.Chains.Ties.{ghost_of, Holds}
 use Rattle.cc_runs.proofs.Chains.Own.{sends_where, takes_where}
 use Rattle.cc_runs.proofs.Chains.Others.{sender_chain}
 use Rattle.cc_runs.proofs.Chains.Safe as safe
@@ -80,7 +80,7 @@ module _ (c : Setting) (counter : c.served ≡ Served.Counter) (r : InRange c.co
       omega (arith, all, k.calls, senders_only c.served c.config counter, r.senders)
 
   few_answers : length s.history.sends.answers ≤ 64 * 2 ^ 32
-  few_answers = omega (arith, few_calls, w.ties.calls_are, w.ties.answers_are, w.inv.calls.in_order2)
+  few_answers = omega (arith, few_calls, w.inv.calls.in_order2)
 
   fit : (n : ℕ) → n < length s.history.sends.answers → ret_of c.served (answer_at s.history.sends.answers n) < 2 ^ 64
   fit n less =
@@ -94,8 +94,8 @@ module _ (c : Setting) (counter : c.served ≡ Served.Counter) (r : InRange c.co
     inside : p < passes c
     inside = omega (arith, senders_only c.served c.config counter)
 
-    served_as : (at : Phase) → Here at → (post_of Chain.Send own at).rank ≡ 5 → HasService c.served Chain.Send (call_at s.history.sends.calls w.ghost.marked) (answer_at s.history.sends.answers w.ghost.marked) at
-    served_as at e five = subst (λ (z : Stand). HasService c.served Chain.Send (call_at s.history.sends.calls w.ghost.marked) (answer_at s.history.sends.answers w.ghost.marked) z.phase) e (w.ties.served p (safe.me c Chain.Send tt r s p own begun member w at e five))
+    served_as : (at : Phase) → Here at → (post_of Chain.Send own at).rank ≡ 5 → HasService c.served Chain.Send (call_at s.history.sends.calls (ghost_of w).marked) (answer_at s.history.sends.answers (ghost_of w).marked) at
+    served_as at e five = subst (λ (z : Stand). HasService c.served Chain.Send (call_at s.history.sends.calls (ghost_of w).marked) (answer_at s.history.sends.answers (ghost_of w).marked) z.phase) e (w.ties.served p (safe.me c Chain.Send tt r s p own begun member w at e five))
 
     job_in : (job : Job) (service : Counting) → Here (Phase.Counting job service) → job.round.at ≤ c.config.senders
     job_in job service e = safe.target_in c Chain.Send tt r s p own begun member w (Phase.Counting job service) e refl

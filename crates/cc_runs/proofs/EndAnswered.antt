@@ -12,7 +12,7 @@ use Rattle.cc_runs.proofs.ChainLaws.{out_rank}
 use Rattle.cc_runs.proofs.ChainRuns.{not_other}
 use Rattle.cc_runs.proofs.Chains.View.{members, pass_on, post_at}
 use Rattle.cc_runs.proofs.Chains.Registers.{calls_on, answers_on, call_at}
-use Rattle.cc_runs.proofs.Chains.Ties.{Holds}
+use Rattle.cc_runs.proofs.Chains.Ties.{ghost_of, Holds}
 use Rattle.cc_runs.proofs.Chains.Last.{chosen, all_chosen}
 use Rattle.cc_runs.proofs.Chains.Others.{IsOn}
 use Rattle.cc_runs.proofs.Chains.Serving.{Chains, chains_hold, chain_is, on_chain}
@@ -23,21 +23,21 @@ module _ (c : Setting) (x : Chain) (s : State) (w : Holds c x s) (n : ℕ) (out 
   abbrev is_its : Entry → Bool
   is_its e = is_pass (named c x n) e.pass
 
-  pub marked : (j : ℕ) → j < length (calls_on x s.history) → is_its (call_at (calls_on x s.history) j) ≡ true → j < w.ghost.marked
-  marked j less is = elim (cases_lt j w.ghost.marked) [
+  pub marked : (j : ℕ) → j < length (calls_on x s.history) → is_its (call_at (calls_on x s.history) j) ≡ true → j < (ghost_of w).marked
+  marked j less is = elim (cases_lt j (ghost_of w).marked) [
     | inl before ↦ before
     | inr late ↦
-        let below : j < w.ghost.calls = omega (arith, less, w.ties.calls_are) in
-        let rank : 3 ≤ (post_at x (s.stand (pass_on c x (w.ghost.pass_of j)))).rank = w.inv.calls.open_low j (omega (arith, late)) below in
-        let theirs : is_its (call_at (calls_on x s.history) j) ≡ is_pass (named c x n) (named c x (w.ghost.pass_of j)) = ap (is_pass (named c x n)) ((w.ties.entered j below).pass_is ∙ name_is c x (w.ghost.pass_of j) (w.ties.pass_in j below)) in
-        absurd (elim (cases_eq (w.ghost.pass_of j) n) [
+        let below : j < (ghost_of w).calls = omega (arith, less) in
+        let rank : 3 ≤ (post_at x (s.stand (pass_on c x ((ghost_of w).pass_of j)))).rank = w.inv.calls.open_low j (omega (arith, late)) below in
+        let theirs : is_its (call_at (calls_on x s.history) j) ≡ is_pass (named c x n) (named c x ((ghost_of w).pass_of j)) = ap (is_pass (named c x n)) ((w.ties.entered j below).pass_is ∙ name_is c x ((ghost_of w).pass_of j) (w.ties.pass_in j below)) in
+        absurd (elim (cases_eq ((ghost_of w).pass_of j) n) [
           | inl same ↦ let low : 3 ≤ (post_at x (s.stand (pass_on c x n))).rank = subst (λ (q : ℕ). 3 ≤ (post_at x (s.stand (pass_on c x q))).rank) same rank in omega (arith, low, out)
-          | inr ne ↦ true≢false (sym is ∙ theirs ∙ other_name c x n (w.ghost.pass_of j) ne)
+          | inr ne ↦ true≢false (sym is ∙ theirs ∙ other_name c x n ((ghost_of w).pass_of j) ne)
         ])
   ]
 
   early : (j : ℕ) → j < length (calls_on x s.history) → is_its (call_at (calls_on x s.history) j) ≡ true → j < length (answers_on x s.history)
-  early j less is = omega (arith, marked j less is, w.ties.answers_are, w.inv.calls.in_order)
+  early j less is = omega (arith, marked j less is, w.inv.calls.in_order)
 
   all_answered : n < members c x → NotOther c x s.history → AllByRecursion HasAnswer (calls_of (pass_at c.config (pass_on c x n)) s.history)
   all_answered inside none =

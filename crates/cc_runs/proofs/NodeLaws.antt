@@ -7,6 +7,7 @@ use Rattle.cc_runs.specs.Lines.{operation}
 use Rattle.cc_runs.specs.Run.{reached, passes}
 use Rattle.cc_runs.specs.ChainLaws.{IsCombining, IsEntering}
 use Rattle.cc_runs.specs.NodeLaws.{IsAsking, IsAnswering, IsSending, HasNode, IsAwaited, IsWaitedFor, NodeLaws, NodeLawsOfRuns}
+use Rattle.cc_runs.proofs.Chains.Ties.{ghost_of}
 use Rattle.cc_runs.proofs.Ranges.{in_range}
 use Rattle.cc_runs.proofs.Combining.Chain.{Post, Ghost, Chain as Seen}
 use Rattle.cc_runs.proofs.Combining.Invariant.{Inv}
@@ -62,12 +63,12 @@ zero_one z a b = omega (arith, a, b)
 
 module _ (c : Setting) (s : State) (k : Chains c s) (x : Chain) (ok : IsChain c x) where
   abbrev g : Ghost
-  g = (k.holds x ok).ghost
+  g = (ghost_of (k.holds x ok))
 
   abbrev v : Seen
   v = view c x s
 
-  inv : Inv (members c x) c.config.bound (view c x s) (k.holds x ok).ghost
+  inv : Inv (members c x) c.config.bound (view c x s) (ghost_of (k.holds x ok))
   inv = (k.holds x ok).inv
 
   abbrev state : ℕ → ℕ
@@ -92,7 +93,7 @@ module _ (c : Setting) (s : State) (k : Chains c s) (x : Chain) (ok : IsChain c 
     low = inv.passes.early n inside three
 
     place : (v.post n).node ≡ g.chain (g.at n)
-    place = node_chain (members c x) c.config.bound (view c x s) (k.holds x ok).ghost inv n inside (omega (arith, three)) low
+    place = node_chain (members c x) c.config.bound (view c x s) (ghost_of (k.holds x ok)) inv n inside (omega (arith, three)) low
 
     later_one : g.marked < g.at n → state (v.post n).node ≡ 1
     later_one later = ap state place ∙ inv.states.waiting (g.at n) later (omega (arith, at_in))
@@ -128,7 +129,7 @@ module _ (c : Setting) (s : State) (k : Chains c s) (x : Chain) (ok : IsChain c 
 
   -- the only node of a call whose state may be 0 is that of the first one that isn't marked
   zero_at : (n : ℕ) → n < members c x → ((v.post n).rank ≡ 3) ⊎ ((v.post n).rank ≡ 4) → state (v.post n).node ≡ 0 → g.at n ≡ g.marked
-  zero_at n inside (inr four) nil = (reads_zero (members c x) c.config.bound (view c x s) (k.holds x ok).ghost inv n inside four nil).0
+  zero_at n inside (inr four) nil = (reads_zero (members c x) c.config.bound (view c x s) (ghost_of (k.holds x ok)) inv n inside four nil).0
   zero_at n inside (inl three) nil = ⊎_elim
       (λ (later : g.marked < g.at n). absurd (zero_one (state (v.post n).node) nil (later_one n inside three later)))
       (λ (not_later : g.at n ≤ g.marked). omega (arith, low n inside three, not_later))
@@ -212,7 +213,7 @@ module _ (c : Setting) (s : State) (k : Chains c s) (x : Chain) (ok : IsChain c 
 
           away : (q : ℕ) → HasNode c s.mem s.stand x n q → (on_q : IsOn c x q) → (g.marked < g.calls → g.pass_of g.marked ≢ on_q.number) → ⊥
           away q has on_q ne =
-              node_apart (members c x) c.config.bound (view c x s) (k.holds x ok).ghost inv on_q.number g.marked on_q.inside (omega arith) most ne (sym head ∙ sym has.2 ∙ sym (node_is q on_q))
+              node_apart (members c x) c.config.bound (view c x s) (ghost_of (k.holds x ok)) inv on_q.number g.marked on_q.inside (omega arith) most ne (sym head ∙ sym has.2 ∙ sym (node_is q on_q))
 
       hands_awaited : IsAwaited c s.mem s.stand x n
       hands_awaited = ⊎_elim

@@ -9,11 +9,10 @@ use Rattle.cc_runs.specs.Names.{Config, Setting, Served, Chain, Word, Stand, Pha
 use Rattle.cc_runs.specs.Words.{groups}
 use Rattle.cc_runs.specs.State.{side, first_node}
 use Rattle.cc_runs.specs.Run.{first_word, opening, passes, passes_of, nowhere, IsFinished}
-use Rattle.cc_runs.proofs.Combining.Chain.{Ghost}
 use Rattle.cc_runs.proofs.Combining.Invariant.{Inv}
 use Rattle.cc_runs.proofs.Chains.View.{view, members, pass_on, post_at, out}
 use Rattle.cc_runs.proofs.Chains.Registers.{IsChainOf, IsChain, HasSide, answer_at, HasCall, HasRead}
-use Rattle.cc_runs.proofs.Chains.Ties.{Ties, Holds, stands_on}
+use Rattle.cc_runs.proofs.Chains.Ties.{Kept, Ties, ghosts, holds_at, Holds, stands_on}
 use Rattle.cc_runs.proofs.Chains.Others.{group_in}
 
 -- the place of a pass of the chain
@@ -52,8 +51,8 @@ first_tail : (c : Setting) (x : Chain) → IsChain c x → first_word c.config (
 first_tail c Chain.Send ok = refl
 first_tail c (Chain.Take g) ok = ap (λ (b : Bool). cond b 1 0) (lt-ltb g (groups c.config) (group_in c.served (groups c.config) g ok))
 
-abbrev first : Chain → Ghost
-first x = record { calls = 0; answers = 0; marked = 0; server = 0; pass_of = λ k. 0; asked = λ k j. 0; told = λ k j. 0; asks_long = λ k. 0; told_long = λ k. 1; chain = λ k. 0; at = λ p. 0 }
+abbrev first : Kept
+first = record { marked = 0; server = 0; pass_of = λ k. 0; chain = λ k. 0; at = λ p. 0 }
 
 module _ (c : Setting) (x : Chain) (ok : IsChain c x) where
   stands : (p : ℕ) → p < members c x → (opening c).stand (pass_on c x p) ≡ placed c p (p + 1)
@@ -65,7 +64,7 @@ module _ (c : Setting) (x : Chain) (ok : IsChain c x) where
   tail : first_word c.config (Word.Tail x) ≡ 1
   tail = first_tail c x ok
 
-  inv : Inv (members c x) c.config.bound (view c x (opening c)) (first x)
+  inv : Inv (members c x) c.config.bound (view c x (opening c)) (ghosts c x [] [] first)
   inv = record {
     nodes = record {
       node_in = λ p pn. grind (arith, post p pn);
@@ -93,17 +92,11 @@ module _ (c : Setting) (x : Chain) (ok : IsChain c x) where
     serving = record { serving = λ p a b d. absurd (omega arith); serving_next = λ p a b d. absurd (omega arith); serving_linked = λ p a b d. absurd (omega arith); undecided = λ p a b. refl; decided = λ p a b. absurd (omega arith); free_answers = λ a. refl };
   }
 
-  ties : Ties c x [] [] (stands_on c x (opening c)) (first x)
+  ties : Ties c x [] [] (stands_on c x (opening c)) first
   ties = record {
-    calls_are = refl;
-    answers_are = refl;
     pass_in = λ k l. absurd (omega arith);
     entered = λ k l. absurd (omega arith);
-    asked = λ k j l. absurd (omega arith);
-    asks_long = λ k l. absurd (omega arith);
     answered = λ k l. absurd (omega arith);
-    told = λ k j l. absurd (omega arith);
-    told_long = λ k l. absurd (omega arith);
     begun = λ q qn. subst (λ (z : Stand). HasCall c x q z.phase) (sym (stands q qn)) tt;
     served = λ q a. absurd (omega arith);
     read = λ q qn. subst (λ (z : Stand). HasRead c.served x (answer_at [] 0) z.phase) (sym (stands q qn)) tt;
@@ -124,9 +117,6 @@ has_side c Chain.Send ok = tt
 has_side c (Chain.Take g) ok = omega (arith, group_in c.served (groups c.config) g ok, length-replicate (groups c.config) silent)
 
 pub opened : (c : Setting) (x : Chain) → IsChain c x → Holds c x (opening c)
-opened c x ok = record {
-  ghost = first x;
-  inv = inv c x ok;
-  ties = subst (λ (z : Side). Ties c x z.calls z.answers (stands_on c x (opening c)) (first x)) (sym (no_calls (groups c.config) x)) (ties c x ok);
-  side_in = has_side c x ok;
-}
+opened c x ok =
+    let none : side x (empty (groups c.config)) ≡ silent = no_calls (groups c.config) x in
+    holds_at c x (opening c) [] [] first (ap (λ (z : Side). z.calls) none) (ap (λ (z : Side). z.answers) none) (inv c x ok) (ties c x ok) (has_side c x ok)

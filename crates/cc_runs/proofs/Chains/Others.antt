@@ -1,13 +1,13 @@
 -- The parts of a chain that a step of another chain, a begin, and the taking of an answer don't
 -- change.
-use Rattle.std.proofs.Common.{◌≡◌, ◌≢◌, ◌⊎◌, ℕ, ◌+◌, ◌*◌, ◌/◌, ◌%◌, ◌-◌, ◌<◌, ◌≤◌, Bool, false, ◌&&◌, ◌==◌, cond, refl, ap, sym, ◌∙◌, subst, arith, inl, inr, List}
+use Rattle.std.proofs.Common.{◌≡◌, ◌≢◌, ◌⊎◌, ℕ, ◌+◌, ◌*◌, ◌/◌, ◌%◌, ◌-◌, ◌<◌, ◌≤◌, Bool, false, ◌&&◌, ◌==◌, cond, refl, ap, sym, ◌∙◌, subst, arith, inl, inr}
 use Rattle.std.proofs.Math.Bool.{and-false}
 use Rattle.std.proofs.lemmas.Bool.{cases_eq, cases_lt, lt-ltb, le-ltb}
 use Rattle.std.proofs.lemmas.List.{get_or-set_other}
 use Rattle.std.proofs.lemmas.Nat.{div-mul-add, div-add-mod'}
 use Rattle.std.proofs.Math.Nat.{mod-lt, div-lt_iff_lt-mul}
 use Rattle.cc_model.specs.Record.{Side, Record, silent}
-use Rattle.cc_runs.specs.Names.{Config, Entry, Answer, Setting, Served, Chain, NodeField, Word, Stand, Phase}
+use Rattle.cc_runs.specs.Names.{Config, Setting, Served, Chain, NodeField, Word, Stand, Phase}
 use Rattle.cc_runs.specs.Words.{groups, put, same, same_chain, same_field}
 use Rattle.cc_runs.specs.Codes.{tag_of, body_words, word, ret_of}
 use Rattle.cc_runs.specs.State.{State, chain_of, side, with_side, hold, stored, word_of}
@@ -20,7 +20,7 @@ use Rattle.cc_runs.proofs.Chains.View.{view, members, pass_on, post_at, cell_of}
 use Rattle.cc_runs.proofs.Chains.Frame.{hold_here, hold_apart, pass_apart}
 use Rattle.cc_runs.proofs.Chains.Registers.{IsChainOf, IsChain, HasSide, calls_on, answers_on}
 use Rattle.cc_runs.proofs.Chains.Service.{send_tail, send_words, take_tail, take_words, count_tail, count_words}
-use Rattle.cc_runs.proofs.Chains.Ties.{Ties, Holds, stands_on, ties_same, ties_moved}
+use Rattle.cc_runs.proofs.Chains.Ties.{ghost_of, holds_at, Holds, stands_on, ties_same, ties_moved}
 use Rattle.cc_runs.proofs.Chains.Steps.{Moves}
 use Rattle.cc_runs.proofs.Chains.Facts.{keeps_side}
 
@@ -74,14 +74,8 @@ unseen : (c : Setting) (x : Chain) (s t : State) → Holds c x s → t.mem (Word
     side x t.history ≡ side x s.history → HasSide x t.history → ((q : ℕ) → q < members c x → t.stand (pass_on c x q) ≡ s.stand (pass_on c x q)) → Holds c x t
 unseen c x s t w tail words same there stands =
     let stays : Stays (members c x) (view c x s) (view c x t) = record { tail = tail; nodes = λ i j. cell_of x (λ f. words i f j); posts = λ q qn. ap (λ (z : Stand). post_at x z) (stands q qn) } in
-    record {
-      ghost = w.ghost;
-      inv = by_stay.keeps (members c x) c.config.bound (view c x s) (view c x t) w.ghost w.inv stays;
-      ties = subst (λ (l : List Entry). Ties c x l (answers_on x t.history) (stands_on c x t) w.ghost) (sym (ap (λ (z : Side). z.calls) same))
-          (subst (λ (l : List Answer). Ties c x (calls_on x s.history) l (stands_on c x t) w.ghost) (sym (ap (λ (z : Side). z.answers) same))
-          (ties_same c x (calls_on x s.history) (answers_on x s.history) (stands_on c x s) (stands_on c x t) w.ghost 0 w.ties stands w.inv.server.server_in));
-      side_in = there;
-    }
+    holds_at c x t (calls_on x s.history) (answers_on x s.history) w.kept (ap (λ (z : Side). z.calls) same) (ap (λ (z : Side). z.answers) same) (by_stay.keeps (members c x) c.config.bound (view c x s) (view c x t) (ghost_of w) w.inv stays)
+    (ties_same c x (calls_on x s.history) (answers_on x s.history) (stands_on c x s) (stands_on c x t) w.kept 0 w.ties stands w.inv.server.server_in) there
 
 -- a step of a pass of the other chain
 pub other_step : (c : Setting) (x y : Chain) → IsOther x y → (s : State) (p : ℕ) (at : Stand) → ((q : ℕ) → q < members c x → pass_on c x q ≢ p) → Holds c x s → Holds c x (stepped_from c s y p at)
@@ -96,7 +90,7 @@ put_there s p there = record { mem = s.mem; stand = hold s.stand p there; histor
 pub other_put : (c : Setting) (x : Chain) (s : State) (p : ℕ) (there : Stand) → ((q : ℕ) → q < members c x → pass_on c x q ≢ p) → Holds c x s → Holds c x (put_there s p there)
 other_put c x s p there away w = unseen c x s (put_there s p there) w refl (λ i f. refl) refl w.side_in (λ q qn. hold_apart s.stand p (pass_on c x q) there (away q qn))
 
-pub own_put : (c : Setting) (x : Chain) (s : State) (p : ℕ) (there : Stand) → (w : Holds c x s) → post_at x there ≡ post_at x (s.stand (pass_on c x p)) → Moves c x s w.ghost p w.ghost.marked w.ghost.server there.phase →
+pub own_put : (c : Setting) (x : Chain) (s : State) (p : ℕ) (there : Stand) → (w : Holds c x s) → post_at x there ≡ post_at x (s.stand (pass_on c x p)) → Moves c x s (ghost_of w) p (ghost_of w).marked (ghost_of w).server there.phase →
     Holds c x (put_there s (pass_on c x p) there)
 own_put c x s p there w same m =
     let others : (q : ℕ) → q ≢ p → (put_there s (pass_on c x p) there).stand (pass_on c x q) ≡ s.stand (pass_on c x q) = λ q ne. hold_apart s.stand (pass_on c x p) (pass_on c x q) there (pass_apart c x p q ne) in
@@ -104,9 +98,9 @@ own_put c x s p there w same m =
     let posts : (q : ℕ) → post_at x ((put_there s (pass_on c x p) there).stand (pass_on c x q)) ≡ post_at x (s.stand (pass_on c x q)) =
     λ q. grind (arith, same, others q) in
     record {
-      ghost = w.ghost;
-      inv = by_stay.keeps (members c x) c.config.bound (view c x s) (view c x (put_there s (pass_on c x p) there)) w.ghost w.inv record { tail = refl; nodes = λ i. refl; posts = λ q qn. posts q };
-      ties = ties_moved c x (calls_on x s.history) (answers_on x s.history) (stands_on c x s) (stands_on c x (put_there s (pass_on c x p) there)) w.ghost p w.ties there w.ghost.marked w.ghost.server mine others m.onward
+      kept = w.kept;
+      inv = by_stay.keeps (members c x) c.config.bound (view c x s) (view c x (put_there s (pass_on c x p) there)) (ghost_of w) w.inv record { tail = refl; nodes = λ i. refl; posts = λ q qn. posts q };
+      ties = ties_moved c x (calls_on x s.history) (answers_on x s.history) (stands_on c x s) (stands_on c x (put_there s (pass_on c x p) there)) w.kept p w.ties there (ghost_of w).marked (ghost_of w).server mine others m.onward
           m.call m.read m.ended m.serves m.keep;
       side_in = w.side_in;
     }

@@ -13,7 +13,7 @@ use Rattle.cc_runs.proofs.Chains.View.{view, members, pass_on, post_of, post_at,
 use Rattle.cc_runs.proofs.Chains.Bridge as bridge
 use Rattle.cc_runs.proofs.Chains.Sides as sides
 use Rattle.cc_runs.proofs.Chains.Registers.{IsChain, calls_on, answers_on, call_at, answer_at, OnSend, HasCall, IsAnswer, HasService, HasRead, coded_words, tag_word, words_told}
-use Rattle.cc_runs.proofs.Chains.Ties.{Holds}
+use Rattle.cc_runs.proofs.Chains.Ties.{ghost_of, Holds}
 use Rattle.cc_runs.proofs.Chains.Facts.{some_words, got_long, ReadsOn, ReadsAll, reads_first, reads_item}
 use Rattle.cc_runs.proofs.Chains.Steps.{Moves, goes_on}
 use Rattle.cc_runs.proofs.Chains.Serve.{At, then, finds, seen, the_call, the_answer, serves_at, tells}
@@ -22,23 +22,23 @@ use Rattle.cc_runs.proofs.Chains.Serve.{At, then, finds, seen, the_call, the_ans
 module _ (c : Setting) (some : 0 < c.config.bound) (s : State) (p begun own : ℕ) (inside : p < members c Chain.Send) (w : Holds c Chain.Send s) where
   -- the call that it asks for
   abbrev its_call : Entry
-  its_call = call_at (calls_on Chain.Send s.history) (w.ghost.at p)
+  its_call = call_at (calls_on Chain.Send s.history) ((ghost_of w).at p)
 
-  long_is : (at : Phase) → At c Chain.Send tt some s p begun own inside w at → (post_of Chain.Send own at).rank ≡ 3 → w.ghost.asks_long (w.ghost.at p) ≡ request_long Chain.Send its_call
-  long_is at e three = w.ties.asks_long (w.ghost.at p) (w.inv.passes.at_in p inside (omega (arith, ap (λ z. z.rank) (seen c Chain.Send tt some s p begun own inside w at e) ∙ three)))
+  long_is : (at : Phase) → At c Chain.Send tt some s p begun own inside w at → (post_of Chain.Send own at).rank ≡ 3 → (ghost_of w).asks_long ((ghost_of w).at p) ≡ request_long Chain.Send its_call
+  long_is at e three = refl
 
   -- a word that it hasn't written yet, or how many there are
   asks_is : (at : Phase) (j : ℕ) → At c Chain.Send tt some s p begun own inside w at → (post_of Chain.Send own at).rank ≡ 3 → (post_of Chain.Send own at).wrote ≤ j → (post_of Chain.Send own at).asks j ≡ asked_words Chain.Send its_call j
   asks_is at j e three low =
       let is : post_at Chain.Send (s.stand (pass_on c Chain.Send p)) ≡ post_of Chain.Send own at = seen c Chain.Send tt some s p begun own inside w at e in
       let rank : (post_at Chain.Send (s.stand (pass_on c Chain.Send p))).rank ≡ 3 = ap (λ z. z.rank) is ∙ three in
-      sym (ap (λ z. z.asks j) is) ∙ w.inv.links.asks_is p j inside rank (omega (arith, ap (λ z. z.wrote) is)) ∙ w.ties.asked (w.ghost.at p) j (w.inv.passes.at_in p inside (omega (arith, rank)))
+      sym (ap (λ z. z.asks j) is) ∙ w.inv.links.asks_is p j inside rank (omega (arith, ap (λ z. z.wrote) is))
 
   write_tag_send : (put : ℕ) (request : Request) → At c Chain.Send tt some s p begun own inside w (Phase.WriteTag put request) → Holds c Chain.Send (then c Chain.Send tt some s p begun own inside w (Phase.WriteTag put request))
   write_tag_send put request e =
-      goes_on c Chain.Send tt some s p begun own inside w (Phase.WriteTag put request) (Phase.WriteBody put request 0) w.ghost.marked w.ghost.server refl refl refl
-      (by_call.writes (members c Chain.Send) c.config.bound (view c Chain.Send s) (view c Chain.Send (then c Chain.Send tt some s p begun own inside w (Phase.WriteTag put request))) w.ghost p inside w.inv
-      (sides.write_tag c s p begun own (w.ghost.asks_long (w.ghost.at p)) put request e))
+      goes_on c Chain.Send tt some s p begun own inside w (Phase.WriteTag put request) (Phase.WriteBody put request 0) (ghost_of w).marked (ghost_of w).server refl refl refl
+      (by_call.writes (members c Chain.Send) c.config.bound (view c Chain.Send s) (view c Chain.Send (then c Chain.Send tt some s p begun own inside w (Phase.WriteTag put request))) (ghost_of w) p inside w.inv
+      (sides.write_tag c s p begun own ((ghost_of w).asks_long ((ghost_of w).at p)) put request e))
       record { onward = omega arith; call = (tt, omega arith); read = tt; ended = λ f. absurd f; serves = λ a. tt; keep = λ q ne a. (a, refl) }
 
   write_body_send : (put : ℕ) (request : Request) (i : ℕ) → At c Chain.Send tt some s p begun own inside w (Phase.WriteBody put request i) →
@@ -46,23 +46,23 @@ module _ (c : Setting) (some : 0 < c.config.bound) (s : State) (p begun own : �
   write_body_send put request i e =
       let has : OnSend Chain.Send × (i ≤ further_words request.tag) = subst (λ (z : Stand). HasCall c Chain.Send p z.phase) e (w.ties.begun p inside) in
       let many : further_words request.tag ≡ further_words (request_in its_call).tag = asks_is (Phase.WriteBody put request i) 5 e refl (omega (arith, has.1, few_further request.tag)) in
-      goes_on c Chain.Send tt some s p begun own inside w (Phase.WriteBody put request i) _ w.ghost.marked w.ghost.server refl refl refl
-      (by_call.writes (members c Chain.Send) c.config.bound (view c Chain.Send s) (view c Chain.Send (then c Chain.Send tt some s p begun own inside w (Phase.WriteBody put request i))) w.ghost p inside w.inv
-      (sides.write_body c s p begun own (w.ghost.asks_long (w.ghost.at p)) put request i (long_is (Phase.WriteBody put request i) e refl ∙ ap (λ (z : ℕ). z + 2) (sym many)) has.1 e))
-      (behind_word (λ (z : Phase). Moves c Chain.Send s w.ghost p w.ghost.marked w.ghost.server z) (further_words request.tag) i _ _
+      goes_on c Chain.Send tt some s p begun own inside w (Phase.WriteBody put request i) _ (ghost_of w).marked (ghost_of w).server refl refl refl
+      (by_call.writes (members c Chain.Send) c.config.bound (view c Chain.Send s) (view c Chain.Send (then c Chain.Send tt some s p begun own inside w (Phase.WriteBody put request i))) (ghost_of w) p inside w.inv
+      (sides.write_body c s p begun own ((ghost_of w).asks_long ((ghost_of w).at p)) put request i (long_is (Phase.WriteBody put request i) e refl ∙ ap (λ (z : ℕ). z + 2) (sym many)) has.1 e))
+      (behind_word (λ (z : Phase). Moves c Chain.Send s (ghost_of w) p (ghost_of w).marked (ghost_of w).server z) (further_words request.tag) i _ _
       (λ more. record { onward = omega arith; call = (tt, omega (arith, more)); read = tt; ended = λ f. absurd f; serves = λ a. tt; keep = λ q ne a. (a, refl) })
       (λ last. record { onward = omega arith; call = tt; read = tt; ended = λ f. absurd f; serves = λ a. tt; keep = λ q ne a. (a, refl) }))
 
 -- what a call reads of its answer
 module _ (c : Setting) (x : Chain) (ok : IsChain c x) (some : 0 < c.config.bound) (s : State) (p begun own : ℕ) (inside : p < members c x) (w : Holds c x s) where
   abbrev its_answer : Answer
-  its_answer = answer_at (answers_on x s.history) (w.ghost.at p)
+  its_answer = answer_at (answers_on x s.history) ((ghost_of w).at p)
 
-  pub done_before : (at : Phase) → At c x ok some s p begun own inside w at → (post_of x own at).rank ≡ 6 → w.ghost.at p < w.ghost.answers
+  pub done_before : (at : Phase) → At c x ok some s p begun own inside w at → (post_of x own at).rank ≡ 6 → (ghost_of w).at p < (ghost_of w).answers
   done_before at e six = omega (arith, w.inv.passes.late p inside (ap (λ z. z.rank) (seen c x ok some s p begun own inside w at e) ∙ six), w.inv.calls.in_order)
 
   pub answer_is : (at : Phase) → At c x ok some s p begun own inside w at → (post_of x own at).rank ≡ 6 → IsAnswer c.served x its_answer
-  answer_is at e six = w.ties.answered (w.ghost.at p) (done_before at e six)
+  answer_is at e six = w.ties.answered ((ghost_of w).at p) (done_before at e six)
 
   -- word j of it
   pub word_at : (at : Phase) (j : ℕ) → At c x ok some s p begun own inside w at → post_of x own at ≡ post_of x own Phase.ReadAnswer → j < answer_long its_answer →
@@ -71,12 +71,12 @@ module _ (c : Setting) (x : Chain) (ok : IsChain c x) (some : 0 < c.config.bound
       let is : post_at x (s.stand (pass_on c x p)) ≡ post_of x own Phase.ReadAnswer = seen c x ok some s p begun own inside w at e ∙ six in
       let rank : (post_at x (s.stand (pass_on c x p))).rank ≡ 6 = ap (λ z. z.rank) is in
       let node_is : (post_at x (s.stand (pass_on c x p))).node ≡ own = ap (λ z. z.node) is in
-      let below : w.ghost.at p < w.ghost.answers = done_before at e (ap (λ z. z.rank) six) in
-      let told : answer_words x (λ (f : NodeField). s.mem (Word.Node x (post_at x (s.stand (pass_on c x p))).node f)) j ≡ w.ghost.told (w.ghost.at p) j =
-      w.inv.words.done_told p j inside (omega (arith, rank)) (w.inv.passes.late p inside rank) (omega (arith, w.ties.told_long (w.ghost.at p) below)) in
-      ap (λ (z : ℕ). answer_words x (λ (f : NodeField). s.mem (Word.Node x z f)) j) (sym node_is) ∙ told ∙ w.ties.told (w.ghost.at p) j below
+      let below : (ghost_of w).at p < (ghost_of w).answers = done_before at e (ap (λ z. z.rank) six) in
+      let told : answer_words x (λ (f : NodeField). s.mem (Word.Node x (post_at x (s.stand (pass_on c x p))).node f)) j ≡ (ghost_of w).told ((ghost_of w).at p) j =
+      w.inv.words.done_told p j inside (omega (arith, rank)) (w.inv.passes.late p inside rank) (omega arith) in
+      ap (λ (z : ℕ). answer_words x (λ (f : NodeField). s.mem (Word.Node x z f)) j) (sym node_is) ∙ told
 
-  idle_server : (at : Phase) → At c x ok some s p begun own inside w at → (post_of x own at).rank ≡ 6 → w.ghost.server ≢ p + 1
+  idle_server : (at : Phase) → At c x ok some s p begun own inside w at → (post_of x own at).rank ≡ 6 → (ghost_of w).server ≢ p + 1
   idle_server at e six a = absurd (omega (arith, w.inv.server.server_rank p a, ap (λ z. z.rank) (seen c x ok some s p begun own inside w at e) ∙ six))
 
   -- not all of it is read yet
@@ -85,8 +85,8 @@ module _ (c : Setting) (x : Chain) (ok : IsChain c x) (some : 0 < c.config.bound
       (then c x ok some s p begun own inside w at).mem (Word.Tail x) ≡ s.mem (Word.Tail x) → ((i : ℕ) (f : NodeField) → (then c x ok some s p begun own inside w at).mem (Word.Node x i f) ≡ s.mem (Word.Node x i f)) →
       HasCall c x p there → HasRead c.served x its_answer there → (IsFinished there → ⊥) → Holds c x (then c x ok some s p begun own inside w at)
   reads_more at there e six next_six go enter none keeps_node tail words call read unfinished =
-      goes_on c x ok some s p begun own inside w at there w.ghost.marked w.ghost.server go enter none
-      (by_stay.keeps (members c x) c.config.bound (view c x s) (view c x (then c x ok some s p begun own inside w at)) w.ghost w.inv
+      goes_on c x ok some s p begun own inside w at there (ghost_of w).marked (ghost_of w).server go enter none
+      (by_stay.keeps (members c x) c.config.bound (view c x s) (view c x (then c x ok some s p begun own inside w at)) (ghost_of w) w.inv
       (bridge.stays c x s p begun own (members c x) at e (ap (λ (z : ℕ). post_of x z (goes c x own at (finds c x ok some s p begun own inside w at))) keeps_node ∙ ap (λ (z : Phase). post_of x own z) go ∙ next_six ∙ sym six) tail words))
       record { onward = omega arith; call = call; read = read; ended = λ f. absurd (unfinished f); serves = λ a. absurd (idle_server at e (ap (λ z. z.rank) six) a); keep = λ q ne a. (a, refl) }
 
@@ -97,8 +97,8 @@ module _ (c : Setting) (x : Chain) (ok : IsChain c x) (some : 0 < c.config.bound
       HasCall c x p there → HasRead c.served x its_answer there → Holds c x (then c x ok some s p begun own inside w at)
   reads_end at there e six next_out go enter none keeps_node tail words call read =
       let rank : (post_at x (s.stand (pass_on c x p))).rank ≡ 6 = ap (λ z. z.rank) (seen c x ok some s p begun own inside w at e ∙ six) in
-      goes_on c x ok some s p begun own inside w at there w.ghost.marked w.ghost.server go enter none
-      (by_call.ends (members c x) c.config.bound (view c x s) (view c x (then c x ok some s p begun own inside w at)) w.ghost p inside w.inv
+      goes_on c x ok some s p begun own inside w at there (ghost_of w).marked (ghost_of w).server go enter none
+      (by_call.ends (members c x) c.config.bound (view c x s) (view c x (then c x ok some s p begun own inside w at)) (ghost_of w) p inside w.inv
       (bridge.end c x s p begun own at e six (ap (λ (z : ℕ). post_of x z (goes c x own at (finds c x ok some s p begun own inside w at))) keeps_node ∙ ap (λ (z : Phase). post_of x own z) go ∙ next_out) tail words))
       record {
         onward = omega arith;
@@ -128,7 +128,7 @@ module _ (c : Setting) (g : ℕ) (ok : IsChain c (Chain.Take g)) (some : 0 < c.c
       (λ more. (has.0, omega (arith, more))) (λ last. tt))
 
   abbrev item_answer : Answer
-  item_answer = answer_at (answers_on (Chain.Take g) s.history) (w.ghost.at p)
+  item_answer = answer_at (answers_on (Chain.Take g) s.history) ((ghost_of w).at p)
 
   first_is : At c (Chain.Take g) ok some s p begun own inside w Phase.ReadAnswer → s.mem (Word.Node (Chain.Take g) own NodeField.Ret) ≡ ret_of c.served item_answer
   first_is e = word_at c (Chain.Take g) ok some s p begun own inside w Phase.ReadAnswer 0 e refl (omega (arith, some_words item_answer))

@@ -13,7 +13,7 @@ use Rattle.cc_runs.proofs.Chains.Others.{IsOther}
 use Rattle.cc_runs.specs.Run.{IsFinished}
 use Rattle.cc_runs.proofs.Chains.View.{members, pass_on, post_at}
 use Rattle.cc_runs.proofs.Chains.Registers.{calls_on, answers_on, call_at, answer_at, IsCall, IsAnswer, HasRead, reads}
-use Rattle.cc_runs.proofs.Chains.Ties.{Holds}
+use Rattle.cc_runs.proofs.Chains.Ties.{ghost_of, Holds}
 use Rattle.cc_runs.proofs.Chains.Last.{chosen, chosen_none, Ends, chosen_last, chosen_open}
 
 -- the name of a pass of the chain
@@ -94,18 +94,18 @@ pub record HasAnswer (c : Setting) (x : Chain) (h : Record) (who : Pass) (number
   pub sided : IsAnswer c.served x (answer_at (answers_on x h) number)
 
 -- a call of pass n of the chain that is its last one
-module _ (c : Setting) (x : Chain) (s : State) (w : Holds c x s) (none : NotOther c x s.history) (n : ℕ) (inside : n < members c x) (called : w.ghost.at n < length (calls_on x s.history)) (its_is : w.ghost.pass_of (w.ghost.at n) ≡ n) where
-  pass_of_call : (k : ℕ) → k < length (calls_on x s.history) → (call_at (calls_on x s.history) k).pass ≡ named c x (w.ghost.pass_of k)
+module _ (c : Setting) (x : Chain) (s : State) (w : Holds c x s) (none : NotOther c x s.history) (n : ℕ) (inside : n < members c x) (called : (ghost_of w).at n < length (calls_on x s.history)) (its_is : (ghost_of w).pass_of ((ghost_of w).at n) ≡ n) where
+  pass_of_call : (k : ℕ) → k < length (calls_on x s.history) → (call_at (calls_on x s.history) k).pass ≡ named c x ((ghost_of w).pass_of k)
   pass_of_call k less =
-      let below : k < w.ghost.calls = omega (arith, w.ties.calls_are) in
-      let is : IsCall c x (w.ghost.pass_of k) (call_at (calls_on x s.history) k) = w.ties.entered k below in is.pass_is ∙ name_is c x (w.ghost.pass_of k) (w.ties.pass_in k below)
+      let below : k < (ghost_of w).calls = omega arith in
+      let is : IsCall c x ((ghost_of w).pass_of k) (call_at (calls_on x s.history) k) = w.ties.entered k below in is.pass_is ∙ name_is c x ((ghost_of w).pass_of k) (w.ties.pass_in k below)
 
-  its : is_pass (named c x n) (call_at (calls_on x s.history) (w.ghost.at n)).pass ≡ true
-  its = ap (λ (z : Pass). is_pass (named c x n) z) (pass_of_call (w.ghost.at n) called ∙ ap (λ (z : ℕ). named c x z) its_is) ∙ same_name c x n
+  its : is_pass (named c x n) (call_at (calls_on x s.history) ((ghost_of w).at n)).pass ≡ true
+  its = ap (λ (z : Pass). is_pass (named c x n) z) (pass_of_call ((ghost_of w).at n) called ∙ ap (λ (z : ℕ). named c x z) its_is) ∙ same_name c x n
 
-  none_later : (j : ℕ) → w.ghost.at n < j → j < length (calls_on x s.history) → is_pass (named c x n) (call_at (calls_on x s.history) j).pass ≡ false
+  none_later : (j : ℕ) → (ghost_of w).at n < j → j < length (calls_on x s.history) → is_pass (named c x n) (call_at (calls_on x s.history) j).pass ≡ false
   none_later j after less =
-      ap (λ (z : Pass). is_pass (named c x n) z) (pass_of_call j less) ∙ other_name c x n (w.ghost.pass_of j) (λ same. w.inv.passes.at_last n j after (omega (arith, w.ties.calls_are)) same)
+      ap (λ (z : Pass). is_pass (named c x n) z) (pass_of_call j less) ∙ other_name c x n ((ghost_of w).pass_of j) (λ same. w.inv.passes.at_last n j after (omega arith) same)
 
   abbrev pub its_calls : List (Entry × Option Answer)
   its_calls = chosen (λ (z : Entry). is_pass (named c x n) z.pass) (calls_on x s.history) (answers_on x s.history)
@@ -113,52 +113,52 @@ module _ (c : Setting) (x : Chain) (s : State) (w : Holds c x s) (none : NotOthe
   calls_are : calls_of (pass_at c.config (pass_on c x n)) s.history ≡ its_calls
   calls_are = ap (λ (z : Pass). calls_of z s.history) (name_is c x n inside) ∙ calls_one c x s.history n inside none
 
-  pub ends_with : (told : Option Answer) → Ends its_calls (call_at (calls_on x s.history) (w.ghost.at n)) told → Ends (calls_of (pass_at c.config (pass_on c x n)) s.history) (call_at (calls_on x s.history) (w.ghost.at n)) told
+  pub ends_with : (told : Option Answer) → Ends its_calls (call_at (calls_on x s.history) ((ghost_of w).at n)) told → Ends (calls_of (pass_at c.config (pass_on c x n)) s.history) (call_at (calls_on x s.history) ((ghost_of w).at n)) told
   ends_with told ends = record { before = ends.before; last = calls_are ∙ ends.last }
 
-  pub ends_answered : w.ghost.at n < length (answers_on x s.history) → Ends (calls_of (pass_at c.config (pass_on c x n)) s.history) (call_at (calls_on x s.history) (w.ghost.at n)) (Some (answer_at (answers_on x s.history) (w.ghost.at n)))
+  pub ends_answered : (ghost_of w).at n < length (answers_on x s.history) → Ends (calls_of (pass_at c.config (pass_on c x n)) s.history) (call_at (calls_on x s.history) ((ghost_of w).at n)) (Some (answer_at (answers_on x s.history) ((ghost_of w).at n)))
   ends_answered answered =
-      ends_with (Some (answer_at (answers_on x s.history) (w.ghost.at n))) (chosen_last (λ (z : Entry). is_pass (named c x n) z.pass) (calls_on x s.history) (answers_on x s.history) (w.ghost.at n) called answered its none_later)
+      ends_with (Some (answer_at (answers_on x s.history) ((ghost_of w).at n))) (chosen_last (λ (z : Entry). is_pass (named c x n) z.pass) (calls_on x s.history) (answers_on x s.history) ((ghost_of w).at n) called answered its none_later)
 
-  pub ends_open : length (answers_on x s.history) ≤ w.ghost.at n → Ends (calls_of (pass_at c.config (pass_on c x n)) s.history) (call_at (calls_on x s.history) (w.ghost.at n)) None
-  ends_open pending = ends_with None (chosen_open (λ (z : Entry). is_pass (named c x n) z.pass) (calls_on x s.history) (answers_on x s.history) (w.ghost.at n) called pending its none_later)
+  pub ends_open : length (answers_on x s.history) ≤ (ghost_of w).at n → Ends (calls_of (pass_at c.config (pass_on c x n)) s.history) (call_at (calls_on x s.history) ((ghost_of w).at n)) None
+  ends_open pending = ends_with None (chosen_open (λ (z : Entry). is_pass (named c x n) z.pass) (calls_on x s.history) (answers_on x s.history) ((ghost_of w).at n) called pending its none_later)
 
-module _ (c : Setting) (x : Chain) (s : State) (w : Holds c x s) (none : NotOther c x s.history) (n : ℕ) (inside : n < members c x) (marked : w.ghost.at n < w.ghost.marked) (its_is : w.ghost.pass_of (w.ghost.at n) ≡ n) where
-  answered_it : w.ghost.at n < length (answers_on x s.history)
-  answered_it = omega (arith, marked, w.ties.answers_are, w.inv.calls.in_order)
+module _ (c : Setting) (x : Chain) (s : State) (w : Holds c x s) (none : NotOther c x s.history) (n : ℕ) (inside : n < members c x) (marked : (ghost_of w).at n < (ghost_of w).marked) (its_is : (ghost_of w).pass_of ((ghost_of w).at n) ≡ n) where
+  answered_it : (ghost_of w).at n < length (answers_on x s.history)
+  answered_it = omega (arith, marked, w.inv.calls.in_order)
 
-  called_it : w.ghost.at n < length (calls_on x s.history)
-  called_it = omega (arith, marked, w.ties.calls_are, w.inv.calls.in_order, w.inv.calls.in_order2)
+  called_it : (ghost_of w).at n < length (calls_on x s.history)
+  called_it = omega (arith, marked, w.inv.calls.in_order, w.inv.calls.in_order2)
 
-  pub answer_on : HasAnswer c x s.history (pass_at c.config (pass_on c x n)) (w.ghost.at n)
+  pub answer_on : HasAnswer c x s.history (pass_at c.config (pass_on c x n)) ((ghost_of w).at n)
   answer_on =
-      let ends : Ends (calls_of (pass_at c.config (pass_on c x n)) s.history) (call_at (calls_on x s.history) (w.ghost.at n)) (Some (answer_at (answers_on x s.history) (w.ghost.at n))) =
+      let ends : Ends (calls_of (pass_at c.config (pass_on c x n)) s.history) (call_at (calls_on x s.history) ((ghost_of w).at n)) (Some (answer_at (answers_on x s.history) ((ghost_of w).at n))) =
       ends_answered c x s w none n inside called_it its_is answered_it in
-      record { within = answered_it; before = ends.before; last = ends.last; sided = w.ties.answered (w.ghost.at n) (omega (arith, answered_it, w.ties.answers_are)) }
+      record { within = answered_it; before = ends.before; last = ends.last; sided = w.ties.answered ((ghost_of w).at n) (omega (arith, answered_it)) }
 
 -- a call that exchanged and isn't linked yet is its pass's last, and has no answer
 module _ (c : Setting) (x : Chain) (s : State) (w : Holds c x s) (none : NotOther c x s.history) (n : ℕ) (inside : n < members c x) (entering : (post_at x (s.stand (pass_on c x n))).rank ≡ 3) where
-  its_call : w.ghost.pass_of (w.ghost.at n) ≡ n
+  its_call : (ghost_of w).pass_of ((ghost_of w).at n) ≡ n
   its_call = w.inv.passes.at_is n inside (omega (arith, entering))
 
   -- if an answer is decided and not marked, its call is linked
-  not_decided : (p : ℕ) → w.ghost.server ≡ p + 1 → (post_at x (s.stand (pass_on c x p))).stage ≡ 2 → w.ghost.at n ≢ w.ghost.marked
+  not_decided : (p : ℕ) → (ghost_of w).server ≡ p + 1 → (post_at x (s.stand (pass_on c x p))).stage ≡ 2 → (ghost_of w).at n ≢ (ghost_of w).marked
   not_decided p served stage same =
-      let linked : 4 ≤ (post_at x (s.stand (pass_on c x (w.ghost.pass_of w.ghost.marked)))).rank = w.inv.serving.serving_linked p served (omega (arith, stage)) (omega (arith, stage)) in
-      let who : w.ghost.pass_of w.ghost.marked ≡ n = ap w.ghost.pass_of (sym same) ∙ its_call in
+      let linked : 4 ≤ (post_at x (s.stand (pass_on c x ((ghost_of w).pass_of (ghost_of w).marked)))).rank = w.inv.serving.serving_linked p served (omega (arith, stage)) (omega (arith, stage)) in
+      let who : (ghost_of w).pass_of (ghost_of w).marked ≡ n = ap (ghost_of w).pass_of (sym same) ∙ its_call in
       omega (arith, entering, subst (λ (z : ℕ). 4 ≤ (post_at x (s.stand (pass_on c x z))).rank) who linked)
 
-  open_by : (server : ℕ) → w.ghost.server ≡ server → w.ghost.answers ≤ w.ghost.at n
+  open_by : (server : ℕ) → (ghost_of w).server ≡ server → (ghost_of w).answers ≤ (ghost_of w).at n
   open_by zero free = omega (arith, w.inv.serving.free_answers free, w.inv.passes.early n inside entering)
   open_by (suc p) serves =
-      let served : w.ghost.server ≡ p + 1 = omega (arith, serves) in
-      let low : w.ghost.marked ≤ w.ghost.at n = w.inv.passes.early n inside entering in
+      let served : (ghost_of w).server ≡ p + 1 = omega (arith, serves) in
+      let low : (ghost_of w).marked ≤ (ghost_of w).at n = w.inv.passes.early n inside entering in
       grind (arith, not_decided p served, w.inv.serving.decided p served, w.inv.serving.undecided p served)
 
-  pub open_on : Ends (calls_of (pass_at c.config (pass_on c x n)) s.history) (call_at (calls_on x s.history) (w.ghost.at n)) None
+  pub open_on : Ends (calls_of (pass_at c.config (pass_on c x n)) s.history) (call_at (calls_on x s.history) ((ghost_of w).at n)) None
   open_on =
-      let called : w.ghost.at n < length (calls_on x s.history) = omega (arith, w.ties.calls_are, w.inv.passes.at_in n inside (omega (arith, entering))) in
-      ends_open c x s w none n inside called its_call (omega (arith, w.ties.answers_are, open_by w.ghost.server refl))
+      let called : (ghost_of w).at n < length (calls_on x s.history) = omega (arith, w.inv.passes.at_in n inside (omega (arith, entering))) in
+      ends_open c x s w none n inside called its_call (omega (arith, open_by (ghost_of w).server refl))
 
 -- and this is what is read of it
 pub record HasTold (c : Setting) (x : Chain) (h : Record) (who : Pass) (told : Answer) : Type 0 where
@@ -172,13 +172,13 @@ pub record HasTold (c : Setting) (x : Chain) (h : Record) (who : Pass) (told : A
 pub told_on : (c : Setting) (x : Chain) (s : State) (w : Holds c x s) → NotOther c x s.history → (n : ℕ) → n < members c x → (told : Answer) → (s.stand (pass_on c x n)).phase ≡ Phase.Finished told →
     HasTold c x s.history (pass_at c.config (pass_on c x n)) told
 told_on c x s w none n inside told e =
-    let ended : (w.ghost.at n < w.ghost.marked) × (w.ghost.pass_of (w.ghost.at n) ≡ n) = w.ties.ended n inside (subst (λ (z : Phase). IsFinished z) (sym e) tt) in
-    let a : HasAnswer c x s.history (pass_at c.config (pass_on c x n)) (w.ghost.at n) = answer_on c x s w none n inside ended.0 ended.1 in
+    let ended : ((ghost_of w).at n < (ghost_of w).marked) × ((ghost_of w).pass_of ((ghost_of w).at n) ≡ n) = w.ties.ended n inside (subst (λ (z : Phase). IsFinished z) (sym e) tt) in
+    let a : HasAnswer c x s.history (pass_at c.config (pass_on c x n)) ((ghost_of w).at n) = answer_on c x s w none n inside ended.0 ended.1 in
     record {
-      number = w.ghost.at n;
+      number = (ghost_of w).at n;
       within = a.within;
       before = a.before;
       last = a.last;
       sided = a.sided;
-      read = subst (λ (z : Phase). HasRead c.served x (answer_at (answers_on x s.history) (w.ghost.at n)) z) e (w.ties.read n inside);
+      read = subst (λ (z : Phase). HasRead c.served x (answer_at (answers_on x s.history) ((ghost_of w).at n)) z) e (w.ties.read n inside);
     }

@@ -11,7 +11,7 @@ use Rattle.cc_runs.proofs.Ranges.{InRange}
 use Rattle.cc_runs.proofs.Bodies.{few_further}
 use Rattle.cc_runs.proofs.Chains.View.{members, pass_on, post_of, post_at, send_stage}
 use Rattle.cc_runs.proofs.Chains.Registers.{IsChain, calls_on, answers_on, call_at, answer_at, OnSend, OnTake, HasCall, HasService, HasRead}
-use Rattle.cc_runs.proofs.Chains.Ties.{Holds, send_in}
+use Rattle.cc_runs.proofs.Chains.Ties.{ghost_of, Holds, send_in}
 use Rattle.cc_runs.proofs.Chains.Facts.{own_node}
 use Rattle.cc_runs.proofs.Chains.Others.{group_in}
 
@@ -63,87 +63,87 @@ module _ (c : Setting) (x : Chain) (ok : IsChain c x) (r : InRange c.config) (s 
   pub own_in : (at : Phase) → At at → own ≤ members c x
   own_in at e = subst (λ (z : ℕ). z ≤ members c x) (ap (λ z. z.node) (seen at e) ∙ own_node x own at) (w.inv.nodes.node_in p inside)
 
-  chain_in : (k : ℕ) → w.ghost.marked ≤ k → k ≤ w.ghost.calls → w.ghost.chain k ≤ members c x
-  chain_in k a b = grind (arith, cases_eq k w.ghost.calls, w.inv.nodes.last_in, w.inv.calls.open_node k, w.inv.calls.open_pass k, w.inv.nodes.node_in (w.ghost.pass_of k))
+  chain_in : (k : ℕ) → (ghost_of w).marked ≤ k → k ≤ (ghost_of w).calls → (ghost_of w).chain k ≤ members c x
+  chain_in k a b = grind (arith, cases_eq k (ghost_of w).calls, w.inv.nodes.last_in, w.inv.calls.open_node k, w.inv.calls.open_pass k, w.inv.nodes.node_in ((ghost_of w).pass_of k))
 
   pub put_in : (at : Phase) → At at → (post_of x own at).rank ≡ 3 → (post_of x own at).put ≤ members c x
   put_in at e three =
       let is : post_at x (s.stand (pass_on c x p)) ≡ post_of x own at = seen at e in
       let rank : (post_at x (s.stand (pass_on c x p))).rank ≡ 3 = ap (λ z. z.rank) is ∙ three in
-      omega (arith, ap (λ z. z.put) is, w.inv.links.put_is p inside rank, chain_in (w.ghost.at p + 1) (omega (arith, w.inv.passes.early p inside rank)) (omega (arith, w.inv.passes.at_in p inside (omega (arith, rank)))))
+      omega (arith, ap (λ z. z.put) is, w.inv.links.put_is p inside rank, chain_in ((ghost_of w).at p + 1) (omega (arith, w.inv.passes.early p inside rank)) (omega (arith, w.inv.passes.at_in p inside (omega (arith, rank)))))
 
-  pub me : (at : Phase) → At at → (post_of x own at).rank ≡ 5 → w.ghost.server ≡ p + 1
+  pub me : (at : Phase) → At at → (post_of x own at).rank ≡ 5 → (ghost_of w).server ≡ p + 1
   me at e five = w.inv.server.server_is p inside (ap (λ z. z.rank) (seen at e) ∙ five)
 
   pub target_in : (at : Phase) → At at → (post_of x own at).rank ≡ 5 → (post_of x own at).target ≤ members c x
   target_in at e five =
-      let mine : w.ghost.server ≡ p + 1 = me at e five in
-      omega (arith, ap (λ z. z.target) (seen at e), w.inv.server.server_target p mine, chain_in w.ghost.marked (omega arith) (omega (arith, w.inv.calls.in_order, w.inv.calls.in_order2)))
+      let mine : (ghost_of w).server ≡ p + 1 = me at e five in
+      omega (arith, ap (λ z. z.target) (seen at e), w.inv.server.server_target p mine, chain_in (ghost_of w).marked (omega arith) (omega (arith, w.inv.calls.in_order, w.inv.calls.in_order2)))
 
   pub served_in : (at : Phase) → At at → (post_of x own at).rank ≡ 5 → (post_of x own at).stage ≤ 2 → (post_of x own at).served < c.config.bound
   served_in at e five low = omega (arith, ap (λ z. z.served) (seen at e), w.inv.server.server_bound p (me at e five) (omega (arith, ap (λ z. z.stage) (seen at e))))
 
   pub next_in : (at : Phase) (next : ℕ) → At at → (post_of x own at).rank ≡ 5 → 1 ≤ (post_of x own at).stage → (post_of x own at).stage ≤ 2 → (post_of x own at).next ≡ next + 1 → next ≤ members c x
   next_in at next e five low high is =
-      let mine : w.ghost.server ≡ p + 1 = me at e five in
+      let mine : (ghost_of w).server ≡ p + 1 = me at e five in
       let stage : (post_at x (s.stand (pass_on c x p))).stage ≡ (post_of x own at).stage = ap (λ z. z.stage) (seen at e) in
-      let more : w.ghost.marked < w.ghost.calls = w.inv.serving.serving p mine (omega (arith, stage)) (omega (arith, stage)) in
-      omega (arith, ap (λ z. z.next) (seen at e), w.inv.serving.serving_next p mine (omega (arith, stage)) (omega (arith, stage)), chain_in (w.ghost.marked + 1) (omega arith) (omega arith))
+      let more : (ghost_of w).marked < (ghost_of w).calls = w.inv.serving.serving p mine (omega (arith, stage)) (omega (arith, stage)) in
+      omega (arith, ap (λ z. z.next) (seen at e), w.inv.serving.serving_next p mine (omega (arith, stage)) (omega (arith, stage)), chain_in ((ghost_of w).marked + 1) (omega arith) (omega arith))
 
   -- the link that a combiner reads
   pub link_in : (round : Round) → At (Phase.ReadNext round) → s.mem (Word.Node x round.at NodeField.Next) ≤ members c x + 1
   link_in round e =
       let is : post_at x (s.stand (pass_on c x p)) ≡ post_of x own (Phase.ReadNext round) = seen (Phase.ReadNext round) e in
-      let mine : w.ghost.server ≡ p + 1 = me (Phase.ReadNext round) e refl in
-      let target : round.at ≡ w.ghost.chain w.ghost.marked = sym (ap (λ z. z.target) is) ∙ w.inv.server.server_target p mine in
+      let mine : (ghost_of w).server ≡ p + 1 = me (Phase.ReadNext round) e refl in
+      let target : round.at ≡ (ghost_of w).chain (ghost_of w).marked = sym (ap (λ z. z.target) is) ∙ w.inv.server.server_target p mine in
       grind (
         arith,
-        cases_eq w.ghost.marked w.ghost.calls,
+        cases_eq (ghost_of w).marked (ghost_of w).calls,
         w.inv.links.last_next,
         target,
         w.inv.calls.in_order,
         w.inv.calls.in_order2,
-        w.inv.calls.open_pass w.ghost.marked,
-        w.inv.calls.open_at w.ghost.marked,
-        w.inv.calls.open_low w.ghost.marked,
-        w.inv.calls.open_node w.ghost.marked,
-        cases_eq (post_at x (s.stand (pass_on c x (w.ghost.pass_of w.ghost.marked)))).rank 3,
-        w.inv.links.ready_next (w.ghost.pass_of w.ghost.marked),
-        w.inv.links.linked (w.ghost.pass_of w.ghost.marked),
-        chain_in (w.ghost.marked + 1),
+        w.inv.calls.open_pass (ghost_of w).marked,
+        w.inv.calls.open_at (ghost_of w).marked,
+        w.inv.calls.open_low (ghost_of w).marked,
+        w.inv.calls.open_node (ghost_of w).marked,
+        cases_eq (post_at x (s.stand (pass_on c x ((ghost_of w).pass_of (ghost_of w).marked)))).rank 3,
+        w.inv.links.ready_next ((ghost_of w).pass_of (ghost_of w).marked),
+        w.inv.links.linked ((ghost_of w).pass_of (ghost_of w).marked),
+        chain_in ((ghost_of w).marked + 1),
       )
 
   -- a combiner that has served nobody yet finds its own node linked
   pub own_link_in : (at : ℕ) → At (Phase.ReadNext record { at = at; served = 0 }) → 0 < s.mem (Word.Node x at NodeField.Next)
   own_link_in at e =
       let is : post_at x (s.stand (pass_on c x p)) ≡ post_of x own (Phase.ReadNext record { at = at; served = 0 }) = seen (Phase.ReadNext record { at = at; served = 0 }) e in
-      let mine : w.ghost.server ≡ p + 1 = me (Phase.ReadNext record { at = at; served = 0 }) e refl in
+      let mine : (ghost_of w).server ≡ p + 1 = me (Phase.ReadNext record { at = at; served = 0 }) e refl in
       let rank : (post_at x (s.stand (pass_on c x p))).rank ≡ 5 = ap (λ z. z.rank) is in
-      let first : w.ghost.at p ≡ w.ghost.marked = omega (arith, ap (λ z. z.served) is, w.inv.server.server_at p mine (omega (arith, ap (λ z. z.stage) is))) in
-      let more : w.ghost.marked < w.ghost.calls = omega (arith, w.inv.passes.at_in p inside (omega (arith, rank))) in
-      let its : w.ghost.pass_of w.ghost.marked ≡ p = ap w.ghost.pass_of (sym first) ∙ w.inv.passes.at_is p inside (omega (arith, rank)) in
+      let first : (ghost_of w).at p ≡ (ghost_of w).marked = omega (arith, ap (λ z. z.served) is, w.inv.server.server_at p mine (omega (arith, ap (λ z. z.stage) is))) in
+      let more : (ghost_of w).marked < (ghost_of w).calls = omega (arith, w.inv.passes.at_in p inside (omega (arith, rank))) in
+      let its : (ghost_of w).pass_of (ghost_of w).marked ≡ p = ap (ghost_of w).pass_of (sym first) ∙ w.inv.passes.at_is p inside (omega (arith, rank)) in
       let node_is : (post_at x (s.stand (pass_on c x p))).node ≡ at =
-      ap (λ (z : ℕ). (post_at x (s.stand (pass_on c x z))).node) (sym its) ∙ w.inv.calls.open_node w.ghost.marked (omega arith) more ∙ sym (w.inv.server.server_target p mine) ∙ ap (λ z. z.target) is in
+      ap (λ (z : ℕ). (post_at x (s.stand (pass_on c x z))).node) (sym its) ∙ w.inv.calls.open_node (ghost_of w).marked (omega arith) more ∙ sym (w.inv.server.server_target p mine) ∙ ap (λ z. z.target) is in
       omega (arith, w.inv.links.linked p inside (omega (arith, rank)) (omega arith), ap (λ (z : ℕ). s.mem (Word.Node x z NodeField.Next)) node_is)
 
   -- the request in service has no answer before the step that decides it
   pub unanswered : (at : Phase) → At at → (post_of x own at).rank ≡ 5 → (post_of x own at).stage ≡ 1 → length (answers_on x s.history) < length (calls_on x s.history)
   unanswered at e five one =
-      let mine : w.ghost.server ≡ p + 1 = me at e five in
+      let mine : (ghost_of w).server ≡ p + 1 = me at e five in
       let stage : (post_at x (s.stand (pass_on c x p))).stage ≡ 1 = ap (λ z. z.stage) (seen at e) ∙ one in
-      omega (arith, w.ties.calls_are, w.ties.answers_are, w.inv.serving.undecided p mine (λ two. omega (arith, stage)), w.inv.serving.serving p mine (omega (arith, stage)) (omega (arith, stage)))
+      omega (arith, w.inv.serving.undecided p mine (λ two. omega (arith, stage)), w.inv.serving.serving p mine (omega (arith, stage)) (omega (arith, stage)))
 
   -- and from that step on the call that is marked next has this answer
-  pub answer_in : (at : Phase) → At at → (post_of x own at).rank ≡ 5 → (post_of x own at).stage ≡ 2 → w.ghost.marked < length (answers_on x s.history)
-  answer_in at e five two = omega (arith, w.ties.answers_are, w.inv.serving.decided p (me at e five) (ap (λ z. z.stage) (seen at e) ∙ two))
+  pub answer_in : (at : Phase) → At at → (post_of x own at).rank ≡ 5 → (post_of x own at).stage ≡ 2 → (ghost_of w).marked < length (answers_on x s.history)
+  answer_in at e five two = omega (arith, w.inv.serving.decided p (me at e five) (ap (λ z. z.stage) (seen at e) ∙ two))
 
   abbrev Fit : Type 0
   Fit = (k : ℕ) → k < length (answers_on x s.history) → ret_of c.served (answer_at (answers_on x s.history) k) < 2 ^ 64
 
   told_fits : (job : Job) (told : Answer) → At (Phase.WriteAnswer job told) → Fit → ret_of c.served told < 2 ^ 64
   told_fits job told e fit =
-      let is : answer_at (answers_on x s.history) w.ghost.marked ≡ told = subst (λ (z : Stand). HasService c.served x (call_at (calls_on x s.history) w.ghost.marked) (answer_at (answers_on x s.history) w.ghost.marked) z.phase) e (w.ties.served p (me (Phase.WriteAnswer job told) e refl)) in
-      subst (λ (z : Answer). ret_of c.served z < 2 ^ 64) is (fit w.ghost.marked (answer_in (Phase.WriteAnswer job told) e refl refl))
+      let is : answer_at (answers_on x s.history) (ghost_of w).marked ≡ told = subst (λ (z : Stand). HasService c.served x (call_at (calls_on x s.history) (ghost_of w).marked) (answer_at (answers_on x s.history) (ghost_of w).marked) z.phase) e (w.ties.served p (me (Phase.WriteAnswer job told) e refl)) in
+      subst (λ (z : Answer). ret_of c.served z < 2 ^ 64) is (fit (ghost_of w).marked (answer_in (Phase.WriteAnswer job told) e refl refl))
 
   pub safe_at : (at : Phase) → At at → Fit → (IsService at → IsSafe c s x own at) → IsSafe c s x own at
   safe_at Phase.Idle e fit served = record { word = tail_exists c x ok; numbers = tt }
@@ -160,14 +160,14 @@ module _ (c : Setting) (x : Chain) (ok : IsChain c x) (r : InRange c.config) (s 
   safe_at (Phase.WriteAnswer job told) e fit served = record { word = node_exists c x ok job.round.at NodeField.Ret refl (target_in (Phase.WriteAnswer job told) e refl); numbers = told_fits job told e fit }
   safe_at (Phase.WriteAnswerTag job item) e fit served = record { word = node_exists c x ok job.round.at NodeField.Tag refl (target_in (Phase.WriteAnswerTag job item) e refl); numbers = tt }
   safe_at (Phase.WriteAnswerBody job item i) e fit served =
-      let has = on_take x _ (subst (λ (z : Stand). HasService c.served x (call_at (calls_on x s.history) w.ghost.marked) (answer_at (answers_on x s.history) w.ghost.marked) z.phase) e (w.ties.served p (me (Phase.WriteAnswerBody job item i) e refl))) in
+      let has = on_take x _ (subst (λ (z : Stand). HasService c.served x (call_at (calls_on x s.history) (ghost_of w).marked) (answer_at (answers_on x s.history) (ghost_of w).marked) z.phase) e (w.ties.served p (me (Phase.WriteAnswerBody job item i) e refl))) in
       record { word = node_exists c x ok job.round.at (NodeField.Body i) (four_words i (tag_of item) has.1) (target_in (Phase.WriteAnswerBody job item i) e refl); numbers = tt }
   safe_at (Phase.MarkDone job) e fit served = record { word = node_exists c x ok job.round.at NodeField.State refl (target_in (Phase.MarkDone job) e refl); numbers = omega (arith, served_in (Phase.MarkDone job) e refl (omega arith), r.bound) }
   safe_at (Phase.HandOver at) e fit served = record { word = node_exists c x ok at NodeField.State refl (target_in (Phase.HandOver at) e refl); numbers = tt }
   safe_at Phase.ReadAnswer e fit served = record { word = node_exists c x ok own NodeField.Ret refl (own_in Phase.ReadAnswer e); numbers = tt }
   safe_at (Phase.ReadAnswerTag at) e fit served = record { word = node_exists c x ok own NodeField.Tag refl (own_in (Phase.ReadAnswerTag at) e); numbers = tt }
   safe_at (Phase.ReadAnswerBody at i) e fit served =
-      let has = on_take x _ (subst (λ (z : Stand). HasRead c.served x (answer_at (answers_on x s.history) (w.ghost.at p)) z.phase) e (w.ties.read p inside)) in
+      let has = on_take x _ (subst (λ (z : Stand). HasRead c.served x (answer_at (answers_on x s.history) ((ghost_of w).at p)) z.phase) e (w.ties.read p inside)) in
       record { word = node_exists c x ok own (NodeField.Body i) (four_words i at.tag has.3) (own_in (Phase.ReadAnswerBody at i) e); numbers = tt }
   safe_at (Phase.Finished told) e fit served = record { word = tail_exists c x ok; numbers = tt }
   safe_at at e fit served = grind arith

@@ -9,7 +9,7 @@ use Rattle.cc_runs.specs.Words.{groups}
 use Rattle.cc_runs.specs.Run.{IsRun, reached, passes, passes_of}
 use Rattle.cc_runs.proofs.Chains.View.{pass_on, post_of, post_at, serving, asked_words, request_words, request_long}
 use Rattle.cc_runs.proofs.Chains.Registers.{IsChainOf, IsChain, calls_on, answers_on, call_at, answer_at, no_call, HasSend, HasService}
-use Rattle.cc_runs.proofs.Chains.Ties.{Holds}
+use Rattle.cc_runs.proofs.Chains.Ties.{ghost_of, Holds}
 use Rattle.cc_runs.proofs.Chains.Own.{counts_where, sends_where}
 use Rattle.cc_runs.proofs.Chains.Others.{IsOther, IsOn, IsOff, which, sender_chain, receiver_chain}
 use Rattle.cc_runs.proofs.Chains.Serve as serve
@@ -68,27 +68,27 @@ module _ (c : Setting) (s : State) (k : Chains c s) where
   the_holds p less = k.holds (chain_of c.config p) (chain_is c p less)
 
   serves_what : (p : ℕ) (less : p < passes c) → Combines (s.stand p) →
-      HasService c.served (chain_of c.config p) (call_at (calls_on (chain_of c.config p) s.history) (the_holds p less).ghost.marked) (answer_at (answers_on (chain_of c.config p) s.history) (the_holds p less).ghost.marked) (s.stand p).phase
+      HasService c.served (chain_of c.config p) (call_at (calls_on (chain_of c.config p) s.history) (ghost_of (the_holds p less)).marked) (answer_at (answers_on (chain_of c.config p) s.history) (ghost_of (the_holds p less)).marked) (s.stand p).phase
   serves_what p less five =
       let x : Chain = chain_of c.config p in
       let w : Holds c (chain_of c.config p) s = the_holds p less in
       let on : IsOn c (chain_of c.config p) p = on_chain c p less in
       let rank : (post_at (chain_of c.config p) (s.stand (pass_on c (chain_of c.config p) on.number))).rank ≡ 5 =
       subst (λ (z : ℕ). (post_at (chain_of c.config p) (s.stand z)).rank ≡ 5) on.pass_is (same_rank (chain_of c.config p) Chain.Send (s.stand p).node (s.stand p).phase ∙ five) in
-      let mine : w.ghost.server ≡ on.number + 1 = w.inv.server.server_is on.number on.inside rank in
-      subst (λ (z : ℕ). HasService c.served (chain_of c.config p) (call_at (calls_on (chain_of c.config p) s.history) w.ghost.marked) (answer_at (answers_on (chain_of c.config p) s.history) w.ghost.marked) (s.stand z).phase)
+      let mine : (ghost_of w).server ≡ on.number + 1 = w.inv.server.server_is on.number on.inside rank in
+      subst (λ (z : ℕ). HasService c.served (chain_of c.config p) (call_at (calls_on (chain_of c.config p) s.history) (ghost_of w).marked) (answer_at (answers_on (chain_of c.config p) s.history) (ghost_of w).marked) (s.stand z).phase)
       (sym on.pass_is) (w.ties.served on.number mine)
 
   pub sending_where : (p : ℕ) (job : Job) (service : Sending) → p < passes c → (s.stand p).phase ≡ Phase.Sending job service → (c.served ≡ Served.List) × (chain_of c.config p ≡ Chain.Send)
   sending_where p job service less e =
-      sends_where c.served (chain_of c.config p) (HasSend (call_at (calls_on (chain_of c.config p) s.history) (the_holds p less).ghost.marked) (answer_at (answers_on (chain_of c.config p) s.history) (the_holds p less).ghost.marked) service)
-      (subst (λ (z : Phase). HasService c.served (chain_of c.config p) (call_at (calls_on (chain_of c.config p) s.history) (the_holds p less).ghost.marked) (answer_at (answers_on (chain_of c.config p) s.history) (the_holds p less).ghost.marked) z) e
+      sends_where c.served (chain_of c.config p) (HasSend (call_at (calls_on (chain_of c.config p) s.history) (ghost_of (the_holds p less)).marked) (answer_at (answers_on (chain_of c.config p) s.history) (ghost_of (the_holds p less)).marked) service)
+      (subst (λ (z : Phase). HasService c.served (chain_of c.config p) (call_at (calls_on (chain_of c.config p) s.history) (ghost_of (the_holds p less)).marked) (answer_at (answers_on (chain_of c.config p) s.history) (ghost_of (the_holds p less)).marked) z) e
       (serves_what p less (ap (λ (z : Phase). (post_of Chain.Send (s.stand p).node z).rank) e)))
 
   pub counting_where : (p : ℕ) (job : Job) (service : Counting) → p < passes c → (s.stand p).phase ≡ Phase.Counting job service → (c.served ≡ Served.Counter) × (chain_of c.config p ≡ Chain.Send)
   counting_where p job service less e =
       counts_where c.served (chain_of c.config p)
-      (subst (λ (z : Phase). HasService c.served (chain_of c.config p) (call_at (calls_on (chain_of c.config p) s.history) (the_holds p less).ghost.marked) (answer_at (answers_on (chain_of c.config p) s.history) (the_holds p less).ghost.marked) z) e
+      (subst (λ (z : Phase). HasService c.served (chain_of c.config p) (call_at (calls_on (chain_of c.config p) s.history) (ghost_of (the_holds p less)).marked) (answer_at (answers_on (chain_of c.config p) s.history) (ghost_of (the_holds p less)).marked) z) e
       (serves_what p less (ap (λ (z : Phase). (post_of Chain.Send (s.stand p).node z).rank) e))).0
 
   -- one service of a side at most
@@ -115,22 +115,22 @@ module _ (c : Setting) (s : State) (k : Chains c s) where
     is_serving : post_at x (s.stand (pass_on c x on.number)) ≡ serving (s.stand (pass_on c x on.number)).node job 1 0
     is_serving = ap (λ (z : Stand). post_at x z) here ∙ undecided (s.stand (pass_on c x on.number)).node
 
-    mine : (k.holds x ok).ghost.server ≡ on.number + 1
+    mine : (ghost_of (k.holds x ok)).server ≡ on.number + 1
     mine = (k.holds x ok).inv.server.server_is on.number on.inside (ap (λ z. z.rank) is_serving)
 
-    pub even : length (answers_on x s.history) ≡ (k.holds x ok).ghost.marked
-    even = (k.holds x ok).ties.answers_are ∙ (k.holds x ok).inv.serving.undecided on.number mine (λ two. omega (arith, ap (λ z. z.stage) is_serving))
+    pub even : length (answers_on x s.history) ≡ (ghost_of (k.holds x ok)).marked
+    even = (k.holds x ok).inv.serving.undecided on.number mine (λ two. omega (arith, ap (λ z. z.stage) is_serving))
 
     pub next_call : slice_get (calls_on x s.history) (length (answers_on x s.history)) ≡ Some (call_at (calls_on x s.history) (length (answers_on x s.history)))
     next_call =
-        let busy : (k.holds x ok).ghost.marked < (k.holds x ok).ghost.calls = (k.holds x ok).inv.serving.serving on.number mine (omega (arith, ap (λ z. z.stage) is_serving)) (omega (arith, ap (λ z. z.stage) is_serving)) in
-        slice_get-get_or (calls_on x s.history) (length (answers_on x s.history)) no_call (omega (arith, even, (k.holds x ok).ties.calls_are))
+        let busy : (ghost_of (k.holds x ok)).marked < (ghost_of (k.holds x ok)).calls = (k.holds x ok).inv.serving.serving on.number mine (omega (arith, ap (λ z. z.stage) is_serving)) (omega (arith, ap (λ z. z.stage) is_serving)) in
+        slice_get-get_or (calls_on x s.history) (length (answers_on x s.history)) no_call (omega (arith, even))
 
     pub next_service : (a : Entry) → a ≡ call_at (calls_on x s.history) (length (answers_on x s.history)) → HasService c.served x a (answer_at (answers_on x s.history) (length (answers_on x s.history))) at
     next_service a is =
         subst (λ (z : Entry). HasService c.served x z (answer_at (answers_on x s.history) (length (answers_on x s.history))) at) (sym is)
         (subst (λ (n : ℕ). HasService c.served x (call_at (calls_on x s.history) n) (answer_at (answers_on x s.history) n) at) (sym even)
-        (subst (λ (z : Stand). HasService c.served x (call_at (calls_on x s.history) (k.holds x ok).ghost.marked) (answer_at (answers_on x s.history) (k.holds x ok).ghost.marked) z.phase) here ((k.holds x ok).ties.served on.number mine)))
+        (subst (λ (z : Stand). HasService c.served x (call_at (calls_on x s.history) (ghost_of (k.holds x ok)).marked) (answer_at (answers_on x s.history) (ghost_of (k.holds x ok)).marked) z.phase) here ((k.holds x ok).ties.served on.number mine)))
 
     pub next_words : (j : ℕ) → j < request_long x (call_at (calls_on x s.history) (length (answers_on x s.history))) → request_words x (λ (f : NodeField). s.mem (Word.Node x job.round.at f)) j ≡ asked_words x (call_at (calls_on x s.history) (length (answers_on x s.history))) j
     next_words j less =

@@ -1,8 +1,8 @@
 -- Each step of a pass of the chain keeps what holds of the chain.
-use Rattle.std.proofs.Common.{◌≡◌, ◌≢◌, ℕ, zero, suc, ◌+◌, ◌<◌, ◌≤◌, refl, ap, sym, ◌∙◌, subst, arith, Some, None, List, [], ◌∷◌, ◌++◌}
+use Rattle.std.proofs.Common.{length, ◌≡◌, ◌≢◌, ℕ, zero, suc, ◌+◌, ◌<◌, ◌≤◌, refl, ap, sym, ◌∙◌, subst, arith, Some, None, [], ◌∷◌, ◌++◌}
 use Rattle.cc_model.specs.Record.{Side, Record, with_call}
 use Rattle.cc_runs.specs.Words.{groups}
-use Rattle.cc_runs.specs.Names.{Entry, Answer, Setting, Chain, NodeField, Word, Stand, Round, Phase}
+use Rattle.cc_runs.specs.Names.{Entry, Setting, Chain, NodeField, Word, Stand, Round, Phase}
 use Rattle.cc_runs.specs.State.{State, side, noted}
 use Rattle.cc_runs.specs.Lines.{goes, enters, decides, after_exchange, after_state, after_next, serves}
 use Rattle.cc_runs.specs.Step.{advanced}
@@ -17,7 +17,7 @@ use Rattle.cc_runs.proofs.Chains.Frame.{hold_here, hold_apart, pass_apart, serve
 use Rattle.cc_runs.proofs.Chains.Bridge as bridge
 use Rattle.cc_runs.proofs.Chains.Bridge.{standing, after, found}
 use Rattle.cc_runs.proofs.Chains.Registers.{IsChain, HasSide, calls_on, answers_on, call_at, answer_at, HasCall, HasService, HasRead}
-use Rattle.cc_runs.proofs.Chains.Ties.{Ties, Holds, stands_on, ties_moved}
+use Rattle.cc_runs.proofs.Chains.Ties.{ghost_of, holds_at, ghosts, Holds, stands_on, ties_moved}
 use Rattle.cc_runs.proofs.Chains.Grown as grown
 use Rattle.cc_runs.proofs.Chains.Facts.{noted_none, side_same, keeps_side, IsFree, free_at, exchanged_free, serves_it, few_asked}
 
@@ -56,68 +56,64 @@ module _ (c : Setting) (x : Chain) (ok : IsChain c x) (some : 0 < c.config.bound
 
   -- the history stays, and the pass goes there
   pub goes_on : (at there : Phase) (marked server : ℕ) → goes c x own at (found_at at) ≡ there → enters at ≡ None → decides c at (found_at at) ≡ None →
-      Inv (members c x) c.config.bound (view c x (next at)) (record w.ghost { marked = marked; server = server }) → Moves c x s w.ghost p marked server there → Holds c x (next at)
+      Inv (members c x) c.config.bound (view c x (next at)) (record (ghost_of w) { marked = marked; server = server }) → Moves c x s (ghost_of w) p marked server there → Holds c x (next at)
   goes_on at there marked server go e d inv m =
       let place_is : goes c x own at (found_at at) ≡ there = go in
       let back : there ≡ goes c x own at (found_at at) = sym go in
-      record {
-        ghost = record w.ghost { marked = marked; server = server };
-        inv = inv;
-        ties = subst (λ (r : Record). Ties c x (calls_on x r) (answers_on x r) (stands_on c x (next at)) (record w.ghost { marked = marked; server = server })) (sym (history_same c x s p begun own at e d))
-            (ties_moved c x (calls_on x s.history) (answers_on x s.history) (stands_on c x s) (stands_on c x (next at)) w.ghost p w.ties
-            (advanced c x (standing c x s p begun own at) (found_at at)) marked server (mine c x s p begun own at) (λ q ne. others c x s p begun own at q ne) m.onward
-            (subst (λ (z : Phase). HasCall c x p z) back m.call)
-            (subst (λ (z : Phase). HasRead c.served x (answer_at (answers_on x s.history) (w.ghost.at p)) z) back m.read)
-            (λ f. m.ended (subst (λ (z : Phase). IsFinished z) place_is f))
-            (λ a. subst (λ (z : Phase). HasService c.served x (call_at (calls_on x s.history) marked) (answer_at (answers_on x s.history) marked) z) back (m.serves a)) m.keep);
-        side_in = keeps_side x x s.history _ w.side_in;
-      }
+      holds_at c x (next at) (calls_on x s.history) (answers_on x s.history) (record w.kept { marked = marked; server = server }) (ap (calls_on x) (history_same c x s p begun own at e d)) (ap (answers_on x) (history_same c x s p begun own at e d)) inv
+      (ties_moved c x (calls_on x s.history) (answers_on x s.history) (stands_on c x s) (stands_on c x (next at)) w.kept p w.ties
+      (advanced c x (standing c x s p begun own at) (found_at at)) marked server (mine c x s p begun own at) (λ q ne. others c x s p begun own at q ne) m.onward
+      (subst (λ (z : Phase). HasCall c x p z) back m.call)
+      (subst (λ (z : Phase). HasRead c.served x (answer_at (answers_on x s.history) ((ghost_of w).at p)) z) back m.read)
+      (λ f. m.ended (subst (λ (z : Phase). IsFinished z) place_is f))
+      (λ a. subst (λ (z : Phase). HasService c.served x (call_at (calls_on x s.history) marked) (answer_at (answers_on x s.history) marked) z) back (m.serves a)) m.keep)
+      (keeps_side x x s.history _ w.side_in)
 
   -- the pass keeps its part in the chain
   pub stays_in : (there : Phase) → IsFree c x p there →
-      (w.ghost.server ≡ p + 1 → HasService c.served x (call_at (calls_on x s.history) w.ghost.marked) (answer_at (answers_on x s.history) w.ghost.marked) there) → Moves c x s w.ghost p w.ghost.marked w.ghost.server there
+      ((ghost_of w).server ≡ p + 1 → HasService c.served x (call_at (calls_on x s.history) (ghost_of w).marked) (answer_at (answers_on x s.history) (ghost_of w).marked) there) → Moves c x s (ghost_of w) p (ghost_of w).marked (ghost_of w).server there
   stays_in there free serves = record { onward = omega arith; call = free.call; read = free.read _; ended = λ f. absurd (free.unfinished f); serves = serves; keep = λ q ne a. (a, refl) }
 
   pub reset_next : (call : Entry) → Here (Phase.ResetNext call) → Holds c x (next (Phase.ResetNext call))
   reset_next call e =
-      goes_on (Phase.ResetNext call) (Phase.ResetState call) w.ghost.marked w.ghost.server refl refl refl
-      (by_call.resets (members c x) c.config.bound (view c x s) (view c x (next (Phase.ResetNext call))) w.ghost p inside w.inv (bridge.reset_next c x s p begun own call e))
+      goes_on (Phase.ResetNext call) (Phase.ResetState call) (ghost_of w).marked (ghost_of w).server refl refl refl
+      (by_call.resets (members c x) c.config.bound (view c x s) (view c x (next (Phase.ResetNext call))) (ghost_of w) p inside w.inv (bridge.reset_next c x s p begun own call e))
       record { onward = omega arith; call = subst (λ (z : Stand). HasCall c x p z.phase) e (w.ties.begun p inside); read = tt; ended = λ f. absurd f; serves = λ a. tt; keep = λ q ne a. (a, refl) }
 
   pub reset_state : (call : Entry) → Here (Phase.ResetState call) → Holds c x (next (Phase.ResetState call))
   reset_state call e =
       let was : post_at x (s.stand (pass_on c x p)) ≡ post_of x own (Phase.ResetState call) = ap (λ (z : Stand). post_at x z) e in
       let clear : s.mem (Word.Node x own NodeField.Next) ≡ 0 = grind (arith, w.inv.links.ready_next p) in
-      goes_on (Phase.ResetState call) (Phase.Exchange call) w.ghost.marked w.ghost.server refl refl refl
-      (by_call.resets (members c x) c.config.bound (view c x s) (view c x (next (Phase.ResetState call))) w.ghost p inside w.inv (bridge.reset_state c x s p begun own call e clear))
+      goes_on (Phase.ResetState call) (Phase.Exchange call) (ghost_of w).marked (ghost_of w).server refl refl refl
+      (by_call.resets (members c x) c.config.bound (view c x s) (view c x (next (Phase.ResetState call))) (ghost_of w) p inside w.inv (bridge.reset_state c x s p begun own call e clear))
       record { onward = omega arith; call = subst (λ (z : Stand). HasCall c x p z.phase) e (w.ties.begun p inside); read = tt; ended = λ f. absurd f; serves = λ a. tt; keep = λ q ne a. (a, refl) }
 
   pub link : (put : ℕ) → Here (Phase.Link put) → Holds c x (next (Phase.Link put))
   link put e =
       let rank : (post_at x (s.stand (pass_on c x p))).rank ≡ 3 = ap (λ (z : Stand). (post_at x z).rank) e in
-      let called : w.ghost.at p < w.ghost.calls = w.inv.passes.at_in p inside (omega (arith, rank)) in
-      goes_on (Phase.Link put) Phase.ReadState w.ghost.marked w.ghost.server refl refl refl
-      (by_call.links (members c x) c.config.bound (view c x s) (view c x (next (Phase.Link put))) w.ghost p inside w.inv
-      (bridge.link c x s p begun own (w.ghost.asks_long (w.ghost.at p)) put (omega (arith, w.ties.asks_long (w.ghost.at p) called, few_asked x (call_at (calls_on x s.history) (w.ghost.at p)))) e))
+      let called : (ghost_of w).at p < (ghost_of w).calls = w.inv.passes.at_in p inside (omega (arith, rank)) in
+      goes_on (Phase.Link put) Phase.ReadState (ghost_of w).marked (ghost_of w).server refl refl refl
+      (by_call.links (members c x) c.config.bound (view c x s) (view c x (next (Phase.Link put))) (ghost_of w) p inside w.inv
+      (bridge.link c x s p begun own ((ghost_of w).asks_long ((ghost_of w).at p)) put (omega (arith, few_asked x (call_at (calls_on x s.history) ((ghost_of w).at p)))) e))
       record { onward = omega arith; call = tt; read = tt; ended = λ f. absurd f; serves = λ a. tt; keep = λ q ne a. (a, refl) }
 
   wait : Here Phase.ReadState → s.mem (Word.Node x own NodeField.State) ≡ 1 → Holds c x (next Phase.ReadState)
   wait e saw =
-      goes_on Phase.ReadState Phase.ReadState w.ghost.marked w.ghost.server (ap (λ (z : ℕ). after_state own z) saw) refl refl
-      (by_stay.keeps (members c x) c.config.bound (view c x s) (view c x (next Phase.ReadState)) w.ghost w.inv
+      goes_on Phase.ReadState Phase.ReadState (ghost_of w).marked (ghost_of w).server (ap (λ (z : ℕ). after_state own z) saw) refl refl
+      (by_stay.keeps (members c x) c.config.bound (view c x s) (view c x (next Phase.ReadState)) (ghost_of w) w.inv
       (bridge.stays c x s p begun own (members c x) Phase.ReadState e (ap (λ (z : ℕ). post_of x own (after_state own z)) saw) refl (λ i f. refl)))
       record { onward = omega arith; call = tt; read = tt; ended = λ f. absurd f; serves = λ a. tt; keep = λ q ne a. (a, refl) }
 
   collect : (k : ℕ) → Here Phase.ReadState → s.mem (Word.Node x own NodeField.State) ≡ suc (suc k) → Holds c x (next Phase.ReadState)
   collect k e saw =
-      goes_on Phase.ReadState Phase.ReadAnswer w.ghost.marked w.ghost.server (ap (λ (z : ℕ). after_state own z) saw) refl refl
-      (by_call.collects (members c x) c.config.bound (view c x s) (view c x (next Phase.ReadState)) w.ghost p inside w.inv (bridge.collect c x s p begun own k e saw))
+      goes_on Phase.ReadState Phase.ReadAnswer (ghost_of w).marked (ghost_of w).server (ap (λ (z : ℕ). after_state own z) saw) refl refl
+      (by_call.collects (members c x) c.config.bound (view c x s) (view c x (next Phase.ReadState)) (ghost_of w) p inside w.inv (bridge.collect c x s p begun own k e saw))
       record { onward = omega arith; call = tt; read = tt; ended = λ f. absurd f; serves = λ a. tt; keep = λ q ne a. (a, refl) }
 
   start : Here Phase.ReadState → s.mem (Word.Node x own NodeField.State) ≡ 0 → Holds c x (next Phase.ReadState)
   start e saw =
-      goes_on Phase.ReadState (Phase.ReadNext record { at = own; served = 0 }) w.ghost.marked (p + 1) (ap (λ (z : ℕ). after_state own z) saw) refl refl
-      (by_call.starts (members c x) c.config.bound (view c x s) (view c x (next Phase.ReadState)) w.ghost p inside w.inv some (bridge.start c x s p begun own e saw))
+      goes_on Phase.ReadState (Phase.ReadNext record { at = own; served = 0 }) (ghost_of w).marked (p + 1) (ap (λ (z : ℕ). after_state own z) saw) refl refl
+      (by_call.starts (members c x) c.config.bound (view c x s) (view c x (next Phase.ReadState)) (ghost_of w) p inside w.inv some (bridge.start c x s p begun own e saw))
       record { onward = omega arith; call = tt; read = tt; ended = λ f. absurd f; serves = λ a. tt; keep = λ q ne a. absurd (ne (omega arith)) }
 
   read_state_by : (k : ℕ) → Here Phase.ReadState → s.mem (Word.Node x own NodeField.State) ≡ k → Holds c x (next Phase.ReadState)
@@ -130,16 +126,16 @@ module _ (c : Setting) (x : Chain) (ok : IsChain c x) (some : 0 < c.config.bound
 
   stop : (round : Round) → Here (Phase.ReadNext round) → s.mem (Word.Node x round.at NodeField.Next) ≡ 0 → Holds c x (next (Phase.ReadNext round))
   stop round e saw =
-      goes_on (Phase.ReadNext round) (Phase.HandOver round.at) w.ghost.marked w.ghost.server (ap (λ (z : ℕ). after_next c.served x round z) saw) refl refl
-      (by_combiner.stops (members c x) c.config.bound (view c x s) (view c x (next (Phase.ReadNext round))) w.ghost p inside w.inv (bridge.stop c x s p begun own round e saw))
+      goes_on (Phase.ReadNext round) (Phase.HandOver round.at) (ghost_of w).marked (ghost_of w).server (ap (λ (z : ℕ). after_next c.served x round z) saw) refl refl
+      (by_combiner.stops (members c x) c.config.bound (view c x s) (view c x (next (Phase.ReadNext round))) (ghost_of w) p inside w.inv (bridge.stop c x s p begun own round e saw))
       record { onward = omega arith; call = tt; read = tt; ended = λ f. absurd f; serves = λ a. tt; keep = λ q ne a. (a, refl) }
 
   pick : (round : Round) (k : ℕ) → Here (Phase.ReadNext round) → s.mem (Word.Node x round.at NodeField.Next) ≡ suc k → Holds c x (next (Phase.ReadNext round))
   pick round k e saw =
-      goes_on (Phase.ReadNext round) (serves c.served x record { round = round; next = k }) w.ghost.marked w.ghost.server (ap (λ (z : ℕ). after_next c.served x round z) saw) refl refl
-      (by_combiner.picks (members c x) c.config.bound (view c x s) (view c x (next (Phase.ReadNext round))) w.ghost p inside w.inv (bridge.pick c x s p begun own round k e saw))
+      goes_on (Phase.ReadNext round) (serves c.served x record { round = round; next = k }) (ghost_of w).marked (ghost_of w).server (ap (λ (z : ℕ). after_next c.served x round z) saw) refl refl
+      (by_combiner.picks (members c x) c.config.bound (view c x s) (view c x (next (Phase.ReadNext round))) (ghost_of w) p inside w.inv (bridge.pick c x s p begun own round k e saw))
       (stays_in (serves c.served x record { round = round; next = k }) (free_at c x p own _ (ap (λ z. z.rank) (serves_post c.served x own record { round = round; next = k })))
-      (λ a. serves_it c.served (groups c.config) x (call_at (calls_on x s.history) w.ghost.marked) (answer_at (answers_on x s.history) w.ghost.marked) record { round = round; next = k } ok))
+      (λ a. serves_it c.served (groups c.config) x (call_at (calls_on x s.history) (ghost_of w).marked) (answer_at (answers_on x s.history) (ghost_of w).marked) record { round = round; next = k } ok))
 
   read_next_by : (round : Round) (k : ℕ) → Here (Phase.ReadNext round) → s.mem (Word.Node x round.at NodeField.Next) ≡ k → Holds c x (next (Phase.ReadNext round))
   read_next_by round zero e saw = stop round e saw
@@ -152,24 +148,19 @@ module _ (c : Setting) (x : Chain) (ok : IsChain c x) (some : 0 < c.config.bound
   exchange call e =
       let was : post_at x (s.stand (pass_on c x p)) ≡ post_of x own (Phase.Exchange call) = ap (λ (z : Stand). post_at x z) e in
       let tailed : 0 < s.mem (Word.Tail x) = omega (arith, w.inv.nodes.tail_is) in
-      let not_server : w.ghost.server ≢ p + 1 = λ a. absurd (grind (arith, w.inv.server.server_rank p)) in
+      let not_server : (ghost_of w).server ≢ p + 1 = λ a. absurd (grind (arith, w.inv.server.server_rank p)) in
       let free : IsFree c x p (after_exchange x own call) = exchanged_free c x p own call in
       let more : calls_on x (next (Phase.Exchange call)).history ≡ calls_on x s.history ++ call ∷ [] = ap (λ (z : Side). z.calls) (entered x s.history call w.side_in) in
       let same : answers_on x (next (Phase.Exchange call)).history ≡ answers_on x s.history = ap (λ (z : Side). z.answers) (entered x s.history call w.side_in) in
-      record {
-        ghost = grown.extended x w.ghost p call own;
-        inv = by_call.exchanges (members c x) c.config.bound (view c x s) (view c x (next (Phase.Exchange call))) w.ghost p inside w.inv
-            (grown.extended x w.ghost p call own)
-            (bridge.exchange c x s p begun own call e tailed)
-            (subst (λ (z : ℕ). by_call.Extends w.ghost (grown.extended x w.ghost p call own) p z
-            (post_at x ((next (Phase.Exchange call)).stand (pass_on c x p))).asks) (sym (ap (λ z. z.node) was))
-            (grown.extends c x (calls_on x s.history) (answers_on x s.history) (stands_on c x s) (stands_on c x (next (Phase.Exchange call))) w.ghost p inside w.ties call own _ (bridge.asks c x s p begun own call)));
-        ties = subst (λ (cs : List Entry). Ties c x cs (answers_on x (next (Phase.Exchange call)).history) (stands_on c x (next (Phase.Exchange call))) (grown.extended x w.ghost p call own)) (sym more)
-            (subst (λ (as_ : List Answer). Ties c x (calls_on x s.history ++ call ∷ []) as_ (stands_on c x (next (Phase.Exchange call))) (grown.extended x w.ghost p call own)) (sym same)
-            (grown.ties_entered c x (calls_on x s.history) (answers_on x s.history) (stands_on c x s) (stands_on c x (next (Phase.Exchange call))) w.ghost p inside w.ties call own _
-            (subst (λ (z : Stand). HasCall c x p z.phase) e (w.ties.begun p inside)) (mine c x s p begun own (Phase.Exchange call)) (λ q ne. others c x s p begun own (Phase.Exchange call) q ne) not_server w.inv.server.server_in
-            w.inv.calls.in_order w.inv.calls.in_order2
-            (λ q qn f. let old = w.ties.ended q qn f in omega (arith, old.0, w.inv.calls.in_order, w.inv.calls.in_order2))
-            (λ q a low high. w.inv.serving.serving q a low high) free.call free.read free.unfinished));
-        side_in = keeps_side x x s.history _ w.side_in;
-      }
+      holds_at c x (next (Phase.Exchange call)) (calls_on x s.history ++ call ∷ []) (answers_on x s.history) (grown.extended (length (calls_on x s.history)) w.kept p _) more same
+      (by_call.exchanges (members c x) c.config.bound (view c x s) (view c x (next (Phase.Exchange call))) (ghost_of w) p inside w.inv _
+      (bridge.exchange c x s p begun own call e tailed)
+      (subst (λ (z : ℕ). by_call.Extends (ghost_of w) (ghosts c x (calls_on x s.history ++ call ∷ []) (answers_on x s.history) (grown.extended (length (calls_on x s.history)) w.kept p own)) p z
+      (post_at x ((next (Phase.Exchange call)).stand (pass_on c x p))).asks) (sym (ap (λ z. z.node) was))
+      (grown.extends c x (calls_on x s.history) (answers_on x s.history) (stands_on c x s) (stands_on c x (next (Phase.Exchange call))) w.kept p inside w.ties call own _ (bridge.asks c x s p begun own call))))
+      (grown.ties_entered c x (calls_on x s.history) (answers_on x s.history) (stands_on c x s) (stands_on c x (next (Phase.Exchange call))) w.kept p inside w.ties call own _
+      (subst (λ (z : Stand). HasCall c x p z.phase) e (w.ties.begun p inside)) (mine c x s p begun own (Phase.Exchange call)) (λ q ne. others c x s p begun own (Phase.Exchange call) q ne) not_server w.inv.server.server_in
+      w.inv.calls.in_order w.inv.calls.in_order2
+      (λ q qn f. let old = w.ties.ended q qn f in omega (arith, old.0, w.inv.calls.in_order, w.inv.calls.in_order2))
+      (λ q a low high. w.inv.serving.serving q a low high) free.call free.read free.unfinished)
+      (keeps_side x x s.history _ w.side_in)

@@ -9,17 +9,36 @@ use Rattle.cc_runs.proofs.Combining.Invariant.{Inv}
 use Rattle.cc_runs.proofs.Chains.View.{view, members, pass_on, post_of, request_long, asked_words, answer_long, send_stage}
 use Rattle.cc_runs.proofs.Chains.Registers.{HasSide, calls_on, answers_on, call_at, answer_at, IsCall, HasCall, IsAnswer, Sends, HasSend, HasService, coded_words, HasRead}
 
-pub record Ties (c : Setting) (x : Chain) (calls : List Entry) (answers : List Answer) (stand : ℕ → Stand) (g : Ghost) : Type 0 where
-  -- the calls and answers of the history are those of the chain
-  pub calls_are : length calls ≡ g.calls
-  pub answers_are : length answers ≡ g.answers
-  pub pass_in : (k : ℕ) → k < g.calls → g.pass_of k < members c x
-  pub entered : (k : ℕ) → k < g.calls → IsCall c x (g.pass_of k) (call_at calls k)
-  pub asked : (k j : ℕ) → k < g.calls → g.asked k j ≡ asked_words x (call_at calls k) j
-  pub asks_long : (k : ℕ) → k < g.calls → g.asks_long k ≡ request_long x (call_at calls k)
-  pub answered : (k : ℕ) → k < g.answers → IsAnswer c.served x (answer_at answers k)
-  pub told : (k j : ℕ) → k < g.answers → g.told k j ≡ coded_words c.served x (answer_at answers k) j
-  pub told_long : (k : ℕ) → k < g.answers → g.told_long k ≡ answer_long (answer_at answers k)
+-- what a chain's history doesn't hold: how many calls are marked done, the pass that combines, the pass of each call, the node at
+-- each place, and the place of each pass's last call
+pub record Kept : Type 0 where
+  pub marked : ℕ
+  pub server : ℕ
+  pub pass_of : ℕ → ℕ
+  pub chain : ℕ → ℕ
+  pub at : ℕ → ℕ
+
+-- the ghosts of a chain with these calls and answers
+abbrev pub ghosts : Setting → Chain → List Entry → List Answer → Kept → Ghost
+ghosts c x calls answers k = record {
+  calls = length calls;
+  answers = length answers;
+  marked = k.marked;
+  server = k.server;
+  pass_of = k.pass_of;
+  asked = λ n. asked_words x (call_at calls n);
+  told = λ n. coded_words c.served x (answer_at answers n);
+  asks_long = λ n. request_long x (call_at calls n);
+  told_long = λ n. answer_long (answer_at answers n);
+  chain = k.chain;
+  at = k.at;
+}
+
+pub record Ties (c : Setting) (x : Chain) (calls : List Entry) (answers : List Answer) (stand : ℕ → Stand) (g : Kept) : Type 0 where
+  -- the calls and answers of the history are some of the chain
+  pub pass_in : (k : ℕ) → k < length calls → g.pass_of k < members c x
+  pub entered : (k : ℕ) → k < length calls → IsCall c x (g.pass_of k) (call_at calls k)
+  pub answered : (k : ℕ) → k < length answers → IsAnswer c.served x (answer_at answers k)
   -- and the passes keep what they read and wrote
   pub begun : (q : ℕ) → q < members c x → HasCall c x q (stand q).phase
   pub served : (q : ℕ) → g.server ≡ q + 1 → HasService c.served x (call_at calls g.marked) (answer_at answers g.marked) (stand q).phase
@@ -31,10 +50,24 @@ abbrev pub stands_on : Setting → Chain → State → ℕ → Stand
 stands_on c x s q = s.stand (pass_on c x q)
 
 pub record Holds (c : Setting) (x : Chain) (s : State) : Type 0 where
-  pub ghost : Ghost
-  pub inv : Inv (members c x) c.config.bound (view c x s) ghost
-  pub ties : Ties c x (calls_on x s.history) (answers_on x s.history) (stands_on c x s) ghost
+  pub kept : Kept
+  pub inv : Inv (members c x) c.config.bound (view c x s) (ghosts c x (calls_on x s.history) (answers_on x s.history) kept)
+  pub ties : Ties c x (calls_on x s.history) (answers_on x s.history) (stands_on c x s) kept
   pub side_in : HasSide x s.history
+
+-- its ghosts
+abbrev pub ghost_of : {c : Setting} {x : Chain} {s : State} → Holds c x s → Ghost
+ghost_of {c} {x} {s} w = ghosts c x (calls_on x s.history) (answers_on x s.history) w.kept
+
+-- a state whose history has these calls and answers of the chain
+pub holds_at : (c : Setting) (x : Chain) (s : State) (calls : List Entry) (answers : List Answer) (k : Kept) → calls_on x s.history ≡ calls → answers_on x s.history ≡ answers →
+    Inv (members c x) c.config.bound (view c x s) (ghosts c x calls answers k) → Ties c x calls answers (stands_on c x s) k → HasSide x s.history → Holds c x s
+holds_at c x s calls answers k a b inv ties there = record {
+  kept = k;
+  inv = subst (λ (g : Ghost). Inv (members c x) c.config.bound (view c x s) g) (λ i. ghosts c x (sym a i) (sym b i) k) inv;
+  ties = subst (λ (l : List Entry). Ties c x l (answers_on x s.history) (stands_on c x s) k) (sym a) (subst (λ (l : List Answer). Ties c x calls l (stands_on c x s) k) (sym b) ties);
+  side_in = there;
+}
 
 pub send_in : (service : Sending) → (1 ≤ send_stage service) × (send_stage service ≤ 2)
 send_in service = grind arith
@@ -51,19 +84,13 @@ reader_answer served x own a a' (Phase.ReadAnswerBody p i) same ended h = subst 
 reader_answer served x own a a' (Phase.Finished told) same ended h = subst (λ (z : Answer). HasRead served x z (Phase.Finished told)) (ended tt) h
 reader_answer served x own a a' at same ended h = h
 
-module _ (c : Setting) (x : Chain) (calls : List Entry) (answers : List Answer) (stand stand' : ℕ → Stand) (g : Ghost) (p : ℕ) (ties : Ties c x calls answers stand g) where
+module _ (c : Setting) (x : Chain) (calls : List Entry) (answers : List Answer) (stand stand' : ℕ → Stand) (g : Kept) (p : ℕ) (ties : Ties c x calls answers stand g) where
   -- no pass has moved
   pub ties_same : ((q : ℕ) → q < members c x → stand' q ≡ stand q) → ((q : ℕ) → g.server ≡ q + 1 → q < members c x) → Ties c x calls answers stand' g
   ties_same same server_in = record {
-    calls_are = ties.calls_are;
-    answers_are = ties.answers_are;
     pass_in = ties.pass_in;
     entered = ties.entered;
-    asked = ties.asked;
-    asks_long = ties.asks_long;
     answered = ties.answered;
-    told = ties.told;
-    told_long = ties.told_long;
     begun = λ q qn. subst (λ (z : Stand). HasCall c x q z.phase) (sym (same q qn)) (ties.begun q qn);
     served = λ q a. subst (λ (z : Stand). HasService c.served x (call_at calls g.marked) (answer_at answers g.marked) z.phase) (sym (same q (server_in q a))) (ties.served q a);
     read = λ q qn. subst (λ (z : Stand). HasRead c.served x (answer_at answers (g.at q)) z.phase) (sym (same q qn)) (ties.read q qn);
@@ -77,15 +104,9 @@ module _ (c : Setting) (x : Chain) (calls : List Entry) (answers : List Answer) 
       ((q : ℕ) → q ≢ p → server ≡ q + 1 → (g.server ≡ q + 1) × (g.marked ≡ marked)) →
       Ties c x calls answers stand' (record g { marked = marked; server = server })
   ties_moved there marked server here others more call read ended serves keep = record {
-    calls_are = ties.calls_are;
-    answers_are = ties.answers_are;
     pass_in = ties.pass_in;
     entered = ties.entered;
-    asked = ties.asked;
-    asks_long = ties.asks_long;
     answered = ties.answered;
-    told = ties.told;
-    told_long = ties.told_long;
     begun = λ q qn. elim (cases_eq q p) [
       | inl is ↦ subst (λ (z : Stand). HasCall c x q z.phase) (sym here ∙ ap stand' (sym is)) (subst (λ (z : ℕ). HasCall c x z there.phase) (sym is) call)
       | inr ne ↦ subst (λ (z : Stand). HasCall c x q z.phase) (sym (others q ne)) (ties.begun q qn)

@@ -15,7 +15,7 @@ use Rattle.cc_runs.proofs.ChainLaws.{out_rank}
 use Rattle.cc_runs.proofs.ChainRuns.{not_other}
 use Rattle.cc_runs.proofs.Chains.View.{pass_on, post_of, post_at}
 use Rattle.cc_runs.proofs.Chains.Registers.{calls_on, answers_on, call_at, answer_at, no_answer, IsAnswer, HasSend, HasService}
-use Rattle.cc_runs.proofs.Chains.Ties.{Holds}
+use Rattle.cc_runs.proofs.Chains.Ties.{ghost_of, Holds}
 use Rattle.cc_runs.proofs.Chains.Last.{chosen, all_chosen}
 use Rattle.cc_runs.proofs.Chains.Others.{IsOn}
 use Rattle.cc_runs.proofs.Chains.Serving.{Chains, chains_hold, chain_is, on_chain, sending_where}
@@ -24,7 +24,7 @@ use Rattle.cc_runs.proofs.LinkedList.Invariant.{LInv}
 use Rattle.cc_runs.proofs.ListRuns.View.{enq_at, queue_of}
 use Rattle.cc_runs.proofs.ListRuns.Ties.{further}
 use Rattle.cc_runs.proofs.ListRuns.Facts.{lists}
-use Rattle.cc_runs.proofs.ListRuns.Invariant.{Parts}
+use Rattle.cc_runs.proofs.ListRuns.Invariant.{Parts, ghosts_at}
 use Rattle.cc_runs.proofs.ListRuns.Runs.{Whole}
 use Rattle.cc_runs.proofs.Counts.State.{Late, Closing, late_at, closing_at, stage, count_now, count_late, either_count, shut_now}
 use Rattle.cc_runs.proofs.EndAnswered.{marked}
@@ -98,8 +98,8 @@ take_seen count mark g e a is = grind arith
 
 -- ---- the senders' chain: what is marked is counted
 
-module _ (c : Config) (s : State) (chains : Chains (lists c) s) (whole : Whole c s) (w : Holds (lists c) Chain.Send s) where
-  abbrev k : Parts c s
+module _ (c : Config) (s : State) (chains : Chains (lists c) s) {nodes : List ℕ} (whole : Whole c s nodes) (w : Holds (lists c) Chain.Send s) where
+  abbrev k : Parts c s nodes
   k = whole.parts
 
   abbrev calls : List Entry
@@ -128,34 +128,34 @@ module _ (c : Config) (s : State) (chains : Chains (lists c) s) (whole : Whole c
     there : (s.stand (pass_on (lists c) Chain.Send on.number)).phase ≡ Phase.Sending job service
     there = ap (λ (q : ℕ). (s.stand q).phase) (sym on.pass_is) ∙ stands
 
-    mine : w.ghost.server ≡ on.number + 1
+    mine : (ghost_of w).server ≡ on.number + 1
     mine = w.inv.server.server_is on.number on.inside (ap (λ (z : Phase). (post_of Chain.Send (s.stand (pass_on (lists c) Chain.Send on.number)).node z).rank) there)
 
-    decided : w.ghost.answers ≡ w.ghost.marked + 1
+    decided : (ghost_of w).answers ≡ (ghost_of w).marked + 1
     decided = w.inv.serving.decided on.number mine (ap (λ (z : Phase). (post_of Chain.Send (s.stand (pass_on (lists c) Chain.Send on.number)).node z).stage) there ∙ two (s.stand (pass_on (lists c) Chain.Send on.number)).node)
 
-    pub inside : w.ghost.marked < length answers
-    inside = omega (arith, decided, w.ties.answers_are)
+    pub inside : (ghost_of w).marked < length answers
+    inside = omega (arith, decided)
 
-    pub serves : HasSend (call_at calls w.ghost.marked) (answer_at answers w.ghost.marked) service
-    serves = subst (λ (z : Phase). HasService Served.List Chain.Send (call_at calls w.ghost.marked) (answer_at answers w.ghost.marked) z) there (w.ties.served on.number mine)
+    pub serves : HasSend (call_at calls (ghost_of w).marked) (answer_at answers (ghost_of w).marked) service
+    serves = subst (λ (z : Phase). HasService Served.List Chain.Send (call_at calls (ghost_of w).marked) (answer_at answers (ghost_of w).marked) z) there (w.ties.served on.number mine)
 
-  last_count : (count : ℕ) → Late (s.stand k.duty.e_pass).phase count → (slice_get answers w.ghost.marked ≡ Some (Answer.Send (SendAnswer.Accepted count)))
+  last_count : (count : ℕ) → Late (s.stand k.duty.e_pass).phase count → (slice_get answers (ghost_of w).marked ≡ Some (Answer.Send (SendAnswer.Accepted count)))
   last_count count (Late.last job node stands) =
-      get_answer w.ghost.marked (inside job (Sending.WriteLast count node) stands (λ own. refl)) ∙ ap (λ (a : Answer). Some a) (serves job (Sending.WriteLast count node) stands (λ own. refl))
+      get_answer (ghost_of w).marked (inside job (Sending.WriteLast count node) stands (λ own. refl)) ∙ ap (λ (a : Answer). Some a) (serves job (Sending.WriteLast count node) stands (λ own. refl))
   last_count count (Late.then job node stands) =
-      get_answer w.ghost.marked (inside job (Sending.WriteCount count node) stands (λ own. refl)) ∙ ap (λ (a : Answer). Some a) (serves job (Sending.WriteCount count node) stands (λ own. refl))
+      get_answer (ghost_of w).marked (inside job (Sending.WriteCount count node) stands (λ own. refl)) ∙ ap (λ (a : Answer). Some a) (serves job (Sending.WriteCount count node) stands (λ own. refl))
 
-  last_shut : (total : ℕ) → Closing (s.stand k.duty.e_pass).phase total → (slice_get answers w.ghost.marked ≡ Some (Answer.Close (CloseAnswer.Shut total)))
+  last_shut : (total : ℕ) → Closing (s.stand k.duty.e_pass).phase total → (slice_get answers (ghost_of w).marked ≡ Some (Answer.Close (CloseAnswer.Shut total)))
   last_shut total (Closing.last job stands) =
-      get_answer w.ghost.marked (inside job (Sending.WriteLastMark total) stands (λ own. refl)) ∙ ap (λ (a : Answer). Some a) (serves job (Sending.WriteLastMark total) stands (λ own. refl))
+      get_answer (ghost_of w).marked (inside job (Sending.WriteLastMark total) stands (λ own. refl)) ∙ ap (λ (a : Answer). Some a) (serves job (Sending.WriteLastMark total) stands (λ own. refl))
   last_shut total (Closing.then job stands) =
-      get_answer w.ghost.marked (inside job (Sending.WriteShut total) stands (λ own. refl)) ∙ ap (λ (a : Answer). Some a) (serves job (Sending.WriteShut total) stands (λ own. refl))
+      get_answer (ghost_of w).marked (inside job (Sending.WriteShut total) stands (λ own. refl)) ∙ ap (λ (a : Answer). Some a) (serves job (Sending.WriteShut total) stands (λ own. refl))
 
-  i : LInv c.capacity c.life (further c + 1) (queue_of s k.duty) k.told
-  i = k.list.inv
+  i : LInv c.capacity c.life (further c + 1) (queue_of s k.duty) (ghosts_at c s k)
+  i = k.list
 
-  count_seen : (j place : ℕ) → j < w.ghost.marked → slice_get answers j ≡ Some (Answer.Send (SendAnswer.Accepted place)) → place < counted s
+  count_seen : (j place : ℕ) → j < (ghost_of w).marked → slice_get answers j ≡ Some (Answer.Send (SendAnswer.Accepted place)) → place < counted s
   count_seen j place before is = elim (either_count c s k) [
     | inl now ↦ omega (arith, (within c 0 false calls answers k.ties.legal.sends whole.calls.senders j place is).1, count_now c s k now)
     | inr late ↦
@@ -163,10 +163,9 @@ module _ (c : Config) (s : State) (chains : Chains (lists c) s) (whole : Whole c
         let last = last_count (enq_at k.duty.e_call k.duty.from (s.stand k.duty.e_pass).phase).seen (late_at k.duty.e_call k.duty.from (s.stand k.duty.e_pass).phase late.0 late.1) in
         omega (
           arith,
-          up c 0 false calls answers k.ties.legal.sends whole.calls.senders j w.ghost.marked place (enq_at k.duty.e_call k.duty.from (s.stand k.duty.e_pass).phase).seen before is last,
+          up c 0 false calls answers k.ties.legal.sends whole.calls.senders j (ghost_of w).marked place (enq_at k.duty.e_call k.duty.from (s.stand k.duty.e_pass).phase).seen before is last,
           i.request.seen_late late.0 (omega (arith, late.1)),
           count_late c s k late.0 late.1,
-          k.ties.accepted_is,
         )
   ]
 
@@ -178,13 +177,13 @@ module _ (c : Config) (s : State) (chains : Chains (lists c) s) (whole : Whole c
       later : (b : Bool) → list_any shuts l ≡ true → (b || list_any shuts l) ≡ true
       later b so = grind arith
 
-  mark_seen : (j total : ℕ) → j < w.ghost.marked → slice_get answers j ≡ Some (Answer.Close (CloseAnswer.Shut total)) → mark_of s ≡ 1
+  mark_seen : (j total : ℕ) → j < (ghost_of w).marked → slice_get answers j ≡ Some (Answer.Close (CloseAnswer.Shut total)) → mark_of s ≡ 1
   mark_seen j total before is = elim (cases_lt (stage c s k) 16) [
     | inl early ↦ shut_now c s k (omega (arith, early)) (any_shut answers j total is)
-    | inr late ↦ absurd (once c 0 false calls answers k.ties.legal.sends j w.ghost.marked total (enq_at k.duty.e_call k.duty.from (s.stand k.duty.e_pass).phase).seen before is (last_shut _ (closing_at k.duty.e_call k.duty.from (s.stand k.duty.e_pass).phase late)))
+    | inr late ↦ absurd (once c 0 false calls answers k.ties.legal.sends j (ghost_of w).marked total (enq_at k.duty.e_call k.duty.from (s.stand k.duty.e_pass).phase).seen before is (last_shut _ (closing_at k.duty.e_call k.duty.from (s.stand k.duty.e_pass).phase late)))
   ]
 
-  one_seen : (j : ℕ) (e : Entry) (a : Answer) → j < w.ghost.marked → slice_get answers j ≡ Some a → IsSeen (counted s) (mark_of s) (e, Some a)
+  one_seen : (j : ℕ) (e : Entry) (a : Answer) → j < (ghost_of w).marked → slice_get answers j ≡ Some a → IsSeen (counted s) (mark_of s) (e, Some a)
   one_seen j e (Answer.Send (SendAnswer.Accepted place)) before is = count_seen j place before is
   one_seen j e (Answer.Close (CloseAnswer.Shut total)) before is = mark_seen j total before is
   one_seen j e a before is = grind arith
@@ -194,13 +193,13 @@ module _ (c : Config) (s : State) (chains : Chains (lists c) s) (whole : Whole c
   seen_send n out j less inside its = one_seen j (call_at calls j) (answer_at answers j) (marked (lists c) Chain.Send s w n out j less its) (get_answer j inside)
 
 -- of each chain
-seen_on : (c : Config) (s : State) (chains : Chains (lists c) s) (whole : Whole c s) (x : Chain) (hold : Holds (lists c) x s) (n : ℕ) → (post_at x (s.stand (pass_on (lists c) x n))).rank ≤ 2
+seen_on : (c : Config) (s : State) (chains : Chains (lists c) s) {nodes : List ℕ} (whole : Whole c s nodes) (x : Chain) (hold : Holds (lists c) x s) (n : ℕ) → (post_at x (s.stand (pass_on (lists c) x n))).rank ≤ 2
     → Each (counted s) (mark_of s) (λ (e : Entry). is_pass (named (lists c) x n) e.pass) (calls_on x s.history) (answers_on x s.history)
 seen_on c s chains whole Chain.Send hold n out = seen_send c s chains whole hold n out
 seen_on c s chains whole (Chain.Take g) hold n out =
-    λ j less inside its. take_seen (counted s) (mark_of s) g (call_at (calls_on (Chain.Take g) s.history) j) (answer_at (answers_on (Chain.Take g) s.history) j) (hold.ties.answered j (omega (arith, inside, hold.ties.answers_are)))
+    λ j less inside its. take_seen (counted s) (mark_of s) g (call_at (calls_on (Chain.Take g) s.history) j) (answer_at (answers_on (Chain.Take g) s.history) j) (hold.ties.answered j (omega (arith, inside)))
 
-pub ended : (c : Config) (some : 0 < c.bound) (moves : List Move) (run : IsRun (lists c) moves) (whole : Whole c (reached (lists c) moves)) (p : ℕ) → p < passes (lists c) → IsOut ((reached (lists c) moves).stand p).phase
+pub ended : (c : Config) (some : 0 < c.bound) (moves : List Move) (run : IsRun (lists c) moves) {nodes : List ℕ} (whole : Whole c (reached (lists c) moves) nodes) (p : ℕ) → p < passes (lists c) → IsOut ((reached (lists c) moves).stand p).phase
     → AreSeen c (counted (reached (lists c) moves)) (mark_of (reached (lists c) moves)) p (reached (lists c) moves).history
 ended c some moves run whole p less out =
     let chains : Chains (lists c) (reached (lists c) moves) = chains_hold (lists c) some moves run in

@@ -1,5 +1,6 @@
 -- No step makes a count less.
 use Rattle.std.proofs.Common.{◌≡◌, ◌≢◌, ℕ, ◌+◌, ◌*◌, ◌<◌, ◌≤◌, List, [], ◌∷◌, ◌++◌, refl, sym, ap, subst, arith}
+use Rattle.cc_runs.specs.MachineLaws.{linked_nodes}
 use Rattle.cc_runs.specs.Names.{Config, Chain, Object as Obj, Word, Phase, Sending, Taking, Job, Parcel, Move}
 use Rattle.cc_runs.specs.Words.{groups, put, object_number}
 use Rattle.cc_runs.specs.State.{State, chain_of, stored}
@@ -12,7 +13,7 @@ use Rattle.cc_runs.proofs.LinkedList.Invariant.{LInv}
 use Rattle.cc_runs.proofs.ListRuns.View.{Regs, object_here, object_other, regs_of, regs_in, queue_of}
 use Rattle.cc_runs.proofs.ListRuns.Ties.{further}
 use Rattle.cc_runs.proofs.ListRuns.Facts.{lists}
-use Rattle.cc_runs.proofs.ListRuns.Invariant.{Parts}
+use Rattle.cc_runs.proofs.ListRuns.Invariant.{Parts, ghosts_at}
 use Rattle.cc_runs.proofs.ListRuns.Runs.{AfterRun}
 use Rattle.cc_runs.proofs.ListRuns.FromChains.{after_runs}
 use Rattle.cc_runs.proofs.ListRuns.Laws.{Taker, taker}
@@ -40,15 +41,15 @@ module _ (c : Config) (fits : InRange c) (moves : List Move) (run : IsRun (lists
   a : AfterRun c moves
   a = after_runs c fits moves run
 
-  abbrev k : Parts c s
-  k = a.whole.parts
+  abbrev k : Parts c s (linked_nodes (lists c) moves)
+  k = a.parts
 
   abbrev After : Chain → ℕ → Phase → Type 0
   After x own at = NoLess (groups c) s.mem (stored s.mem (operation (lists c) x own at))
 
   write_count : (p : ℕ) (x : Chain) (own : ℕ) (job : Job) (place node : ℕ) → (s.stand p).phase ≡ Phase.Sending job (Sending.WriteCount place node) → After x own (Phase.Sending job (Sending.WriteCount place node))
   write_count p x own job place node stands =
-      let i : LInv c.capacity c.life (further c + 1) (send_queue c s p job (Sending.WriteCount place node) stands tt k) k.told = send_holds c s p job (Sending.WriteCount place node) stands tt k in
+      let i : LInv c.capacity c.life (further c + 1) (send_queue c s p job (Sending.WriteCount place node) stands tt k) (ghosts_at c s k) = send_holds c s p job (Sending.WriteCount place node) stands tt k in
       record {
         count = omega (arith, i.request.seen_late (omega arith) (omega arith), i.words.count_late (omega arith) (omega arith), object_here s.mem Obj.Count (place + 1));
         taken = λ g inside. omega (arith, object_other s.mem Obj.Count (Obj.Taken g) (place + 1) (λ e. omega (arith, e)));
@@ -73,7 +74,7 @@ module _ (c : Config) (fits : InRange c) (moves : List Move) (run : IsRun (lists
   -- the count of a group's takes
   taken_up : (p : ℕ) (job : Job) (dummy : ℕ) (parcel : Parcel) → (s.stand p).phase ≡ Phase.Taking job (Taking.WriteTaken dummy parcel) → (t : Taker c moves a p) → s.mem (Word.Object (Obj.Taken t.group)) ≤ parcel.place + 1
   taken_up p job dummy parcel stands t =
-      let i : LInv c.capacity c.life (further c + 1) (queue_of s k.duty) k.told = k.list.inv in
+      let i : LInv c.capacity c.life (further c + 1) (queue_of s k.duty) (ghosts_at c s k) = k.list in
       let below : t.group < further c + 1 = omega (arith, t.inside, k.ties.some) in
       let regs : regs_of s.stand k.duty t.group ≡ regs_in (Taking.WriteTaken dummy parcel) = take_regs c s p t.group t.chain job (Taking.WriteTaken dummy parcel) stands k in
       let six : (regs_of s.stand k.duty t.group).stage ≡ 6 = ap (λ (z : Regs). z.stage) regs in

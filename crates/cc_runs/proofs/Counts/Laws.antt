@@ -14,7 +14,7 @@ use Rattle.cc_runs.proofs.ListRuns.Facts.{lists}
 use Rattle.cc_runs.proofs.LinkedList.Busy as busy
 use Rattle.cc_runs.proofs.ListRuns.View.{queue_of}
 use Rattle.cc_runs.proofs.ListRuns.Ties.{further}
-use Rattle.cc_runs.proofs.ListRuns.Runs.{Whole, parts_least}
+use Rattle.cc_runs.proofs.ListRuns.Invariant.{ghosts_at, parts_least}
 use Rattle.cc_runs.proofs.Counts.Grow.{grow}
 use Rattle.cc_runs.proofs.ListRuns.FromChains.{after_runs, of_setting}
 use Rattle.cc_runs.proofs.Counts.State as state
@@ -22,7 +22,7 @@ use Rattle.cc_runs.proofs.Counts.Ended.{ended}
 
 near : (c : Config) (fits : InRange c) (moves : List Move) → IsRun (lists c) moves → CountsOf (lists c) (reached (lists c) moves)
 near c fits moves run =
-    let whole : Whole c (reached (lists c) moves) = (after_runs c fits moves run).whole in
+    let whole = (after_runs c fits moves run) in
     record {
       most = state.most c (reached (lists c) moves) whole.parts;
       near = state.near c (reached (lists c) moves) whole.parts;
@@ -61,7 +61,7 @@ prefix_run c [] seen run = run
 prefix_run c (m ∷ later) seen run = prefix_run c later seen run.0
 
 mark_most : (c : Config) (fits : InRange c) (moves : List Move) → IsRun (lists c) moves → mark_of (reached (lists c) moves) ≤ 1
-mark_most c fits moves run = state.mark_few c (reached (lists c) moves) (after_runs c fits moves run).whole.parts
+mark_most c fits moves run = state.mark_few c (reached (lists c) moves) (after_runs c fits moves run).parts
 
 pub ended_calls_are_seen : EndedCallsAreSeen
 ended_calls_are_seen =
@@ -75,15 +75,15 @@ ended_calls_are_seen =
 
 handed_least : (c : Config) (fits : InRange c) (moves : List Move) (run : IsRun (lists c) moves) (g : ℕ) → g < groups c → handed_to_all (history_of (lists c) moves) ≤ length (handed (history_of (lists c) moves) g)
 handed_least c fits moves run g inside =
-    let w : Whole c (reached (lists c) moves) = (after_runs c fits moves run).whole in
-    omega (arith, parts_least c (reached (lists c) moves) w.parts, w.parts.list.inv.hands.least_is g (omega (arith, inside, w.parts.ties.some)), w.parts.ties.handed_is g)
+    let w = (after_runs c fits moves run) in
+    omega (arith, parts_least c (reached (lists c) moves) w.parts, w.parts.list.hands.least_is g (omega (arith, inside, w.parts.ties.some)))
 
 full : (c : Config) (fits : InRange c) (later seen : List Move) → IsRun (lists c) (later ++ seen) → (g : ℕ) → g < groups c → counted_for (reached (lists c) (later ++ seen)) g + c.capacity ≤ counted (reached (lists c) seen) → IsFull c (history_of (lists c) seen)
 full c fits later seen run g inside finds =
     let before : IsRun (lists c) seen = prefix_run (lists c) later seen run in
-    let w : Whole c (reached (lists c) seen) = (after_runs c fits seen before).whole in
+    let w = (after_runs c fits seen before) in
     let near_now : CountsOf (lists c) (reached (lists c) seen) = near c fits seen before in
-    let room : w.parts.told.accepted ≤ w.parts.told.least + c.capacity = busy.room c.capacity c.life (further c + 1) (queue_of (reached (lists c) seen) w.parts.duty) w.parts.told w.parts.list.inv in
+    let room : (ghosts_at c (reached (lists c) seen) w.parts).accepted ≤ (ghosts_at c (reached (lists c) seen) w.parts).least + c.capacity = busy.room c.capacity c.life (further c + 1) (queue_of (reached (lists c) seen) w.parts.duty) (ghosts_at c (reached (lists c) seen) w.parts) w.parts.list in
     let waits : length (accepted (history_of (lists c) seen)) ≡ handed_to_all (history_of (lists c) seen) + c.capacity =
     omega (
       arith,
@@ -94,7 +94,6 @@ full c fits later seen run g inside finds =
       handed_least c fits seen before g inside,
       room,
       parts_least c (reached (lists c) seen) w.parts,
-      w.parts.ties.accepted_is,
     ) in
     record { waits = waits; accepts_none = λ body taken place h. omega (arith, waits, h.2) }
 

@@ -1,5 +1,5 @@
 -- The counts of a state beside its history, but for the calls that have ended.
-use Rattle.std.proofs.Common.{◌≡◌, ◌⊎◌, ℕ, ◌+◌, ◌<◌, ◌≤◌, length, true, inl, inr, refl, ap, arith}
+use Rattle.std.proofs.Common.{List, ◌≡◌, ◌⊎◌, ℕ, ◌+◌, ◌<◌, ◌≤◌, length, true, inl, inr, refl, ap, arith}
 use Rattle.std.proofs.lemmas.Bool.{cases_lt}
 use Rattle.std.proofs.lemmas.Option.{slice_get_within}
 use Rattle.cc_model.specs.Record.{of_group}
@@ -13,7 +13,7 @@ use Rattle.cc_runs.proofs.LinkedList.Queue.{Ghosts}
 use Rattle.cc_runs.proofs.LinkedList.Invariant.{LInv}
 use Rattle.cc_runs.proofs.ListRuns.View.{enq_in, enq_at, regs_at, regs_of, queue_of}
 use Rattle.cc_runs.proofs.ListRuns.Ties.{further, shut_number, IsTaking, shut_true}
-use Rattle.cc_runs.proofs.ListRuns.Invariant.{Parts}
+use Rattle.cc_runs.proofs.ListRuns.Invariant.{Parts, ghosts_at}
 
 -- ---- services, by their stages
 
@@ -50,23 +50,23 @@ takes_at at low = grind arith
 
 -- ---- the counts
 
-module _ (c : Config) (s : State) (k : Parts c s) where
+module _ (c : Config) (s : State) {nodes : List ℕ} (k : Parts c s nodes) where
   abbrev g : Ghosts
-  g = k.told
+  g = ghosts_at c s k
 
   abbrev i : LInv c.capacity c.life (further c + 1) (queue_of s k.duty) g
-  i = k.list.inv
+  i = k.list
 
   abbrev pub stage : ℕ
   stage = (enq_at k.duty.e_call k.duty.from (s.stand k.duty.e_pass).phase).stage
 
   -- the count is that of the history, but between the link of an item and its count
   pub count_now : (stage ≤ 10) ⊎ (13 ≤ stage) → counted s ≡ length (accepted s.history)
-  count_now (inl early) = omega (arith, i.words.count_is early, k.ties.accepted_is)
-  count_now (inr late) = omega (arith, i.words.count_now late, k.ties.accepted_is)
+  count_now (inl early) = omega (arith, i.words.count_is early)
+  count_now (inr late) = omega (arith, i.words.count_now late)
 
   pub count_late : 11 ≤ stage → stage ≤ 12 → counted s + 1 ≡ length (accepted s.history)
-  count_late low high = omega (arith, i.words.count_late low high, k.ties.accepted_is)
+  count_late low high = omega (arith, i.words.count_late low high)
 
   pub either_count : ((stage ≤ 10) ⊎ (13 ≤ stage)) ⊎ ((11 ≤ stage) × (stage ≤ 12))
   either_count = grind arith
@@ -81,11 +81,11 @@ module _ (c : Config) (s : State) (k : Parts c s) where
   mark_few = grind (arith, i.words.shut_is, i.branch.shut_most, i.words.shut_late)
 
   pub shut : mark_of s ≡ 1 → is_shut s.history ≡ true
-  shut is = grind (arith, shut_true (is_shut s.history), i.words.shut_is, k.ties.shut_is, i.words.shut_late)
+  shut is = grind (arith, shut_true (is_shut s.history), i.words.shut_is, i.words.shut_late)
 
   -- a history that is shut has the mark, but between the link of the mark and its word
   pub shut_now : stage ≤ 15 → is_shut s.history ≡ true → mark_of s ≡ 1
-  shut_now early is = omega (arith, i.words.shut_is early, k.ties.shut_is, ap (λ b. shut_number b) is)
+  shut_now early is = omega (arith, i.words.shut_is early, ap (λ b. shut_number b) is)
 
   module _ (y : ℕ) (inside : y < groups c) where
     below : y < further c + 1
@@ -95,17 +95,17 @@ module _ (c : Config) (s : State) (k : Parts c s) where
     taking = (regs_of s.stand k.duty y).stage
 
     pub taken_least : length (handed s.history y) ≤ counted_for s y
-    taken_least = grind (arith, i.heads.taken_is y below, k.ties.handed_is y, i.heads.taken_late y below)
+    taken_least = grind (arith, i.heads.taken_is y below, i.heads.taken_late y below)
 
     pub taken_near : counted_for s y ≤ length (handed s.history y) + 1
-    taken_near = grind (arith, i.heads.taken_is y below, k.ties.handed_is y, i.heads.taken_late y below)
+    taken_near = grind (arith, i.heads.taken_is y below, i.heads.taken_late y below)
 
     pub taken_most : counted_for s y ≤ length (accepted s.history)
-    taken_most = grind (arith, i.heads.taken_is y below, i.hands.order y below, k.ties.accepted_is, i.heads.taken_late y below, i.takes.some_left y below)
+    taken_most = grind (arith, i.heads.taken_is y below, i.hands.order y below, i.heads.taken_late y below, i.takes.some_left y below)
 
     pub taken_open : length (handed s.history y) < counted_for s y → HasOpenCall s.history (Chain.Take y)
     taken_open ahead = elim (cases_lt taking 7) [
-      | inl less ↦ absurd (omega (arith, ahead, i.heads.taken_is y below (omega (arith, less)), k.ties.handed_is y))
+      | inl less ↦ absurd (omega (arith, ahead, i.heads.taken_is y below (omega (arith, less))))
       | inr more ↦
           let next = k.serving.next_take y (takes_at (s.stand (k.duty.d_pass y)).phase (omega (arith, more))) in
           slice_get_within (of_group s.history y).calls (length (of_group s.history y).answers) (k.duty.d_call y) next

@@ -18,7 +18,8 @@ use Rattle.cc_runs.proofs.LinkedList.Busy as busy
 use Rattle.cc_runs.proofs.ListRuns.View.{queue_of}
 use Rattle.cc_runs.proofs.ListRuns.Ties.{further}
 use Rattle.cc_runs.proofs.ListRuns.Facts.{lists}
-use Rattle.cc_runs.proofs.ListRuns.Runs.{AfterRun, parts_least, legal}
+use Rattle.cc_runs.proofs.ListRuns.Runs.{AfterRun, legal}
+use Rattle.cc_runs.proofs.ListRuns.Invariant.{ghosts_at, parts_least}
 use Rattle.cc_runs.proofs.ListRuns.FromChains.{after_runs}
 use Rattle.cc_runs.proofs.Linear.Scan.{read_all, Waits, start, Scan, scanned, busy_place, busy_low, busy_is, begun, handed_less, scan_is}
 
@@ -42,7 +43,7 @@ module _ (c : Config) (checked : config_fault c ≡ Ok tt) (moves : List Move) (
   same_accepted =
       let b : IsRun (lists c) (w.first ∷ w.before) × Begins (start c moves w) (history_of (lists c) moves) = begun c checked moves run w in
       let first : AfterRun c (w.first ∷ w.before) = after_runs c (in_range c checked) (w.first ∷ w.before) b.0 in
-      let law : Legal c (start c moves w) = legal c (reached (lists c) (w.first ∷ w.before)) first.whole in
+      let law : Legal c (start c moves w) = legal c (reached (lists c) (w.first ∷ w.before)) first in
       (λ i. accepted_by (b.1.sends.calls.1 i) (w.same i))
       ∙ accepted_calls_more c 0 _ (start c moves w).sends.calls (start c moves w).sends.answers b.1.sends.calls.0 law.answers
 
@@ -52,7 +53,7 @@ module _ (c : Config) (checked : config_fault c ≡ Ok tt) (moves : List Move) (
       let b : IsRun (lists c) (w.first ∷ w.before) × Begins (start c moves w) (history_of (lists c) moves) = begun c checked moves run w in
       let s : State = reached (lists c) (w.first ∷ w.before) in
       let first : AfterRun c (w.first ∷ w.before) = after_runs c (in_range c checked) (w.first ∷ w.before) b.0 in
-      omega (arith, busy.room c.capacity c.life (further c + 1) (queue_of s first.whole.parts.duty) first.whole.parts.told first.whole.parts.list.inv, parts_least c s first.whole.parts, first.whole.parts.ties.accepted_is)
+      omega (arith, busy.room c.capacity c.life (further c + 1) (queue_of s first.parts.duty) (ghosts_at c s first.parts) first.parts.list, parts_least c s first.parts)
 
 -- the last read of a scan finds a busy node
 module _ (c : Config) (checked : config_fault c ≡ Ok tt) (moves : List Move) (run : IsRun (lists c) moves) (p : ℕ) (less : p < passes (lists c)) (job : Job) (parcel : Parcel) (at reads : ℕ)
@@ -91,7 +92,7 @@ module _ (c : Config) (checked : config_fault c ≡ Ok tt) (moves : List Move) (
   )
 
   many : length (linked_nodes (lists c) moves) ≡ length (accepted (history_of (lists c) moves)) + 1
-  many = omega (arith, a.linked.many, a.whole.parts.ties.accepted_is)
+  many = a.parts.ties.linked
 
   pub full : length (accepted (start c moves since)) ≡ handed_to_all (start c moves since) + c.capacity
   full = omega (

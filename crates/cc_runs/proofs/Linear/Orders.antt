@@ -23,7 +23,8 @@ use Rattle.cc_runs.proofs.ListRuns.View.{queue_of}
 use Rattle.cc_runs.proofs.ListRuns.Ties.{further}
 use Rattle.cc_runs.proofs.ListRuns.Facts.{lists}
 use Rattle.cc_runs.proofs.ListRuns.Posts.{Well, of_side, OfSend, OfTake, group_in}
-use Rattle.cc_runs.proofs.ListRuns.Runs.{AfterRun, parts_least, legal}
+use Rattle.cc_runs.proofs.ListRuns.Runs.{AfterRun, legal}
+use Rattle.cc_runs.proofs.ListRuns.Invariant.{ghosts_at, parts_least}
 use Rattle.cc_runs.proofs.ListRuns.Decided.{group_mine, group_other}
 use Rattle.cc_runs.proofs.ListRuns.FromChains.{after_runs, of_setting}
 use Rattle.cc_runs.specs.Linearizable.{AnswersAfter, Effect, replay, IsExact, in_order, IsOnTime, IsTimely, IsLinearization, IsLinearizable, RunsAreLinearizable, Cut, OrderKeepsTime, OrderIsRealTime, IsPart, prefix, Orders, OrdersAgree}
@@ -68,7 +69,7 @@ module _ (c : Config) (checked : config_fault c ≡ Ok tt) where
   some = omega (arith, (in_range c checked).groups.0)
 
   many : (moves : List Move) → IsRun (lists c) moves → length (history_of (lists c) moves).takes ≡ m + 1
-  many moves run = (after_runs c (in_range c checked) moves run).whole.parts.ties.many ∙ some
+  many moves run = (after_runs c (in_range c checked) moves run).parts.ties.many ∙ some
 
   -- a run with one move more has such an order too, of which the order before is a part
   abbrev Grows : (mv : Move) (earlier : List Move) → Lin c earlier → Type 0
@@ -97,7 +98,7 @@ module _ (c : Config) (checked : config_fault c ≡ Ok tt) where
   room moves run =
       let s : State = reached (lists c) moves in
       let a : AfterRun c moves = after_runs c (in_range c checked) moves run in
-      omega (arith, busy.room c.capacity c.life (further c + 1) (queue_of s a.whole.parts.duty) a.whole.parts.told a.whole.parts.list.inv, parts_least c s a.whole.parts, a.whole.parts.ties.accepted_is)
+      omega (arith, busy.room c.capacity c.life (further c + 1) (queue_of s a.parts.duty) (ghosts_at c s a.parts) a.parts.list, parts_least c s a.parts)
 
   module _ (earlier : List Move) (p : ℕ) (run : IsRun (lists c) (Move.Step p ∷ earlier)) where
     abbrev s : State
@@ -116,7 +117,7 @@ module _ (c : Config) (checked : config_fault c ≡ Ok tt) where
     later = history_of (lists c) (Move.Step p ∷ earlier)
 
     well : Well h (chain_of c p) (pass_at c p) (s.stand p).begun place
-    well = (after_runs c (in_range c checked) earlier run.0).whole.posts.well p
+    well = (after_runs c (in_range c checked) earlier run.0).posts.well p
 
     module _ (a : Answer) (e : decides (lists c) place found ≡ Some a) where
       serves : ServesNext s (chain_of c p) (served_node place)
@@ -138,7 +139,7 @@ module _ (c : Config) (checked : config_fault c ≡ Ok tt) where
         next = subst (λ (x : Chain). slice_get (calls_on x h) (length (answers_on x h)) ≡ Some serves.entry) of.chain_is serves.next
 
         law : Legal c after_send
-        law = subst (λ (z : Record). Legal c z) later_is (legal c (reached (lists c) (Move.Step p ∷ earlier)) (after_runs c (in_range c checked) (Move.Step p ∷ earlier) run).whole)
+        law = subst (λ (z : Record). Legal c z) later_is (legal c (reached (lists c) (Move.Step p ∷ earlier)) (after_runs c (in_range c checked) (Move.Step p ∷ earlier) run))
 
         is_senders : IsSenders c entry.pass entry.call
         is_senders = all_at (λ (z : Entry). IsSenders c z.pass z.call) h.sends.calls (length h.sends.answers) entry law.senders next
@@ -275,7 +276,7 @@ module _ (c : Config) (checked : config_fault c ≡ Ok tt) where
         take_next = subst (λ (x : Chain). slice_get (calls_on x h) (length (answers_on x h)) ≡ Some serves.entry) of.chain_is serves.next
 
         take_law : Legal c after_take
-        take_law = subst (λ (z : Record). Legal c z) take_later (legal c (reached (lists c) (Move.Step p ∷ earlier)) (after_runs c (in_range c checked) (Move.Step p ∷ earlier) run).whole)
+        take_law = subst (λ (z : Record). Legal c z) take_later (legal c (reached (lists c) (Move.Step p ∷ earlier)) (after_runs c (in_range c checked) (Move.Step p ∷ earlier) run))
 
         take_told : TakeSideAnswer (accepted h) (is_shut h) (length (handed h y)) entry.known a
         take_told = subst (λ (n : ℕ). TakeSideAnswer (accepted h) (is_shut h) n entry.known a) (zero-add _)

@@ -1,4 +1,5 @@
 -- A scan that finds no free node: every ordinary node was busy when it began.
+use Rattle.std.proofs.lemmas.Option.{slice_get-get_or}
 use Rattle.std.proofs.Common.{◌≡◌, ◌≢◌, ◌⊎◌, ℕ, suc, ◌+◌, ◌-◌, ◌<◌, ◌≤◌, ◌==◌, nat_lt, List, [], ◌∷◌, ◌++◌, length, Bool, true, false, if◌then◌else◌, Option, Some, None, Ok, inl, inr, refl, sym, ap, ◌∙◌, subst, arith, append-nil}
 use Rattle.std.proofs.lemmas.Bool.{cases_eq, ne_eqb, eqb-false}
 use Rattle.std.proofs.Math.Nat.{mod-eq_of_lt, mod_self}
@@ -28,9 +29,9 @@ use Rattle.cc_runs.proofs.LinkedList.Invariant.{LInv}
 use Rattle.cc_runs.proofs.LinkedList.Scan.{looked_role}
 use Rattle.cc_runs.proofs.ListRuns.Ties.{further, Scanned}
 use Rattle.cc_runs.proofs.ListRuns.Facts.{lists, IsSending}
-use Rattle.cc_runs.proofs.ListRuns.Invariant.{Parts}
+use Rattle.cc_runs.proofs.ListRuns.Invariant.{ghosts_at, parts_least, Parts}
 use Rattle.cc_runs.proofs.ListRuns.Posts.{Well, of_side}
-use Rattle.cc_runs.proofs.ListRuns.Runs.{AfterRun, parts_least}
+use Rattle.cc_runs.proofs.ListRuns.Runs.{AfterRun}
 use Rattle.cc_runs.proofs.ListRuns.Safe.{send_queue, send_holds, send_reads}
 use Rattle.cc_runs.proofs.ListRuns.FromChains.{after_runs, chain_facts}
 use Rattle.cc_runs.proofs.ListRuns.Ready.{list_ready}
@@ -94,25 +95,25 @@ module _ (c : Config) (moves : List Move) (a : AfterRun c moves) (p : ℕ) (job 
   abbrev s : State
   s = reached (lists c) moves
 
-  abbrev k : Parts c s
-  k = a.whole.parts
+  abbrev k : Parts c s (linked_nodes (lists c) moves)
+  k = a.parts
 
   pub scanned : Scanned c k.duty.from at reads
   scanned = (send_reads c s p job (Sending.ReadPassed parcel at reads) stands tt k).1
 
-  i : LInv c.capacity c.life (further c + 1) (send_queue c s p job (Sending.ReadPassed parcel at reads) stands tt k) k.told
+  i : LInv c.capacity c.life (further c + 1) (send_queue c s p job (Sending.ReadPassed parcel at reads) stands tt k) (ghosts_at c s k)
   i = send_holds c s p job (Sending.ReadPassed parcel at reads) stands tt k
 
   module _ (ne : s.mem (Word.Item at ItemField.Passed) ≢ groups c) where
-    role : k.told.role at ≡ 2
-    role = looked_role c.capacity c.life (further c + 1) at (send_queue c s p job (Sending.ReadPassed parcel at reads) stands tt k) k.told i refl
+    role : (ghosts_at c s k).role at ≡ 2
+    role = looked_role c.capacity c.life (further c + 1) at (send_queue c s p job (Sending.ReadPassed parcel at reads) stands tt k) (ghosts_at c s k) i refl
         (scanned.within, scanned.past, λ l. scanned.round l) (λ e. ne (omega (arith, e, k.ties.some)))
 
-    low : k.told.least ≤ k.told.pos at
-    low = grind (arith, ne, i.nodes.passed_is at scanned.within role, i.hands.by_all (k.told.pos at), k.ties.some)
+    low : (ghosts_at c s k).least ≤ (ghosts_at c s k).pos at
+    low = grind (arith, ne, i.nodes.passed_is at scanned.within role, i.hands.by_all ((ghosts_at c s k).pos at), k.ties.some)
 
     pub busy_place : ℕ
-    busy_place = k.told.pos at
+    busy_place = (ghosts_at c s k).pos at
 
     pub busy_low : handed_to_all s.history ≤ busy_place
     unfolding busy_place
@@ -120,7 +121,7 @@ module _ (c : Config) (moves : List Move) (a : AfterRun c moves) (p : ℕ) (job 
 
     pub busy_is : slice_get (linked_nodes (lists c) moves) busy_place ≡ Some at
     unfolding busy_place
-    busy_is = a.linked.each (k.told.pos at) (i.nodes.pos_high at scanned.within role) ∙ ap (λ (x : ℕ). Some x) (i.nodes.pos_is at scanned.within role)
+    busy_is = slice_get-get_or (linked_nodes (lists c) moves) ((ghosts_at c s k).pos at) 0 (omega (arith, a.parts.ties.linked, i.nodes.pos_high at scanned.within role)) ∙ ap (λ (x : ℕ). Some x) (i.nodes.pos_is at scanned.within role)
 
 -- ---- the steps that lead to a read of the scan
 
@@ -226,7 +227,7 @@ module _ (c : Config) (checked : config_fault c ≡ Ok tt) where
   pub sender : (moves : List Move) → IsRun (lists c) moves → (p : ℕ) (job : Job) (service : Sending) → ((reached (lists c) moves).stand p).phase ≡ Phase.Sending job service → chain_of c p ≡ Chain.Send
   sender moves run p job service stands =
       let s : State = reached (lists c) moves in
-      subst (λ (z : Phase). Well s.history (chain_of c p) (pass_at c p) (s.stand p).begun z) stands ((after_it moves run).whole.posts.well p)
+      subst (λ (z : Phase). Well s.history (chain_of c p) (pass_at c p) (s.stand p).begun z) stands ((after_it moves run).posts.well p)
 
   -- where it waits for its answer, there is one call without
   pub waiting : (moves : List Move) → IsRun (lists c) moves → (p : ℕ) → p < passes (lists c) → (job : Job) (parcel : Parcel) (at reads : ℕ) → ((reached (lists c) moves).stand p).phase ≡ Phase.Sending job (Sending.ReadPassed parcel at reads)
@@ -329,7 +330,7 @@ module _ (c : Config) (checked : config_fault c ≡ Ok tt) where
   others earlier run p q less q_less ne job parcel at reads stands scan =
       on_scan c (Move.Step q) earlier at reads
       (ap (λ (l : List ℕ). linked_nodes (lists c) earlier ++ l) (links_none ((reached (lists c) earlier).stand q).phase off) ∙ append-nil (linked_nodes (lists c) earlier))
-      (other_sends c (history_of (lists c) earlier) q ((reached (lists c) earlier).stand q).phase _ ((reached (lists c) earlier).stand q).begun ((after_it earlier run).whole.posts.well q) off)
+      (other_sends c (history_of (lists c) earlier) q ((reached (lists c) earlier).stand q).phase _ ((reached (lists c) earlier).stand q).begun ((after_it earlier run).posts.well q) off)
       scan
     where
       off : IsSending ((reached (lists c) earlier).stand q).phase → ⊥

@@ -1,5 +1,5 @@
 -- A history with one more answer.
-use Rattle.std.proofs.Common.{◌≡◌, ◌≢◌, ◌<◌, ℕ, List, [], ◌∷◌, ◌++◌, length, Bool, true, false, ◌||◌, Some, ap, ◌∙◌, append-nil, zero-add, arith}
+use Rattle.std.proofs.Common.{◌≡◌, ◌≢◌, ◌<◌, ◌≤◌, ◌+◌, ℕ, List, [], ◌∷◌, ◌++◌, length, Bool, true, false, ◌||◌, Some, ap, ◌∙◌, append-nil, zero-add, arith}
 use Rattle.std.proofs.lemmas.List.{get_or-set_same, get_or-set_other}
 use Rattle.std.specs.List.{slice_get}
 use Rattle.cc_model.specs.Record.{Side, Record, silent, of_group, with_answer, with_sends, with_takes}
@@ -12,6 +12,12 @@ use Rattle.cc_model.proofs.Grows.{any-append, accepted_more, e_answer_more, d_an
 pub record LegalSoFar (c : Config) (h : Record) : Type 0 where
   pub sends : SendSideAnswers c 0 false h.sends.calls h.sends.answers
   pub takes : (y : ℕ) → TakeSideAnswers (accepted h) (is_shut h) 0 (of_group h y).calls (of_group h y).answers
+
+-- no more answers than calls
+pub few_answers : (c : Config) (n : ℕ) (shut : Bool) (calls : List Entry) (answers : List Answer) → SendSideAnswers c n shut calls answers → length answers ≤ length calls
+few_answers c n shut calls [] h = omega arith
+few_answers c n shut [] (a ∷ answers) h = absurd h
+few_answers c n shut (e ∷ calls) (a ∷ answers) h = omega (arith, few_answers c (n + length (accepted_item e a)) (shut || shuts a) calls answers h.1)
 
 -- once shut, no answer accepts
 closed_item : (c : Config) (n known : ℕ) (k : Call) (e : Entry) (a : Answer) → SendSideAnswer c n true known k a → accepted_item e a ≡ []

@@ -1,5 +1,5 @@
 -- A service begins: the last word of a sender's request is loaded.
-use Rattle.std.proofs.Common.{◌≡◌, ◌≢◌, ℕ, ◌+◌, ◌<◌, ◌≤◌, refl, sym, ap, ◌∙◌, subst, arith}
+use Rattle.std.proofs.Common.{List, ◌≡◌, ◌≢◌, ℕ, ◌+◌, ◌<◌, ◌≤◌, refl, sym, ap, ◌∙◌, subst, arith}
 use Rattle.cc_model.specs.Items.{handed_to_all}
 use Rattle.cc_runs.specs.Names.{Config, Entry, Chain, NodeField, Word, Job, Phase, Sending, Stand, Request}
 use Rattle.cc_runs.specs.State.{State, chain_of, hold}
@@ -10,15 +10,12 @@ use Rattle.cc_runs.proofs.Chains.Registers.{HasAsked, HasRequest}
 use Rattle.cc_runs.specs.Run.{IsIdle, passes}
 use Rattle.cc_runs.proofs.Chains.Frame.{hold_here}
 use Rattle.cc_runs.proofs.LinkedList.Queue.{Queue}
-use Rattle.cc_runs.proofs.LinkedList.Invariant.{LInv}
-use Rattle.cc_runs.proofs.LinkedList.Grow.{ListHolds}
 use Rattle.cc_runs.proofs.ListRuns.SendKeeps as keeps
 use Rattle.cc_runs.proofs.ListRuns.View.{Duty, Regs, enq_in, enq_at, regs_at, regs_of, queue_from, queue_of, hold_same, hold_all}
-use Rattle.cc_runs.proofs.ListRuns.Ties.{further, ReadsAt, IsBegun, IsServing, IsTaking, IsNextSend, IsNextTake}
+use Rattle.cc_runs.proofs.ListRuns.Ties.{Holds, further, ReadsAt, IsBegun, IsServing, IsTaking, IsNextSend, IsNextTake}
 use Rattle.cc_runs.proofs.ListRuns.SendTurn.{Caller}
 use Rattle.cc_runs.proofs.ListRuns.Facts.{lists, IsSending, ChainFacts}
-use Rattle.cc_runs.proofs.ListRuns.Invariant.{Parts, Onward}
-use Rattle.cc_runs.proofs.ListRuns.Least.{least_is}
+use Rattle.cc_runs.proofs.ListRuns.Invariant.{Parts, ghosts_at, parts_least}
 
 -- if nothing is served the stage is 0
 begun_or_none : (e : Entry) (from : ℕ) (service : Sending) → (IsBegun service → ⊥) → (enq_in e from service).stage ≡ 0
@@ -35,7 +32,7 @@ idle_serves : (at : Phase) → IsIdle at → IsServing at → ⊥
 idle_serves at idle u = grind arith
 
 module _ (c : Config) (s : State) (p begun own : ℕ) (job : Job) (request : Request) (i : ℕ) (last : further_words request.tag ≤ i) (stands : (s.stand p).phase ≡ Phase.Sending job (Sending.ReadBody request i)) (within : p < passes (lists c)) (facts : ChainFacts (lists c) s)
-    (outside : (q : ℕ) → passes (lists c) ≤ q → IsIdle (s.stand q).phase) (callers : (e : Entry) → IsNextSend s.history e → Caller c e × (e.known ≤ handed_to_all s.history)) (k : Parts c s) where
+    (outside : (q : ℕ) → passes (lists c) ≤ q → IsIdle (s.stand q).phase) (callers : (e : Entry) → IsNextSend s.history e → Caller c e × (e.known ≤ handed_to_all s.history)) {nodes : List ℕ} (k : Parts c s nodes) where
   abbrev d : Duty
   d = k.duty
 
@@ -76,11 +73,11 @@ module _ (c : Config) (s : State) (p begun own : ℕ) (job : Job) (request : Req
   abbrev after : Queue
   after = queue_from s.mem to (enq_at to.e_call to.from there) regs
 
-  known : read.0.known ≤ k.told.least
-  known = omega (arith, (callers read.0 read.1).1, least_is k.told s.history (further c) k.list.counted (omega (arith, k.ties.many, k.ties.some)) k.ties.handed_is)
+  known : read.0.known ≤ (ghosts_at c s k).least
+  known = omega (arith, (callers read.0 read.1).1, parts_least c s k)
 
-  enters : LInv c.capacity c.life (further c + 1) after k.told
-  enters = keeps.enters s.mem d to _ regs c (further c + 1) k.told whole (stage_none d.e_call d.from (s.stand d.e_pass).phase rests) k.ties.tells_is known refl k.list.inv
+  enters : Holds c s.history nodes k.kept after
+  enters = keeps.enters s.mem d to _ regs c (further c + 1) (ghosts_at c s k) whole (stage_none d.e_call d.from (s.stand d.e_pass).phase rests) refl known refl k.list
 
   here : (t.stand p).phase ≡ there
   here = ap (λ (z : Stand). z.phase) (hold_here s.stand p now)
@@ -93,28 +90,23 @@ module _ (c : Config) (s : State) (p begun own : ℕ) (job : Job) (request : Req
       ap (λ (z : Phase). queue_from t.mem to (enq_at to.e_call to.from z) (regs_of t.stand to)) here
       ∙ ap (λ (r : ℕ → Regs). queue_from t.mem to (enq_at to.e_call to.from there) r) same_regs
 
-  list : ListHolds c.capacity c.life (further c) (queue_of t to) k.told
-  list = subst (λ (v : Queue). ListHolds c.capacity c.life (further c) v k.told) (sym same_queue) (record { inv = enters; counted = k.list.counted })
+  list : Holds c s.history nodes k.kept (queue_of t to)
+  list = subst (λ (v : Queue). Holds c s.history nodes k.kept v) (sym same_queue) enters
 
-  pub send_enters : Onward c s k t
+  pub send_enters : Parts c t nodes
   send_enters = record {
-    parts = record {
-      duty = to;
-      told = k.told;
-      list = list;
-      serving = record {
-        e_only = hold_all (λ (q : ℕ) (z : Stand). q ≢ p → IsServing z.phase → ⊥) s.stand p now (λ ne u. ne refl) (λ q ne n u. alone q ne u);
-        d_mine = k.serving.d_mine;
-        d_only = λ y. hold_all (λ (q : ℕ) (z : Stand). chain_of c q ≡ Chain.Take y → q ≢ d.d_pass y → IsTaking z.phase → ⊥) s.stand p now (λ e ne u. u) (λ q ne e n u. k.serving.d_only y q e n u);
-        caller = (callers read.0 read.1).0;
-        reads = subst (λ (z : Phase). ReadsAt c to.e_call to.from z) (sym here) asked;
-        next_send = λ u. read.1;
-        next_take = λ y. hold_all (λ (q : ℕ) (z : Stand). q ≡ d.d_pass y → IsTaking z.phase → IsNextTake s.history y (d.d_call y)) s.stand p now (λ e u. absurd u)
-            (λ q ne e u. k.serving.next_take y (subst (λ (j : ℕ). IsTaking (s.stand j).phase) e u)) (d.d_pass y) refl;
-      };
-      ties = k.ties;
+    duty = to;
+    kept = k.kept;
+    list = list;
+    serving = record {
+      e_only = hold_all (λ (q : ℕ) (z : Stand). q ≢ p → IsServing z.phase → ⊥) s.stand p now (λ ne u. ne refl) (λ q ne n u. alone q ne u);
+      d_mine = k.serving.d_mine;
+      d_only = λ y. hold_all (λ (q : ℕ) (z : Stand). chain_of c q ≡ Chain.Take y → q ≢ d.d_pass y → IsTaking z.phase → ⊥) s.stand p now (λ e ne u. u) (λ q ne e n u. k.serving.d_only y q e n u);
+      caller = (callers read.0 read.1).0;
+      reads = subst (λ (z : Phase). ReadsAt c to.e_call to.from z) (sym here) asked;
+      next_send = λ u. read.1;
+      next_take = λ y. hold_all (λ (q : ℕ) (z : Stand). q ≡ d.d_pass y → IsTaking z.phase → IsNextTake s.history y (d.d_call y)) s.stand p now (λ e u. absurd u)
+          (λ q ne e u. k.serving.next_take y (subst (λ (j : ℕ). IsTaking (s.stand j).phase) e u)) (d.d_pass y) refl;
     };
-    least_up = omega arith;
-    entries_up = omega arith;
-    linked = (refl, λ j l. refl);
+    ties = k.ties;
   }

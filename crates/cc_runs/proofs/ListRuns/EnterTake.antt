@@ -1,6 +1,6 @@
 -- A service begins: the combiner of a group's takes finds the link to the node after the one that it serves.
 use Rattle.std.proofs.lemmas.Bool.{cases_eq}
-use Rattle.std.proofs.Common.{◌≡◌, ◌≢◌, ℕ, ◌+◌, ◌<◌, ◌≤◌, refl, sym, ap, ◌∙◌, subst, arith, inl, inr}
+use Rattle.std.proofs.Common.{List, ◌≡◌, ◌≢◌, ℕ, ◌+◌, ◌<◌, ◌≤◌, refl, sym, ap, ◌∙◌, subst, arith, inl, inr}
 use Rattle.cc_model.specs.Items.{entries}
 use Rattle.cc_runs.specs.Names.{Config, Entry, Job, Round, Phase, Taking, Stand, Chain}
 use Rattle.cc_runs.specs.State.{State, chain_of, hold}
@@ -10,13 +10,11 @@ use Rattle.cc_runs.specs.Run.{IsIdle, passes}
 use Rattle.cc_runs.proofs.Changed.{changed, changed_here, changed_away, changed_all}
 use Rattle.cc_runs.proofs.Chains.Frame.{hold_here}
 use Rattle.cc_runs.proofs.LinkedList.Queue.{Enq, Queue}
-use Rattle.cc_runs.proofs.LinkedList.Invariant.{LInv}
-use Rattle.cc_runs.proofs.LinkedList.Grow.{ListHolds}
 use Rattle.cc_runs.proofs.ListRuns.TakeKeeps as keeps
 use Rattle.cc_runs.proofs.ListRuns.View.{Duty, enq_at, regs_at, regs_of, queue_from, queue_of, hold_other, hold_same, hold_all}
-use Rattle.cc_runs.proofs.ListRuns.Ties.{further, ReadsAt, IsServing, IsUndecidedAt, IsTaking, IsNextSend, IsNextTake}
+use Rattle.cc_runs.proofs.ListRuns.Ties.{Holds, further, ReadsAt, IsServing, IsUndecidedAt, IsTaking, IsNextSend, IsNextTake}
 use Rattle.cc_runs.proofs.ListRuns.Facts.{lists, ChainFacts}
-use Rattle.cc_runs.proofs.ListRuns.Invariant.{Parts, Onward}
+use Rattle.cc_runs.proofs.ListRuns.Invariant.{Parts, ghosts_at}
 
 idle_takes : (at : Phase) → IsIdle at → IsTaking at → ⊥
 idle_takes at idle u = grind arith
@@ -26,7 +24,7 @@ take_regs_none : (at : Phase) → (IsTaking at → ⊥) → (regs_at at).stage �
 take_regs_none at not = grind arith
 
 module _ (c : Config) (s : State) (p begun own y : ℕ) (chain : chain_of c p ≡ Chain.Take y) (inside : y < groups c) (round : Round) (next : ℕ) (stands : (s.stand p).phase ≡ Phase.ReadNext round) (within : p < passes (lists c))
-    (outside : (q : ℕ) → passes (lists c) ≤ q → IsIdle (s.stand q).phase) (callers : (e : Entry) → IsNextTake s.history y e → e.known ≤ entries s.history) (k : Parts c s) where
+    (outside : (q : ℕ) → passes (lists c) ≤ q → IsIdle (s.stand q).phase) (callers : (e : Entry) → IsNextTake s.history y e → e.known ≤ entries s.history) {nodes : List ℕ} (k : Parts c s nodes) where
   abbrev d : Duty
   d = k.duty
 
@@ -80,9 +78,9 @@ module _ (c : Config) (s : State) (p begun own y : ℕ) (chain : chain_of c p �
     call_is : changed d.d_call y read.0 y ≡ read.0
     call_is = changed_here d.d_call y read.0 y refl
 
-    enters : LInv c.capacity c.life (further c + 1) after k.told
-    enters = keeps.enters s.mem d to enq (regs_of s.stand d) (regs_of t.stand to) c (further c + 1) k.told y (λ q ne. (ap (λ (z : Stand). regs_at z.phase) (stand_away q ne), changed_away d.d_call y read.0 q ne))
-        (take_regs_none (s.stand (d.d_pass y)).phase rests) (ap regs_at stand_mine) (let same : (changed d.d_call y read.0 y).known ≡ read.0.known = ap (λ (z : Entry). z.known) call_is in omega (arith, same, callers read.0 read.1, k.ties.accepted_is, k.ties.shut_is)) k.list.inv
+    enters : Holds c s.history nodes k.kept after
+    enters = keeps.enters s.mem d to enq (regs_of s.stand d) (regs_of t.stand to) c (further c + 1) (ghosts_at c s k) y (λ q ne. (ap (λ (z : Stand). regs_at z.phase) (stand_away q ne), changed_away d.d_call y read.0 q ne))
+        (take_regs_none (s.stand (d.d_pass y)).phase rests) (ap regs_at stand_mine) (let same : (changed d.d_call y read.0 y).known ≡ read.0.known = ap (λ (z : Entry). z.known) call_is in omega (arith, same, callers read.0 read.1)) k.list
 
     same_enq : enq_at d.e_call d.from (t.stand d.e_pass).phase ≡ enq
     same_enq = hold_same (λ (z : Stand). enq_at d.e_call d.from z.phase) s.stand p now (ap (λ (z : Phase). enq_at d.e_call d.from z) (sym stands)) d.e_pass
@@ -101,26 +99,21 @@ module _ (c : Config) (s : State) (p begun own y : ℕ) (chain : chain_of c p �
         (λ e ne u. ne (sym mine ∙ ap (changed d.d_pass y p) (ap group_of (sym chain ∙ e))))
         (λ q off e. grind (arith, alone q, k.serving.d_only x q e, changed_away d.d_pass y p x))
 
-    pub take_enters : Onward c s k t
+    pub take_enters : Parts c t nodes
     take_enters = record {
-      parts = record {
-        duty = to;
-        told = k.told;
-        list = subst (λ (v : Queue). ListHolds c.capacity c.life (further c) v k.told) (sym same_queue) (record { inv = enters; counted = k.list.counted });
-        serving = record {
-          e_only = hold_all (λ (q : ℕ) (z : Stand). q ≢ d.e_pass → IsServing z.phase → ⊥) s.stand p now (λ ne u. u) (λ q ne n u. k.serving.e_only q n u);
-          d_mine = changed_all (λ (x : ℕ) (q : ℕ). chain_of c q ≡ Chain.Take x) d.d_pass y p chain (λ x ne. k.serving.d_mine x);
-          d_only = only;
-          caller = k.serving.caller;
-          reads = hold_all (λ (q : ℕ) (z : Stand). q ≡ d.e_pass → ReadsAt c d.e_call d.from z.phase) s.stand p now (λ e. tt)
-              (λ q ne e. subst (λ (j : ℕ). ReadsAt c d.e_call d.from (s.stand j).phase) (sym e) k.serving.reads) d.e_pass refl;
-          next_send = hold_all (λ (q : ℕ) (z : Stand). q ≡ d.e_pass → IsUndecidedAt z.phase → IsNextSend s.history d.e_call) s.stand p now (λ e u. absurd u)
-              (λ q ne e u. k.serving.next_send (subst (λ (j : ℕ). IsUndecidedAt (s.stand j).phase) e u)) d.e_pass refl;
-          next_take = next_at;
-        };
-        ties = k.ties;
+      duty = to;
+      kept = k.kept;
+      list = subst (λ (v : Queue). Holds c s.history nodes k.kept v) (sym same_queue) enters;
+      serving = record {
+        e_only = hold_all (λ (q : ℕ) (z : Stand). q ≢ d.e_pass → IsServing z.phase → ⊥) s.stand p now (λ ne u. u) (λ q ne n u. k.serving.e_only q n u);
+        d_mine = changed_all (λ (x : ℕ) (q : ℕ). chain_of c q ≡ Chain.Take x) d.d_pass y p chain (λ x ne. k.serving.d_mine x);
+        d_only = only;
+        caller = k.serving.caller;
+        reads = hold_all (λ (q : ℕ) (z : Stand). q ≡ d.e_pass → ReadsAt c d.e_call d.from z.phase) s.stand p now (λ e. tt)
+            (λ q ne e. subst (λ (j : ℕ). ReadsAt c d.e_call d.from (s.stand j).phase) (sym e) k.serving.reads) d.e_pass refl;
+        next_send = hold_all (λ (q : ℕ) (z : Stand). q ≡ d.e_pass → IsUndecidedAt z.phase → IsNextSend s.history d.e_call) s.stand p now (λ e u. absurd u)
+            (λ q ne e u. k.serving.next_send (subst (λ (j : ℕ). IsUndecidedAt (s.stand j).phase) e u)) d.e_pass refl;
+        next_take = next_at;
       };
-      least_up = omega arith;
-      entries_up = omega arith;
-      linked = (refl, λ j l. refl);
+      ties = k.ties;
     }

@@ -1,12 +1,15 @@
 -- The list's invariant of a state, and the moves that it doesn't see.
-use Rattle.std.proofs.Common.{◌≡◌, ◌≢◌, ℕ, ◌+◌, ◌≤◌, List, [], refl, sym, ap, ◌∙◌, subst, arith}
+use Rattle.std.proofs.Common.{◌≡◌, ◌≢◌, ℕ, ◌+◌, List, length, refl, sym, ap, ◌∙◌, subst, arith}
 use Rattle.cc_model.specs.Record.{Record}
+use Rattle.cc_model.specs.Items.{handed, handed_to_all}
 use Rattle.cc_runs.specs.Names.{Config, Entry, Word, Stand, Chain}
 use Rattle.cc_runs.specs.State.{State, chain_of, hold}
 use Rattle.cc_runs.proofs.LinkedList.Queue.{Enq, Queue, Ghosts}
-use Rattle.cc_runs.proofs.LinkedList.Grow.{ListHolds}
+use Rattle.cc_runs.proofs.LinkedList.Grow.{Kept}
+use Rattle.cc_runs.proofs.LinkedList.Invariant.{LInv}
 use Rattle.cc_runs.proofs.ListRuns.View.{Duty, Regs, enq_at, regs_at, regs_of, queue_from, queue_of, hold_same, hold_all}
-use Rattle.cc_runs.proofs.ListRuns.Ties.{Ties, further, ReadsAt, IsServing, IsUndecidedAt, IsTaking, IsNextSend, IsNextTake, Linked}
+use Rattle.cc_runs.proofs.ListRuns.Ties.{Ties, Holds, ghosts, further, ReadsAt, IsServing, IsUndecidedAt, IsTaking, IsNextSend, IsNextTake}
+use Rattle.cc_runs.proofs.ListRuns.Least.{least_of_groups}
 use Rattle.cc_runs.proofs.ListRuns.SendTurn.{Caller}
 use Rattle.cc_runs.proofs.ListRuns.Untouched.{StillSend, StillTake}
 
@@ -21,31 +24,28 @@ pub record Serving (c : Config) (s : State) (d : Duty) : Type 0 where
   pub next_take : (y : ℕ) → IsTaking (s.stand (d.d_pass y)).phase → IsNextTake s.history y (d.d_call y)
 
 -- the list's invariant, and what ties it to the state
-pub record Parts (c : Config) (s : State) : Type 0 where
+pub record Parts (c : Config) (s : State) (nodes : List ℕ) : Type 0 where
   pub duty : Duty
-  pub told : Ghosts
-  pub list : ListHolds c.capacity c.life (further c) (queue_of s duty) told
+  pub kept : Kept
+  pub list : Holds c s.history nodes kept (queue_of s duty)
   pub serving : Serving c s duty
-  pub ties : Ties c s.history told
+  pub ties : Ties c s.history nodes kept
 
--- the invariant of a later state, in which no less is written, and these nodes were linked
-pub record OnwardBy (c : Config) (s : State) (k : Parts c s) (t : State) (new : List ℕ) : Type 0 where
-  pub parts : Parts c t
-  pub least_up : k.told.least ≤ parts.told.least
-  pub entries_up : k.told.accepted + k.told.shut ≤ parts.told.accepted + parts.told.shut
-  pub linked : Linked k.told parts.told new
+-- the ghosts of a state
+abbrev pub ghosts_at : (c : Config) (s : State) {nodes : List ℕ} → Parts c s nodes → Ghosts
+ghosts_at c s {nodes} k = ghosts c s.history nodes k.kept
 
--- if no node was linked
-abbrev pub Onward : (c : Config) (s : State) → Parts c s → State → Type 0
-Onward c s k t = OnwardBy c s k t []
+-- the least number handed out
+pub parts_least : (c : Config) (s : State) {nodes : List ℕ} (k : Parts c s nodes) → (ghosts_at c s k).least ≡ handed_to_all s.history
+parts_least c s {nodes} k = least_of_groups s.history (further c) (λ y. length (handed s.history y)) (omega (arith, k.ties.many, k.ties.some)) (λ y. refl)
 
 -- ---- a move of pass p that touches no word of the list and is outside both services before and after
 
-module _ (c : Config) (s : State) (p : ℕ) (now : Stand) (mem' : Word → ℕ) (later : Record) (k : Parts c s)
+module _ (c : Config) (s : State) (p : ℕ) (now : Stand) (mem' : Word → ℕ) (later : Record) {nodes : List ℕ} (k : Parts c s nodes)
     (before_send : StillSend (s.stand p).phase) (before_take : StillTake (s.stand p).phase) (after_send : StillSend now.phase) (after_take : StillTake now.phase)
     (words : (d : Duty) (e : Enq) (r : ℕ → Regs) → queue_from mem' d e r ≡ queue_from s.mem d e r)
     (next_send : (e : Entry) → IsNextSend s.history e → IsNextSend later e) (next_take : (y : ℕ) (e : Entry) → IsNextTake s.history y e → IsNextTake later y e)
-    (tied : Ties c s.history k.told → Ties c later k.told) where
+    (tied : (kept : Kept) → Ties c s.history nodes kept → Ties c later nodes kept × (ghosts c later nodes kept ≡ ghosts c s.history nodes kept)) where
   abbrev t : State
   t = record { mem = mem'; stand = hold s.stand p now; history = later }
 
@@ -64,11 +64,11 @@ module _ (c : Config) (s : State) (p : ℕ) (now : Stand) (mem' : Word → ℕ) 
       ∙ ap (λ (r : ℕ → Regs). queue_from mem' d (enq_at d.e_call d.from (s.stand d.e_pass).phase) r) same_regs
       ∙ words d (enq_at d.e_call d.from (s.stand d.e_pass).phase) (regs_of s.stand d)
 
-  quiet_parts : Parts c t
-  quiet_parts = record {
+  pub quiet : Parts c t nodes
+  quiet = record {
     duty = d;
-    told = k.told;
-    list = subst (λ (v : Queue). ListHolds c.capacity c.life (further c) v k.told) (sym same_queue) k.list;
+    kept = k.kept;
+    list = subst (λ (g : Ghosts). LInv c.capacity c.life (further c + 1) (queue_of t d) g) (sym (tied k.kept k.ties).1) (subst (λ (v : Queue). Holds c s.history nodes k.kept v) (sym same_queue) k.list);
     serving = record {
       e_only = λ q ne serves. hold_all (λ (q : ℕ) (z : Stand). q ≢ d.e_pass → IsServing z.phase → ⊥) s.stand p now (λ n u. after_send.serves u) (λ q ne n u. k.serving.e_only q n u) q ne serves;
       d_mine = k.serving.d_mine;
@@ -81,9 +81,5 @@ module _ (c : Config) (s : State) (p : ℕ) (now : Stand) (mem' : Word → ℕ) 
       next_take = λ y. hold_all (λ (q : ℕ) (z : Stand). q ≡ d.d_pass y → IsTaking z.phase → IsNextTake later y (d.d_call y)) s.stand p now (λ e u. absurd (after_take.takes u))
           (λ q ne e u. next_take y (d.d_call y) (k.serving.next_take y (subst (λ (j : ℕ). IsTaking (s.stand j).phase) e u))) (d.d_pass y) refl;
     };
-    ties = tied k.ties;
+    ties = (tied k.kept k.ties).0;
   }
-
-  pub quiet : Onward c s k t
-  unfolding quiet_parts
-  quiet = record { parts = quiet_parts; least_up = omega arith; entries_up = omega arith; linked = (refl, λ j l. refl) }

@@ -1,7 +1,7 @@
 -- The laws of every run of a machine whose chains serve the list.
 use Rattle.std.proofs.Common.{◌≡◌, ◌≢◌, ℕ, zero, suc, ◌+◌, ◌-◌, ◌/◌, ◌<◌, ◌≤◌, ◌==◌, List, length, Bool, true, false, Some, Ok, inl, inr, refl, sym, ap, ◌∙◌, subst, arith, if◌then◌else◌}
 use Rattle.std.proofs.lemmas.Bool.{eqb-true, eqb-false, cases_lt}
-use Rattle.std.proofs.lemmas.Option.{slice_get_within}
+use Rattle.std.proofs.lemmas.Option.{slice_get_within, get_or_from_slice_get}
 use Rattle.std.specs.List.{slice_get}
 use Rattle.cc_model.specs.Config.{config_fault}
 use Rattle.cc_model.specs.Items.{accepted, handed_to_all}
@@ -23,8 +23,8 @@ use Rattle.cc_runs.proofs.LinkedList.Limits as limits
 use Rattle.cc_runs.proofs.ListRuns.View.{Regs, enq_in, enq_at, regs_in, regs_of, queue_of}
 use Rattle.cc_runs.proofs.ListRuns.Ties.{further, IsBegun, Scanned}
 use Rattle.cc_runs.proofs.ListRuns.Facts.{lists}
-use Rattle.cc_runs.proofs.ListRuns.Invariant.{Parts}
-use Rattle.cc_runs.proofs.ListRuns.Runs.{AfterRun, parts_least, legal}
+use Rattle.cc_runs.proofs.ListRuns.Invariant.{Parts, ghosts_at, parts_least}
+use Rattle.cc_runs.proofs.ListRuns.Runs.{AfterRun, legal}
 use Rattle.cc_runs.proofs.ListRuns.Safe.{send_queue, send_holds, send_reads, take_regs}
 use Rattle.cc_runs.proofs.ListRuns.FromChains.{after_runs, of_setting}
 
@@ -33,7 +33,7 @@ use Rattle.cc_runs.proofs.ListRuns.FromChains.{after_runs, of_setting}
 pub history_is_legal : HistoryIsLegal
 history_is_legal c moves serves checked run =
     of_setting (λ (z : Setting). config_fault z.config ≡ Ok tt → IsRun z moves → Legal z.config (history_of z moves)) c serves
-    (λ ok r. legal c.config (reached (lists c.config) moves) (after_runs c.config (in_range c.config ok) moves r).whole) checked run
+    (λ ok r. legal c.config (reached (lists c.config) moves) (after_runs c.config (in_range c.config ok) moves r)) checked run
 
 pub history_is_fifo : HistoryIsFifo
 history_is_fifo c moves serves checked run = fifo c.config (history_of c moves) (history_is_legal c moves serves checked run)
@@ -77,14 +77,14 @@ module _ (c : Config) (moves : List Move) (a : AfterRun c moves) where
   abbrev s : State
   s = reached (lists c) moves
 
-  abbrev k : Parts c s
-  k = a.whole.parts
+  abbrev k : Parts c s (linked_nodes (lists c) moves)
+  k = a.parts
 
   abbrev g : Ghosts
-  g = k.told
+  g = ghosts_at c s k
 
   abbrev i : LInv c.capacity c.life (further c + 1) (queue_of s k.duty) g
-  i = k.list.inv
+  i = k.list
 
   handed_least : handed_to_all s.history ≡ g.least
   handed_least = sym (parts_least c s k)
@@ -95,7 +95,7 @@ module _ (c : Config) (moves : List Move) (a : AfterRun c moves) where
   busy_items : ((p x : ℕ) → Prepares (s.stand p).phase x → ⊥) → busy_below c s.mem (c.capacity + 1) + handed_to_all s.history ≡ length (accepted s.history) + 1
   busy_items none =
       let rest : (x : ℕ) → x ≤ c.capacity → g.role x ≢ 1 = λ x l one. none k.duty.e_pass _ (preparing_at k.duty.e_call k.duty.from (s.stand k.duty.e_pass).phase (i.nodes.prep_low x l one) (i.nodes.prep_high x l one)) in
-      omega (arith, all_busy c s.mem (c.capacity + 1) k.ties.some passed_most, busy.busy_nodes_are c.capacity c.life (further c + 1) (queue_of s k.duty) g i, busy.busy_count c.capacity c.life (further c + 1) (queue_of s k.duty) g i rest, handed_least, k.ties.accepted_is)
+      omega (arith, all_busy c s.mem (c.capacity + 1) k.ties.some passed_most, busy.busy_nodes_are c.capacity c.life (further c + 1) (queue_of s k.duty) g i, busy.busy_count c.capacity c.life (further c + 1) (queue_of s k.duty) g i rest, handed_least)
 
   -- while a node is in preparation
   module _ (p : ℕ) (job : Job) (service : Sending) (x : ℕ) (stands : (s.stand p).phase ≡ Phase.Sending job service) (prepares : IsPreparing service x) where
@@ -111,7 +111,7 @@ module _ (c : Config) (moves : List Move) (a : AfterRun c moves) where
 
     busy_prepared : busy_below c s.mem (c.capacity + 1) + handed_to_all s.history ≡ length (accepted s.history) + 2
     busy_prepared =
-        omega (arith, all_busy c s.mem (c.capacity + 1) k.ties.some passed_most, busy.busy_nodes_are c.capacity c.life (further c + 1) (send_queue c s p job service stands here.begun k) g v, busy.busy_count_prep c.capacity c.life (further c + 1) (send_queue c s p job service stands here.begun k) g v here.low here.high, handed_least, k.ties.accepted_is)
+        omega (arith, all_busy c s.mem (c.capacity + 1) k.ties.some passed_most, busy.busy_nodes_are c.capacity c.life (further c + 1) (send_queue c s p job service stands here.begun k) g v, busy.busy_count_prep c.capacity c.life (further c + 1) (send_queue c s p job service stands here.begun k) g v here.low here.high, handed_least)
 
   prepared_at : (at : Phase) (p x : ℕ) → (s.stand p).phase ≡ at → Prepares at x → (x ≤ c.capacity) × (g.role x ≡ 1)
   prepared_at (Phase.Sending job service) p x stands h = prepared p job service x stands h
@@ -132,8 +132,8 @@ module _ (c : Config) (moves : List Move) (a : AfterRun c moves) where
 
     reset_past : (n : ℕ) → slice_get (linked_nodes (lists c) moves) n ≡ Some x → n < handed_to_all s.history
     reset_past n is =
-        let within : n ≤ g.accepted = omega (arith, slice_get_within (linked_nodes (lists c) moves) n x is, a.linked.many) in
-        let same : g.node n ≡ x = cc (a.linked.each n within, is) in
+        let within : n ≤ g.accepted = omega (arith, slice_get_within (linked_nodes (lists c) moves) n x is, a.parts.ties.linked) in
+        let same : g.node n ≡ x = get_or_from_slice_get (linked_nodes (lists c) moves) n x 0 is in
         grind (arith, handed_least, live n within)
       where
         live : (n : ℕ) → n ≤ g.accepted → g.least ≤ n → g.node n ≡ x → ⊥
@@ -143,8 +143,8 @@ module _ (c : Config) (moves : List Move) (a : AfterRun c moves) where
   prepared_past : (job : Job) (p x n : ℕ) (parcel : Parcel) → (s.stand p).phase ≡ Phase.Sending job (Sending.ResetItemNext parcel x) → slice_get (linked_nodes (lists c) moves) n ≡ Some x → n < handed_to_all s.history
   prepared_past job p x n parcel stands is =
       let role : g.role x ≡ 1 = (prepared p job (Sending.ResetItemNext parcel x) x stands refl).1 in
-      let within : n ≤ g.accepted = omega (arith, slice_get_within (linked_nodes (lists c) moves) n x is, a.linked.many) in
-      let same : g.node n ≡ x = cc (a.linked.each n within, is) in
+      let within : n ≤ g.accepted = omega (arith, slice_get_within (linked_nodes (lists c) moves) n x is, a.parts.ties.linked) in
+      let same : g.node n ≡ x = get_or_from_slice_get (linked_nodes (lists c) moves) n x 0 is in
       grind (arith, handed_least, i.live.live_role n)
 
   resets : (at : Phase) (p x n : ℕ) → (s.stand p).phase ≡ at → slice_get (linked_nodes (lists c) moves) n ≡ Some x → Resets at x → n < handed_to_all s.history
@@ -159,11 +159,11 @@ module _ (c : Config) (moves : List Move) (a : AfterRun c moves) where
     pub inside : group < groups c
 
   not_idle : (p : ℕ) (job : Job) (service : Taking) → (s.stand p).phase ≡ Phase.Taking job service → p < passes (lists c)
-  not_idle p job service stands = grind (arith, a.whole.posts.outside p)
+  not_idle p job service stands = grind (arith, a.posts.outside p)
 
   pub taker : (p : ℕ) (job : Job) (service : Taking) → (s.stand p).phase ≡ Phase.Taking job service → Taker p
   taker p job service stands = elim (of_side c p) [
-    | inl of ↦ absurd (subst (λ (x : Chain). IsTakes x) of.chain_is (subst (λ (z : Phase). Well s.history (chain_of c p) (pass_at c p) (s.stand p).begun z) stands (a.whole.posts.well p)))
+    | inl of ↦ absurd (subst (λ (x : Chain). IsTakes x) of.chain_is (subst (λ (z : Phase). Well s.history (chain_of c p) (pass_at c p) (s.stand p).begun z) stands (a.posts.well p)))
     | inr of ↦ record { group = (p - c.senders) / c.receivers; chain = of.chain_is; inside = group_in c p (not_idle p job service stands) of }
   ]
 

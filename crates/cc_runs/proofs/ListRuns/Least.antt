@@ -4,9 +4,7 @@ use Rattle.std.proofs.Common.{◌≡◌, ℕ, zero, suc, ◌+◌, ◌≤◌, Lis
 use Rattle.std.proofs.lemmas.List.{length-map}
 use Rattle.cc_model.specs.Record.{Side, Record, silent}
 use Rattle.cc_model.specs.Items.{handed, handed_by, handed_to_all, least}
-use Rattle.cc_runs.proofs.LinkedList.Queue.{Ghosts}
 use Rattle.cc_runs.proofs.LinkedList.Sides.{smallest, smallest_least, smallest_is}
-use Rattle.cc_runs.proofs.LinkedList.Grow.{Counted}
 
 -- the least of a list is one of its numbers, and at most each
 least_low : (x : ℕ) (xs : List ℕ) (k : ℕ) → k ≤ length xs → least (x ∷ xs) ≤ get_or (x ∷ xs) k 0
@@ -47,6 +45,3 @@ least_of_groups h m each many same = by_list h.takes refl
         let long : length (map count sides) ≡ m = omega (arith, length-map sides count, many, ap length e) in
         let at : (k : ℕ) → each k ≡ get_or (map count (s ∷ sides)) k 0 = λ k. same k ∙ sym (counts_get h.takes k) ∙ ap (λ (l : List Side). get_or (map count l) k 0) e in
         ap (λ (n : ℕ). smallest n each) (sym long) ∙ least_smallest (count s) (map count sides) each (λ k l. at k) ∙ ap (λ (l : List Side). least (map count l)) (sym e)
-
-pub least_is : (g : Ghosts) (h : Record) (m : ℕ) → Counted m g → length h.takes ≡ m + 1 → ((y : ℕ) → g.handed y ≡ length (handed h y)) → g.least ≡ handed_to_all h
-least_is g h m counted many same = counted.least ∙ least_of_groups h m g.handed many same

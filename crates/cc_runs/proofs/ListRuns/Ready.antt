@@ -57,7 +57,7 @@ module _ (c : Config) (fits : InRange c) (moves : List Move) (run : IsRun (lists
       safe.target_in (lists c) x ok fits s on.number (s.stand p).node (s.stand p).begun on.inside (k.holds x ok) (Phase.Sending job service) here refl
 
   well_at : (at : Phase) → (s.stand p).phase ≡ at → Well s.history x (pass_at c p) (s.stand p).begun at
-  well_at at stands = subst (λ (z : Phase). Well s.history x (pass_at c p) (s.stand p).begun z) stands (a.whole.posts.well p)
+  well_at at stands = subst (λ (z : Phase). Well s.history x (pass_at c p) (s.stand p).begun z) stands (a.posts.well p)
 
   service_safe : (at : Phase) → (s.stand p).phase ≡ at → IsService at → IsSafe (lists c) s x (s.stand p).node at
   service_safe (Phase.Sending job Sending.ReadTag) stands u =
@@ -68,15 +68,15 @@ module _ (c : Config) (fits : InRange c) (moves : List Move) (run : IsRun (lists
       subst (λ (y : Chain). IsSafe (lists c) s y (s.stand p).node (Phase.Sending job (Sending.ReadBody request i))) (sym (well_at (Phase.Sending job (Sending.ReadBody request i)) stands))
       (record { word = safe.node_exists (lists c) Chain.Send tt job.round.at (NodeField.Body i) (safe.four_words i request.tag low) (subst (λ (y : Chain). job.round.at ≤ members (lists c) y) (well_at (Phase.Sending job (Sending.ReadBody request i)) stands) (served_node job (Sending.ReadBody request i) stands)); numbers = tt })
   service_safe (Phase.Sending job service) stands u =
-      subst (λ (y : Chain). IsSafe (lists c) s y (s.stand p).node (Phase.Sending job service)) (sym (well_at (Phase.Sending job service) stands)) (send_safe c fits s p a.whole.parts (s.stand p).node job service stands tt)
+      subst (λ (y : Chain). IsSafe (lists c) s y (s.stand p).node (Phase.Sending job service)) (sym (well_at (Phase.Sending job service) stands)) (send_safe c fits s p a.parts (s.stand p).node job service stands tt)
   service_safe (Phase.Taking job service) stands u =
       let t = taker c moves a p job service stands in
-      subst (λ (y : Chain). IsSafe (lists c) s y (s.stand p).node (Phase.Taking job service)) (sym t.chain) (take_safe c fits s p a.whole.parts t.group t.chain t.inside (s.stand p).node job service stands)
+      subst (λ (y : Chain). IsSafe (lists c) s y (s.stand p).node (Phase.Taking job service)) (sym t.chain) (take_safe c fits s p a.parts t.group t.chain t.inside (s.stand p).node job service stands)
   service_safe (Phase.Counting job service) stands u = absurd (well_at (Phase.Counting job service) stands)
   service_safe _ stands u = absurd u
 
   told_fits : (n : ℕ) → n < length (answers_on x s.history) → Fits (answer_at (answers_on x s.history) n)
-  told_fits n l = answers_fit c fits s.history (within c s a.whole) x n l
+  told_fits n l = answers_fit c fits s.history (within c s a) x n l
 
   ready_here : config_fault c ≡ Ok tt → IsReady (lists c) s p
   ready_here checked = ready (lists c) checked moves run p less (λ n l. word_fits (answer_at (answers_on x s.history) n) (told_fits n l)) (service_safe (s.stand p).phase refl)

@@ -1,10 +1,10 @@
 -- The list's invariant after every run.
-use Rattle.std.proofs.Common.{◌≡◌, ◌≢◌, ℕ, ◌+◌, ◌-◌, ◌*◌, ◌/◌, ◌^◌, ◌<◌, ◌≤◌, ◌==◌, nat_lt, List, [], ◌∷◌, ◌++◌, length, Bool, true, false, if◌then◌else◌, Some, None, inl, inr, refl, sym, ap, ◌∙◌, subst, arith, append-nil, length-append}
+use Rattle.std.proofs.Common.{get_or, zero, suc, ◌≡◌, ◌≢◌, ℕ, ◌+◌, ◌-◌, ◌*◌, ◌/◌, ◌^◌, ◌<◌, ◌≤◌, ◌==◌, nat_lt, List, [], ◌∷◌, length, Bool, true, false, if◌then◌else◌, None, inl, inr, refl, sym, ap, ◌∙◌, subst, arith}
 use Rattle.std.proofs.lemmas.Bool.{lt-ltb, eqb-true}
-use Rattle.std.specs.List.{AllByRecursion, slice_get}
+use Rattle.std.specs.List.{AllByRecursion}
 use Rattle.std.proofs.lemmas.List.{length-replicate}
 use Rattle.cc_model.specs.Record.{Side, Record, silent, of_group}
-use Rattle.cc_model.specs.Items.{known_at, accepted, is_shut, handed_by, handed_to_all, entries}
+use Rattle.cc_model.specs.Items.{known_at, accepted, is_shut, handed, handed_by, handed_to_all, entries}
 use Rattle.cc_model.specs.Legal.{Legal, TakeSideAnswers, IsReceivers, send_numbers}
 use Rattle.cc_runs.specs.Names.{Config, Pass, Call, Chain, Phase, Stand, Move, Entry}
 use Rattle.cc_runs.specs.State.{State, appended, chain_of, pass_at, first_node, word_of}
@@ -13,75 +13,35 @@ use Rattle.cc_runs.specs.Step.{stepped_from}
 use Rattle.cc_runs.specs.Words.{groups}
 use Rattle.cc_runs.proofs.Chains.Opening.{no_calls}
 use Rattle.cc_runs.proofs.Chains.Others.{receiver_chain, group_is}
-use Rattle.cc_runs.proofs.ListRuns.Decided.{group_mine, group_other}
+use Rattle.cc_runs.proofs.ListRuns.Decided.{few_answers, group_mine, group_other}
 use Rattle.cc_runs.specs.Run.{passes, nowhere, first_word, opening, begun_after, number_of, begins, rests, moved, reached, IsIdle, IsFinished, May, IsRun}
-use Rattle.cc_model.proofs.Grows.{get_front, get_last}
 use Rattle.cc_runs.specs.MachineLaws.{links_at, linked_nodes}
 use Rattle.cc_runs.proofs.Ranges.{InRange}
 use Rattle.cc_runs.proofs.LinkedList.Queue.{Queue, Ghosts}
 use Rattle.cc_runs.proofs.LinkedList.Open as open_list
-use Rattle.cc_runs.proofs.LinkedList.Grow as grow
+use Rattle.cc_runs.proofs.LinkedList.Sides.{smallest_is, above_none}
+use Rattle.cc_runs.proofs.Changed.{changed, changed_here, changed_away}
+use Rattle.cc_runs.proofs.RunPrefixes.{begins_noted}
+use Rattle.cc_runs.proofs.KnownPrefixes.{known_grow}
 use Rattle.cc_runs.proofs.LinkedList.Busy as busy
-use Rattle.cc_runs.proofs.LinkedList.Grow.{ListHolds}
-use Rattle.cc_runs.proofs.ListRuns.View.{Duty, Regs, none, resting, enq_at, regs_at, regs_of, queue_from, queue_of, long_of}
-use Rattle.cc_runs.proofs.ListRuns.Ties.{further, ReadsAt, IsServing, IsUndecidedAt, IsTaking, Linked}
+use Rattle.cc_runs.proofs.LinkedList.Grow.{Kept}
+use Rattle.cc_runs.proofs.ListRuns.View.{Duty, Regs, none, resting, enq_at, regs_at, regs_of, queue_from, queue_of}
+use Rattle.cc_runs.proofs.ListRuns.Ties.{Holds, ghosts, further, ReadsAt, IsServing, IsUndecidedAt, IsTaking, then_linked, then_is}
 use Rattle.cc_runs.proofs.ListRuns.Facts.{lists, ChainFacts}
-use Rattle.cc_runs.proofs.ListRuns.Posts.{Begun, Well, Posts, Calls, HasNumber, waits, is_send, OfSend, OfTake, of_side, group_in, known_grows}
+use Rattle.cc_runs.proofs.ListRuns.Posts.{Begun, Well, Posts, Calls, HasNumber, waits, is_send, OfSend, OfTake, of_side, group_in}
 use Rattle.cc_runs.proofs.ListRuns.PostSteps.{next_well, next_waits, posts_on, calls_on, own_sent, other_sent, e_calls_on, d_calls_on}
 use Rattle.cc_runs.proofs.ListRuns.Untouched.{StillSend, StillTake, still_send, still_take}
-use Rattle.cc_runs.proofs.ListRuns.Invariant.{Parts, OnwardBy, Onward, quiet}
-use Rattle.cc_runs.proofs.ListRuns.Least.{least_is}
+use Rattle.cc_runs.proofs.ListRuns.Invariant.{Parts, ghosts_at, quiet}
 use Rattle.cc_runs.proofs.ListRuns.Steps.{send_step, take_step, called_mine, called_others}
 
-pub record Whole (c : Config) (s : State) : Type 0 where
-  pub parts : Parts c s
+pub record Whole (c : Config) (s : State) (nodes : List ℕ) : Type 0 where
+  pub parts : Parts c s nodes
   pub posts : Posts c s
   pub calls : Calls c s.history
 
--- and of a later state, when these nodes were linked
-pub record Goes (c : Config) (s : State) (w : Whole c s) (t : State) (new : List ℕ) : Type 0 where
-  pub whole : Whole c t
-  pub linked : Linked w.parts.told whole.parts.told new
-
--- the nodes linked so far are those of the places
-pub record LinkedAre (nodes : List ℕ) (g : Ghosts) : Type 0 where
-  pub many : length nodes ≡ g.accepted + 1
-  pub each : (k : ℕ) → k ≤ g.accepted → slice_get nodes k ≡ Some (g.node k)
-
-linked_on : (nodes new : List ℕ) (g g' : Ghosts) → LinkedAre nodes g → Linked g g' new → LinkedAre (nodes ++ new) g'
-linked_on nodes [] g g' a l = record {
-  many = ap length (append-nil nodes) ∙ omega (arith, a.many, l.0);
-  each = λ k low. rw append-nil (a.each k (omega (arith, low, l.0)) ∙ ap (λ (x : ℕ). Some x) (sym (l.1 k (omega (arith, low, l.0)))));
-}
-linked_on nodes (x ∷ rest) g g' a l = record {
-  many = omega (arith, length-append nodes (x ∷ rest), ap length l.0, a.many, l.1);
-  each = λ k low. grind (arith, l.0, last k, l.1, get_front nodes (x ∷ rest) k (g'.node k), a.each k, l.3 k);
-}
-  where
-    last : (k : ℕ) → k ≡ g.accepted + 1 → slice_get (nodes ++ x ∷ []) k ≡ Some (g'.node k)
-    last k is =
-        let at : k ≡ length nodes = omega (arith, is, a.many) in
-        ap (λ (j : ℕ). slice_get (nodes ++ x ∷ []) j) at ∙ get_last nodes x ∙ ap (λ (y : ℕ). Some y) (sym l.2) ∙ ap (λ (j : ℕ). Some (g'.node j)) (sym is)
-
--- ---- the written words grow
-
--- the least number handed out
-pub parts_least : (c : Config) (s : State) (k : Parts c s) → k.told.least ≡ handed_to_all s.history
-parts_least c s k = least_is k.told s.history (further c) k.list.counted (omega (arith, k.ties.many, k.ties.some)) k.ties.handed_is
-
-module _ (c : Config) (s t : State) (k : Parts c s) (new : List ℕ) (on : OnwardBy c s k t new) where
-  pub handed_up : handed_to_all s.history ≤ handed_to_all t.history
-  handed_up = omega (arith, parts_least c s k, parts_least c t on.parts, on.least_up)
-
-  pub entries_up : entries s.history ≤ entries t.history
-  entries_up = omega (arith, k.ties.accepted_is, k.ties.shut_is, on.parts.ties.accepted_is, on.parts.ties.shut_is, on.entries_up)
-
-  pub known_up : (pass : Pass) → known_at pass s.history ≤ known_at pass t.history
-  known_up pass = known_grows s.history t.history pass handed_up entries_up
-
 -- ---- a step
 
-module _ (c : Config) (fits : InRange c) (s : State) (p begun own : ℕ) (within : p < passes (lists c)) (w : Whole c s) where
+module _ (c : Config) (fits : InRange c) (s : State) (p begun own : ℕ) (within : p < passes (lists c)) {nodes : List ℕ} (w : Whole c s nodes) where
   abbrev h : Record
   h = s.history
 
@@ -93,6 +53,10 @@ module _ (c : Config) (fits : InRange c) (s : State) (p begun own : ℕ) (within
 
   abbrev finds : Chain → Phase → ℕ
   finds x at = s.mem (word_of (operation (lists c) x own at))
+
+  -- what can be known grows with the history
+  up : (x : Chain) (at : Phase) (pass : Pass) → known_at pass h ≤ known_at pass (to x at).history
+  up x at pass = known_grow h (to x at).history pass (few_answers c 0 false h.sends.calls h.sends.answers w.parts.ties.legal.sends) (begins_noted x h (enters at) (decides (lists c) at (finds x at)))
 
   few_sends : c.per_sender < 2 ^ 32
   few_sends = omega (arith, fits.per_sender)
@@ -110,37 +74,35 @@ module _ (c : Config) (fits : InRange c) (s : State) (p begun own : ℕ) (within
     sent_at : (at : Phase) → s.stand p ≡ stand_at at → length (send_numbers (p + 1) h.sends.calls) + waits at ≡ begun
     sent_at at stands = subst (λ (z : Stand). length (send_numbers (p + 1) h.sends.calls) + waits z.phase ≡ z.begun) stands (w.posts.sent p of.within)
 
-    send_well : (at : Phase) (later : Record) → s.stand p ≡ stand_at at → ((pass : Pass) → known_at pass h ≤ known_at pass later) → Well later (chain_of c p) (pass_at c p) begun (goes (lists c) Chain.Send own at (finds Chain.Send at))
-    send_well at later stands up = subst (λ (x : Chain). Well later x (pass_at c p) begun (goes (lists c) Chain.Send own at (finds Chain.Send at))) (sym of.chain_is) (subst (λ (z : Pass). Well later Chain.Send z begun (goes (lists c) Chain.Send own at (finds Chain.Send at))) (sym of.pass_is)
-        (next_well c Chain.Send own at (finds Chain.Send at) h later (Pass.Sender (p + 1)) begun (up (Pass.Sender (p + 1))) (well_at at stands)))
+    send_well : (at : Phase) → s.stand p ≡ stand_at at → Well (to Chain.Send at).history (chain_of c p) (pass_at c p) begun (goes (lists c) Chain.Send own at (finds Chain.Send at))
+    send_well at stands = subst (λ (x : Chain). Well (to Chain.Send at).history x (pass_at c p) begun (goes (lists c) Chain.Send own at (finds Chain.Send at))) (sym of.chain_is) (subst (λ (z : Pass). Well (to Chain.Send at).history Chain.Send z begun (goes (lists c) Chain.Send own at (finds Chain.Send at))) (sym of.pass_is)
+        (next_well c Chain.Send own at (finds Chain.Send at) h _ (Pass.Sender (p + 1)) begun (up Chain.Send at (Pass.Sender (p + 1))) (well_at at stands)))
 
-    send_rest : (at : Phase) → s.stand p ≡ stand_at at → OnwardBy c s w.parts (to Chain.Send at) (links_at at) → Posts c (to Chain.Send at) × Calls c (to Chain.Send at).history
-    send_rest (Phase.Exchange e) stands on =
+    send_rest : (at : Phase) → s.stand p ≡ stand_at at → Posts c (to Chain.Send at) × Calls c (to Chain.Send at).history
+    send_rest (Phase.Exchange e) stands =
         let later : Record = (to Chain.Send (Phase.Exchange e)).history in
         let b : Begun h Chain.Send (Pass.Sender (p + 1)) begun e = well_at (Phase.Exchange e) stands in
-        let up = handed_up c s (to Chain.Send (Phase.Exchange e)) w.parts _ on in
-        let d_up = entries_up c s (to Chain.Send (Phase.Exchange e)) w.parts _ on in
-        let known = known_up c s (to Chain.Send (Phase.Exchange e)) w.parts _ on in
+        let e_up : handed_to_all h ≤ handed_to_all later = up Chain.Send (Phase.Exchange e) (Pass.Sender 0) in
+        let d_up : entries h ≤ entries later = up Chain.Send (Phase.Exchange e) (Pass.Receiver 0) in
         let limit = limit_at (Phase.Exchange e) stands in
         let sent = sent_at (Phase.Exchange e) stands in (
-          posts_on c s p _ _ _ w.posts within known limit (send_well (Phase.Exchange e) _ stands known)
-              (λ l. omega (arith, own_sent c h later p begun e refl (λ y. refl) up d_up of.within b limit few_sends few_senders sent w.calls))
-              (other_sent c h later p begun e refl (λ y. refl) up d_up of.within b limit few_sends few_senders sent w.calls),
-          e_calls_on c h later p begun e refl (λ y. refl) up d_up of.within b limit few_sends few_senders sent w.calls,
+          posts_on c s p _ _ _ w.posts within (up Chain.Send (Phase.Exchange e)) limit (send_well (Phase.Exchange e) stands)
+              (λ l. omega (arith, own_sent c h later p begun e refl (λ y. refl) e_up d_up of.within b limit few_sends few_senders sent w.calls))
+              (other_sent c h later p begun e refl (λ y. refl) e_up d_up of.within b limit few_sends few_senders sent w.calls),
+          e_calls_on c h later p begun e refl (λ y. refl) e_up d_up of.within b limit few_sends few_senders sent w.calls,
         )
-    send_rest at stands on =
-        let known = known_up c s (to Chain.Send at) w.parts _ on in (
-          posts_on c s p _ _ _ w.posts within known (limit_at at stands) (send_well at _ stands known)
-              (λ l. omega (arith, next_waits c Chain.Send own at (finds Chain.Send at) h (Pass.Sender (p + 1)) begun (well_at at stands), sent_at at stands))
-              (λ q ne. refl),
-          calls_on c h _ refl (λ y. refl) (handed_up c s (to Chain.Send at) w.parts _ on) (entries_up c s (to Chain.Send at) w.parts _ on) w.calls,
-        )
+    send_rest at stands = (
+      posts_on c s p _ _ _ w.posts within (up Chain.Send at) (limit_at at stands) (send_well at stands)
+          (λ l. omega (arith, next_waits c Chain.Send own at (finds Chain.Send at) h (Pass.Sender (p + 1)) begun (well_at at stands), sent_at at stands))
+          (λ q ne. refl),
+      calls_on c h _ refl (λ y. refl) (up Chain.Send at (Pass.Sender 0)) (up Chain.Send at (Pass.Receiver 0)) w.calls,
+    )
 
-    send_whole : (at : Phase) → s.stand p ≡ stand_at at → ChainFacts (lists c) s → Goes c s w (to Chain.Send at) (links_at at)
+    send_whole : (at : Phase) → s.stand p ≡ stand_at at → ChainFacts (lists c) s → Whole c (to Chain.Send at) (then_linked nodes (links_at at))
     send_whole at stands facts =
-        let on : OnwardBy c s w.parts (to Chain.Send at) (links_at at) = send_step c s p begun own within w.parts w.posts w.calls at stands (well_at at stands) facts in
-        let rest : Posts c (to Chain.Send at) × Calls c (to Chain.Send at).history = send_rest at stands on in
-        record { whole = record { parts = on.parts; posts = rest.0; calls = rest.1 }; linked = on.linked }
+        let on : Parts c (to Chain.Send at) (then_linked nodes (links_at at)) = send_step c s p begun own within w.parts w.posts w.calls at stands (well_at at stands) facts in
+        let rest : Posts c (to Chain.Send at) × Calls c (to Chain.Send at).history = send_rest at stands in
+        record { parts = on; posts = rest.0; calls = rest.1 }
 
   module _ (of : OfTake c p) where
     abbrev y : ℕ
@@ -155,9 +117,9 @@ module _ (c : Config) (fits : InRange c) (s : State) (p begun own : ℕ) (within
     take_well_at : (at : Phase) → s.stand p ≡ stand_at at → Well h (Chain.Take y) (pass_at c p) begun at
     take_well_at at stands = subst (λ (x : Chain). Well h x (pass_at c p) begun at) of.chain_is (subst (λ (z : Stand). Well h (chain_of c p) (pass_at c p) z.begun z.phase) stands (w.posts.well p))
 
-    take_well : (at : Phase) (later : Record) → s.stand p ≡ stand_at at → ((pass : Pass) → known_at pass h ≤ known_at pass later) → Well later (chain_of c p) (pass_at c p) begun (goes (lists c) (Chain.Take y) own at (finds (Chain.Take y) at))
-    take_well at later stands up = subst (λ (x : Chain). Well later x (pass_at c p) begun (goes (lists c) (Chain.Take y) own at (finds (Chain.Take y) at))) (sym of.chain_is)
-        (next_well c (Chain.Take y) own at (finds (Chain.Take y) at) h later (pass_at c p) begun (up (pass_at c p)) (take_well_at at stands))
+    take_well : (at : Phase) → s.stand p ≡ stand_at at → Well (to (Chain.Take y) at).history (chain_of c p) (pass_at c p) begun (goes (lists c) (Chain.Take y) own at (finds (Chain.Take y) at))
+    take_well at stands = subst (λ (x : Chain). Well (to (Chain.Take y) at).history x (pass_at c p) begun (goes (lists c) (Chain.Take y) own at (finds (Chain.Take y) at))) (sym of.chain_is)
+        (next_well c (Chain.Take y) own at (finds (Chain.Take y) at) h _ (pass_at c p) begun (up (Chain.Take y) at (pass_at c p)) (take_well_at at stands))
 
     -- a step that enters no call leaves the calls
     same_calls : (at : Phase) → enters at ≡ None → (x : ℕ) → (of_group (to (Chain.Take y) at).history x).calls ≡ (of_group h x).calls
@@ -166,40 +128,38 @@ module _ (c : Config) (fits : InRange c) (s : State) (p begun own : ℕ) (within
         let now : Side = record { calls = appended (of_group h y).calls (enters at); answers = appended (of_group h y).answers (decides (lists c) at found) } in
         grind (arith, group_mine h y now side_in, none, group_other h y x now)
 
-    take_still : (at : Phase) → enters at ≡ None → s.stand p ≡ stand_at at → OnwardBy c s w.parts (to (Chain.Take y) at) (links_at at) → Posts c (to (Chain.Take y) at) × Calls c (to (Chain.Take y) at).history
-    take_still at none stands on =
-        let known = known_up c s (to (Chain.Take y) at) w.parts _ on in (
-          posts_on c s p _ _ _ w.posts within known (limit_at at stands) (take_well at _ stands known)
-              (λ l. absurd (omega (arith, l, of.low)))
-              (λ q ne. refl),
-          calls_on c h _ refl (same_calls at none) (handed_up c s (to (Chain.Take y) at) w.parts _ on) (entries_up c s (to (Chain.Take y) at) w.parts _ on) w.calls,
-        )
+    take_still : (at : Phase) → enters at ≡ None → s.stand p ≡ stand_at at → Posts c (to (Chain.Take y) at) × Calls c (to (Chain.Take y) at).history
+    take_still at none stands = (
+      posts_on c s p _ _ _ w.posts within (up (Chain.Take y) at) (limit_at at stands) (take_well at stands)
+          (λ l. absurd (omega (arith, l, of.low)))
+          (λ q ne. refl),
+      calls_on c h _ refl (same_calls at none) (up (Chain.Take y) at (Pass.Sender 0)) (up (Chain.Take y) at (Pass.Receiver 0)) w.calls,
+    )
 
-    take_rest : (at : Phase) → s.stand p ≡ stand_at at → OnwardBy c s w.parts (to (Chain.Take y) at) (links_at at) → Posts c (to (Chain.Take y) at) × Calls c (to (Chain.Take y) at).history
-    take_rest (Phase.Exchange e) stands on =
+    take_rest : (at : Phase) → s.stand p ≡ stand_at at → Posts c (to (Chain.Take y) at) × Calls c (to (Chain.Take y) at).history
+    take_rest (Phase.Exchange e) stands =
         let later : Record = (to (Chain.Take y) (Phase.Exchange e)).history in
         let b : Begun h (Chain.Take y) (Pass.Receiver (p - c.senders + 1)) begun e = subst (λ (z : Pass). Begun h (Chain.Take y) z begun e) of.pass_is (take_well_at (Phase.Exchange e) stands) in
-        let up = handed_up c s (to (Chain.Take y) (Phase.Exchange e)) w.parts _ on in
-        let d_up = entries_up c s (to (Chain.Take y) (Phase.Exchange e)) w.parts _ on in
-        let known = known_up c s (to (Chain.Take y) (Phase.Exchange e)) w.parts _ on in
+        let e_up : handed_to_all h ≤ handed_to_all later = up (Chain.Take y) (Phase.Exchange e) (Pass.Sender 0) in
+        let d_up : entries h ≤ entries later = up (Chain.Take y) (Phase.Exchange e) (Pass.Receiver 0) in
         let back : p - c.senders + 1 - 1 ≡ p - c.senders = omega arith in (
-          posts_on c s p _ _ _ w.posts within known (limit_at (Phase.Exchange e) stands) (take_well (Phase.Exchange e) _ stands known)
+          posts_on c s p _ _ _ w.posts within (up (Chain.Take y) (Phase.Exchange e)) (limit_at (Phase.Exchange e) stands) (take_well (Phase.Exchange e) stands)
               (λ l. absurd (omega (arith, l, of.low)))
               (λ q ne. refl),
-          d_calls_on c h later y (p - c.senders + 1) begun e refl (called_mine c h y e side_in) (called_others c h y e side_in) up d_up (omega arith) (omega (arith, within, of.low)) (ap (λ (k : ℕ). k / c.receivers) back) b w.calls,
+          d_calls_on c h later y (p - c.senders + 1) begun e refl (called_mine c h y e side_in) (called_others c h y e side_in) e_up d_up (omega arith) (omega (arith, within, of.low)) (ap (λ (k : ℕ). k / c.receivers) back) b w.calls,
         )
-    take_rest at stands on = take_still at refl stands on
+    take_rest at stands = take_still at refl stands
 
-    take_whole : (at : Phase) → s.stand p ≡ stand_at at → ChainFacts (lists c) (to (Chain.Take y) at) → Goes c s w (to (Chain.Take y) at) (links_at at)
+    take_whole : (at : Phase) → s.stand p ≡ stand_at at → ChainFacts (lists c) (to (Chain.Take y) at) → Whole c (to (Chain.Take y) at) (then_linked nodes (links_at at))
     take_whole at stands facts =
-        let on : OnwardBy c s w.parts (to (Chain.Take y) at) (links_at at) = take_step c s p begun own within w.parts w.posts w.calls y of.chain_is inside at stands (take_well_at at stands) facts in
-        let rest : Posts c (to (Chain.Take y) at) × Calls c (to (Chain.Take y) at).history = take_rest at stands on in
-        record { whole = record { parts = on.parts; posts = rest.0; calls = rest.1 }; linked = on.linked }
+        let on : Parts c (to (Chain.Take y) at) (then_linked nodes (links_at at)) = take_step c s p begun own within w.parts w.posts w.calls y of.chain_is inside at stands (take_well_at at stands) facts in
+        let rest : Posts c (to (Chain.Take y) at) × Calls c (to (Chain.Take y) at).history = take_rest at stands in
+        record { parts = on; posts = rest.0; calls = rest.1 }
 
-  step_on : (at : Phase) → s.stand p ≡ stand_at at → ChainFacts (lists c) s → ChainFacts (lists c) (to (chain_of c p) at) → Goes c s w (to (chain_of c p) at) (links_at at)
+  step_on : (at : Phase) → s.stand p ≡ stand_at at → ChainFacts (lists c) s → ChainFacts (lists c) (to (chain_of c p) at) → Whole c (to (chain_of c p) at) (then_linked nodes (links_at at))
   step_on at stands before after = elim (of_side c p) [
-    | inl of ↦ subst (λ (x : Chain). Goes c s w (to x at) (links_at at)) (sym of.chain_is) (send_whole of at stands before)
-    | inr of ↦ subst (λ (x : Chain). Goes c s w (to x at) (links_at at)) (sym of.chain_is) (take_whole of at stands (subst (λ (x : Chain). ChainFacts (lists c) (to x at)) of.chain_is after))
+    | inl of ↦ subst (λ (x : Chain). Whole c (to x at) (then_linked nodes (links_at at))) (sym of.chain_is) (send_whole of at stands before)
+    | inr of ↦ subst (λ (x : Chain). Whole c (to x at) (then_linked nodes (links_at at))) (sym of.chain_is) (take_whole of at stands (subst (λ (x : Chain). ChainFacts (lists c) (to x at)) of.chain_is after))
   ]
 
 -- ---- a call is begun, or its answer taken
@@ -224,38 +184,32 @@ numbered k begun = grind arith
 one_more : (k : Call) (begun : ℕ) → begun_after k begun ≡ begun + is_send k
 one_more k begun = grind arith
 
-begin_on : (c : Config) (s : State) (p : ℕ) (k : Call) (known : ℕ) → May (lists c) s (Move.Begin p k known) → (w : Whole c s) → Goes c s w (moved (lists c) s (Move.Begin p k known)) []
+begin_on : (c : Config) (s : State) (p : ℕ) (k : Call) (known : ℕ) → May (lists c) s (Move.Begin p k known) → {nodes : List ℕ} → Whole c s nodes → Whole c (moved (lists c) s (Move.Begin p k known)) nodes
 begin_on c s p k known may w =
     let now : Stand = begins c p k known (s.stand p) in
     let still : StillSend (s.stand p).phase × StillTake (s.stand p).phase = idle_still (s.stand p).phase may.2 in
-    let on : Onward c s w.parts (moved (lists c) s (Move.Begin p k known)) =
-    quiet c s p (begins c p k known (s.stand p)) s.mem s.history w.parts still.0 still.1 (still_send (Phase.ResetNext _) tt) (still_take (Phase.ResetNext _) tt) (λ d e r. refl) (λ e n. n) (λ y e n. n) (λ t. t) in
+    let on : Parts c (moved (lists c) s (Move.Begin p k known)) _ =
+    quiet c s p (begins c p k known (s.stand p)) s.mem s.history w.parts still.0 still.1 (still_send (Phase.ResetNext _) tt) (still_take (Phase.ResetNext _) tt) (λ d e r. refl) (λ e n. n) (λ y e n. n) (λ kept t. (t, refl)) in
     record {
-      whole = record {
-        parts = on.parts;
-        posts = posts_on c s p (begins c p k known (s.stand p)) s.mem s.history w.posts may.0 (λ pass. omega arith) may.3
-            (record { pass_is = refl; on = may.1; number_is = numbered k (s.stand p).begun; known_in = may.4 })
-            (λ l. omega (arith, w.posts.sent p l, idle_waits (s.stand p).phase may.2, one_more k (s.stand p).begun))
-            (λ q ne. refl);
-        calls = w.calls;
-      };
-      linked = on.linked;
+      parts = on;
+      posts = posts_on c s p (begins c p k known (s.stand p)) s.mem s.history w.posts may.0 (λ pass. omega arith) may.3
+          (record { pass_is = refl; on = may.1; number_is = numbered k (s.stand p).begun; known_in = may.4 })
+          (λ l. omega (arith, w.posts.sent p l, idle_waits (s.stand p).phase may.2, one_more k (s.stand p).begun))
+          (λ q ne. refl);
+      calls = w.calls;
     }
 
-answer_on : (c : Config) (s : State) (p : ℕ) → May (lists c) s (Move.Take p) → (w : Whole c s) → Goes c s w (moved (lists c) s (Move.Take p)) []
+answer_on : (c : Config) (s : State) (p : ℕ) → May (lists c) s (Move.Take p) → {nodes : List ℕ} → Whole c s nodes → Whole c (moved (lists c) s (Move.Take p)) nodes
 answer_on c s p may w =
     let still : StillSend (s.stand p).phase × StillTake (s.stand p).phase = finished_still (s.stand p).phase may.1 in
-    let on : Onward c s w.parts (moved (lists c) s (Move.Take p)) =
-    quiet c s p (rests (s.stand p)) s.mem s.history w.parts still.0 still.1 (still_send Phase.Idle tt) (still_take Phase.Idle tt) (λ d e r. refl) (λ e n. n) (λ y e n. n) (λ t. t) in
+    let on : Parts c (moved (lists c) s (Move.Take p)) _ =
+    quiet c s p (rests (s.stand p)) s.mem s.history w.parts still.0 still.1 (still_send Phase.Idle tt) (still_take Phase.Idle tt) (λ d e r. refl) (λ e n. n) (λ y e n. n) (λ kept t. (t, refl)) in
     record {
-      whole = record {
-        parts = on.parts;
-        posts = posts_on c s p (rests (s.stand p)) s.mem s.history w.posts may.0 (λ pass. omega arith) (w.posts.limit p) tt
-            (λ l. omega (arith, w.posts.sent p l, finished_waits (s.stand p).phase may.1))
-            (λ q ne. refl);
-        calls = w.calls;
-      };
-      linked = on.linked;
+      parts = on;
+      posts = posts_on c s p (rests (s.stand p)) s.mem s.history w.posts may.0 (λ pass. omega arith) (w.posts.limit p) tt
+          (λ l. omega (arith, w.posts.sent p l, finished_waits (s.stand p).phase may.1))
+          (λ q ne. refl);
+      calls = w.calls;
     }
 
 -- ---- the opening
@@ -267,8 +221,11 @@ module _ (c : Config) (fits : InRange c) where
   abbrev duty0 : Duty
   duty0 = record { e_pass = 0; e_call = record { pass = Pass.Sender 1; call = Call.Close; number = 0; known = 0 }; from = 0; d_pass = λ y. c.senders + (y * c.receivers + 0); d_call = λ y. record { pass = Pass.Sender 1; call = Call.Close; number = 0; known = 0 } }
 
+  abbrev kept0 : Kept
+  kept0 = record { items = λ k j. 0; role = changed (λ x. 0) 0 2; pos = λ x. 0 }
+
   abbrev told0 : Ghosts
-  told0 = open_list.opening long_of
+  told0 = ghosts c s0.history (0 ∷ []) kept0
 
   idle0 : (p : ℕ) → (s0.stand p).phase ≡ Phase.Idle
   idle0 p = by_case (nat_lt p (passes (lists c)))
@@ -322,9 +279,6 @@ module _ (c : Config) (fits : InRange c) where
     taken = λ q. refl;
   }
 
-  list0 : ListHolds c.capacity c.life (further c) queue0 told0
-  list0 = record { inv = open_list.opens c.capacity c.life (further c + 1) queue0 long_of opens0; counted = grow.opening_counted (further c) long_of }
-
   same_queue0 : queue_of s0 duty0 ≡ queue0
   same_queue0 =
       ap (λ (z : Phase). queue_from (first_word c) duty0 (enq_at duty0.e_call duty0.from z) (regs_of s0.stand duty0)) (idle0 0)
@@ -334,14 +288,31 @@ module _ (c : Config) (fits : InRange c) where
   silent0 : (y : ℕ) → of_group s0.history y ≡ silent
   silent0 y = no_calls (groups c) (Chain.Take y)
 
-  zero0 : open_list.Zero told0
-  zero0 = open_list.zeros long_of
+  none0 : (y : ℕ) → length (handed s0.history y) ≡ 0
+  none0 y = ap (λ (z : Side). length (handed_by z.answers)) (silent0 y)
 
-  parts0 : Parts c s0
+  one_node : (k : ℕ) → get_or {A = ℕ} (0 ∷ []) k 0 ≡ 0
+  one_node zero = refl
+  one_node (suc k) = refl
+
+  zero0 : open_list.Zero told0
+  zero0 = record {
+    accepted = refl;
+    handed = none0;
+    shut = refl;
+    node = one_node;
+    pos = λ x. refl;
+    least = let r : (y : ℕ) × (y ≤ further c) × (length (handed s0.history y) ≡ told0.least) = smallest_is (further c) (λ y. length (handed s0.history y)) in omega (arith, r.2, none0 r.0);
+    by = λ k. above_none (further c + 1) (λ y. length (handed s0.history y)) k (λ y l. omega (arith, none0 y));
+    role_first = changed_here (λ x. 0) 0 2;
+    role_others = changed_away (λ x. 0) 0 2;
+  }
+
+  parts0 : Parts c s0 (0 ∷ [])
   parts0 = record {
     duty = duty0;
-    told = told0;
-    list = subst (λ (v : Queue). ListHolds c.capacity c.life (further c) v told0) (sym same_queue0) list0;
+    kept = kept0;
+    list = subst (λ (v : Queue). Holds c s0.history (0 ∷ []) kept0 v) (sym same_queue0) (open_list.opens c.capacity c.life (further c + 1) queue0 told0 opens0 zero0);
     serving = record {
       e_only = λ q ne u. subst (λ (z : Phase). IsServing z) (idle0 q) u;
       d_mine = λ y. receiver_chain c (c.senders + (y * c.receivers + 0)) (omega arith) ∙ ap Chain.Take (group_is c y 0 (omega (arith, fits.receivers)));
@@ -354,16 +325,13 @@ module _ (c : Config) (fits : InRange c) where
     ties = record {
       some = omega (arith, fits.groups);
       many = length-replicate _ _;
-      accepted_is = zero0.accepted;
-      handed_is = λ y. zero0.handed y ∙ sym (ap (λ (z : Side). length (handed_by z.answers)) (silent0 y));
-      shut_is = zero0.shut;
-      tells_is = open_list.opening_tells long_of;
-      items_are = λ k l. absurd (omega (arith, l, zero0.accepted));
+      linked = refl;
+      items_are = λ k l. absurd (omega (arith, l));
       legal = record { sends = tt; takes = λ y. subst (λ (z : Side). TakeSideAnswers (accepted s0.history) (is_shut s0.history) 0 z.calls z.answers) (sym (silent0 y)) tt };
     };
   }
 
-  whole0 : Whole c s0
+  whole0 : Whole c s0 (0 ∷ [])
   whole0 = record {
     parts = parts0;
     posts = record {
@@ -382,43 +350,26 @@ module _ (c : Config) (fits : InRange c) where
     };
   }
 
-  linked0 : LinkedAre (0 ∷ []) whole0.parts.told
-  unfolding whole0 parts0
-  linked0 = record { many = omega (arith, zero0.accepted); each = λ k l. first k (omega (arith, l, zero0.accepted)) }
-    where
-      first : (k : ℕ) → k ≡ 0 → slice_get (0 ∷ []) k ≡ Some (told0.node k)
-      first k is = ap (λ (j : ℕ). slice_get (0 ∷ []) j) is ∙ ap (λ (y : ℕ). Some y) (sym (zero0.node 0)) ∙ ap (λ (j : ℕ). Some (told0.node j)) (sym is)
-
 -- ---- every run
 
-pub record AfterRun (c : Config) (moves : List Move) : Type 0 where
-  pub whole : Whole c (reached (lists c) moves)
-  pub linked : LinkedAre (linked_nodes (lists c) moves) whole.parts.told
-
-none_linked : (c : Config) (m : Move) (earlier : List Move) (r : AfterRun c earlier) → linked_nodes (lists c) (m ∷ earlier) ≡ linked_nodes (lists c) earlier → Goes c (reached (lists c) earlier) r.whole (moved (lists c) (reached (lists c) earlier) m) [] → AfterRun c (m ∷ earlier)
-none_linked c m earlier r same g = record { whole = g.whole; linked = subst (λ (l : List ℕ). LinkedAre l g.whole.parts.told) (append-nil (linked_nodes (lists c) earlier) ∙ sym same) (linked_on (linked_nodes (lists c) earlier) [] r.whole.parts.told g.whole.parts.told r.linked g.linked) }
+abbrev pub AfterRun : Config → List Move → Type 0
+AfterRun c moves = Whole c (reached (lists c) moves) (linked_nodes (lists c) moves)
 
 pub after_run : (c : Config) → InRange c → ((moves : List Move) → IsRun (lists c) moves → ChainFacts (lists c) (reached (lists c) moves)) → (moves : List Move) → IsRun (lists c) moves → AfterRun c moves
-after_run c fits facts [] r = record { whole = whole0 c fits; linked = linked0 c fits }
-after_run c fits facts (Move.Begin p k known ∷ earlier) r =
-    let before : AfterRun c earlier = after_run c fits facts earlier r.0 in
-    none_linked c (Move.Begin p k known) earlier before refl (begin_on c (reached (lists c) earlier) p k known r.1 before.whole)
-after_run c fits facts (Move.Take p ∷ earlier) r =
-    let before : AfterRun c earlier = after_run c fits facts earlier r.0 in
-    none_linked c (Move.Take p) earlier before refl (answer_on c (reached (lists c) earlier) p r.1 before.whole)
+after_run c fits facts [] r = whole0 c fits
+after_run c fits facts (Move.Begin p k known ∷ earlier) r = begin_on c (reached (lists c) earlier) p k known r.1 (after_run c fits facts earlier r.0)
+after_run c fits facts (Move.Take p ∷ earlier) r = answer_on c (reached (lists c) earlier) p r.1 (after_run c fits facts earlier r.0)
 after_run c fits facts (Move.Step p ∷ earlier) r =
-    let before : AfterRun c earlier = after_run c fits facts earlier r.0 in
-    let s : Stand = (reached (lists c) earlier).stand p in
-    let on : Goes c (reached (lists c) earlier) before.whole (reached (lists c) (Move.Step p ∷ earlier)) (links_at ((reached (lists c) earlier).stand p).phase) =
-    step_on c fits (reached (lists c) earlier) p ((reached (lists c) earlier).stand p).begun ((reached (lists c) earlier).stand p).node r.1.0 before.whole ((reached (lists c) earlier).stand p).phase refl (facts earlier r.0) (facts (Move.Step p ∷ earlier) r) in
-    record { whole = on.whole; linked = linked_on (linked_nodes (lists c) earlier) (links_at ((reached (lists c) earlier).stand p).phase) before.whole.parts.told on.whole.parts.told before.linked on.linked }
+    let s : State = reached (lists c) earlier in
+    subst (λ (l : List ℕ). Whole c (reached (lists c) (Move.Step p ∷ earlier)) l) (then_is (linked_nodes (lists c) earlier) (links_at (s.stand p).phase))
+    (step_on c fits s p (s.stand p).begun (s.stand p).node r.1.0 (after_run c fits facts earlier r.0) (s.stand p).phase refl (facts earlier r.0) (facts (Move.Step p ∷ earlier) r))
 
 -- ---- the history is legal
 
-pub legal : (c : Config) (s : State) → Whole c s → Legal c s.history
-legal c s w =
-    let k : Parts c s = w.parts in
-    let room : k.told.accepted ≤ k.told.least + c.capacity = busy.room c.capacity c.life (further c + 1) (queue_of s k.duty) k.told k.list.inv in
+pub legal : (c : Config) (s : State) {nodes : List ℕ} → Whole c s nodes → Legal c s.history
+legal c s {nodes} w =
+    let k : Parts c s nodes = w.parts in
+    let room : (ghosts_at c s k).accepted ≤ (ghosts_at c s k).least + c.capacity = busy.room c.capacity c.life (further c + 1) (queue_of s k.duty) (ghosts_at c s k) k.list in
     record {
       answers = k.ties.legal.sends;
       senders = w.calls.senders;
@@ -426,12 +377,12 @@ legal c s w =
       groups = k.ties.many;
       takes = λ y l.
           let below : y < further c + 1 = omega (arith, l, k.ties.some) in
-          let in_order : k.told.handed y ≤ k.told.accepted = k.list.inv.hands.order y below in
-          let least : k.told.least ≤ k.told.handed y = k.list.inv.hands.least_is y below in
+          let in_order : (ghosts_at c s k).handed y ≤ (ghosts_at c s k).accepted = k.list.hands.order y below in
+          let least : (ghosts_at c s k).least ≤ (ghosts_at c s k).handed y = k.list.hands.least_is y below in
           record {
             answers = k.ties.legal.takes y;
             receivers = w.calls.receivers y;
-            within = omega (arith, in_order, k.ties.accepted_is, k.ties.handed_is y);
-            room = omega (arith, room, least, k.ties.accepted_is, k.ties.handed_is y);
+            within = omega (arith, in_order);
+            room = omega (arith, room, least);
           };
     }

@@ -9,10 +9,11 @@ use Rattle.cc_runs.proofs.Chains.Registers.{HasRequest}
 use Rattle.cc_runs.specs.ServiceLine.{Next, On, Decides, DecidesAndOn, Tells}
 use Rattle.cc_runs.specs.SendLines.{line, by_shut, operation}
 use Rattle.cc_runs.proofs.ReadWords.{behind_word}
+use Rattle.cc_runs.proofs.Changed.{changed_here, changed_away, changed}
 use Rattle.cc_runs.proofs.LinkedList.Queue.{Enq, Queue, Ghosts}
 use Rattle.cc_runs.proofs.LinkedList.Invariant.{LInv}
 use Rattle.cc_runs.proofs.LinkedList.Scan.{looked, looked_role, looked_known}
-use Rattle.cc_runs.proofs.LinkedList.Grow.{Prepares, Accepts, Shuts}
+use Rattle.cc_runs.proofs.LinkedList.Grow.{Accepts}
 use Rattle.cc_runs.proofs.ListRuns.View.{Duty, Regs, long_of, asks_of, enq_in, resting, item_word, part_here, part_other, queue_from}
 
 module _ (mem : Word → ℕ) (d : Duty) (r : ℕ → Regs) (c : Config) (n : ℕ) (g : Ghosts) where
@@ -113,6 +114,32 @@ module _ (mem : Word → ℕ) (d : Duty) (r : ℕ → Regs) (c : Config) (n : �
   pub read_count_on : (q : Request) (parcel : Parcel) → parcel.place ≡ mem (Word.Object Object.Count) → asks_of d.e_call 0 ≢ 0 → mem (Word.Object Object.Count) ≢ c.life → Keeps mem (Sending.ReadCount q) → Keeps mem (Sending.ReadCursor parcel)
   read_count_on q parcel same nz more i = grind arith
 
+  -- ---- the stores that move a ghost
+
+  pub reset_passed : (parcel : Parcel) (at : ℕ) → Keeps mem (Sending.ResetPassed parcel at) → LInv c.capacity c.life n (queue_from (stored mem (operation c 0 (Sending.ResetPassed parcel at))) d (enq_in d.e_call d.from (Sending.ResetItemNext parcel at)) r) (record g { role = changed g.role at 1 })
+  reset_passed parcel at i = grind (arith, cases_eq, changed_here g.role at 1, changed_away g.role at 1, free, found_in, apart_free)
+    where
+      free : mem (Word.Item at ItemField.Passed) ≡ n
+      free = grind arith
+
+      found_in : at ≤ c.capacity
+      found_in = grind arith
+
+      apart_free : (k : ℕ) → g.least ≤ k → k ≤ g.accepted → g.node k ≢ at
+      apart_free k a b = grind (arith, free, i.live.live_role k, i.live.live_in k, i.live.live_pos k, i.nodes.passed_is (g.node k), i.hands.by_some k)
+
+  pub link_mark : (total last : ℕ) → Keeps mem (Sending.LinkMark total last) → LInv c.capacity c.life n (queue_from (stored mem (operation c 0 (Sending.LinkMark total last))) d (enq_in d.e_call d.from (Sending.WriteLastMark total)) r) (record g { shut = 1 })
+  link_mark total last i = grind (arith, cases_eq, is_last, unshut, next_same)
+    where
+      is_last : last ≡ g.node g.accepted
+      is_last = let e = i.prepared.last_mark refl in omega (arith, e)
+
+      unshut : g.shut ≡ 0
+      unshut = grind arith
+
+      next_same : (k : ℕ) → g.least ≤ k → k < g.accepted → g.node k ≢ last
+      next_same k a b = grind (arith, is_last, i.live.live_pos k, i.live.live_pos g.accepted)
+
   -- ---- the scan
 
   -- the node that is looked at: the scan's first and those that were tried, round the end
@@ -146,30 +173,6 @@ module _ (mem : Word → ℕ) (d : Duty) (r : ℕ → Regs) (c : Config) (n : �
 
   abbrev Step : Sending → Queue
   Step service = queue_from mem d (enq_in d.e_call d.from service) r
-
-  pub reset_passed : (parcel : Parcel) (at : ℕ) → Prepares (Step (Sending.ResetPassed parcel at)) g g' → Moves (Sending.ResetPassed parcel at)
-  reset_passed parcel at u i = grind (arith, cases_eq, free, found_in, apart_free)
-    where
-      free : mem (Word.Item at ItemField.Passed) ≡ n
-      free = grind arith
-
-      found_in : at ≤ c.capacity
-      found_in = grind arith
-
-      apart_free : (k : ℕ) → g.least ≤ k → k ≤ g.accepted → g.node k ≢ at
-      apart_free k a b = grind (arith, free, i.live.live_role k, i.live.live_in k, i.live.live_pos k, i.nodes.passed_is (g.node k), i.hands.by_some k)
-
-  pub link_mark : (total last : ℕ) → Shuts g g' → Moves (Sending.LinkMark total last)
-  link_mark total last u i = grind (arith, cases_eq, is_last, unshut, next_same)
-    where
-      is_last : last ≡ g.node g.accepted
-      is_last = let e = i.prepared.last_mark refl in omega (arith, e)
-
-      unshut : g.shut ≡ 0
-      unshut = grind arith
-
-      next_same : (k : ℕ) → g.least ≤ k → k < g.accepted → g.node k ≢ last
-      next_same k a b = grind (arith, is_last, i.live.live_pos k, i.live.live_pos g.accepted)
 
   pub link_item : (place at last : ℕ) → Accepts (Step (Sending.LinkItem place at last)) g g' → Moves (Sending.LinkItem place at last)
   link_item place at last u i = grind (arith, cases_eq, apart_item, is_last, unshut, node_same, next_same, item_now, tag_now, long_now)

@@ -4,9 +4,9 @@ use Rattle.std.proofs.lemmas.Bool.{cases_eq, cases_lt, eqb-true, eqb-false}
 use Rattle.std.proofs.Math.Nat.{mod-eq_of_lt, mod_self}
 use Rattle.std.specs.List.{slice_get}
 use Rattle.cc_model.specs.Record.{Record}
-use Rattle.cc_model.specs.Items.{accepted, accepted_item, is_shut, shuts}
+use Rattle.cc_model.specs.Items.{accepted, accepted_item, is_shut, shuts, handed}
 use Rattle.cc_model.specs.Legal.{SendSideAnswer, IsSenders}
-use Rattle.cc_runs.specs.Names.{Config, Entry, Item, Answer, SendAnswer, CloseAnswer, Chain, ItemField, Object, Word, Request, Parcel, Job, Phase, Sending, BodyWords}
+use Rattle.cc_runs.specs.Names.{Config, Entry, Item, Answer, SendAnswer, CloseAnswer, Chain, ItemField, Object, Word, Request, Parcel, Job, Phase, Sending}
 use Rattle.cc_model.proofs.Grows.{get_front, get_last}
 use Rattle.cc_runs.specs.Words.{groups, put}
 use Rattle.cc_runs.specs.State.{noted, word_of, stored}
@@ -19,30 +19,23 @@ use Rattle.cc_runs.proofs.ReadWords.{behind_word}
 use Rattle.cc_runs.proofs.LinkedList.Queue.{Queue, Ghosts}
 use Rattle.cc_runs.proofs.LinkedList.Invariant.{LInv}
 use Rattle.cc_runs.proofs.LinkedList.Grow as grow
-use Rattle.cc_runs.proofs.LinkedList.Grow.{ListHolds, Prepares, Accepts, Shuts}
+use Rattle.cc_runs.proofs.LinkedList.Grow.{Kept, ghosts_from, Accepts}
 use Rattle.cc_runs.proofs.LinkedList.Decide as decide
 use Rattle.cc_runs.proofs.LinkedList.Limits as limits
-use Rattle.cc_runs.proofs.ListRuns.View.{Duty, Regs, enq_in, enq_at, queue_from}
+use Rattle.cc_runs.proofs.ListRuns.View.{Duty, Regs, long_of, enq_in, enq_at, queue_from}
 use Rattle.cc_runs.proofs.ListRuns.SendKeeps as keeps
 use Rattle.cc_runs.proofs.ListRuns.Fits.{FitsTag, closed_fits, already_fits, shut_fits, spent_fits, full_fits, accepted_fits, item_sent}
 use Rattle.cc_runs.proofs.ListRuns.Decided.{told_send, e_accepted, e_shut, e_decided}
-use Rattle.cc_runs.proofs.ListRuns.Ties.{Ties, further, body_at, item_same, Scanned, Reads, ReadsAt, IsUndecided, IsUndecidedAt, IsBegun, IsNextSend, Linked, ties_same, shut_number, shut_true, shut_false}
+use Rattle.cc_runs.proofs.ListRuns.Ties.{Ties, Holds, ghosts, ghosts_same, further, body_at, item_same, Scanned, Reads, ReadsAt, IsUndecided, IsUndecidedAt, IsBegun, IsNextSend, then_linked, ties_same, shut_number, shut_true, shut_false}
 
 -- what such a step leads to
-pub record TurnBy (c : Config) (mem : Word → ℕ) (d : Duty) (r : ℕ → Regs) (h : Record) (g : Ghosts) (at : Phase) (new : List ℕ) : Type 0 where
+pub record Turn (c : Config) (mem : Word → ℕ) (d : Duty) (r : ℕ → Regs) (h : Record) (nodes : List ℕ) (at : Phase) : Type 0 where
   pub from : ℕ
-  pub told : Ghosts
-  pub list : ListHolds c.capacity c.life (further c) (queue_from mem d (enq_at d.e_call from at) r) told
-  pub least_up : g.least ≤ told.least
-  pub entries_up : g.accepted + g.shut ≤ told.accepted + told.shut
+  pub told : Kept
+  pub list : Holds c h nodes told (queue_from mem d (enq_at d.e_call from at) r)
   pub reads : ReadsAt c d.e_call from at
   pub next_call : IsUndecidedAt at → IsNextSend h d.e_call
-  pub ties : Ties c h told
-  pub linked : Linked g told new
-
--- if it links no node
-abbrev pub Turn : Config → (Word → ℕ) → Duty → (ℕ → Regs) → Record → Ghosts → Phase → Type 0
-Turn c mem d r h g at = TurnBy c mem d r h g at []
+  pub ties : Ties c h nodes told
 
 -- the served call is one of a sender
 pub record Caller (c : Config) (e : Entry) : Type 0 where
@@ -69,171 +62,157 @@ or_false b = grind arith
 or_true : (b : Bool) → b || (true || false) ≡ true
 or_true b = grind arith
 
-module _ (c : Config) (mem : Word → ℕ) (d : Duty) (r : ℕ → Regs) (h : Record) (g : Ghosts) (ties : Ties c h g) (caller : Caller c d.e_call) (job : Job) where
+module _ (c : Config) (mem : Word → ℕ) (d : Duty) (r : ℕ → Regs) (h : Record) (nodes : List ℕ) (kept : Kept) (ties : Ties c h nodes kept) (caller : Caller c d.e_call) (job : Job) where
   abbrev AtStep : (Word → ℕ) → Sending → Queue
   AtStep m service = queue_from m d (enq_in d.e_call d.from service) r
 
   abbrev AtRest : (Word → ℕ) → Queue
   AtRest m = queue_from m d (enq_at d.e_call d.from Phase.Idle) r
 
-  abbrev Has : Queue → Ghosts → Type 0
-  Has v told = ListHolds c.capacity c.life (further c) v told
+  abbrev g : Ghosts
+  g = ghosts c h nodes kept
+
+  abbrev Has : Queue → Type 0
+  Has v = Holds c h nodes kept v
+
+  -- as many items as before
+  abbrev many : ℕ
+  many = length (accepted h)
 
   -- no ghost moves
-  still : (m : Word → ℕ) (now : Record) (at : Phase) → grow.Counted (further c) g → LInv c.capacity c.life (further c + 1) (queue_from m d (enq_at d.e_call d.from at) r) g
-      → ReadsAt c d.e_call d.from at → (IsUndecidedAt at → IsNextSend now d.e_call) → Ties c now g → Turn c m d r now g at
-  still m now at counted inv reads asked same = record {
+  still : (m : Word → ℕ) (now : Record) (at : Phase) → ghosts c now nodes kept ≡ g → Has (queue_from m d (enq_at d.e_call d.from at) r)
+      → ReadsAt c d.e_call d.from at → (IsUndecidedAt at → IsNextSend now d.e_call) → Ties c now nodes kept → Turn c m d r now nodes at
+  still m now at same inv reads asked tied = record {
     from = d.from;
-    told = g;
-    list = record { inv = inv; counted = counted };
-    least_up = omega arith;
-    entries_up = omega arith;
+    told = kept;
+    list = subst (λ (z : Ghosts). LInv c.capacity c.life (further c + 1) (queue_from m d (enq_at d.e_call d.from at) r) z) (sym same) inv;
     reads = reads;
     next_call = asked;
-    ties = same;
-    linked = (refl, λ j l. refl);
+    ties = tied;
   }
 
   -- on in the service
-  on : (m : Word → ℕ) (there : Sending) → grow.Counted (further c) g → LInv c.capacity c.life (further c + 1) (AtStep m there) g → Reads c d.e_call d.from there → (IsUndecided there → IsNextSend h d.e_call) → Turn c m d r h g (Phase.Sending job there)
-  on m there counted inv reads asked = still m h (Phase.Sending job there) counted inv reads asked ties
+  on : (m : Word → ℕ) (there : Sending) → Has (AtStep m there) → Reads c d.e_call d.from there → (IsUndecided there → IsNextSend h d.e_call) → Turn c m d r h nodes (Phase.Sending job there)
+  on m there inv reads asked = still m h (Phase.Sending job there) refl inv reads asked ties
 
   -- to the end of the service
-  over : (m : Word → ℕ) (told : Answer) → grow.Counted (further c) g → LInv c.capacity c.life (further c + 1) (AtRest m) g → Turn c m d r h g (Phase.WriteAnswer job told)
-  over m told counted inv = still m h (Phase.WriteAnswer job told) counted inv tt (λ no. absurd no) ties
+  over : (m : Word → ℕ) (told : Answer) → Has (AtRest m) → Turn c m d r h nodes (Phase.WriteAnswer job told)
+  over m told inv = still m h (Phase.WriteAnswer job told) refl inv tt (λ no. absurd no) ties
 
   -- an answer that accepts nothing and doesn't shut
-  answered : (m : Word → ℕ) (told : Answer) → grow.Counted (further c) g → LInv c.capacity c.life (further c + 1) (AtRest m) g
-      → IsNextSend h d.e_call → accepted_item d.e_call told ≡ [] → shuts told ≡ false → SendSideAnswer c (length (accepted h)) (is_shut h) d.e_call.known d.e_call.call told → Turn c m d r (told_send h told) g (Phase.WriteAnswer job told)
-  answered m told counted inv asked none open_ fits =
-      still m (told_send h told) (Phase.WriteAnswer job told) counted inv tt (λ no. absurd no)
-      (ties_same c h (told_send h told) g ties refl
-      (e_accepted c h ties.legal d.e_call told asked ∙ ap (λ (l : List Item). accepted h ++ l) none ∙ append-nil (accepted h))
-      (e_shut c h ties.legal d.e_call told asked ∙ ap (λ (b : Bool). is_shut h || (b || false)) open_ ∙ or_false (is_shut h))
-      (λ y. refl)
-      (e_decided c h ties.legal d.e_call told asked fits))
+  answered : (m : Word → ℕ) (told : Answer) → Has (AtRest m)
+      → IsNextSend h d.e_call → accepted_item d.e_call told ≡ [] → shuts told ≡ false → SendSideAnswer c (length (accepted h)) (is_shut h) d.e_call.known d.e_call.call told → Turn c m d r (told_send h told) nodes (Phase.WriteAnswer job told)
+  answered m told inv asked none open_ fits =
+      let same : accepted (told_send h told) ≡ accepted h = e_accepted c h ties.legal d.e_call told asked ∙ ap (λ (l : List Item). accepted h ++ l) none ∙ append-nil (accepted h) in
+      let shut : is_shut (told_send h told) ≡ is_shut h = e_shut c h ties.legal d.e_call told asked ∙ ap (λ (b : Bool). is_shut h || (b || false)) open_ ∙ or_false (is_shut h) in
+      still m (told_send h told) (Phase.WriteAnswer job told) (ghosts_same c h (told_send h told) nodes kept same shut (λ y. refl)) inv tt (λ no. absurd no)
+      (ties_same c h (told_send h told) nodes kept ties refl same (e_decided c h ties.legal d.e_call told asked fits))
 
   -- the answer's place in the history is open or shut as the list is
   fits_shut : (told : Answer) → g.shut ≡ 1 → SendSideAnswer c (length (accepted h)) true d.e_call.known d.e_call.call told → SendSideAnswer c (length (accepted h)) (is_shut h) d.e_call.known d.e_call.call told
-  fits_shut told one fits = subst (λ (b : Bool). SendSideAnswer c (length (accepted h)) b d.e_call.known d.e_call.call told) (sym (shut_true (is_shut h) (sym ties.shut_is ∙ one))) fits
+  fits_shut told one fits = subst (λ (b : Bool). SendSideAnswer c (length (accepted h)) b d.e_call.known d.e_call.call told) (sym (shut_true (is_shut h) one)) fits
 
   fits_open : (told : Answer) → g.shut ≡ 0 → SendSideAnswer c (length (accepted h)) false d.e_call.known d.e_call.call told → SendSideAnswer c (length (accepted h)) (is_shut h) d.e_call.known d.e_call.call told
-  fits_open told none fits = subst (λ (b : Bool). SendSideAnswer c (length (accepted h)) b d.e_call.known d.e_call.call told) (sym (shut_false (is_shut h) (sym ties.shut_is ∙ none))) fits
+  fits_open told none fits = subst (λ (b : Bool). SendSideAnswer c (length (accepted h)) b d.e_call.known d.e_call.call told) (sym (shut_false (is_shut h) none)) fits
 
   -- what a load of the service leads to
   abbrev Leads : line.Next Sending → Type 0
-  Leads next = Turn c mem d r (noted Chain.Send h None (line.answer_of next)) g (line.phase_of in_service job next)
+  Leads next = Turn c mem d r (noted Chain.Send h None (line.answer_of next)) nodes (line.phase_of in_service job next)
 
   abbrev tag_asked : ℕ
   tag_asked = (request_in d.e_call).tag
 
   -- ---- the load of shut
 
-  shut_branch : (q : Request) (b : Bool) → (q.tag == 0) ≡ b → Has (AtStep mem (Sending.ReadShut q)) g → HasRequest d.e_call q.tag q.body → IsNextSend h d.e_call → mem (Word.Object Object.Shut) ≢ 0
+  shut_branch : (q : Request) (b : Bool) → (q.tag == 0) ≡ b → Has (AtStep mem (Sending.ReadShut q)) → HasRequest d.e_call q.tag q.body → IsNextSend h d.e_call → mem (Word.Object Object.Shut) ≢ 0
       → Leads (cond b (line.On Sending.ReadTotal) (line.Decides (Answer.Send SendAnswer.Closed)))
   shut_branch q true e has asked next ne =
       let z : tag_asked ≡ 0 = sym asked.0 ∙ eqb-true q.tag 0 e in
-      on mem Sending.ReadTotal has.counted (keeps.read_shut_close mem d r c (further c + 1) g q ne z has.inv) tt (λ u. next)
+      on mem Sending.ReadTotal (keeps.read_shut_close mem d r c (further c + 1) g q ne z has) tt (λ u. next)
   shut_branch q false e has asked next ne =
       let nz : tag_asked ≢ 0 = λ z. eqb-false q.tag 0 e (asked.0 ∙ z) in
-      answered mem (Answer.Send SendAnswer.Closed) has.counted (keeps.read_shut_send mem d r c (further c + 1) g q ne nz has.inv) next refl refl
-      (fits_shut (Answer.Send SendAnswer.Closed) (decide.read_shut c.capacity c.life (further c + 1) (AtStep mem (Sending.ReadShut q)) g has.inv refl ne) (closed_fits c (length (accepted h)) d.e_call.known d.e_call.pass d.e_call.call d.e_call.number caller.senders nz))
+      answered mem (Answer.Send SendAnswer.Closed) (keeps.read_shut_send mem d r c (further c + 1) g q ne nz has) next refl refl
+      (fits_shut (Answer.Send SendAnswer.Closed) (decide.read_shut c.capacity c.life (further c + 1) (AtStep mem (Sending.ReadShut q)) g has refl ne) (closed_fits c (length (accepted h)) d.e_call.known d.e_call.pass d.e_call.call d.e_call.number caller.senders nz))
 
-  read_shut : (q : Request) (found : ℕ) → mem (Word.Object Object.Shut) ≡ found → Has (AtStep mem (Sending.ReadShut q)) g → HasRequest d.e_call q.tag q.body → IsNextSend h d.e_call
+  read_shut : (q : Request) (found : ℕ) → mem (Word.Object Object.Shut) ≡ found → Has (AtStep mem (Sending.ReadShut q)) → HasRequest d.e_call q.tag q.body → IsNextSend h d.e_call
       → Leads (by_shut q found)
-  read_shut q zero e has asked next = on mem (Sending.ReadCount q) has.counted (keeps.read_shut_open mem d r c (further c + 1) g q e has.inv) asked (λ u. next)
+  read_shut q zero e has asked next = on mem (Sending.ReadCount q) (keeps.read_shut_open mem d r c (further c + 1) g q e has) asked (λ u. next)
   read_shut q (suc n) e has asked next = shut_branch q (q.tag == 0) refl has asked next (λ z. omega (arith, z, e))
 
   -- ---- the loads of count
 
-  read_total : Has (AtStep mem Sending.ReadTotal) g → IsNextSend h d.e_call
-      → Turn c mem d r (told_send h (Answer.Close (CloseAnswer.Already (mem (Word.Object Object.Count))))) g (Phase.WriteAnswer job (Answer.Close (CloseAnswer.Already (mem (Word.Object Object.Count)))))
+  read_total : Has (AtStep mem Sending.ReadTotal) → IsNextSend h d.e_call
+      → Turn c mem d r (told_send h (Answer.Close (CloseAnswer.Already (mem (Word.Object Object.Count))))) nodes (Phase.WriteAnswer job (Answer.Close (CloseAnswer.Already (mem (Word.Object Object.Count)))))
   read_total has next =
-      let known : (mem (Word.Object Object.Count) ≡ g.accepted) × (g.shut ≡ 1) × (tag_asked ≡ 0) = decide.already c.capacity c.life (further c + 1) (AtStep mem Sending.ReadTotal) g has.inv refl in
-      answered mem (Answer.Close (CloseAnswer.Already (mem (Word.Object Object.Count)))) has.counted (keeps.read_total mem d r c (further c + 1) g has.inv) next refl refl
-      (fits_shut (Answer.Close (CloseAnswer.Already (mem (Word.Object Object.Count)))) known.1 (already_fits c (length (accepted h)) d.e_call.known d.e_call.pass d.e_call.call d.e_call.number (mem (Word.Object Object.Count)) caller.senders caller.small.sender known.2 (known.0 ∙ ties.accepted_is)))
+      let known : (mem (Word.Object Object.Count) ≡ g.accepted) × (g.shut ≡ 1) × (tag_asked ≡ 0) = decide.already c.capacity c.life (further c + 1) (AtStep mem Sending.ReadTotal) g has refl in
+      answered mem (Answer.Close (CloseAnswer.Already (mem (Word.Object Object.Count)))) (keeps.read_total mem d r c (further c + 1) g has) next refl refl
+      (fits_shut (Answer.Close (CloseAnswer.Already (mem (Word.Object Object.Count)))) known.1 (already_fits c (length (accepted h)) d.e_call.known d.e_call.pass d.e_call.call d.e_call.number (mem (Word.Object Object.Count)) caller.senders caller.small.sender known.2 (known.0)))
 
-  life_branch : (q : Request) (b : Bool) → (mem (Word.Object Object.Count) == c.life) ≡ b → tag_asked ≢ 0 → Has (AtStep mem (Sending.ReadCount q)) g → HasRequest d.e_call q.tag q.body → IsNextSend h d.e_call
+  life_branch : (q : Request) (b : Bool) → (mem (Word.Object Object.Count) == c.life) ≡ b → tag_asked ≢ 0 → Has (AtStep mem (Sending.ReadCount q)) → HasRequest d.e_call q.tag q.body → IsNextSend h d.e_call
       → Leads (cond b (line.Decides (Answer.Send SendAnswer.Spent)) (line.On (Sending.ReadCursor record { place = mem (Word.Object Object.Count); tag = q.tag; body = q.body })))
   life_branch q true e nz has asked next =
       let full : mem (Word.Object Object.Count) ≡ c.life = eqb-true (mem (Word.Object Object.Count)) c.life e in
-      let known : (g.accepted ≡ c.life) × (g.shut ≡ 0) = decide.spent c.capacity c.life (further c + 1) (AtStep mem (Sending.ReadCount q)) g has.inv refl full in
-      answered mem (Answer.Send SendAnswer.Spent) has.counted (keeps.read_count_spent mem d r c (further c + 1) g q has.inv) next refl refl
-      (fits_open (Answer.Send SendAnswer.Spent) known.1 (spent_fits c (length (accepted h)) d.e_call.known d.e_call.pass d.e_call.call d.e_call.number caller.senders nz (sym ties.accepted_is ∙ known.0)))
+      let known : (g.accepted ≡ c.life) × (g.shut ≡ 0) = decide.spent c.capacity c.life (further c + 1) (AtStep mem (Sending.ReadCount q)) g has refl full in
+      answered mem (Answer.Send SendAnswer.Spent) (keeps.read_count_spent mem d r c (further c + 1) g q has) next refl refl
+      (fits_open (Answer.Send SendAnswer.Spent) known.1 (spent_fits c (length (accepted h)) d.e_call.known d.e_call.pass d.e_call.call d.e_call.number caller.senders nz (known.0)))
   life_branch q false e nz has asked next =
-      on mem (Sending.ReadCursor record { place = mem (Word.Object Object.Count); tag = q.tag; body = q.body }) has.counted
-      (keeps.read_count_on mem d r c (further c + 1) g q record { place = mem (Word.Object Object.Count); tag = q.tag; body = q.body } refl nz (eqb-false (mem (Word.Object Object.Count)) c.life e) has.inv) asked (λ u. next)
+      on mem (Sending.ReadCursor record { place = mem (Word.Object Object.Count); tag = q.tag; body = q.body })
+      (keeps.read_count_on mem d r c (further c + 1) g q record { place = mem (Word.Object Object.Count); tag = q.tag; body = q.body } refl nz (eqb-false (mem (Word.Object Object.Count)) c.life e) has) asked (λ u. next)
 
-  close_branch : (q : Request) (b : Bool) → (q.tag == 0) ≡ b → Has (AtStep mem (Sending.ReadCount q)) g → HasRequest d.e_call q.tag q.body → IsNextSend h d.e_call
+  close_branch : (q : Request) (b : Bool) → (q.tag == 0) ≡ b → Has (AtStep mem (Sending.ReadCount q)) → HasRequest d.e_call q.tag q.body → IsNextSend h d.e_call
       → Leads (cond b (line.On (Sending.ReadLastToClose (mem (Word.Object Object.Count)))) (if mem (Word.Object Object.Count) == c.life then line.Decides (Answer.Send SendAnswer.Spent) else line.On (Sending.ReadCursor record { place = mem (Word.Object Object.Count); tag = q.tag; body = q.body })))
   close_branch q true e has asked next =
       let z : tag_asked ≡ 0 = sym asked.0 ∙ eqb-true q.tag 0 e in
-      on mem (Sending.ReadLastToClose (mem (Word.Object Object.Count))) has.counted (keeps.read_count_close mem d r c (further c + 1) g q z has.inv) tt (λ u. next)
+      on mem (Sending.ReadLastToClose (mem (Word.Object Object.Count))) (keeps.read_count_close mem d r c (further c + 1) g q z has) tt (λ u. next)
   close_branch q false e has asked next = life_branch q (mem (Word.Object Object.Count) == c.life) refl (λ z. eqb-false q.tag 0 e (asked.0 ∙ z)) has asked next
 
   -- ---- the scan
 
-  free_branch : (parcel : Parcel) (at reads : ℕ) (b : Bool) → (reads == c.capacity + 1) ≡ b → mem (Word.Item at ItemField.Passed) ≢ further c + 1 → Has (AtStep mem (Sending.ReadPassed parcel at reads)) g → Reads c d.e_call d.from (Sending.ReadPassed parcel at reads) → IsNextSend h d.e_call
+  free_branch : (parcel : Parcel) (at reads : ℕ) (b : Bool) → (reads == c.capacity + 1) ≡ b → mem (Word.Item at ItemField.Passed) ≢ further c + 1 → Has (AtStep mem (Sending.ReadPassed parcel at reads)) → Reads c d.e_call d.from (Sending.ReadPassed parcel at reads) → IsNextSend h d.e_call
       → Leads (cond b (line.Decides (Answer.Send SendAnswer.Full)) (line.On (Sending.ReadPassed parcel (after c at) (reads + 1))))
   free_branch parcel at reads true e ne has read next =
       let all : reads ≡ c.capacity + 1 = eqb-true reads (c.capacity + 1) e in
       let s : Scanned c d.from at reads = read.1 in
       let v : Queue = AtStep mem (Sending.ReadPassed parcel at reads) in
-      let known : (d.e_call.known + c.capacity ≤ g.accepted) × (g.shut ≡ 0) × (g.accepted < c.life) = decide.full c.capacity c.life (further c + 1) v g has.inv at (s.within, s.past, s.round) refl (omega (arith, all)) ne in
-      let nz : tag_asked ≢ 0 = has.inv.request.sends (omega arith) (omega arith) in
-      answered mem (Answer.Send SendAnswer.Full) has.counted (keeps.read_passed_full mem d r c (further c + 1) g parcel at reads has.inv) next refl refl
-      (fits_open (Answer.Send SendAnswer.Full) known.1 (full_fits c (length (accepted h)) d.e_call.known d.e_call.pass d.e_call.call d.e_call.number caller.senders nz (λ z. omega (arith, z, known, ties.accepted_is)) (omega (arith, known, ties.accepted_is))))
+      let known : (d.e_call.known + c.capacity ≤ g.accepted) × (g.shut ≡ 0) × (g.accepted < c.life) = decide.full c.capacity c.life (further c + 1) v g has at (s.within, s.past, s.round) refl (omega (arith, all)) ne in
+      let nz : tag_asked ≢ 0 = has.request.sends (omega arith) (omega arith) in
+      answered mem (Answer.Send SendAnswer.Full) (keeps.read_passed_full mem d r c (further c + 1) g parcel at reads has) next refl refl
+      (fits_open (Answer.Send SendAnswer.Full) known.1 (full_fits c (length (accepted h)) d.e_call.known d.e_call.pass d.e_call.call d.e_call.number caller.senders nz (λ z. omega (arith, z, known)) (omega (arith, known))))
   free_branch parcel at reads false e ne has read next =
       let s : Scanned c d.from at reads = read.1 in
       let more : reads ≢ c.capacity + 1 = eqb-false reads (c.capacity + 1) e in
-      let from_in : d.from ≤ c.capacity = has.inv.scan.from_in refl in
+      let from_in : d.from ≤ c.capacity = has.scan.from_in refl in
       let on_scan : Scanned c d.from (after c at) (reads + 1) = scan_on c d.from at reads s more from_in in
-      on mem (Sending.ReadPassed parcel (after c at) (reads + 1)) has.counted
-      (keeps.read_passed_busy mem d r c (further c + 1) g parcel at (after c at) reads (s.within, s.past, s.round) ne s.some (omega (arith, s.most, more)) has.inv) (read.0, on_scan) (λ u. next)
+      on mem (Sending.ReadPassed parcel (after c at) (reads + 1))
+      (keeps.read_passed_busy mem d r c (further c + 1) g parcel at (after c at) reads (s.within, s.past, s.round) ne s.some (omega (arith, s.most, more)) has) (read.0, on_scan) (λ u. next)
 
-  passed_branch : (parcel : Parcel) (at reads : ℕ) (b : Bool) → (mem (Word.Item at ItemField.Passed) == groups c) ≡ b → Has (AtStep mem (Sending.ReadPassed parcel at reads)) g → Reads c d.e_call d.from (Sending.ReadPassed parcel at reads) → IsNextSend h d.e_call
+  passed_branch : (parcel : Parcel) (at reads : ℕ) (b : Bool) → (mem (Word.Item at ItemField.Passed) == groups c) ≡ b → Has (AtStep mem (Sending.ReadPassed parcel at reads)) → Reads c d.e_call d.from (Sending.ReadPassed parcel at reads) → IsNextSend h d.e_call
       → Leads (cond b (line.On (Sending.ResetPassed parcel at)) (if reads == c.capacity + 1 then line.Decides (Answer.Send SendAnswer.Full) else line.On (Sending.ReadPassed parcel (after c at) (reads + 1))))
   passed_branch parcel at reads true e has read next =
       let s : Scanned c d.from at reads = read.1 in
       let free : mem (Word.Item at ItemField.Passed) ≡ further c + 1 = omega (arith, ties.some, eqb-true (mem (Word.Item at ItemField.Passed)) (groups c) e) in
-      on mem (Sending.ResetPassed parcel at) has.counted (keeps.read_passed_free mem d r c (further c + 1) g parcel at reads (s.within, s.past, s.round) free has.inv) read.0 (λ u. next)
+      on mem (Sending.ResetPassed parcel at) (keeps.read_passed_free mem d r c (further c + 1) g parcel at reads (s.within, s.past, s.round) free has) read.0 (λ u. next)
   passed_branch parcel at reads false e has read next = free_branch parcel at reads (reads == c.capacity + 1) refl (λ z. eqb-false (mem (Word.Item at ItemField.Passed)) (groups c) e (omega (arith, ties.some, z))) has read next
 
-  -- ---- what the ghosts of the node in preparation change of the ties
+  -- ---- a node is in preparation
 
-  ties_told : (told : Ghosts) → told.accepted ≡ g.accepted → ((y : ℕ) → told.handed y ≡ g.handed y) → told.shut ≡ g.shut → told.tells ≡ g.tells → ((k j : ℕ) → told.items k j ≡ g.items k j) → Ties c h told
-  ties_told told a b s t i = record {
-    some = ties.some;
-    many = ties.many;
-    accepted_is = a ∙ ties.accepted_is;
-    handed_is = λ y. b y ∙ ties.handed_is y;
-    shut_is = s ∙ ties.shut_is;
-    tells_is = t ∙ ties.tells_is;
-    items_are = λ k l. ties.items_are k (omega (arith, l, a)) ∙ sym (ap Some (item_same k (told.items k) (g.items k) (i k)));
-    legal = ties.legal;
-  }
-
-  reset_passed : (parcel : Parcel) (at : ℕ) → Has (AtStep mem (Sending.ResetPassed parcel at)) g → HasRequest d.e_call parcel.tag parcel.body → IsNextSend h d.e_call
-      → Turn c (put mem (Word.Item at ItemField.Passed) 0) d r h g (Phase.Sending job (Sending.ResetItemNext parcel at))
+  reset_passed : (parcel : Parcel) (at : ℕ) → Has (AtStep mem (Sending.ResetPassed parcel at)) → HasRequest d.e_call parcel.tag parcel.body → IsNextSend h d.e_call
+      → Turn c (put mem (Word.Item at ItemField.Passed) 0) d r h nodes (Phase.Sending job (Sending.ResetItemNext parcel at))
   reset_passed parcel at has asked next =
       let v : Queue = AtStep mem (Sending.ResetPassed parcel at) in
-      let told : Ghosts = grow.preparing v g in
-      let u : Prepares v g told = grow.prepares v g in
+      let told : Kept = grow.preparing v kept in
       record {
         from = d.from;
         told = told;
-        list = record { inv = keeps.reset_passed mem d r c (further c + 1) g told parcel at u has.inv; counted = grow.counted_same (further c) g told u.hands has.counted };
-        least_up = omega (arith, u.hands.least);
-        entries_up = omega (arith, u.log.accepted, u.log.shut);
+        list = keeps.reset_passed mem d r c (further c + 1) g parcel at has;
         reads = asked;
         next_call = λ u. next;
-        ties = ties_told told u.log.accepted u.hands.handed u.log.shut (λ i a. u.log.tells a i) u.log.items;
-        linked = (u.log.accepted, λ j l. u.log.node j);
+        ties = record { some = ties.some; many = ties.many; linked = ties.linked; items_are = ties.items_are; legal = ties.legal };
       }
 
   -- ---- the linking store of an item
 
-  module _ (count at last : ℕ) (has : Has (AtStep mem (Sending.LinkItem count at last)) g) (next : IsNextSend h d.e_call) where
+  module _ (count at last : ℕ) (has : Has (AtStep mem (Sending.LinkItem count at last))) (next : IsNextSend h d.e_call) where
     abbrev before : Queue
     before = AtStep mem (Sending.LinkItem count at last)
 
@@ -243,123 +222,104 @@ module _ (c : Config) (mem : Word → ℕ) (d : Duty) (r : ℕ → Regs) (h : Re
     abbrev it : Item
     it = item_of count (request_in d.e_call).tag (request_in d.e_call).body
 
-    abbrev told : Ghosts
-    told = grow.accepting before g
-
-    u : Accepts before g told
-    u = grow.accepts before g
+    abbrev told : Kept
+    told = grow.accepting before many kept
 
     known : (count ≡ g.accepted) × (g.accepted < c.life) × (g.shut ≡ 0) × (tag_asked ≢ 0)
-    known = decide.accepted c.capacity c.life (further c + 1) before g has.inv refl
+    known = decide.accepted c.capacity c.life (further c + 1) before g has refl
 
     fits : SendSideAnswer c (length (accepted h)) (is_shut h) d.e_call.known d.e_call.call a
-    fits = fits_open a known.2 (accepted_fits c (length (accepted h)) d.e_call.known d.e_call.pass d.e_call.call d.e_call.number count caller.senders known.3 (λ z. omega (arith, z, known, ties.accepted_is)) (known.0 ∙ ties.accepted_is))
+    fits = fits_open a known.2 (accepted_fits c (length (accepted h)) d.e_call.known d.e_call.pass d.e_call.call d.e_call.number count caller.senders known.3 (λ z. omega (arith, z, known)) (known.0))
 
     now : accepted (told_send h a) ≡ accepted h ++ it ∷ []
     now = e_accepted c h ties.legal d.e_call a next ∙ ap (λ (l : List Item). accepted h ++ l) (item_sent c d.e_call count caller.senders caller.small known.3)
 
-    new_item : (k : ℕ) → k ≡ g.accepted → slice_get (accepted (told_send h a)) k ≡ Some (item_of k (told.items k 0) (body_at (told.items k)))
+    more : length (accepted (told_send h a)) ≡ many + 1
+    more = omega (arith, ap length now, length-append (accepted h) (it ∷ []))
+
+    u : Accepts before g (ghosts c (told_send h a) (nodes ++ at ∷ []) told)
+    u =
+        grow.accepts (further c) long_of many (shut_number (is_shut h)) (λ y. length (handed h y)) nodes kept before (length (accepted (told_send h a))) (shut_number (is_shut (told_send h a))) more
+        (ap shut_number (e_shut c h ties.legal d.e_call a next ∙ or_false (is_shut h))) (has.request.long_told (omega arith)) ties.linked
+
+    new_item : (k : ℕ) → k ≡ many → slice_get (accepted (told_send h a)) k ≡ Some (item_of k (told.items k 0) (body_at (told.items k)))
     new_item k same =
-        let place : k ≡ length (accepted h) = same ∙ ties.accepted_is in
-        let is : slice_get (accepted h ++ it ∷ []) (length (accepted h)) ≡ Some it = get_last (accepted h) it in
-        let tag : told.items k 0 ≡ (request_in d.e_call).tag = ap (λ (j : ℕ). told.items j 0) same ∙ u.items_now 0 in
-        let body : body_at (told.items k) ≡ (request_in d.e_call).body = λ i. body_at (λ n. (ap (λ (j : ℕ). told.items j n) same ∙ u.items_now n) i) in
+        let is : slice_get (accepted h ++ it ∷ []) many ≡ Some it = get_last (accepted h) it in
+        let words : (j : ℕ) → told.items k j ≡ before.enq.asks j = λ j. ap (λ (i : ℕ). told.items i j) same ∙ u.items_now j in
         rw now (
-        ap (λ (j : ℕ). slice_get (accepted h ++ it ∷ []) j) place
+        ap (λ (j : ℕ). slice_get (accepted h ++ it ∷ []) j) same
         ∙ is
         ∙ ap (λ (j : ℕ). Some (item_of j (request_in d.e_call).tag (request_in d.e_call).body)) (known.0 ∙ sym same)
-        ∙ ap (λ (w : ℕ). Some (item_of k w (request_in d.e_call).body)) (sym tag)
-        ∙ ap (λ (w : BodyWords). Some (item_of k (told.items k 0) w)) (sym body)
+        ∙ sym (ap Some (item_same k (told.items k) before.enq.asks words))
         )
 
-    old_item : (k : ℕ) → k < g.accepted → k ≢ g.accepted → slice_get (accepted (told_send h a)) k ≡ Some (item_of k (told.items k 0) (body_at (told.items k)))
-    old_item k l ne =
-        rw now (get_front (accepted h) (it ∷ []) k (item_of k (g.items k 0) (body_at (g.items k))) (ties.items_are k l) ∙ sym (ap Some (item_same k (told.items k) (g.items k) (λ j. u.items k j ne))))
+    old_item : (k : ℕ) → k < many → slice_get (accepted (told_send h a)) k ≡ Some (item_of k (told.items k 0) (body_at (told.items k)))
+    old_item k l =
+        rw now (get_front (accepted h) (it ∷ []) k (item_of k (kept.items k 0) (body_at (kept.items k))) (ties.items_are k l) ∙ sym (ap Some (item_same k (told.items k) (kept.items k) (λ j. u.items k j (λ e. omega (arith, e, l))))))
 
-    link_item : TurnBy c (put mem (Word.Item last ItemField.Next) (at + 1)) d r (told_send h a) g (Phase.Sending job (Sending.WriteLast count at)) (at ∷ [])
+    link_item : Turn c (put mem (Word.Item last ItemField.Next) (at + 1)) d r (told_send h a) (nodes ++ at ∷ []) (Phase.Sending job (Sending.WriteLast count at))
     link_item = record {
       from = d.from;
       told = told;
-      list = record { inv = keeps.link_item mem d r c (further c + 1) g told count at last u has.inv; counted = grow.counted_same (further c) g told u.hands has.counted };
-      least_up = omega (arith, u.hands.least);
-      entries_up = omega (arith, u.accepted, u.shut);
+      list = keeps.link_item mem d r c (further c + 1) g (ghosts c (told_send h a) (nodes ++ at ∷ []) told) count at last u has;
       reads = tt;
       next_call = λ no. absurd no;
       ties = record {
         some = ties.some;
         many = ties.many;
-        accepted_is = omega (arith, u.accepted, ties.accepted_is, ap length now, length-append (accepted h) (it ∷ []));
-        handed_is = λ y. u.hands.handed y ∙ ties.handed_is y;
-        shut_is = u.shut ∙ ties.shut_is ∙ ap shut_number (sym (e_shut c h ties.legal d.e_call a next ∙ or_false (is_shut h)));
-        tells_is = (λ i a. u.tells a i) ∙ ties.tells_is;
-        items_are = λ k l. elim (cases_eq k g.accepted) [ inl same ↦ new_item k same | inr ne ↦ old_item k (omega (arith, l, ne, u.accepted)) ne ];
+        linked = omega (arith, length-append nodes (at ∷ []), ties.linked, more);
+        items_are = λ k l. elim (cases_eq k many) [ inl same ↦ new_item k same | inr ne ↦ old_item k (omega (arith, l, ne, more)) ];
         legal = e_decided c h ties.legal d.e_call a next fits;
       };
-      linked = (refl, u.accepted, u.node_now, λ j l. u.node j (λ z. omega (arith, z, l)));
     }
 
   -- ---- the linking store of the mark
 
-  module _ (total last : ℕ) (has : Has (AtStep mem (Sending.LinkMark total last)) g) (next : IsNextSend h d.e_call) where
+  module _ (total last : ℕ) (has : Has (AtStep mem (Sending.LinkMark total last))) (next : IsNextSend h d.e_call) where
     abbrev before_mark : Queue
     before_mark = AtStep mem (Sending.LinkMark total last)
 
     abbrev shut_told : Answer
     shut_told = Answer.Close (CloseAnswer.Shut total)
 
-    abbrev told_mark : Ghosts
-    told_mark = grow.shutting g
-
-    shuts_it : Shuts g told_mark
-    shuts_it = grow.shuts g
-
     known_mark : (total ≡ g.accepted) × (g.shut ≡ 0) × (tag_asked ≡ 0)
-    known_mark = decide.shuts c.capacity c.life (further c + 1) before_mark g has.inv refl
+    known_mark = decide.shuts c.capacity c.life (further c + 1) before_mark g has refl
 
     fits_mark : SendSideAnswer c (length (accepted h)) (is_shut h) d.e_call.known d.e_call.call shut_told
-    fits_mark = fits_open shut_told known_mark.1 (shut_fits c (length (accepted h)) d.e_call.known d.e_call.pass d.e_call.call d.e_call.number total caller.senders caller.small.sender known_mark.2 (known_mark.0 ∙ ties.accepted_is))
+    fits_mark = fits_open shut_told known_mark.1 (shut_fits c (length (accepted h)) d.e_call.known d.e_call.pass d.e_call.call d.e_call.number total caller.senders caller.small.sender known_mark.2 (known_mark.0))
 
     now_mark : accepted (told_send h shut_told) ≡ accepted h
     now_mark = e_accepted c h ties.legal d.e_call shut_told next ∙ append-nil (accepted h)
 
-    link_mark : Turn c (put mem (Word.Item last ItemField.Next) (mark c + 1)) d r (told_send h shut_told) g (Phase.Sending job (Sending.WriteLastMark total))
+    -- the list is shut, and else as it was
+    shuts_it : ghosts c (told_send h shut_told) nodes kept ≡ record g { shut = 1 }
+    shuts_it =
+        let shut : is_shut (told_send h shut_told) ≡ true = e_shut c h ties.legal d.e_call shut_told next ∙ or_true (is_shut h) in
+        λ i. ghosts_from (further c) long_of (length (now_mark i)) (shut_number (shut i)) (λ y. length (handed h y)) nodes kept
+
+    link_mark : Turn c (put mem (Word.Item last ItemField.Next) (mark c + 1)) d r (told_send h shut_told) nodes (Phase.Sending job (Sending.WriteLastMark total))
     link_mark = record {
       from = d.from;
-      told = told_mark;
-      list = record { inv = keeps.link_mark mem d r c (further c + 1) g told_mark total last shuts_it has.inv; counted = grow.counted_same (further c) g told_mark shuts_it.hands has.counted };
-      least_up = omega (arith, shuts_it.hands.least);
-      entries_up = omega (arith, shuts_it.accepted, shuts_it.shut, known_mark.1);
+      told = kept;
+      list = subst (λ (z : Ghosts). LInv c.capacity c.life (further c + 1) (AtStep (put mem (Word.Item last ItemField.Next) (mark c + 1)) (Sending.WriteLastMark total)) z) (sym shuts_it) (keeps.link_mark mem d r c (further c + 1) g total last has);
       reads = tt;
       next_call = λ no. absurd no;
-      ties = record {
-        some = ties.some;
-        many = ties.many;
-        accepted_is = shuts_it.accepted ∙ ties.accepted_is ∙ ap length (sym now_mark);
-        handed_is = λ y. shuts_it.hands.handed y ∙ ties.handed_is y;
-        shut_is = shuts_it.shut ∙ ap shut_number (sym (e_shut c h ties.legal d.e_call shut_told next ∙ or_true (is_shut h)));
-        tells_is = (λ i a. shuts_it.tells a i) ∙ ties.tells_is;
-        items_are = λ k l. rw now_mark (ties.items_are k (omega (arith, l, shuts_it.accepted)) ∙ sym (ap Some (item_same k (told_mark.items k) (g.items k) (shuts_it.items k))));
-        legal = e_decided c h ties.legal d.e_call shut_told next fits_mark;
-      };
-      linked = (shuts_it.accepted, λ j l. shuts_it.node j);
+      ties = ties_same c h (told_send h shut_told) nodes kept ties refl now_mark (e_decided c h ties.legal d.e_call shut_told next fits_mark);
     }
 
   -- ---- the load of the cursor: the scan begins there
 
-  read_cursor : (parcel : Parcel) (found : ℕ) → mem (Word.Object Object.Cursor) ≡ found → Has (AtStep mem (Sending.ReadCursor parcel)) g → HasRequest d.e_call parcel.tag parcel.body → IsNextSend h d.e_call
-      → Turn c mem d r h g (Phase.Sending job (Sending.ReadPassed parcel found 1))
+  read_cursor : (parcel : Parcel) (found : ℕ) → mem (Word.Object Object.Cursor) ≡ found → Has (AtStep mem (Sending.ReadCursor parcel)) → HasRequest d.e_call parcel.tag parcel.body → IsNextSend h d.e_call
+      → Turn c mem d r h nodes (Phase.Sending job (Sending.ReadPassed parcel found 1))
   read_cursor parcel found e has asked next =
-      let within : mem (Word.Object Object.Cursor) ≤ c.capacity = has.inv.words.cursor_in in
+      let within : mem (Word.Object Object.Cursor) ≤ c.capacity = has.words.cursor_in in
       record {
         from = found;
-        told = g;
-        list = record { inv = keeps.read_cursor mem d r c (further c + 1) g parcel found e has.inv; counted = has.counted };
-        least_up = omega arith;
-        entries_up = omega arith;
+        told = kept;
+        list = keeps.read_cursor mem d r c (further c + 1) g parcel found e has;
         reads = (asked, record { some = omega arith; most = omega arith; within = omega (arith, e, within); past = λ l. omega arith; round = λ l. absurd (omega (arith, l, e, within)) });
         next_call = λ u. next;
         ties = ties;
-        linked = (refl, λ j l. refl);
       }
 
   -- ---- a word of the item's body
@@ -371,33 +331,33 @@ module _ (c : Config) (mem : Word → ℕ) (d : Duty) (r : ℕ → Regs) (h : Re
   -- ---- the whole service, but for the loads of the request
 
   abbrev Needs : Sending → Type 0
-  Needs service = Has (AtStep mem service) g × Reads c d.e_call d.from service × (IsUndecided service → IsNextSend h d.e_call)
+  Needs service = Has (AtStep mem service) × Reads c d.e_call d.from service × (IsUndecided service → IsNextSend h d.e_call)
 
   pub send_turn : (service : Sending) (found : ℕ) → IsBegun service → mem (word_of (operation c job.round.at service)) ≡ found → Needs service
-      → TurnBy c (stored mem (operation c job.round.at service)) d r (noted Chain.Send h None (decides c service found)) g (goes c job service found) (links service)
+      → Turn c (stored mem (operation c job.round.at service)) d r (noted Chain.Send h None (decides c service found)) (then_linked nodes (links service)) (goes c job service found)
   send_turn (Sending.ReadShut q) found low e n = read_shut q found e n.0 n.1 (n.2 tt)
-  send_turn Sending.ReadTotal found low e n = subst (λ (k : ℕ). Turn c mem d r (told_send h (Answer.Close (CloseAnswer.Already k))) g (Phase.WriteAnswer job (Answer.Close (CloseAnswer.Already k)))) e (read_total n.0 (n.2 tt))
+  send_turn Sending.ReadTotal found low e n = subst (λ (k : ℕ). Turn c mem d r (told_send h (Answer.Close (CloseAnswer.Already k))) nodes (Phase.WriteAnswer job (Answer.Close (CloseAnswer.Already k)))) e (read_total n.0 (n.2 tt))
   send_turn (Sending.ReadCount q) found low e n =
       subst (λ (k : ℕ). Leads (by_count c q k)) e (close_branch q (q.tag == 0) refl n.0 n.1 (n.2 tt))
   send_turn (Sending.ReadLastToClose total) found low e n =
-      let link : (0 < mem (Word.Object Object.Last)) × (mem (Word.Object Object.Last) ≤ c.capacity + 1) = limits.lastc_link c.capacity c.life (further c + 1) (AtStep mem (Sending.ReadLastToClose total)) g n.0.inv refl in
-      subst (λ (k : ℕ). Turn c mem d r h g (Phase.Sending job (Sending.LinkMark total (k - 1)))) e (on mem (Sending.LinkMark total (mem (Word.Object Object.Last) - 1)) n.0.counted (keeps.read_last_to_close mem d r c (further c + 1) g total link.0 n.0.inv) tt (λ u. n.2 tt))
+      let link : (0 < mem (Word.Object Object.Last)) × (mem (Word.Object Object.Last) ≤ c.capacity + 1) = limits.lastc_link c.capacity c.life (further c + 1) (AtStep mem (Sending.ReadLastToClose total)) g n.0 refl in
+      subst (λ (k : ℕ). Turn c mem d r h nodes (Phase.Sending job (Sending.LinkMark total (k - 1)))) e (on mem (Sending.LinkMark total (mem (Word.Object Object.Last) - 1)) (keeps.read_last_to_close mem d r c (further c + 1) g total link.0 n.0) tt (λ u. n.2 tt))
   send_turn (Sending.LinkMark total last) found low e n = link_mark total last n.0 (n.2 tt)
-  send_turn (Sending.WriteLastMark total) found low e n = on _ (Sending.WriteShut total) n.0.counted (keeps.write_last_mark mem d r c (further c + 1) g total n.0.inv) tt (λ no. absurd no)
-  send_turn (Sending.WriteShut total) found low e n = over _ (Answer.Close (CloseAnswer.Shut total)) n.0.counted (keeps.write_shut mem d r c (further c + 1) g total n.0.inv)
+  send_turn (Sending.WriteLastMark total) found low e n = on _ (Sending.WriteShut total) (keeps.write_last_mark mem d r c (further c + 1) g total n.0) tt (λ no. absurd no)
+  send_turn (Sending.WriteShut total) found low e n = over _ (Answer.Close (CloseAnswer.Shut total)) (keeps.write_shut mem d r c (further c + 1) g total n.0)
   send_turn (Sending.ReadCursor parcel) found low e n = read_cursor parcel found e n.0 n.1 (n.2 tt)
   send_turn (Sending.ReadPassed parcel at reads) found low e n =
       subst (λ (k : ℕ). Leads (by_passed c parcel at reads k)) e (passed_branch parcel at reads (mem (Word.Item at ItemField.Passed) == groups c) refl n.0 n.1 (n.2 tt))
   send_turn (Sending.ResetPassed parcel at) found low e n = reset_passed parcel at n.0 n.1 (n.2 tt)
-  send_turn (Sending.ResetItemNext parcel at) found low e n = on _ (Sending.WriteItemTag parcel at) n.0.counted (keeps.reset_next mem d r c (further c + 1) g parcel at n.0.inv) n.1 (λ u. n.2 tt)
-  send_turn (Sending.WriteItemTag parcel at) found low e n = on _ (Sending.WriteItemBody parcel at 0) n.0.counted (keeps.write_tag mem d r c (further c + 1) g parcel at n.1.0 n.0.inv) (n.1, omega arith) (λ u. n.2 tt)
+  send_turn (Sending.ResetItemNext parcel at) found low e n = on _ (Sending.WriteItemTag parcel at) (keeps.reset_next mem d r c (further c + 1) g parcel at n.0) n.1 (λ u. n.2 tt)
+  send_turn (Sending.WriteItemTag parcel at) found low e n = on _ (Sending.WriteItemBody parcel at 0) (keeps.write_tag mem d r c (further c + 1) g parcel at n.1.0 n.0) (n.1, omega arith) (λ u. n.2 tt)
   send_turn (Sending.WriteItemBody parcel at i) found low e n =
-      on _ _ n.0.counted (keeps.write_body mem d r c (further c + 1) g parcel at i n.1.0 n.1.1 n.0.inv) (word_reads parcel at i n.1.0) (λ u. n.2 tt)
+      on _ _ (keeps.write_body mem d r c (further c + 1) g parcel at i n.1.0 n.1.1 n.0) (word_reads parcel at i n.1.0) (λ u. n.2 tt)
   send_turn (Sending.ReadLast count at) found low e n =
-      let link : (0 < mem (Word.Object Object.Last)) × (mem (Word.Object Object.Last) ≤ c.capacity + 1) = limits.last_link c.capacity c.life (further c + 1) (AtStep mem (Sending.ReadLast count at)) g n.0.inv refl in
-      subst (λ (k : ℕ). Turn c mem d r h g (Phase.Sending job (Sending.LinkItem count at (k - 1)))) e (on mem (Sending.LinkItem count at (mem (Word.Object Object.Last) - 1)) n.0.counted (keeps.read_last mem d r c (further c + 1) g count at link.0 n.0.inv) tt (λ u. n.2 tt))
+      let link : (0 < mem (Word.Object Object.Last)) × (mem (Word.Object Object.Last) ≤ c.capacity + 1) = limits.last_link c.capacity c.life (further c + 1) (AtStep mem (Sending.ReadLast count at)) g n.0 refl in
+      subst (λ (k : ℕ). Turn c mem d r h nodes (Phase.Sending job (Sending.LinkItem count at (k - 1)))) e (on mem (Sending.LinkItem count at (mem (Word.Object Object.Last) - 1)) (keeps.read_last mem d r c (further c + 1) g count at link.0 n.0) tt (λ u. n.2 tt))
   send_turn (Sending.LinkItem count at last) found low e n = link_item count at last n.0 (n.2 tt)
-  send_turn (Sending.WriteLast count at) found low e n = on _ (Sending.WriteCount count at) n.0.counted (keeps.write_last mem d r c (further c + 1) g count at n.0.inv) tt (λ no. absurd no)
-  send_turn (Sending.WriteCount count at) found low e n = on _ (Sending.WriteCursor count at) n.0.counted (keeps.write_count mem d r c (further c + 1) g count at n.0.inv) tt (λ no. absurd no)
-  send_turn (Sending.WriteCursor count at) found low e n = over _ (Answer.Send (SendAnswer.Accepted count)) n.0.counted (keeps.write_cursor mem d r c (further c + 1) g count at n.0.inv)
+  send_turn (Sending.WriteLast count at) found low e n = on _ (Sending.WriteCount count at) (keeps.write_last mem d r c (further c + 1) g count at n.0) tt (λ no. absurd no)
+  send_turn (Sending.WriteCount count at) found low e n = on _ (Sending.WriteCursor count at) (keeps.write_count mem d r c (further c + 1) g count at n.0) tt (λ no. absurd no)
+  send_turn (Sending.WriteCursor count at) found low e n = over _ (Answer.Send (SendAnswer.Accepted count)) (keeps.write_cursor mem d r c (further c + 1) g count at n.0)
   send_turn _ found low e n = absurd low

@@ -1,5 +1,5 @@
 -- A step of the service of a take of a group keeps the list's invariant of the state.
-use Rattle.std.proofs.Common.{◌≡◌, ◌≢◌, ◌<◌, ℕ, Some, length, None, inl, inr, refl, sym, ap, ◌∙◌, subst}
+use Rattle.std.proofs.Common.{List, ◌≡◌, ◌≢◌, ◌<◌, ℕ, Some, length, None, inl, inr, refl, sym, ap, ◌∙◌, subst}
 use Rattle.std.proofs.lemmas.Bool.{cases_eq}
 use Rattle.std.specs.List.{slice_get}
 use Rattle.cc_model.specs.Record.{Side}
@@ -11,16 +11,15 @@ use Rattle.cc_runs.specs.TakeLines as take_side
 use Rattle.cc_runs.specs.Step.{stepped_from}
 use Rattle.cc_runs.proofs.Chains.Frame.{hold_here}
 use Rattle.cc_runs.proofs.LinkedList.Queue.{Enq, Queue}
-use Rattle.cc_runs.proofs.LinkedList.Grow.{ListHolds}
 use Rattle.cc_runs.proofs.ListRuns.View.{Duty, enq_at, regs_at, regs_of, queue_from, hold_other, hold_same, hold_all}
-use Rattle.cc_runs.proofs.ListRuns.Ties.{further, ReadsAt, IsServing, IsUndecidedAt, IsTaking, IsNextSend, IsNextTake}
+use Rattle.cc_runs.proofs.ListRuns.Ties.{Holds, ReadsAt, IsServing, IsUndecidedAt, IsTaking, IsNextSend, IsNextTake}
 use Rattle.cc_runs.proofs.ListRuns.Decided.{group_other}
 use Rattle.cc_runs.proofs.ListRuns.TakeTurn as take_turn
 use Rattle.cc_runs.proofs.ListRuns.Facts.{lists}
 use Rattle.cc_runs.proofs.ListRuns.Untouched.{StillSend, take_still}
-use Rattle.cc_runs.proofs.ListRuns.Invariant.{Parts, Onward}
+use Rattle.cc_runs.proofs.ListRuns.Invariant.{Parts}
 
-module _ (c : Config) (s : State) (p begun own y : ℕ) (chain : chain_of c p ≡ Chain.Take y) (inside : y < groups c) (job : Job) (service : Taking) (at : s.stand p ≡ record { begun = begun; node = own; phase = Phase.Taking job service }) (k : Parts c s) where
+module _ (c : Config) (s : State) (p begun own y : ℕ) (chain : chain_of c p ≡ Chain.Take y) (inside : y < groups c) (job : Job) (service : Taking) (at : s.stand p ≡ record { begun = begun; node = own; phase = Phase.Taking job service }) {nodes : List ℕ} (k : Parts c s nodes) where
   abbrev d : Duty
   d = k.duty
 
@@ -58,8 +57,8 @@ module _ (c : Config) (s : State) (p begun own y : ℕ) (chain : chain_of c p �
   same : (q : ℕ) → q ≢ y → regs_of t.stand d q ≡ regs_of s.stand d q
   same q ne = ap (λ (z : Stand). regs_at z.phase) (hold_other s.stand p (d.d_pass q) _ (apart q ne))
 
-  turn : take_turn.Turn c (stored s.mem (take_side.operation y service)) d enq y (regs_of t.stand d) (noted (Chain.Take y) s.history None (take_side.decides service found)) k.told there
-  turn = take_turn.take_turn c s.mem d enq s.history k.told k.ties y inside next job (regs_of s.stand d) (regs_of t.stand d) same k.list service found refl (ap regs_at stands_there) (ap regs_at now)
+  turn : take_turn.Turn c (stored s.mem (take_side.operation y service)) d enq y (regs_of t.stand d) (noted (Chain.Take y) s.history None (take_side.decides service found)) nodes k.kept there
+  turn = take_turn.take_turn c s.mem d enq s.history nodes k.kept k.ties y inside next job (regs_of s.stand d) (regs_of t.stand d) same k.list service found refl (ap regs_at stands_there) (ap regs_at now)
 
   still : StillSend there
   still = take_still job service found
@@ -73,30 +72,25 @@ module _ (c : Config) (s : State) (p begun own y : ℕ) (chain : chain_of c p �
       subst (λ (z : Side). slice_get z.calls (length z.answers) ≡ Some (d.d_call x)) (sym (group_other s.history y x _ ne))
       (k.serving.next_take x (subst (λ (z : Stand). IsTaking z.phase) (hold_other s.stand p (d.d_pass x) _ (apart x ne)) u))
 
-  pub take_serves : Onward c s k t
+  pub take_serves : Parts c t nodes
   take_serves = record {
-    parts = record {
-      duty = d;
-      told = turn.told;
-      list = subst (λ (v : Queue). ListHolds c.capacity c.life (further c) v turn.told) (sym (ap (λ (e : Enq). queue_from t.mem d e (regs_of t.stand d)) same_enq)) turn.list;
-      serving = record {
-        e_only = hold_all (λ (q : ℕ) (z : Stand). q ≢ d.e_pass → IsServing z.phase → ⊥) s.stand p _ (λ ne u. still.serves u) (λ q ne n u. k.serving.e_only q n u);
-        d_mine = k.serving.d_mine;
-        d_only = λ x. hold_all (λ (q : ℕ) (z : Stand). chain_of c q ≡ Chain.Take x → q ≢ d.d_pass x → IsTaking z.phase → ⊥) s.stand p _
-            (λ e ne u. ne (mine ∙ ap d.d_pass (ap group_of (sym chain ∙ e)))) (λ q ne e n u. k.serving.d_only x q e n u);
-        caller = k.serving.caller;
-        reads = hold_all (λ (q : ℕ) (z : Stand). q ≡ d.e_pass → ReadsAt c d.e_call d.from z.phase) s.stand p _ (λ e. still.reads c d.e_call d.from)
-            (λ q ne e. subst (λ (j : ℕ). ReadsAt c d.e_call d.from (s.stand j).phase) (sym e) k.serving.reads) d.e_pass refl;
-        next_send = hold_all (λ (q : ℕ) (z : Stand). q ≡ d.e_pass → IsUndecidedAt z.phase → IsNextSend t.history d.e_call) s.stand p _ (λ e u. absurd (still.open_send u))
-            (λ q ne e u. k.serving.next_send (subst (λ (j : ℕ). IsUndecidedAt (s.stand j).phase) e u)) d.e_pass refl;
-        next_take = λ x. elim (cases_eq x y) [
-          | inl same ↦ subst (λ (z : ℕ). IsTaking (t.stand (d.d_pass z)).phase → IsNextTake t.history z (d.d_call z)) (sym same) (subst (λ (z : Phase). IsTaking z → IsNextTake t.history y (d.d_call y)) (sym now) turn.next_call)
-          | inr ne ↦ next_others x ne
-        ];
-      };
-      ties = turn.ties;
+    duty = d;
+    kept = k.kept;
+    list = subst (λ (v : Queue). Holds c t.history nodes k.kept v) (sym (ap (λ (e : Enq). queue_from t.mem d e (regs_of t.stand d)) same_enq)) turn.list;
+    serving = record {
+      e_only = hold_all (λ (q : ℕ) (z : Stand). q ≢ d.e_pass → IsServing z.phase → ⊥) s.stand p _ (λ ne u. still.serves u) (λ q ne n u. k.serving.e_only q n u);
+      d_mine = k.serving.d_mine;
+      d_only = λ x. hold_all (λ (q : ℕ) (z : Stand). chain_of c q ≡ Chain.Take x → q ≢ d.d_pass x → IsTaking z.phase → ⊥) s.stand p _
+          (λ e ne u. ne (mine ∙ ap d.d_pass (ap group_of (sym chain ∙ e)))) (λ q ne e n u. k.serving.d_only x q e n u);
+      caller = k.serving.caller;
+      reads = hold_all (λ (q : ℕ) (z : Stand). q ≡ d.e_pass → ReadsAt c d.e_call d.from z.phase) s.stand p _ (λ e. still.reads c d.e_call d.from)
+          (λ q ne e. subst (λ (j : ℕ). ReadsAt c d.e_call d.from (s.stand j).phase) (sym e) k.serving.reads) d.e_pass refl;
+      next_send = hold_all (λ (q : ℕ) (z : Stand). q ≡ d.e_pass → IsUndecidedAt z.phase → IsNextSend t.history d.e_call) s.stand p _ (λ e u. absurd (still.open_send u))
+          (λ q ne e u. k.serving.next_send (subst (λ (j : ℕ). IsUndecidedAt (s.stand j).phase) e u)) d.e_pass refl;
+      next_take = λ x. elim (cases_eq x y) [
+        | inl same ↦ subst (λ (z : ℕ). IsTaking (t.stand (d.d_pass z)).phase → IsNextTake t.history z (d.d_call z)) (sym same) (subst (λ (z : Phase). IsTaking z → IsNextTake t.history y (d.d_call y)) (sym now) turn.next_call)
+        | inr ne ↦ next_others x ne
+      ];
     };
-    least_up = turn.least_up;
-    entries_up = turn.entries_up;
-    linked = turn.linked;
+    ties = turn.ties;
   }

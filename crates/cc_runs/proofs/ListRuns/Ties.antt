@@ -1,5 +1,5 @@
 -- How the list's ghosts, and what the services have read, are tied to the history.
-use Rattle.std.proofs.Common.{◌≡◌, ℕ, suc, ◌+◌, ◌-◌, ◌<◌, ◌≤◌, List, [], ◌∷◌, length, Bool, true, false, if◌then◌else◌, Some, sym, ap, ◌∙◌, arith}
+use Rattle.std.proofs.Common.{◌++◌, refl, sym, append-nil, ◌≡◌, ℕ, suc, ◌+◌, ◌-◌, ◌<◌, ◌≤◌, List, [], ◌∷◌, length, Bool, true, false, if◌then◌else◌, Some, ap, ◌∙◌, arith}
 use Rattle.std.specs.List.{slice_get}
 use Rattle.cc_model.specs.Record.{Record, of_group}
 use Rattle.cc_model.specs.Items.{accepted, is_shut, handed}
@@ -8,7 +8,9 @@ use Rattle.cc_runs.specs.Words.{groups}
 use Rattle.cc_runs.specs.Codes.{item_of, further_words, word}
 use Rattle.cc_runs.proofs.Chains.Registers.{HasRequest}
 use Rattle.cc_runs.proofs.ListRuns.View.{long_of}
-use Rattle.cc_runs.proofs.LinkedList.Queue.{Ghosts}
+use Rattle.cc_runs.proofs.LinkedList.Queue.{Queue, Ghosts}
+use Rattle.cc_runs.proofs.LinkedList.Invariant.{LInv}
+use Rattle.cc_runs.proofs.LinkedList.Grow.{Kept, ghosts_from}
 use Rattle.cc_runs.proofs.ListRuns.Decided.{LegalSoFar}
 
 -- 1 if the list is shut
@@ -30,16 +32,21 @@ word_at words i most = grind arith
 pub item_same : (k : ℕ) (f g : ℕ → ℕ) → ((j : ℕ) → f j ≡ g j) → item_of k (f 0) (body_at f) ≡ item_of k (g 0) (body_at g)
 item_same k f g same = λ i. item_of k (same 0 i) (body_at (λ j. same j i))
 
--- the ghosts are those of the history, which has a side for each group and whose answers are legal; each item has as many words
--- as its tag says
-pub record Ties (c : Config) (h : Record) (g : Ghosts) : Type 0 where
+-- the ghosts of a history and of the nodes linked so far
+abbrev pub ghosts : Config → Record → List ℕ → Kept → Ghosts
+ghosts c h nodes k = ghosts_from (further c) long_of (length (accepted h)) (shut_number (is_shut h)) (λ y. length (handed h y)) nodes k
+
+-- the list's invariant
+abbrev pub Holds : Config → Record → List ℕ → Kept → Queue → Type 0
+Holds c h nodes k v = LInv c.capacity c.life (further c + 1) v (ghosts c h nodes k)
+
+-- the history has a side for each group, and its answers are legal; a node was linked for each item, after the first dummy; each
+-- item has as many words as its tag says
+pub record Ties (c : Config) (h : Record) (nodes : List ℕ) (k : Kept) : Type 0 where
   pub some : 0 < groups c
   pub many : length h.takes ≡ groups c
-  pub accepted_is : g.accepted ≡ length (accepted h)
-  pub handed_is : (y : ℕ) → g.handed y ≡ length (handed h y)
-  pub shut_is : g.shut ≡ shut_number (is_shut h)
-  pub tells_is : g.tells ≡ long_of
-  pub items_are : (k : ℕ) → k < g.accepted → slice_get (accepted h) k ≡ Some (item_of k (g.items k 0) (body_at (g.items k)))
+  pub linked : length nodes ≡ length (accepted h) + 1
+  pub items_are : (n : ℕ) → n < length (accepted h) → slice_get (accepted h) n ≡ Some (item_of n (k.items n 0) (body_at (k.items n)))
   pub legal : LegalSoFar c h
 
 -- the reads-th node of the scan, round the end, is at
@@ -103,24 +110,22 @@ IsNextSend h e = slice_get h.sends.calls (length h.sends.answers) ≡ Some e
 abbrev pub IsNextTake : Record → (group : ℕ) → Entry → Type 0
 IsNextTake h y e = slice_get (of_group h y).calls (length (of_group h y).answers) ≡ Some e
 
--- the nodes of the places so far stay, and these nodes were linked after them
-abbrev pub Linked : Ghosts → Ghosts → List ℕ → Type 0
-Linked g g' [] = (g'.accepted ≡ g.accepted) × ((j : ℕ) → j ≤ g.accepted → g'.node j ≡ g.node j)
-Linked g g' (x ∷ rest) = (rest ≡ []) × (g'.accepted ≡ g.accepted + 1) × (g'.node (g.accepted + 1) ≡ x) × ((j : ℕ) → j ≤ g.accepted → g'.node j ≡ g.node j)
+-- the nodes so far, and these after them
+abbrev pub then_linked : List ℕ → List ℕ → List ℕ
+then_linked nodes [] = nodes
+then_linked nodes (x ∷ new) = nodes ++ x ∷ new
 
--- ---- ties of a history that accepted and handed out the same
+pub then_is : (nodes new : List ℕ) → then_linked nodes new ≡ nodes ++ new
+then_is nodes [] = sym (append-nil nodes)
+then_is nodes (x ∷ new) = refl
 
-pub ties_same : (c : Config) (h later : Record) (g : Ghosts) → Ties c h g → length later.takes ≡ length h.takes → accepted later ≡ accepted h → is_shut later ≡ is_shut h → ((y : ℕ) → length (handed later y) ≡ length (handed h y)) → LegalSoFar c later → Ties c later g
-ties_same c h later g t n a s d legal = record {
-  some = t.some;
-  many = n ∙ t.many;
-  accepted_is = t.accepted_is ∙ ap length (sym a);
-  handed_is = λ y. t.handed_is y ∙ sym (d y);
-  shut_is = t.shut_is ∙ ap shut_number (sym s);
-  tells_is = t.tells_is;
-  items_are = λ k l. rw a (t.items_are k l);
-  legal = legal;
-}
+-- ---- a history that accepted and handed out the same
+
+pub ghosts_same : (c : Config) (h later : Record) (nodes : List ℕ) (k : Kept) → accepted later ≡ accepted h → is_shut later ≡ is_shut h → ((y : ℕ) → length (handed later y) ≡ length (handed h y)) → ghosts c later nodes k ≡ ghosts c h nodes k
+ghosts_same c h later nodes k a s d = λ i. ghosts_from (further c) long_of (length (a i)) (shut_number (s i)) (λ y. d y i) nodes k
+
+pub ties_same : (c : Config) (h later : Record) (nodes : List ℕ) (k : Kept) → Ties c h nodes k → length later.takes ≡ length h.takes → accepted later ≡ accepted h → LegalSoFar c later → Ties c later nodes k
+ties_same c h later nodes k t n a legal = record { some = t.some; many = n ∙ t.many; linked = omega (arith, t.linked, ap length a); items_are = λ j l. rw a (t.items_are j (omega (arith, l, ap length a))); legal = legal }
 
 pub shut_true : (b : Bool) → shut_number b ≡ 1 → b ≡ true
 shut_true b e = grind arith

@@ -18,7 +18,7 @@ use Rattle.cc_runs.proofs.Bodies.{body_made}
 use Rattle.cc_runs.proofs.Ranges.{in_range}
 use Rattle.cc_runs.proofs.ListRuns.Ties.{body_at}
 use Rattle.cc_runs.proofs.ListRuns.Facts.{lists}
-use Rattle.cc_runs.proofs.ListRuns.Invariant.{Parts}
+use Rattle.cc_runs.proofs.ListRuns.Invariant.{ghosts_at}
 use Rattle.cc_runs.proofs.ListRuns.Runs.{Whole}
 use Rattle.cc_runs.proofs.ListRuns.FromChains.{after_runs, of_setting}
 
@@ -45,10 +45,10 @@ all_d_within items shut n calls [] most h small l = tt
 all_d_within items shut n [] (a ∷ answers) most h small l = absurd h
 all_d_within items shut n (e ∷ calls) (a ∷ answers) most h small l = (d_within items shut n e.known a most h.0 small l, all_d_within items shut (n + length (handed_item a)) calls answers most h.1 small l)
 
-pub within : (c : Config) (s : State) → Whole c s → IsWithin c s.history
-within c s w =
-    let k : Parts c s = w.parts in
-    let life : length (accepted s.history) ≤ c.life = omega (arith, k.ties.accepted_is, k.list.inv.branch.life_in) in
+pub within : (c : Config) (s : State) {nodes : List ℕ} → Whole c s nodes → IsWithin c s.history
+within c s {nodes} w =
+    let k = w.parts in
+    let life : length (accepted s.history) ≤ c.life = omega (arith, k.list.branch.life_in) in
     record {
       life = life;
       answers = by_chain life;
@@ -56,13 +56,13 @@ within c s w =
   where
     small : Small (accepted s.history)
     small i x is =
-        let low : i < w.parts.told.accepted = omega (arith, slice_get_within (accepted s.history) i x is, w.parts.ties.accepted_is) in
-        let at : Some x ≡ Some (item_of i (w.parts.told.items i 0) (body_at (w.parts.told.items i))) = sym is ∙ w.parts.ties.items_are i low in
-        let same : x ≡ item_of i (w.parts.told.items i 0) (body_at (w.parts.told.items i)) = cc in
+        let low : i < (ghosts_at c s w.parts).accepted = omega (arith, slice_get_within (accepted s.history) i x is) in
+        let at : Some x ≡ Some (item_of i (w.parts.kept.items i 0) (body_at (w.parts.kept.items i))) = sym is ∙ w.parts.ties.items_are i low in
+        let same : x ≡ item_of i (w.parts.kept.items i 0) (body_at (w.parts.kept.items i)) = cc in
         record {
           sender = omega (arith, ap (λ (y : Item). y.sender) same);
           number = omega (arith, ap (λ (y : Item). y.number) same);
-          body = subst (λ (y : Item). IsBody y.body) (sym same) (body_made (further_words (w.parts.told.items i 0)) (body_at (w.parts.told.items i)));
+          body = subst (λ (y : Item). IsBody y.body) (sym same) (body_made (further_words (w.parts.kept.items i 0)) (body_at (w.parts.kept.items i)));
         }
 
     by_chain : length (accepted s.history) ≤ c.life → (x : Chain) → AllByRecursion (AnswerWithin c.life) (answers_on x s.history)
@@ -72,4 +72,4 @@ within c s w =
 pub numbers_stay_within : NumbersStayWithin
 numbers_stay_within c moves serves checked run =
     of_setting (λ (z : Setting). config_fault z.config ≡ Ok tt → IsRun z moves → IsWithin z.config (history_of z moves)) c serves
-    (λ ok r. within c.config (reached (lists c.config) moves) (after_runs c.config (in_range c.config ok) moves r).whole) checked run
+    (λ ok r. within c.config (reached (lists c.config) moves) (after_runs c.config (in_range c.config ok) moves r)) checked run

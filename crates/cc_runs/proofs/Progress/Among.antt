@@ -10,7 +10,7 @@ use Rattle.cc_runs.specs.State.{State, pass_at}
 use Rattle.cc_runs.specs.Turns.{is_in, has_later, is_among}
 use Rattle.cc_runs.proofs.Chains.View.{members, pass_on, post_of, post_at}
 use Rattle.cc_runs.proofs.Chains.Registers.{calls_on, call_at, no_call}
-use Rattle.cc_runs.proofs.Chains.Ties.{Holds}
+use Rattle.cc_runs.proofs.Chains.Ties.{ghost_of, Holds}
 use Rattle.cc_runs.proofs.Chains.ReadAnswers.{named, name_is, other_name}
 use Rattle.cc_runs.proofs.Progress.Shares.{both_true, true_both}
 use Rattle.cc_runs.proofs.CallsMade.{pass_self}
@@ -42,32 +42,32 @@ module _ (c : Setting) (x : Chain) (s : State) (w : Holds c x s) (k : ℕ) where
   its n e = is_pass (pass_at c.config (pass_on c x n)) e.pass
 
   -- the j-th call is of this pass
-  is_its : (n j : ℕ) → n < members c x → j < length (calls_on x s.history) → w.ghost.pass_of j ≡ n → its n (call_at (calls_on x s.history) j) ≡ true
+  is_its : (n j : ℕ) → n < members c x → j < length (calls_on x s.history) → (ghost_of w).pass_of j ≡ n → its n (call_at (calls_on x s.history) j) ≡ true
   is_its n j inside less same =
-      let below : j < w.ghost.calls = omega (arith, less, w.ties.calls_are) in
+      let below : j < (ghost_of w).calls = omega (arith, less) in
       ap (λ (z : Pass). is_pass (pass_at c.config (pass_on c x n)) z) ((w.ties.entered j below).pass_is ∙ ap (λ (z : ℕ). pass_at c.config (pass_on c x z)) same) ∙ pass_self (pass_at c.config (pass_on c x n))
 
-  not_its : (n j : ℕ) → n < members c x → j < length (calls_on x s.history) → w.ghost.pass_of j ≢ n → its n (call_at (calls_on x s.history) j) ≡ false
+  not_its : (n j : ℕ) → n < members c x → j < length (calls_on x s.history) → (ghost_of w).pass_of j ≢ n → its n (call_at (calls_on x s.history) j) ≡ false
   not_its n j inside less ne =
-      let below : j < w.ghost.calls = omega (arith, less, w.ties.calls_are) in
-      let theirs : (call_at (calls_on x s.history) j).pass ≡ named c x (w.ghost.pass_of j) = (w.ties.entered j below).pass_is ∙ name_is c x (w.ghost.pass_of j) (w.ties.pass_in j below) in
-      (λ i. is_pass (name_is c x n inside i) (theirs i)) ∙ other_name c x n (w.ghost.pass_of j) ne
+      let below : j < (ghost_of w).calls = omega (arith, less) in
+      let theirs : (call_at (calls_on x s.history) j).pass ≡ named c x ((ghost_of w).pass_of j) = (w.ties.entered j below).pass_is ∙ name_is c x ((ghost_of w).pass_of j) (w.ties.pass_in j below) in
+      (λ i. is_pass (name_is c x n inside i) (theirs i)) ∙ other_name c x n ((ghost_of w).pass_of j) ne
 
   -- it is in one of the first k calls exactly if its last call is one of them
-  pub among_at : (n : ℕ) → n < members c x → IsTrue (is_among c x k s n) → (3 ≤ (post_at x (s.stand (pass_on c x n))).rank) × (w.ghost.at n < k)
+  pub among_at : (n : ℕ) → n < members c x → IsTrue (is_among c x k s n) → (3 ≤ (post_at x (s.stand (pass_on c x n))).rank) × ((ghost_of w).at n < k)
   among_at n inside among =
       let two = both_true (is_in (s.stand (pass_on c x n)).phase) (not (has_later (pass_at c.config (pass_on c x n)) k (calls_on x s.history))) among in
       let rank : 3 ≤ (post_at x (s.stand (pass_on c x n))).rank = in_rank x (s.stand (pass_on c x n)).node (s.stand (pass_on c x n)).phase two.0 in
-      let less : w.ghost.at n < length (calls_on x s.history) = omega (arith, w.ties.calls_are, w.inv.passes.at_in n inside rank) in
-      (rank, before (its n) (calls_on x s.history) k (w.ghost.at n) (not-true (has_later (pass_at c.config (pass_on c x n)) k (calls_on x s.history)) two.1) less (is_its n (w.ghost.at n) inside less (w.inv.passes.at_is n inside rank)))
+      let less : (ghost_of w).at n < length (calls_on x s.history) = omega (arith, w.inv.passes.at_in n inside rank) in
+      (rank, before (its n) (calls_on x s.history) k ((ghost_of w).at n) (not-true (has_later (pass_at c.config (pass_on c x n)) k (calls_on x s.history)) two.1) less (is_its n ((ghost_of w).at n) inside less (w.inv.passes.at_is n inside rank)))
 
-  pub at_among : (n : ℕ) → n < members c x → 3 ≤ (post_at x (s.stand (pass_on c x n))).rank → w.ghost.at n < k → IsTrue (is_among c x k s n)
+  pub at_among : (n : ℕ) → n < members c x → 3 ≤ (post_at x (s.stand (pass_on c x n))).rank → (ghost_of w).at n < k → IsTrue (is_among c x k s n)
   at_among n inside rank less =
       true_both (is_in (s.stand (pass_on c x n)).phase) (not (has_later (pass_at c.config (pass_on c x n)) k (calls_on x s.history))) (rank_in x (s.stand (pass_on c x n)).node (s.stand (pass_on c x n)).phase rank)
       (not_from_false (has_later (pass_at c.config (pass_on c x n)) k (calls_on x s.history)) (none_from (its n) (calls_on x s.history) k
-      (λ j low below. not_its n j inside below (w.inv.passes.at_last n j (omega (arith, less, low)) (omega (arith, below, w.ties.calls_are))))))
+      (λ j low below. not_its n j inside below (w.inv.passes.at_last n j (omega (arith, less, low)) (omega (arith, below))))))
 
   -- a call without an answer has its pass in it
-  pub open_among : (j : ℕ) → w.ghost.marked ≤ j → j < w.ghost.calls → j < k → IsTrue (is_among c x k s (w.ghost.pass_of j))
+  pub open_among : (j : ℕ) → (ghost_of w).marked ≤ j → j < (ghost_of w).calls → j < k → IsTrue (is_among c x k s ((ghost_of w).pass_of j))
   open_among j low high less =
-      at_among (w.ghost.pass_of j) (w.inv.calls.open_pass j low high) (w.inv.calls.open_low j low high) (omega (arith, less, w.inv.calls.open_at j low high))
+      at_among ((ghost_of w).pass_of j) (w.inv.calls.open_pass j low high) (w.inv.calls.open_low j low high) (omega (arith, less, w.inv.calls.open_at j low high))

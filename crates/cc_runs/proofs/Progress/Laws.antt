@@ -13,7 +13,7 @@ use Rattle.cc_runs.specs.Progress.{calls_after, answers_after, NoDeadlock, Someo
 use Rattle.cc_runs.proofs.Ranges.{InRange, in_range}
 use Rattle.cc_runs.proofs.Chains.View.{members, pass_on}
 use Rattle.cc_runs.proofs.Chains.Registers.{IsChain, calls_on, answers_on}
-use Rattle.cc_runs.proofs.Chains.Ties.{Holds}
+use Rattle.cc_runs.proofs.Chains.Ties.{ghost_of, Holds}
 use Rattle.cc_runs.proofs.Chains.Runs.{chain_holds}
 use Rattle.cc_runs.proofs.Chains.Opening.{member_in}
 use Rattle.cc_runs.proofs.Chains.Safe as safe
@@ -116,10 +116,10 @@ ahead_is_bounded c moves checked run x ok k = ahead_most c x k (reached c moves)
 -- each call without an answer is of another pass
 few_open : (c : Setting) (x : Chain) (s : State) → Holds c x s → length (calls_on x s.history) ≤ length (answers_on x s.history) + members c x
 few_open c x s w =
-    let few : w.ghost.calls - w.ghost.marked ≤ members c x = covered (members c x) (w.ghost.calls - w.ghost.marked) (λ p. w.ghost.at p - w.ghost.marked) (λ n. w.ghost.pass_of (w.ghost.marked + n))
-    (λ n less. w.inv.calls.open_pass (w.ghost.marked + n) (omega arith) (omega (arith, less)))
-    (λ n less. omega (arith, w.inv.calls.open_at (w.ghost.marked + n) (omega arith) (omega (arith, less)))) in
-    omega (arith, few, w.ties.calls_are, w.ties.answers_are, w.inv.calls.in_order)
+    let few : (ghost_of w).calls - (ghost_of w).marked ≤ members c x = covered (members c x) ((ghost_of w).calls - (ghost_of w).marked) (λ p. (ghost_of w).at p - (ghost_of w).marked) (λ n. (ghost_of w).pass_of ((ghost_of w).marked + n))
+    (λ n less. w.inv.calls.open_pass ((ghost_of w).marked + n) (omega arith) (omega (arith, less)))
+    (λ n less. omega (arith, w.inv.calls.open_at ((ghost_of w).marked + n) (omega arith) (omega (arith, less)))) in
+    omega (arith, few, w.inv.calls.in_order)
 
 pub open_calls_are_few : OpenCallsAreFew
 open_calls_are_few c moves checked run x ok = few_open c x (reached c moves) (holds_after c checked x ok moves run)

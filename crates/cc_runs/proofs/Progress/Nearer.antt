@@ -22,7 +22,7 @@ use Rattle.cc_runs.proofs.Passes.{moved_apart}
 use Rattle.cc_runs.proofs.Chains.View.{view, members, pass_on, post_of, post_at}
 use Rattle.cc_runs.proofs.Chains.Frame.{hold_here, hold_apart, pass_apart}
 use Rattle.cc_runs.proofs.Chains.Registers.{IsChain, calls_on, answers_on}
-use Rattle.cc_runs.proofs.Chains.Ties.{Holds}
+use Rattle.cc_runs.proofs.Chains.Ties.{ghost_of, Holds}
 use Rattle.cc_runs.proofs.Chains.Facts.{side_same, own_node}
 use Rattle.cc_runs.proofs.Chains.Service.{send_words, take_words, count_words}
 use Rattle.cc_runs.proofs.Chains.Others.{IsOn, IsOff, which, side_other, put_there}
@@ -89,14 +89,14 @@ turn_among c x k s w n inside turn = by_kind (kinds_of c x k s n (phase_at c x s
     by_kind (reads_it reads state) =
         let four : (post_at x (s.stand (pass_on c x n))).rank ≡ 4 = ap (λ (z : Phase). (post_of x (s.stand (pass_on c x n)).node z).rank) reads in
         let own : s.mem (Word.Node x (post_at x (s.stand (pass_on c x n))).node NodeField.State) ≡ 0 = ap (λ (z : ℕ). s.mem (Word.Node x z NodeField.State)) (own_node x (s.stand (pass_on c x n)).node (phase_at c x s n)) ∙ state.0 in
-        let none = reads_zero (members c x) c.config.bound (view c x s) w.ghost w.inv n inside four own in
-        at_among c x s w k n inside (omega (arith, four)) (omega (arith, none.0, state.1, w.ties.answers_are, w.inv.serving.free_answers none.1))
+        let none = reads_zero (members c x) c.config.bound (view c x s) (ghost_of w) w.inv n inside four own in
+        at_among c x s w k n inside (omega (arith, four)) (omega (arith, none.0, state.1, w.inv.serving.free_answers none.1))
     by_kind (serves_it is less) =
         let rank : (post_at x (s.stand (pass_on c x n))).rank ≡ 5 = combining_rank x (s.stand (pass_on c x n)).node (phase_at c x s n) is in
-        let mine : w.ghost.server ≡ n + 1 = w.inv.server.server_is n inside rank in
+        let mine : (ghost_of w).server ≡ n + 1 = w.inv.server.server_is n inside rank in
         at_among c x s w k n inside (omega (arith, rank)) (elim (cases_eq (post_at x (s.stand (pass_on c x n))).stage 2) [
-          | inl two ↦ omega (arith, less, w.ties.answers_are, w.inv.server.server_low n mine, w.inv.serving.decided n mine two, two_decided x (s.stand (pass_on c x n)).node (phase_at c x s n) two)
-          | inr other ↦ omega (arith, less, w.ties.answers_are, w.inv.server.server_low n mine, w.inv.serving.undecided n mine other, not_two_decided x (s.stand (pass_on c x n)).node (phase_at c x s n) other)
+          | inl two ↦ omega (arith, less, w.inv.server.server_low n mine, w.inv.serving.decided n mine two, two_decided x (s.stand (pass_on c x n)).node (phase_at c x s n) two)
+          | inr other ↦ omega (arith, less, w.inv.server.server_low n mine, w.inv.serving.undecided n mine other, not_two_decided x (s.stand (pass_on c x n)).node (phase_at c x s n) other)
         ])
 
 -- and goes on
@@ -135,7 +135,7 @@ module _ (c : Setting) (x : Chain) (ok : IsChain c x) (k : ℕ) (s : State) (w :
   nobody n inside reads state r rn =
       let four : (post_at x (s.stand (pass_on c x n))).rank ≡ 4 = ap (λ (z : Phase). (post_of x (s.stand (pass_on c x n)).node z).rank) reads in
       let own : s.mem (Word.Node x (post_at x (s.stand (pass_on c x n))).node NodeField.State) ≡ 0 = ap (λ (z : ℕ). s.mem (Word.Node x z NodeField.State)) (own_node x (s.stand (pass_on c x n)).node (phase_at c x s n)) ∙ state in
-      let none = reads_zero (members c x) c.config.bound (view c x s) w.ghost w.inv n inside four own in
+      let none = reads_zero (members c x) c.config.bound (view c x s) (ghost_of w) w.inv n inside four own in
       false_by (is_combining (phase_at c x s r)) (λ is. absurd (omega (arith, none.1, w.inv.server.server_is r rn (five r is))))
 
   -- ---- a step of pass i

@@ -11,7 +11,7 @@ use Rattle.cc_runs.specs.Progress.{calls_after, answers_after}
 use Rattle.cc_runs.proofs.Ranges.{in_range}
 use Rattle.cc_runs.proofs.Chains.View.{members, pass_on, post_of, post_at}
 use Rattle.cc_runs.proofs.Chains.Registers.{calls_on, answers_on, call_at, answer_at, HasSend, HasService}
-use Rattle.cc_runs.proofs.Chains.Ties.{Holds}
+use Rattle.cc_runs.proofs.Chains.Ties.{ghost_of, Holds}
 use Rattle.cc_runs.proofs.Chains.Own.{sends_where}
 use Rattle.cc_runs.proofs.Chains.Serving.{chains_hold, sending_where}
 use Rattle.cc_runs.proofs.ListRuns.Laws.{scans_are_short}
@@ -22,8 +22,8 @@ use Rattle.cc_runs.proofs.Progress.Among.{open_among}
 pub sending_on : (c : Setting) (x : Chain) (s : State) → Holds c x s → (n : ℕ) → n < members c x → (job : Job) (service : Sending) → (s.stand (pass_on c x n)).phase ≡ Phase.Sending job service → x ≡ Chain.Send
 sending_on c x s w n inside job service e =
     let rank : (post_at x (s.stand (pass_on c x n))).rank ≡ 5 = ap (λ (z : Phase). (post_of x (s.stand (pass_on c x n)).node z).rank) e in
-    let had = subst (λ (z : Phase). HasService c.served x (call_at (calls_on x s.history) w.ghost.marked) (answer_at (answers_on x s.history) w.ghost.marked) z) e (w.ties.served n (w.inv.server.server_is n inside rank)) in
-    (sends_where c.served x (HasSend (call_at (calls_on x s.history) w.ghost.marked) (answer_at (answers_on x s.history) w.ghost.marked) service) had).1
+    let had = subst (λ (z : Phase). HasService c.served x (call_at (calls_on x s.history) (ghost_of w).marked) (answer_at (answers_on x s.history) (ghost_of w).marked) z) e (w.ties.served n (w.inv.server.server_is n inside rank)) in
+    (sends_where c.served x (HasSend (call_at (calls_on x s.history) (ghost_of w).marked) (answer_at (answers_on x s.history) (ghost_of w).marked) service) had).1
 
 -- a scan reads each ordinary node once, and a counter has no scan
 pub scans_short : (c : Setting) → config_fault c.config ≡ Ok tt → (moves : List Move) → IsRun c moves → (p : ℕ) → p < passes c → scan_reads ((reached c moves).stand p).phase ≤ c.config.capacity + 1
@@ -45,4 +45,4 @@ answers_stay c x later seen run = let more = (side_grows c x later seen run).ans
 
 -- the pass of a call without an answer is in it
 pub all_answered : (c : Setting) (x : Chain) (s : State) → Holds c x s → (k : ℕ) → k ≤ length (calls_on x s.history) → ((n : ℕ) → n < members c x → IsAmong c x k s n → ⊥) → k ≤ length (answers_on x s.history)
-all_answered c x s w k few nobody = grind (arith, w.ties.answers_are, w.inv.calls.in_order, w.ties.calls_are, nobody (w.ghost.pass_of w.ghost.marked), w.inv.calls.open_pass w.ghost.marked, open_among c x s w k w.ghost.marked)
+all_answered c x s w k few nobody = grind (arith, w.inv.calls.in_order, nobody ((ghost_of w).pass_of (ghost_of w).marked), w.inv.calls.open_pass (ghost_of w).marked, open_among c x s w k (ghost_of w).marked)

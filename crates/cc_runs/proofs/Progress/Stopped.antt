@@ -13,7 +13,7 @@ use Rattle.cc_runs.proofs.Passes.{others_move, moved_apart}
 use Rattle.cc_runs.proofs.RunPrefixes.{prefixes_begin}
 use Rattle.cc_runs.proofs.Chains.View.{members, pass_on, post_of, post_at}
 use Rattle.cc_runs.proofs.Chains.Registers.{IsChain, answers_on}
-use Rattle.cc_runs.proofs.Chains.Ties.{Holds}
+use Rattle.cc_runs.proofs.Chains.Ties.{ghost_of, Holds}
 use Rattle.cc_runs.proofs.Progress.Among.{among_at}
 use Rattle.cc_runs.proofs.Progress.Combiner.{phase_at}
 use Rattle.cc_runs.proofs.Progress.Laws.{holds_after, keeps_answers}
@@ -47,8 +47,8 @@ unlinked : (c : Setting) (x : Chain) (s : State) (w : Holds c x s) (k n : ℕ) �
 unlinked c x s w k n inside some among =
     let three : (post_at x (s.stand (pass_on c x n))).rank ≡ 3 = enters_rank x (s.stand (pass_on c x n)).node (phase_at c x s n) some in
     let at = among_at c x s w k n inside among in
-    let low : w.ghost.marked ≤ w.ghost.at n = w.inv.passes.early n inside three in
-    grind (arith, at.1, w.ties.answers_are, w.inv.serving.free_answers, served (pred w.ghost.server), is_pred w.ghost.server)
+    let low : (ghost_of w).marked ≤ (ghost_of w).at n = w.inv.passes.early n inside three in
+    grind (arith, at.1, w.inv.serving.free_answers, served (pred (ghost_of w).server), is_pred (ghost_of w).server)
   where
     pred : ℕ → ℕ
     pred zero = 0
@@ -58,15 +58,15 @@ unlinked c x s w k n inside some among =
     is_pred zero ne = absurd (ne refl)
     is_pred (suc m) ne = omega arith
 
-    served : (q : ℕ) → w.ghost.server ≡ q + 1 → (post_at x (s.stand (pass_on c x n))).rank ≡ 3 → w.ghost.at n < k → w.ghost.marked ≤ w.ghost.at n → length (answers_on x s.history) < k
+    served : (q : ℕ) → (ghost_of w).server ≡ q + 1 → (post_at x (s.stand (pass_on c x n))).rank ≡ 3 → (ghost_of w).at n < k → (ghost_of w).marked ≤ (ghost_of w).at n → length (answers_on x s.history) < k
     served q is three less low = elim (cases_eq (post_at x (s.stand (pass_on c x q))).stage 2) [
-      | inr other ↦ omega (arith, less, low, w.ties.answers_are, w.inv.serving.undecided q is other)
+      | inr other ↦ omega (arith, less, low, w.inv.serving.undecided q is other)
       | inl two ↦
-          let apart : w.ghost.at n ≢ w.ghost.marked = λ same.
-          let its : w.ghost.pass_of w.ghost.marked ≡ n = ap w.ghost.pass_of (sym same) ∙ w.inv.passes.at_is n inside (omega (arith, three)) in
+          let apart : (ghost_of w).at n ≢ (ghost_of w).marked = λ same.
+          let its : (ghost_of w).pass_of (ghost_of w).marked ≡ n = ap (ghost_of w).pass_of (sym same) ∙ w.inv.passes.at_is n inside (omega (arith, three)) in
           let linked : 4 ≤ (post_at x (s.stand (pass_on c x n))).rank = subst (λ (z : ℕ). 4 ≤ (post_at x (s.stand (pass_on c x z))).rank) its (w.inv.serving.serving_linked q is (omega (arith, two)) (omega (arith, two))) in
           absurd (omega (arith, three, linked)) in
-          omega (arith, less, low, apart, w.ties.answers_are, w.inv.serving.decided q is two)
+          omega (arith, less, low, apart, w.inv.serving.decided q is two)
     ]
 
 pub those_behind_stop : ThoseBehindStop

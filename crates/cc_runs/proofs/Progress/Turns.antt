@@ -16,7 +16,7 @@ use Rattle.cc_runs.proofs.Bodies.{few_further}
 use Rattle.cc_runs.proofs.ReadWords.{behind_word}
 use Rattle.cc_runs.proofs.Chains.View.{members, pass_on, post_of, post_at}
 use Rattle.cc_runs.proofs.Chains.Registers.{calls_on, answers_on}
-use Rattle.cc_runs.proofs.Chains.Ties.{Holds}
+use Rattle.cc_runs.proofs.Chains.Ties.{ghost_of, Holds}
 use Rattle.cc_runs.proofs.Chains.Facts.{own_node}
 use Rattle.cc_runs.proofs.Progress.Among.{among_at, at_among}
 use Rattle.cc_runs.proofs.Progress.Combiner.{five_combining, two_decided}
@@ -96,37 +96,37 @@ module _ (c : Setting) (x : Chain) (s : State) (w : Holds c x s) (k : ℕ) where
   serves_turn q at is less = grind arith
 
   -- a call that waits isn't marked
-  late : (n : ℕ) → n < members c x → (post_at x (s.stand (pass_on c x n))).rank ≡ 4 → s.mem (Word.Node x (s.stand (pass_on c x n)).node NodeField.State) ≡ 1 → w.ghost.marked ≤ w.ghost.at n
+  late : (n : ℕ) → n < members c x → (post_at x (s.stand (pass_on c x n))).rank ≡ 4 → s.mem (Word.Node x (s.stand (pass_on c x n)).node NodeField.State) ≡ 1 → (ghost_of w).marked ≤ (ghost_of w).at n
   late n inside four one = grind (arith, w.inv.states.done_state n inside four, own_node)
 
-  free : (n : ℕ) → n < members c x → w.ghost.at n < k → 3 ≤ (post_at x (s.stand (pass_on c x n))).rank → w.ghost.marked ≤ w.ghost.at n → w.ghost.server ≡ 0 → SomeTurn c x k s
+  free : (n : ℕ) → n < members c x → (ghost_of w).at n < k → 3 ≤ (post_at x (s.stand (pass_on c x n))).rank → (ghost_of w).marked ≤ (ghost_of w).at n → (ghost_of w).server ≡ 0 → SomeTurn c x k s
   free n inside less entered low none =
-      let q : ℕ = w.ghost.pass_of w.ghost.marked in
-      let more : w.ghost.marked < w.ghost.calls = omega (arith, low, w.inv.passes.at_in n inside entered) in
-      let q_in : w.ghost.pass_of w.ghost.marked < members c x = w.inv.calls.open_pass w.ghost.marked (omega arith) more in
-      let three : 3 ≤ (post_at x (s.stand (pass_on c x (w.ghost.pass_of w.ghost.marked)))).rank = w.inv.calls.open_low w.ghost.marked (omega arith) more in
-      let five : (post_at x (s.stand (pass_on c x (w.ghost.pass_of w.ghost.marked)))).rank ≤ 5 = w.inv.calls.open_high w.ghost.marked (omega arith) more in
-      let not_five : (post_at x (s.stand (pass_on c x (w.ghost.pass_of w.ghost.marked)))).rank ≢ 5 = λ is. absurd (omega (arith, none, w.inv.server.server_is (w.ghost.pass_of w.ghost.marked) q_in is)) in
-      let first : w.ghost.at (w.ghost.pass_of w.ghost.marked) < k = omega (arith, less, low, w.inv.calls.open_at w.ghost.marked (omega arith) more) in
-      let node : (post_at x (s.stand (pass_on c x (w.ghost.pass_of w.ghost.marked)))).node ≡ (s.stand (pass_on c x (w.ghost.pass_of w.ghost.marked))).node =
-      own_node x (s.stand (pass_on c x (w.ghost.pass_of w.ghost.marked))).node (s.stand (pass_on c x (w.ghost.pass_of w.ghost.marked))).phase in
-      let state : s.mem (Word.Node x (s.stand (pass_on c x (w.ghost.pass_of w.ghost.marked))).node NodeField.State) ≡ 0 =
-      ap (λ (z : ℕ). s.mem (Word.Node x z NodeField.State)) (sym node ∙ w.inv.calls.open_node w.ghost.marked (omega arith) more) ∙ w.inv.states.free_state none in
-      let open_answers : length (answers_on x s.history) < k = omega (arith, less, low, w.ties.answers_are, w.inv.serving.free_answers none) in
-      elim (cases_eq (post_at x (s.stand (pass_on c x (w.ghost.pass_of w.ghost.marked)))).rank 3) [
+      let q : ℕ = (ghost_of w).pass_of (ghost_of w).marked in
+      let more : (ghost_of w).marked < (ghost_of w).calls = omega (arith, low, w.inv.passes.at_in n inside entered) in
+      let q_in : (ghost_of w).pass_of (ghost_of w).marked < members c x = w.inv.calls.open_pass (ghost_of w).marked (omega arith) more in
+      let three : 3 ≤ (post_at x (s.stand (pass_on c x ((ghost_of w).pass_of (ghost_of w).marked)))).rank = w.inv.calls.open_low (ghost_of w).marked (omega arith) more in
+      let five : (post_at x (s.stand (pass_on c x ((ghost_of w).pass_of (ghost_of w).marked)))).rank ≤ 5 = w.inv.calls.open_high (ghost_of w).marked (omega arith) more in
+      let not_five : (post_at x (s.stand (pass_on c x ((ghost_of w).pass_of (ghost_of w).marked)))).rank ≢ 5 = λ is. absurd (omega (arith, none, w.inv.server.server_is ((ghost_of w).pass_of (ghost_of w).marked) q_in is)) in
+      let first : (ghost_of w).at ((ghost_of w).pass_of (ghost_of w).marked) < k = omega (arith, less, low, w.inv.calls.open_at (ghost_of w).marked (omega arith) more) in
+      let node : (post_at x (s.stand (pass_on c x ((ghost_of w).pass_of (ghost_of w).marked)))).node ≡ (s.stand (pass_on c x ((ghost_of w).pass_of (ghost_of w).marked))).node =
+      own_node x (s.stand (pass_on c x ((ghost_of w).pass_of (ghost_of w).marked))).node (s.stand (pass_on c x ((ghost_of w).pass_of (ghost_of w).marked))).phase in
+      let state : s.mem (Word.Node x (s.stand (pass_on c x ((ghost_of w).pass_of (ghost_of w).marked))).node NodeField.State) ≡ 0 =
+      ap (λ (z : ℕ). s.mem (Word.Node x z NodeField.State)) (sym node ∙ w.inv.calls.open_node (ghost_of w).marked (omega arith) more) ∙ w.inv.states.free_state none in
+      let open_answers : length (answers_on x s.history) < k = omega (arith, less, low, w.inv.serving.free_answers none) in
+      elim (cases_eq (post_at x (s.stand (pass_on c x ((ghost_of w).pass_of (ghost_of w).marked)))).rank 3) [
         | inl is ↦ record {
-          pass = w.ghost.pass_of w.ghost.marked;
+          pass = (ghost_of w).pass_of (ghost_of w).marked;
           inside = q_in;
-          turn = enters_turn (w.ghost.pass_of w.ghost.marked) (s.stand (pass_on c x (w.ghost.pass_of w.ghost.marked))).node (s.stand (pass_on c x (w.ghost.pass_of w.ghost.marked))).phase is (at_among c x s w k (w.ghost.pass_of w.ghost.marked) q_in three first);
+          turn = enters_turn ((ghost_of w).pass_of (ghost_of w).marked) (s.stand (pass_on c x ((ghost_of w).pass_of (ghost_of w).marked))).node (s.stand (pass_on c x ((ghost_of w).pass_of (ghost_of w).marked))).phase is (at_among c x s w k ((ghost_of w).pass_of (ghost_of w).marked) q_in three first);
         }
         | inr other ↦ record {
-          pass = w.ghost.pass_of w.ghost.marked;
+          pass = (ghost_of w).pass_of (ghost_of w).marked;
           inside = q_in;
-          turn = reads_turn (w.ghost.pass_of w.ghost.marked) (s.stand (pass_on c x (w.ghost.pass_of w.ghost.marked))).node (s.stand (pass_on c x (w.ghost.pass_of w.ghost.marked))).phase (omega (arith, three, five, not_five, other)) state open_answers;
+          turn = reads_turn ((ghost_of w).pass_of (ghost_of w).marked) (s.stand (pass_on c x ((ghost_of w).pass_of (ghost_of w).marked))).node (s.stand (pass_on c x ((ghost_of w).pass_of (ghost_of w).marked))).phase (omega (arith, three, five, not_five, other)) state open_answers;
         }
       ]
 
-  busy : (n : ℕ) → w.ghost.at n < k → w.ghost.marked ≤ w.ghost.at n → (q : ℕ) → w.ghost.server ≡ q + 1 → SomeTurn c x k s
+  busy : (n : ℕ) → (ghost_of w).at n < k → (ghost_of w).marked ≤ (ghost_of w).at n → (q : ℕ) → (ghost_of w).server ≡ q + 1 → SomeTurn c x k s
   busy n less low q is =
       let five : (post_at x (s.stand (pass_on c x q))).rank ≡ 5 = w.inv.server.server_rank q is in
       let combines : is_combining (s.stand (pass_on c x q)).phase ≡ true = five_combining x (s.stand (pass_on c x q)).node (s.stand (pass_on c x q)).phase five in
@@ -134,28 +134,28 @@ module _ (c : Setting) (x : Chain) (s : State) (w : Holds c x s) (k : ℕ) where
         pass = q;
         inside = w.inv.server.server_in q is;
         turn = serves_turn q (s.stand (pass_on c x q)).phase combines (elim (cases_eq (post_at x (s.stand (pass_on c x q))).stage 2) [
-          | inl two ↦ omega (arith, less, low, w.ties.answers_are, w.inv.serving.decided q is two, two_decided x (s.stand (pass_on c x q)).node (s.stand (pass_on c x q)).phase two)
-          | inr other ↦ omega (arith, less, low, w.ties.answers_are, w.inv.serving.undecided q is other)
+          | inl two ↦ omega (arith, less, low, w.inv.serving.decided q is two, two_decided x (s.stand (pass_on c x q)).node (s.stand (pass_on c x q)).phase two)
+          | inr other ↦ omega (arith, less, low, w.inv.serving.undecided q is other)
         ]);
       }
 
   -- while one of the first k calls has no answer
   pub open_turn : k ≤ length (calls_on x s.history) → length (answers_on x s.history) < k → SomeTurn c x k s
-  open_turn few less = elim (cases_eq w.ghost.server 0) [
+  open_turn few less = elim (cases_eq (ghost_of w).server 0) [
     | inl none ↦
-        let same : length (answers_on x s.history) ≡ w.ghost.marked = w.ties.answers_are ∙ w.inv.serving.free_answers none in
-        let more : w.ghost.marked < w.ghost.calls = omega (arith, same, less, few, w.ties.calls_are) in
-        let at : w.ghost.at (w.ghost.pass_of w.ghost.marked) ≡ w.ghost.marked = w.inv.calls.open_at w.ghost.marked (omega arith) more in
-        free (w.ghost.pass_of w.ghost.marked) (w.inv.calls.open_pass w.ghost.marked (omega arith) more) (omega (arith, at, same, less)) (w.inv.calls.open_low w.ghost.marked (omega arith) more) (omega (arith, at)) none
+        let same : length (answers_on x s.history) ≡ (ghost_of w).marked = w.inv.serving.free_answers none in
+        let more : (ghost_of w).marked < (ghost_of w).calls = omega (arith, same, less, few) in
+        let at : (ghost_of w).at ((ghost_of w).pass_of (ghost_of w).marked) ≡ (ghost_of w).marked = w.inv.calls.open_at (ghost_of w).marked (omega arith) more in
+        free ((ghost_of w).pass_of (ghost_of w).marked) (w.inv.calls.open_pass (ghost_of w).marked (omega arith) more) (omega (arith, at, same, less)) (w.inv.calls.open_low (ghost_of w).marked (omega arith) more) (omega (arith, at)) none
     | inr some ↦
-        let is : w.ghost.server ≡ pred_of w.ghost.server + 1 = is_pred w.ghost.server some in
-        let five : (post_at x (s.stand (pass_on c x (pred_of w.ghost.server)))).rank ≡ 5 = w.inv.server.server_rank (pred_of w.ghost.server) is in
-        let combines : is_combining (s.stand (pass_on c x (pred_of w.ghost.server))).phase ≡ true =
-        five_combining x (s.stand (pass_on c x (pred_of w.ghost.server))).node (s.stand (pass_on c x (pred_of w.ghost.server))).phase five in
+        let is : (ghost_of w).server ≡ pred_of (ghost_of w).server + 1 = is_pred (ghost_of w).server some in
+        let five : (post_at x (s.stand (pass_on c x (pred_of (ghost_of w).server)))).rank ≡ 5 = w.inv.server.server_rank (pred_of (ghost_of w).server) is in
+        let combines : is_combining (s.stand (pass_on c x (pred_of (ghost_of w).server))).phase ≡ true =
+        five_combining x (s.stand (pass_on c x (pred_of (ghost_of w).server))).node (s.stand (pass_on c x (pred_of (ghost_of w).server))).phase five in
         record {
-          pass = pred_of w.ghost.server;
-          inside = w.inv.server.server_in (pred_of w.ghost.server) is;
-          turn = serves_turn (pred_of w.ghost.server) (s.stand (pass_on c x (pred_of w.ghost.server))).phase combines (omega (arith, less));
+          pass = pred_of (ghost_of w).server;
+          inside = w.inv.server.server_in (pred_of (ghost_of w).server) is;
+          turn = serves_turn (pred_of (ghost_of w).server) (s.stand (pass_on c x (pred_of (ghost_of w).server))).phase combines (omega (arith, less));
         }
   ]
 
@@ -164,5 +164,5 @@ module _ (c : Setting) (x : Chain) (s : State) (w : Holds c x s) (k : ℕ) where
   some_turn n inside among reads one =
       let at = among_at c x s w k n inside among in
       let four : (post_at x (s.stand (pass_on c x n))).rank ≡ 4 = ap (λ (z : Phase). (post_of x (s.stand (pass_on c x n)).node z).rank) reads in
-      let low : w.ghost.marked ≤ w.ghost.at n = late n inside four one in
-      grind (arith, free n inside at.1 at.0 low, busy n at.1 low (pred_of w.ghost.server), is_pred w.ghost.server)
+      let low : (ghost_of w).marked ≤ (ghost_of w).at n = late n inside four one in
+      grind (arith, free n inside at.1 at.0 low, busy n at.1 low (pred_of (ghost_of w).server), is_pred (ghost_of w).server)
