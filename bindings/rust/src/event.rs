@@ -269,18 +269,26 @@ impl Event {
 /// How many waits of a thread don't yield after a long one. Beside a busy process each wait that yields is long.
 const AFTER_LONG: u32 = 64;
 
+/// What a [`Parker`] is: idle, or its thread parks, or it was woken.
+const IDLE: u32 = 0;
+const PARKED: u32 = 1;
+const WOKEN: u32 = 2;
+
 /// A thread that parks until it is woken.
 pub struct Parker {
     thread: Thread,
-    woken: AtomicBool,
+    state: AtomicU32,
+    /// Whether a park used up a token of the thread that no waker of this one gave. Its own thread alone has it.
+    took_token: AtomicBool,
     /// How many further waits don't yield, since a wait was long. Its own thread alone has it.
     parks: AtomicU32,
 }
 
 impl Wake for Parker {
     fn wake(self: Arc<Self>) {
-        self.woken.store(true, Ordering::SeqCst);
-        self.thread.unpark();
+        if self.state.swap(WOKEN, Ordering::SeqCst) == PARKED {
+            self.thread.unpark();
+        }
     }
 }
 
@@ -297,13 +305,16 @@ impl Parker {
         let parker = idle.ok().flatten().unwrap_or_else(|| {
             Arc::new(Parker {
                 thread: thread::current(),
-                woken: AtomicBool::new(false),
+                state: AtomicU32::new(IDLE),
+                took_token: AtomicBool::new(false),
                 parks: AtomicU32::new(0),
             })
         });
         let done = wait(&parker);
-        // Its parks may have used up a token of the thread that was for another waiter, such as an executor whose poll this is.
-        parker.thread.unpark();
+        // The token was for another waiter, such as an executor whose poll this is.
+        if parker.took_token.swap(false, Ordering::Relaxed) {
+            parker.thread.unpark();
+        }
         // If the thread locals are gone already, it goes too.
         let _ = PARKERS.try_with(|idle| idle.borrow_mut().push(parker));
         done
@@ -312,7 +323,7 @@ impl Parker {
     /// Until it is woken, or this moment. It waits a little for a waker that is near, and then parks.
     pub fn wait(&self, until: Option<Instant>) {
         let (begin, parks) = (Instant::now(), self.parks.load(Ordering::Relaxed));
-        let is_woken = || self.woken.load(Ordering::SeqCst).then_some(());
+        let is_woken = || (self.state.load(Ordering::SeqCst) == WOKEN).then_some(());
         for_others(parks > 0).try_until(until, is_woken);
         self.park(until);
         let (is_long, fewer) = (begin.elapsed() > PACE, parks.saturating_sub(1));
@@ -323,14 +334,23 @@ impl Parker {
     /// Until it is woken, or this moment. It may be woken by a notification of an earlier wait. After a park the thread
     /// may run on another processor.
     pub fn park(&self, until: Option<Instant>) {
-        while !self.woken.swap(false, Ordering::SeqCst) {
+        let order = (Ordering::SeqCst, Ordering::SeqCst);
+        let set = |from, to| self.state.compare_exchange(from, to, order.0, order.1);
+        while set(IDLE, PARKED).is_ok() {
             match until.map(|until| until.saturating_duration_since(Instant::now())) {
                 None => thread::park(),
-                Some(Duration::ZERO) => break,
-                Some(rest) => thread::park_timeout(rest),
+                Some(rest) if !rest.is_zero() => thread::park_timeout(rest),
+                Some(_) => {
+                    let _ = set(PARKED, IDLE);
+                    break;
+                }
             }
             ask_processor();
+            if set(PARKED, IDLE).is_ok() {
+                self.took_token.store(true, Ordering::Relaxed);
+            }
         }
+        let _ = set(WOKEN, IDLE);
     }
 }
 

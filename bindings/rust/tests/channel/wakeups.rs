@@ -6,7 +6,7 @@ use crate::parking::parked;
 use crate::rounds::rounds;
 use std::collections::HashSet;
 use std::thread;
-use std::time::Duration;
+use std::time::{Duration, Instant};
 use vahepito::{Receiver, RecvTimeoutError, SendError, Sender, channel};
 
 /// A step that a model leaves out or exchanges, to see that the search finds it.
@@ -1074,6 +1074,24 @@ fn a_close_wakes_all() {
                     .all(Result::is_err)
             );
         });
+    });
+}
+
+/// A wait leaves no token of its thread: a later park ends by its time.
+#[test]
+fn a_wait_leaves_no_token() {
+    const SOON: Duration = Duration::from_millis(30);
+    ends(|| {
+        let (sender, receiver) = channel(1).unwrap();
+        let waits = thread::spawn(move || {
+            receiver.recv().unwrap();
+            let begin = Instant::now();
+            thread::park_timeout(SOON);
+            assert!(begin.elapsed() >= SOON);
+        });
+        thread::sleep(SOON);
+        sender.send(7).unwrap();
+        waits.join().unwrap();
     });
 }
 
