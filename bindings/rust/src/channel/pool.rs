@@ -565,10 +565,13 @@ impl Pool {
         !self.first.is_held() && self.others().is_empty()
     }
 
-    /// Waits until this seat was free once, in line.
+    /// Waits until this seat was free once, in line. A notification that it used up goes to the next in line, since the seat
+    /// is still free.
     #[cold]
     fn wait_for(&self, seat: &Seat) -> bool {
-        self.wait_for_free(|| (!seat.is_held()).then_some(true))
+        let was_free = self.wait_for_free(|| (!seat.is_held()).then_some(true));
+        self.free.notify_one();
+        was_free
     }
 
     #[cold]
@@ -577,9 +580,10 @@ impl Pool {
         free.is_some()
     }
 
-    /// Acquires all seats, each once it is free. It waits in line for one whose holder doesn't run.
+    /// Acquires all seats, in the order in which they are free: so it has a use for the notification of each. The caller has the
+    /// lock of the groups, so no other thread does this, and no seat is added.
     pub fn acquire_all(&self) -> Vec<SeatGuard<'_>> {
-        let acquire = |seat| self.wait_for_free(|| self.try_seat(seat));
+        let acquire = |_| self.wait_for_free(|| self.acquire_free().next());
         self.seats().map(acquire).collect()
     }
 }
