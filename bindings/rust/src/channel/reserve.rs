@@ -65,7 +65,7 @@ impl Core {
         let is_sure = self.alive().all(|it| it.seats.pause_for_holders()) && !self.is_closed();
         let taken = self.alive().map(|it| it.seats.count());
         let slowest = taken.min().filter(|_| is_sure);
-        slowest.map(|it| capacity + it)
+        slowest.map(|it| capacity.saturating_add(it))
     }
 
     /// Whether the last try of this group found no item, and a look finds none now.

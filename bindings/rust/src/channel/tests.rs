@@ -117,6 +117,15 @@ fn a_side_whose_seat_is_taken_gets_the_others() {
     assert_eq!(sender.core().senders.seats.len(), pool::seats());
 }
 
+/// Of a channel without a bound to speak of the calls that are possible are no fewer than any number.
+#[test]
+fn a_capacity_is_beyond_no_count() {
+    let (sender, receiver) = crate::channel(usize::MAX).unwrap();
+    sender.send(0).unwrap();
+    assert_eq!(receiver.recv(), Ok(0));
+    assert_eq!(sender.core().possible_sends(), Some(u64::MAX));
+}
+
 /// Sends that find no room are begun too, and wear a sender out.
 #[test]
 fn tries_that_find_no_room_meet_no_end() {
