@@ -8,6 +8,7 @@
 //! raises the first of them again at its end, and so does the drop of a future.
 use super::body::{Item, Unsent, put_back};
 use super::core::{Core, SENDERS, Sent, or_closed};
+use super::pool::Patience;
 use super::rendezvous::Waiter;
 use super::select::Case;
 use super::side::Source;
@@ -43,7 +44,7 @@ impl Waiting {
         };
         if tried.is_err() && !stays {
             *self = Waiting::InLine(case.line().stand(waker.clone()));
-            tried = case.look().and_then(|()| attempt());
+            tried = case.look(Patience::Pauses).and_then(|()| attempt());
         }
         match tried {
             Ok(done) => {

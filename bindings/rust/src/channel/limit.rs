@@ -12,7 +12,7 @@
 //! The counts of given room alone don't say so: of two takes the later one may have counted its item, and the earlier one not yet.
 use super::body::Unsent;
 use super::core::{Core, Sent, Side};
-use super::pool::SeatGuard;
+use super::pool::{Patience, SeatGuard};
 use super::row::Row;
 use crate::event::{Again, Try, lock};
 use std::sync::atomic::{AtomicU64, Ordering};
@@ -71,7 +71,7 @@ impl Core {
     }
 
     /// Whether there seems to be room, or none will come. If it says no, there was none at some moment of this call.
-    pub fn row_seems_to_have_room(&self, row: &Row) -> Try<()> {
+    pub fn row_seems_to_have_room(&self, row: &Row, patience: Patience) -> Try<()> {
         let Some(limit) = &row.limit else {
             return Ok(());
         };
@@ -88,11 +88,8 @@ impl Core {
         if self.alive().all(has_room) {
             return Ok(());
         }
-        self.senders.seats.wait_for_holders();
-        let is_full = self.alive().any(|group| {
-            group.seats.wait_for_holders();
-            !has_room(group)
-        });
+        let is_done = |it: &Side| it.seats.sees_holders_done(patience);
+        let is_full = is_done(&self.senders) && self.alive().any(|it| is_done(it) && !has_room(it));
         let is_same = given_back == limit.given_back.load(Ordering::SeqCst);
         Again::unless(!is_full || !is_same || self.is_closed())
     }
@@ -123,7 +120,7 @@ impl Core {
 
     /// Whether there may be room by now.
     fn look_again(&self, row: &Row) -> Sent {
-        self.row_seems_to_have_room(row)?;
+        self.row_seems_to_have_room(row, Patience::Waits)?;
         self.check_open()
     }
 }

@@ -46,6 +46,15 @@ pub fn seats() -> usize {
     (2 * *processors).next_power_of_two().min(MOST)
 }
 
+/// How long a look waits for the threads that hold a seat, or the lock of the groups.
+#[derive(Clone, Copy, PartialEq)]
+pub enum Patience {
+    /// Until each was done once: the look finds nothing only if there was nothing.
+    Waits,
+    /// For some pauses: if a thread isn't done by then, which may not run, the look says that there is something.
+    Pauses,
+}
+
 /// A pass, and which of the channel's queues it is of.
 pub struct QueueHandle {
     pub handle: Handle,
@@ -536,8 +545,7 @@ impl Pool {
     }
 
     /// Waits until each seat was free once. So whoever had a seat has counted what went through it; and whoever
-    /// acquires a seat after that sees what this thread did before. Returns true: a caller may have this call in place
-    /// of [`pause_for_holders`](Pool::pause_for_holders), which may return false.
+    /// acquires a seat after that sees what this thread did before. Returns true.
     ///
     /// It looks for the other seats after it saw the first one free. A thread that adds seats has the first one
     /// meanwhile. So a seat that isn't looked at was added later, and what went through it came later.
@@ -550,6 +558,15 @@ impl Pool {
     #[inline]
     pub fn pause_for_holders(&self) -> bool {
         self.sees_each_free(Pool::pause_for)
+    }
+
+    /// Whether each seat was free once, with this patience for the holders.
+    #[inline(always)]
+    pub fn sees_holders_done(&self, patience: Patience) -> bool {
+        match patience {
+            Patience::Waits => self.wait_for_holders(),
+            Patience::Pauses => self.pause_for_holders(),
+        }
     }
 
     /// Whether each seat was free once; of one that is held, this says whether it was.

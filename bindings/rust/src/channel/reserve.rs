@@ -6,11 +6,12 @@
 //! holders that there are: so its answer is the queue's at some moment of the call.
 //!
 //! A look before a take, or before a send after a Full, saves the price of a call in vain. It pauses for holders that run, and
-//! then leaves the answer to the queue, which waits for no thread of the other side.
+//! then leaves the answer to the queue, which waits for no thread of the other side. So does the look of a poll. The look of a
+//! select whose time is over says then that the operation is ready.
 use super::body::Unsent;
 use super::core::{Core, Flavor, NotSent, Sent, Side};
 use super::limit::Limit;
-use super::pool::{Pool, SeatGuard};
+use super::pool::{Patience, SeatGuard};
 use crate::event::{Again, Try, lock};
 use crate::queue::handle::code;
 use std::sync::atomic::Ordering;
@@ -20,34 +21,33 @@ use std::time::Duration;
 impl Core {
     /// Whether there seems to be an item for this group, or none will come. If it says no, there was none at
     /// some moment of this call.
-    pub fn seems_to_have_item(&self, group: usize) -> Try<()> {
-        self.look_for_item(self.side(group), Pool::wait_for_holders)
-    }
-
-    /// It says yes if it doesn't see each seat of the senders free.
     #[inline(always)]
-    fn look_for_item(&self, group: &Side, sees_each_free: impl Fn(&Pool) -> bool) -> Try<()> {
+    pub fn seems_to_have_item(&self, group: &Side, patience: Patience) -> Try<()> {
         // In this order, so that the number of items is never too small.
         let taken = group.seats.count();
         let senders = &self.senders.seats;
         let has_item = || taken < senders.count();
         // If there is one seat and it is free, one count is enough. Else a count alone is cheaper than a look at seats.
         let is_seen = senders.is_one_free();
-        let seems = !is_seen && (has_item() || !sees_each_free(senders)) || has_item();
+        let seems = !is_seen && (has_item() || !senders.sees_holders_done(patience)) || has_item();
         Again::unless(seems || self.is_closed())
     }
 
     /// Whether there seems to be room that isn't reserved, or none will come. If it says no, there was none at
     /// some moment of this call.
-    pub fn seems_to_have_room(&self) -> Try<()> {
+    pub fn seems_to_have_room(&self, patience: Patience) -> Try<()> {
         if let Flavor::Row(row) = &self.flavor {
-            return self.row_seems_to_have_room(row);
+            return self.row_seems_to_have_room(row, patience);
         }
         if self.reserved.load(Ordering::SeqCst) == 0 {
-            return self.has_room_beside(0, Pool::wait_for_holders);
+            return self.has_room_beside(0, patience);
         }
-        let _groups = lock(&self.groups_lock);
-        self.has_room_beside_reserved(0)
+        let _groups = match (self.groups_lock.try_lock(), patience) {
+            (Ok(groups), _) => groups,
+            (_, Patience::Waits) => lock(&self.groups_lock),
+            (_, Patience::Pauses) => return Ok(()),
+        };
+        self.has_room_beside_reserved(0, patience)
     }
 
     /// How many items were sent, each of which a group may take: all that were accepted before this call, and maybe more. None if
@@ -78,7 +78,7 @@ impl Core {
     /// that thread.
     #[inline(always)]
     pub fn still_finds_no_item(&self, group: &Side) -> bool {
-        group.note_look(self.look_for_item(group, Pool::pause_for_holders))
+        group.note_look(self.seems_to_have_item(group, Patience::Pauses))
     }
 
     /// Whether the last send found no room, and a look finds none now.
@@ -90,7 +90,7 @@ impl Core {
     /// The look. Beside a take under way whose thread doesn't run the queue is asked.
     #[inline(always)]
     pub fn still_finds_no_room(&self) -> bool {
-        let look = self.has_room_beside(0, Pool::pause_for_holders);
+        let look = self.has_room_beside(0, Patience::Pauses);
         self.senders.note_look(look)
     }
 
@@ -99,15 +99,14 @@ impl Core {
     ///
     /// A selected send counts its item, then its place down, and then gives its seat back. So no item is overlooked here. And none is
     /// counted beside its place, if as many places are reserved after each seat was free once.
-    fn has_room_beside_reserved(&self, own: usize) -> Try<()> {
+    fn has_room_beside_reserved(&self, own: usize, patience: Patience) -> Try<()> {
         loop {
             let reserved = self.reserved.load(Ordering::SeqCst);
             let beside = reserved.saturating_sub(own);
-            let has_room = self.has_room_beside(beside, Pool::wait_for_holders);
-            if has_room.is_ok() {
-                return has_room;
+            let has_room = self.has_room_beside(beside, patience);
+            if has_room.is_ok() || !self.senders.seats.sees_holders_done(patience) {
+                return Ok(());
             }
-            self.senders.seats.wait_for_holders();
             if reserved == self.reserved.load(Ordering::SeqCst) {
                 return has_room;
             }
@@ -115,9 +114,9 @@ impl Core {
     }
 
     /// Whether there is room beside these reserved places, or none will come. If it says no, there was none at
-    /// some moment of this call, if they were reserved all the time. It says yes if it doesn't see each seat of a group free.
+    /// some moment of this call, if they were reserved all the time.
     #[inline(always)]
-    fn has_room_beside(&self, reserved: usize, sees_each_free: impl Fn(&Pool) -> bool) -> Try<()> {
+    fn has_room_beside(&self, reserved: usize, patience: Patience) -> Try<()> {
         // In this order, so that the number of items is never too large.
         let sent = self.senders.seats.count();
         let has_none = |group: &Side| {
@@ -125,10 +124,10 @@ impl Core {
             items + reserved >= self.config.capacity as usize
         };
         // The look without the seats is cheaper.
-        let is_full = self
-            .groups
-            .any(|it| !it.is_lost() && has_none(it) && sees_each_free(&it.seats) && has_none(it));
-        Again::unless(!is_full || self.is_closed())
+        let is_full = |it: &Side| {
+            !it.is_lost() && has_none(it) && it.seats.sees_holders_done(patience) && has_none(it)
+        };
+        Again::unless(!self.groups.any(is_full) || self.is_closed())
     }
 
     /// Reserves room for one send.
@@ -145,7 +144,7 @@ impl Core {
         let _groups = lock(&self.groups_lock);
         self.reserved.fetch_add(1, Ordering::SeqCst);
         self.senders.seats.wait_for_holders();
-        let room = self.has_room_beside_reserved(1);
+        let room = self.has_room_beside_reserved(1, Patience::Waits);
         let found_none = &self.senders.found_none;
         found_none.store(room.is_err(), Ordering::Relaxed);
         let reserved = room.map_err(NotSent::from).and_then(|()| self.check_open());
@@ -200,7 +199,7 @@ impl Core {
         }
         drop(seat);
         let groups = lock(&self.groups_lock);
-        self.has_room_beside_reserved(0)?;
+        self.has_room_beside_reserved(0, Patience::Waits)?;
         let mut seat = self.senders.seats.acquire();
         let code = self.send_by(&mut seat, item);
         drop(groups);

@@ -29,6 +29,7 @@
 //! is the look of [`event`](crate::event)'s argument: at some moment of it there was nothing.
 use super::body::{Item, Unsent};
 use super::core::{Core, NotSent, SENDERS, Sent, or_closed};
+use super::pool::Patience;
 use super::rendezvous::{Operation, Rendezvous, Waiter, meet_or_post, withdraw};
 use super::timer::Timer;
 use super::{
@@ -123,11 +124,11 @@ impl<'a> Case<'a> {
     }
 
     /// Whether it is ready. It may say so though it isn't.
-    pub fn look(self) -> Try<()> {
+    pub fn look(self, patience: Patience) -> Try<()> {
         match (self, self.meeting_place()) {
             (Case::Of(_, side), Some((_, rendezvous))) => rendezvous.look(side),
-            (Case::Of(core, SENDERS), None) => core.seems_to_have_room(),
-            (Case::Of(core, group), None) => core.seems_to_have_item(group),
+            (Case::Of(core, SENDERS), None) => core.seems_to_have_room(patience),
+            (Case::Of(core, group), None) => core.seems_to_have_item(core.side(group), patience),
             (Case::Timer(timer), _) => timer.look(),
         }
     }
@@ -422,7 +423,8 @@ impl<'s, 'a> Turn<'s, 'a> {
     fn attempt(&mut self, case: Case) -> Try<()> {
         match self.aim {
             Aim::Begin => case.begin(&mut self.begun),
-            Aim::Look => case.look(),
+            Aim::Look if is_over(self.until) => case.look(Patience::Pauses),
+            Aim::Look => case.look(Patience::Waits),
         }
     }
 
@@ -684,7 +686,8 @@ impl<'a> Select<'a> {
     }
 
     /// Returns the index of an operation that is ready, if there is one. Another thread may make it
-    /// first; so call `try_recv` or `try_send` then.
+    /// first; so call `try_recv` or `try_send` then. Beside a call whose thread doesn't run, an operation
+    /// counts as ready that may not be.
     ///
     /// # Errors
     ///

@@ -2,8 +2,10 @@
 use super::rounds::rounds;
 use super::*;
 use std::collections::BTreeMap;
+use std::pin::pin;
 use std::sync::Mutex;
 use std::sync::atomic::{AtomicBool, Ordering::SeqCst};
+use std::task::{Context, Waker};
 use std::thread;
 use std::time::Duration;
 
@@ -115,6 +117,41 @@ fn a_side_whose_seat_is_taken_gets_the_others() {
     // Those of more items have all seats.
     let (sender, _receiver) = crate::channel::<u8>(65).unwrap();
     assert_eq!(sender.core().senders.seats.len(), pool::seats());
+}
+
+/// A thread that holds a seat may not run. A look of a select whose time is over, and a poll, don't wait for it.
+#[test]
+fn a_look_doesnt_wait_for_a_holder() {
+    let channels = || [crate::channel(1), crate::channel(65), crate::bounded(4097)];
+    for (sender, receiver) in channels().map(Result::unwrap) {
+        let mut takes = Select::new();
+        takes.recv(&receiver);
+        assert!(takes.try_ready().is_err());
+        let held = sender.core().senders.seats.acquire();
+        assert_eq!(takes.try_ready(), Ok(0));
+        assert_eq!(takes.ready_timeout(Duration::ZERO), Ok(0));
+        let context = &mut Context::from_waker(Waker::noop());
+        assert!(pin!(receiver.recv_async()).poll(context).is_pending());
+        assert_eq!(receiver.try_recv(), Err(TryRecvError::Empty));
+        drop(held);
+    }
+    for (sender, receiver) in channels().map(Result::unwrap) {
+        while sender.try_send(0).is_ok() {}
+        let mut sends = Select::new();
+        sends.send(&sender);
+        assert!(sends.try_ready().is_err());
+        let held = sender.core().side(1).seats.acquire();
+        assert_eq!(sends.try_ready(), Ok(0));
+        drop(held);
+        assert_eq!(receiver.recv(), Ok(0));
+        let operation = sends.select();
+        assert!(sends.try_ready().is_err());
+        let lock = sender.core().groups_lock.lock().unwrap();
+        // In a row no lock is needed for this.
+        assert_eq!(sends.try_ready().is_err(), sender.capacity() == Some(4097));
+        drop(lock);
+        drop(operation);
+    }
 }
 
 /// Of a channel without a bound to speak of the calls that are possible are no fewer than any number.
