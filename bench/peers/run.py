@@ -224,8 +224,9 @@ def tables(queues):
          "1 or 8 receivers of an empty queue, into which nothing is sent.",
          {q: {f"{n} waiting": (cell("idle", q, shape(1, n), 2), 0) for n in (1, 8)} for q in waiting}),
         ("full", "A send that finds the queue full, by capacity", True, "ns a call",
-         "`try_send` on one thread, again and again. This queue looks at all its nodes. A look takes up to twice as "
-         "long if the linker puts a jump of this loop across 32 bytes (Intel's erratum of conditional jumps).",
+         "`try_send` on one thread, again and again. The exports (*words*) look at all nodes. C and the channel look "
+         "at two counts first. A look takes up to twice as long if the linker puts a jump of this loop across 32 bytes "
+         "(Intel's erratum of conditional jumps).",
          {q: {str(c): (cell("full", q, shape(1, 1, c), 0.2), 0) for c in CAPACITIES} for q in queues}),
         ("bounds", "The bound, by threads", True, "ns an item",
          "The exports with capacity 64 and bounds of 4 to 1,024; the crate's own is 64.",
