@@ -6,25 +6,29 @@
 # The library for C has a Makefile of its own: bindings/c.
 PREFIX ?= /usr/local
 PROGRAM = bin/x86_64-unknown-linux-gnu/ccq
-BIN = $(DESTDIR)$(PREFIX)/bin
-SHARE = $(DESTDIR)$(PREFIX)/share
-INSTALLED = $(BIN)/ccq $(SHARE)/man/man1/ccq.1 $(SHARE)/bash-completion/completions/ccq \
-    $(SHARE)/zsh/site-functions/_ccq $(SHARE)/fish/vendor_completions.d/ccq.fish
+TO = $(DESTDIR)$(PREFIX)
+# The files, by their paths in PREFIX.
+PAGE = share/man/man1/ccq.1
+BASH = share/bash-completion/completions/ccq
+ZSH = share/zsh/site-functions/_ccq
+FISH = share/fish/vendor_completions.d/ccq.fish
 
 .PHONY: help install uninstall
 help:
 	@sed -n 's/^# \{0,1\}//p' Makefile
 
+# PREFIX may have spaces.
 install:
-	install -d $(dir $(INSTALLED))
-	install -m 755 $(PROGRAM) $(BIN)/ccq
-	install -m 644 docs/ccq.1 $(SHARE)/man/man1/ccq.1
-	install -m 644 bin/completions/ccq.bash $(SHARE)/bash-completion/completions/ccq
-	install -m 644 bin/completions/ccq.zsh $(SHARE)/zsh/site-functions/_ccq
-	install -m 644 bin/completions/ccq.fish $(SHARE)/fish/vendor_completions.d/ccq.fish
-ifeq ($(filter /usr /usr/local,$(PREFIX)),)
-	@echo 'zsh looks there with this line in ~/.zshrc, before compinit: fpath=($(PREFIX)/share/zsh/site-functions $$fpath)'
-endif
+	install -D -m 755 $(PROGRAM) "$(TO)/bin/ccq"
+	install -D -m 644 docs/ccq.1 "$(TO)/$(PAGE)"
+	install -D -m 644 bin/completions/ccq.bash "$(TO)/$(BASH)"
+	install -D -m 644 bin/completions/ccq.zsh "$(TO)/$(ZSH)"
+	install -D -m 644 bin/completions/ccq.fish "$(TO)/$(FISH)"
+	@case ":$$PATH:" in *":$(PREFIX)/bin:"*) ;; *) [ "$(DESTDIR)" ] || \
+	  echo 'ccq is found with this line in ~/.profile: PATH="$(PREFIX)/bin:$$PATH"';; esac
+	@case "$$SHELL:$(PREFIX)" in *zsh:/usr | *zsh:/usr/local) ;; *zsh:*) \
+	  echo 'zsh looks there with this line in ~/.zshrc, before compinit: fpath=("$(PREFIX)/share/zsh/site-functions" $$fpath)';; \
+	esac
 
 uninstall:
-	rm -f $(INSTALLED)
+	cd "$(TO)" && rm -f bin/ccq $(PAGE) $(BASH) $(ZSH) $(FISH)
