@@ -28,6 +28,9 @@ import sys
 import tempfile
 import time
 
+sys.dont_write_bytecode = True
+import asked
+
 TOP = pathlib.Path(__file__).resolve().parent.parent
 TARGET, QEMU = "aarch64-unknown-linux-gnu", "qemu-aarch64 -L /usr/aarch64-linux-gnu"
 GCC, CLANG = "aarch64-linux-gnu-gcc", "clang --target=aarch64-linux-gnu"

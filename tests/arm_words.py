@@ -25,6 +25,7 @@ import subprocess
 import sys
 
 sys.dont_write_bytecode = True
+import asked
 from module import compiled, compiler_of, object_in
 
 FOLDER = pathlib.Path(__file__).resolve().parent.parent / "bindings/rust/lib/aarch64-unknown-linux-gnu"

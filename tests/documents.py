@@ -19,6 +19,9 @@ import pathlib
 import re
 import sys
 
+sys.dont_write_bytecode = True
+import asked
+
 TOP = pathlib.Path(__file__).resolve().parent.parent
 DOCUMENTS = ["README.md", "CONTRIBUTING.md", "docs/*.md", "bindings/*.md"]
 TEXTS = [*DOCUMENTS, "CHANGELOG.md", "examples/*.md", "crates/*/src/*.rt", "bindings/*.[ch]", "bindings/*.rs"]

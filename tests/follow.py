@@ -20,6 +20,7 @@ import time
 from pathlib import Path
 
 sys.dont_write_bytecode = True
+import asked
 import windows
 from windows import PROGRAM, judged, text_of
 

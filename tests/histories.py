@@ -17,6 +17,9 @@ import sys
 import tempfile
 from pathlib import Path
 
+sys.dont_write_bytecode = True
+import asked
+
 TOP = Path(__file__).resolve().parent.parent
 PROGRAM = Path(os.environ.get("CCQ", TOP / "crates/ccq/out/ccq"))
 

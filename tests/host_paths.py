@@ -19,6 +19,9 @@ import subprocess
 import sys
 import tempfile
 
+sys.dont_write_bytecode = True
+import asked
+
 # Folders that a machine has wherever they are, any absolute path of two names (and no address of a site), and the
 # sections of debuggers.
 FOUND = re.compile(

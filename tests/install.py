@@ -27,6 +27,9 @@ import sys
 import tempfile
 import time
 
+sys.dont_write_bytecode = True
+import asked
+
 TOP = os.path.dirname(os.path.dirname(os.path.abspath(__file__)))
 CCQ = os.environ.get("CCQ", TOP + "/bin/x86_64-unknown-linux-gnu/ccq")
 INSTALLED = {

@@ -20,6 +20,9 @@ import subprocess
 import sys
 import tempfile
 
+sys.dont_write_bytecode = True
+import asked
+
 TOP = os.path.dirname(os.path.dirname(os.path.abspath(__file__)))
 CALLS = 300
 

@@ -17,6 +17,7 @@ import tempfile
 from pathlib import Path
 
 sys.dont_write_bytecode = True
+import asked
 CCQ = Path(__file__).resolve().parent.parent / "bin" / "x86_64-unknown-linux-gnu" / "ccq"
 
 

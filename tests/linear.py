@@ -27,6 +27,7 @@ import sys
 from dataclasses import dataclass, field
 
 sys.dont_write_bytecode = True
+import asked
 import derive
 
 

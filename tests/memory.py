@@ -17,6 +17,7 @@ import re
 import sys
 
 sys.dont_write_bytecode = True
+import asked
 from programs import PROGRAM, TOP, Row, does, refused
 
 SAYS = (r"at most (\d+) bytes of memory for each byte of a plan or of\s+receipts, "

@@ -33,6 +33,7 @@ import tempfile
 
 TOP = pathlib.Path(__file__).resolve().parent.parent
 sys.dont_write_bytecode = True
+import asked
 sys.path.insert(0, str(TOP / "tools"))
 from release_stores import Refused, released
 

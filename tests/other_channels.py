@@ -21,6 +21,7 @@ import tempfile
 from pathlib import Path
 
 sys.dont_write_bytecode = True
+import asked
 TOP = Path(__file__).resolve().parent.parent
 REGISTRY = Path("/usr/share/cargo/registry")
 SHAPE = ("config(64);\n    let capacity = 512;", "config(1);\n    let capacity = 1;")

@@ -21,6 +21,9 @@ import subprocess
 import sys
 import textwrap
 
+sys.dont_write_bytecode = True
+import asked
+
 TOP = pathlib.Path(__file__).resolve().parent.parent
 LIMIT_OF_README = 900
 DOCUMENTS = ["*.md", "docs/*.md", "bindings/*/*.md", "examples/README.md"]

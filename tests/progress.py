@@ -28,6 +28,7 @@ from dataclasses import dataclass
 from typing import Iterator
 
 sys.dont_write_bytecode = True
+import asked
 import derive
 
 

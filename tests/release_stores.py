@@ -17,6 +17,9 @@ import pathlib
 import subprocess
 import sys
 
+sys.dont_write_bytecode = True
+import asked
+
 TOP = pathlib.Path(__file__).resolve().parent.parent
 TOOL = TOP / "tools/release_stores.py"
 MODULE = TOP / "bindings/rust/lib/x86_64-unknown-linux-gnu/module.ll.xz"

@@ -19,6 +19,7 @@ import re
 import sys
 
 sys.dont_write_bytecode = True
+import asked
 sys.path.insert(0, str(pathlib.Path(__file__).resolve().parent.parent / "tools"))
 import sources
 import statements

@@ -24,6 +24,7 @@ import sys
 import tempfile
 
 sys.dont_write_bytecode = True
+import asked
 from module import compiled, compiler_of
 
 TOP = pathlib.Path(__file__).resolve().parent.parent

@@ -26,6 +26,7 @@ LIBRARIES = TOP / "bindings/rust/lib"
 X86 = LIBRARIES / "x86_64-unknown-linux-gnu"
 FIRST = {"x86_64-unknown-linux-gnu": "rsp+8", "aarch64-unknown-linux-gnu": "sp+0"}
 sys.dont_write_bytecode = True
+import asked
 sys.path.insert(0, str(TOP / "tools"))
 import mark_module
 

@@ -28,6 +28,9 @@ import time
 from concurrent.futures import ThreadPoolExecutor
 from pathlib import Path
 
+sys.dont_write_bytecode = True
+import asked
+
 TOP = Path(__file__).resolve().parent.parent
 PROGRAM = Path(os.environ.get("CCQ", TOP / "crates/ccq/out/ccq"))
 CAPACITY = 16

@@ -93,6 +93,9 @@ def judge_lanes(program, lines, options=()):
 
 
 def main(words):
+    if words in (["-h"], ["--help"]):
+        print(__doc__.strip())
+        return 0
     if not words or words[0].startswith("-"):
         print("usage: tools/lanes.py LOG [OPTIONS OF ccq judge]", file=sys.stderr)
         return 64

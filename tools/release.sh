@@ -52,5 +52,6 @@ case "$#-${1-}" in
     make_all "$2" || { echo 'release: FAILED' >&2 && exit 1; }
     cat "$2/SHA256SUMS"
     ;;
+1--h | 1---help) sed -n '2,/^[^#]/s/^# \{0,1\}//p' tools/release.sh ;;
 *) sed -n '2,/^[^#]/s/^# \{0,1\}//p' tools/release.sh >&2 && exit 64 ;;
 esac

@@ -64,6 +64,7 @@ case ${1-} in
         exit 1
     fi
     ;;
+-h | --help) sed -n '2,/^[^#]/s/^# \{0,1\}//p' tools/show_pictures.sh ;;
 *)
     echo 'usage: tools/show_pictures.sh [--write]' >&2
     exit 64

@@ -34,6 +34,7 @@ from http.server import BaseHTTPRequestHandler, ThreadingHTTPServer
 sys.dont_write_bytecode = True
 HERE = pathlib.Path(__file__).resolve().parent
 sys.path.insert(0, str(HERE.parent))
+import asked
 from programs import PROGRAM, TOP, by_hand as rows_of, derived
 
 INDEX = TOP / "docs/pages/index.html"
