@@ -3,8 +3,8 @@
 
 Usage: tests/budget.py --yard           prints the time, and the processor seconds of a fixed piece of work, now
        tests/budget.py --yards          prints them now, and again every five minutes until it is killed
-       tests/budget.py PARTS YARDS      compares: PARTS has a line `SECONDS END NAME` for each part, one after another,
-                                        YARDS the lines of --yards
+       tests/budget.py PARTS YARDS      compares: PARTS has a line `SECONDS START END NAME` for each part, which may
+                                        have run side by side, and YARDS the lines of --yards
 
 The piece of work is the proof of the toolchain's own template of a library, from nothing. CONTRIBUTING.md has the
 limit, in processor minutes, and the seconds that this work takes on the host of its table. A part counts less on a
@@ -25,6 +25,7 @@ import time
 from pathlib import Path
 
 sys.dont_write_bytecode = True
+import asked
 TOP = Path(__file__).resolve().parent.parent
 LIMIT = re.compile(r"\*\*The limit is (\d+) processor minutes\*\*, on a host on which `tests/budget\.py --yard` "
                    r"prints (\d+\.\d)")
@@ -72,19 +73,18 @@ def speed_between(yards: list[tuple[float, float]], start: float, end: float) ->
     return 1 / min(yards, key=lambda it: abs(it[0] - (start + end) / 2))[1]
 
 
-def verdict(parts: list[tuple[float, float, str]], yards: list[tuple[float, float]], text: str) -> tuple[list[str],
-    bool]:
-    """What is said of these parts, each with its seconds, its end and its name, and whether they are within the limit
-    that this text has."""
+def verdict(parts: list[tuple[float, float, float, str]], yards: list[tuple[float, float]],
+            text: str) -> tuple[list[str], bool]:
+    """What is said of these parts, each with its seconds, its start, its end and its name, and whether they are within
+    the limit that this text has."""
     found = LIMIT.search(text)
     if not found or not yards or not parts:
         return ["budget: CONTRIBUTING.md has no limit, or nothing was measured"], False
     minutes, there = int(found[1]), float(found[2])
-    starts = [parts[0][1], *(end for _, end, _ in parts)]
-    counted = [seconds * there * speed_between(yards, start, end) for start, (seconds, end, _) in zip(starts, parts)]
-    spent, price = sum(seconds for seconds, _, _ in parts) / 60, sum(counted) / 60
+    counted = [seconds * there * speed_between(yards, start, end) for seconds, start, end, _ in parts]
+    spent, price = sum(seconds for seconds, *_ in parts) / 60, sum(counted) / 60
     said = [f"budget: {seconds:8.1f} s, counted as {as_there:8.1f} s  {name}"
-            for as_there, (seconds, _, name) in sorted(zip(counted, parts), reverse=True)[:SHOWN]]
+            for as_there, (seconds, *_, name) in sorted(zip(counted, parts), reverse=True)[:SHOWN]]
     seen = ", ".join(f"{seconds:.1f}" for _, seconds in yards)
     said.append(f"budget: the yardstick took {seen} s, and {there} s on the host of CONTRIBUTING.md")
     said.append(f"budget: {spent:.1f} processor minutes, which are {price:.1f} there; the limit is {minutes}")
@@ -105,9 +105,9 @@ def main() -> int:
     if len(words) != 2:
         print(__doc__, file=sys.stderr)
         return 64
-    lines = [line.split(" ", 2) for line in Path(words[0]).read_text().splitlines()]
+    lines = [line.split(" ", 3) for line in Path(words[0]).read_text().splitlines()]
     yards = [line.split() for line in Path(words[1]).read_text().splitlines()]
-    parts = [(float(seconds), float(end), name) for seconds, end, name in lines]
+    parts = [(float(seconds), float(start), float(end), name) for seconds, start, end, name in lines]
     said, within = verdict(parts, [(float(at), float(seconds)) for at, seconds in yards],
                            (TOP / "CONTRIBUTING.md").read_text())
     print("\n".join(said))

@@ -16,7 +16,7 @@ the word for which it stands. A block of another language is a file, whose name 
 it. --list prints commands and files, and runs none.
 
 The tests of the crate make a twentieth of their rounds (VAHEPITO_ROUNDS). With --gate, as ./test calls it, they make a
-fiftieth, and cargo compiles each crate once for all commands, without a debugger's lines: tests/bindings.sh makes all
+fiftieth, and cargo compiles each crate once for all commands, without a debugger's lines: tests/bindings.py makes all
 rounds in the same gate. The examples in the crate's documentation are left out then (RUSTDOC), which an old rustc
 compiles one by one. A line says so. Prints a line with the processor seconds of each command, and their sum. The exit
 status is 0 if all hold, 1 if one fails, and 77 if this machine can't make a chroot: not root, no debootstrap, no

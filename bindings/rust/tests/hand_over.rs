@@ -1,4 +1,4 @@
-//! Boxes that threads fill, hand over, read and free, for the thread sanitizer (`tests/bindings.sh`
+//! Boxes that threads fill, hand over, read and free, for the thread sanitizer (`tests/bindings.py`
 //! has it on). It sees this crate's own atomics, the locks of shared handles among them, and neither the
 //! queue's nor what std does within its locks and its `Arc`. So nobody parks here: who waits tries again;
 //! and the handles are dropped by one thread, once the others are joined.

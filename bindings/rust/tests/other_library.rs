@@ -1,5 +1,5 @@
 //! Each opening reports a library of another version, before any other call of it. These
-//! tests are for archives that `tests/bindings.sh` makes of `../c/stub.c`: any other call of
+//! tests are for archives that `tests/bindings.py` makes of `../c/stub.c`: any other call of
 //! theirs ends the process. `VAHEPITO_LINKED` is the version that such an archive returns.
 use std::fmt::Debug;
 use vahepito::OpenError;
