@@ -11,7 +11,8 @@ import sys
 
 sys.dont_write_bytecode = True
 import written
-from sources import TOP, Unreadable
+from definitions import definition_at, read_cases, spelled
+from sources import TOP, Unreadable, read_text
 
 MARKS = "<!-- steps -->\n", "<!-- end of steps -->\n"
 SECTIONS = {
@@ -22,7 +23,7 @@ SECTIONS = {
 }
 # What stands in the column of the operation, for each verb and the words behind it.
 OPERATIONS = {
-    "load": lambda found, word, *_: f"loads {word}" + (f" as {code(found)}" if found != "_" else ""),
+    "load": lambda found, word, *_: f"loads {word}" + (f" as {code(found)}" if found[1] != ["_"] else ""),
     "store": lambda found, word, value, *_: f"stores {value} in {word}",
     "add": lambda found, word, value, *_: f"adds {value} to {word}",
     "swap": lambda found, word, value, entry, node, *_:
@@ -36,55 +37,48 @@ LEADS = {
     "DecidesAndOn": lambda answer, place: f"decides {answer}, then {place}",
     "Tells": lambda answer: f"returns {answer}",
 }
-# Lines of places without a step, and of a service's first place: they stand in no row.
-STEPLESS = ("none", "record")
 
 
-def bare(text):
-    """A text without the brackets around all of it."""
-    return text[1:-1] if text.startswith("(") and text.endswith(")") else text
+def code(tree):
+    return f"`{spelled(tree)}`"
 
 
-def code(text):
-    return f"`{bare(text)}`"
+def pattern(tree):
+    """A pattern as a tree."""
+    name, inside = tree
+    head = "name", name.split(".")
+    return ("apply", head, [pattern(one) for one in inside]) if inside else head
 
 
-def words(text):
-    """The words of a text, where one in brackets is one word."""
-    found, depth = [""], 0
-    for char in text:
-        depth += (char == "(") - (char == ")")
-        if char == " " and depth == 0:
-            found.append("")
-        else:
-            found[-1] += char
-    return found
+def head_and_arguments(tree):
+    head, arguments = tree[1:] if tree[0] == "apply" else (tree, [])
+    return spelled(head) if head[0] == "name" else "", arguments
 
 
-def leads(text):
-    first, *rest = words(bare(text))
-    return LEADS[first](*map(code, rest)) if first in LEADS else code(text)
+def leads(tree):
+    head, arguments = head_and_arguments(tree)
+    return LEADS[head](*map(code, arguments)) if head in LEADS else code(tree)
 
 
-def row(line):
-    """The row of a line `line ARGUMENTS PLACE FOUND = VERB KIND WORD ..`, or nothing if the line makes no step."""
-    left, right = re.fullmatch(r" *line (?:c served |g |served )?(.*?) = (.*)", line).groups()
-    place, found = re.fullmatch(r"(.*) (\S+)", left).groups()
-    verb, *parts = words(right)
-    if verb in STEPLESS:
+def row(patterns, value):
+    """The row of a line `line .. PLACE FOUND = VERB KIND WORD ..`, or nothing if the line makes no step."""
+    verb, arguments = head_and_arguments(value)
+    if value[0] == "record" or verb == "none":
         return ""
     if verb not in OPERATIONS:
-        raise Unreadable(f"not understood: {line}")
-    kind, *rest = parts
-    return f"| {code(place)} | {kind} | {OPERATIONS[verb](found, *map(code, rest))} | {leads(rest[-1])} |\n"
+        raise Unreadable(f"not understood: {spelled(value)}")
+    place, found = map(pattern, patterns[-2:])
+    kind, *rest = arguments
+    operation = OPERATIONS[verb](found, *map(code, rest))
+    return f"| {code(place)} | {spelled(kind)} | {operation} | {leads(rest[-1])} |\n"
 
 
 def section(file, title):
-    text = (TOP / f"crates/cc_runs/specs/{file}.antt").read_text()
-    text = re.sub(r"\b[A-Z][A-Za-z]*\.([A-Z])", r"\1", text)
-    functions, rows = re.split(r"^ *abbrev pub line .*\n", text, maxsplit=1, flags=re.M)
-    named = re.findall(r"^(--.*\n)abbrev pub (?:mark|after|serves|by_).*\n((?:.+\n)+)", functions, flags=re.M)
-    table = "".join(row(line) for line in rows.splitlines() if re.match(" *line .* = ", line))
+    place = "cc_runs", file, "line"
+    table = "".join(row(*case) for case in read_cases(place, definition_at(place)))
+    text = re.sub(r"\b[A-Z][A-Za-z]*\.([A-Z])", r"\1", read_text(TOP / f"crates/cc_runs/specs/{file}.antt"))
+    named = re.findall(r"^(--.*\n)abbrev pub (?:mark|after|serves|by_).*\n((?:.+\n)+)",
+                       re.split(r"^ *abbrev pub line ", text, flags=re.M)[0], flags=re.M)
     shown = "".join("\n" + "".join(f"    {line}\n" for line in (comment + lines).splitlines())
                     for comment, lines in named)
     return f"\n### {title}\n\n| phase | kind | operation | next phase |\n|---|---|---|---|\n{table}{shown}"
