@@ -110,7 +110,7 @@ static void breaks(const char *rule) {
 enum kind {
     DONE, LOAD, ADD, EXCHANGE, SLEEP, WAKE, TRY_SEND, TRY_TAKE, TURN_SEND, TURN_TAKE, CLOSE, LOOK_SENT, LOOK_TAKEN,
     LOOK_CLOSED, MARK_CLOSED, LOCK, UNLOCK, SEAT, COMBINE, TURN_COMBINED, LOAD_WAITING, LOAD_ENDED, SWAP_WAITING,
-    ADD_ENDED, POLL, DRAIN, RING, LOAD_ARMED, SWAP_ARMED, LOAD_LEFT, MARK_LEFT
+    ADD_ENDED, POLL, DRAIN, RING, LOAD_ARMED, SWAP_ARMED, LOAD_LEFT, MARK_LEFT, LOOK_CLOSING, MARK_CLOSING
 };
 
 struct step {
@@ -194,6 +194,7 @@ static uint64_t model_load(const void *place) {
     if (model->bound && place == &queue.served.waiting) return result_of((struct step){LOAD_WAITING, 0, 0, 0, false});
     if (model->bound && place == &queue.served.ended) return result_of((struct step){LOAD_ENDED, 0, 0, 0, false});
     if (place == &queue.is_closed) return result_of((struct step){LOOK_CLOSED, 0, 0, 0, false});
+    if (place == &queue.is_closing) return result_of((struct step){LOOK_CLOSING, 0, 0, 0, false});
     if (place == &queue.special) return model->looks ? WAS_FULL : 0;
     const int left = left_of(place);
     if (left == 0 && (model->bells != 0 || !has_leaves)) return model->bells != 0;
@@ -230,6 +231,7 @@ static uint32_t model_swap(uint32_t *place, uint32_t value) {
 /* Any other store is of a seat, or of the hint that there was no room. */
 static void model_store(const void *place, uint64_t value) {
     if (place == &queue.is_closed) (void)result_of((struct step){MARK_CLOSED, 0, 0, 0, false});
+    if (place == &queue.is_closing) (void)result_of((struct step){MARK_CLOSING, 0, 0, 0, false});
     if (left_of(place) < LINES) (void)result_of((struct step){MARK_LEFT, left_of(place), 0, 0, false});
     if (place == &queue.seats[0].is_taken) queue.seats[0].is_taken = (uintptr_t)value;
 }
@@ -445,8 +447,11 @@ static struct place after_step(struct place it, struct step step, uint64_t resul
     switch (step.kind) {
     case TRY_SEND: case TURN_SEND: tries_with(&it, 0, result); break;
     case TRY_TAKE: case TURN_TAKE: case TURN_COMBINED: tries_with(&it, step.line, result); break;
-    /* The look at the counts has found no room, or the mark is there. */
     case LOOK_CLOSED: finds(&it, 0, result != 0); break;
+    /* The look at the counts has found no room; or a close is under way, and the call tries. */
+    case LOOK_CLOSING:
+        if (result == 0) finds(&it, 0, false);
+        break;
     case CLOSE: case MARK_CLOSED:
         it.closing = (uint8_t)((2u << model->groups) - 1), it.unchecked |= model->bells;
         break;
@@ -557,7 +562,7 @@ struct state {
     uint64_t counts[LINES];
     uint32_t nodes[PROCESSES];
     uint8_t sleeps[PROCESSES], woken_for_nothing[PROCESSES];
-    uint8_t sent, taken[GROUPS], closed, is_marked;
+    uint8_t sent, taken[GROUPS], closed, is_marked, is_closing;
     bool is_unanswered; /* a call returned before its answer */
     uint8_t has_lock; /* which process, from 1 */
     /* What the call of each process has; and of each side, in order, the processes, from 1, whose calls aren't
@@ -776,6 +781,8 @@ static void search_after(const struct state *state, int process) {
     case LOOK_TAKEN: advance(next, process, state->taken[step.line - 1]); break;
     case LOOK_CLOSED: advance(next, process, state->is_marked); break;
     case MARK_CLOSED: next.is_marked = 1, advance(next, process, 0); break;
+    case LOOK_CLOSING: advance(next, process, state->is_closing); break;
+    case MARK_CLOSING: next.is_closing = 1, advance(next, process, 0); break;
     case LOCK:
         if (state->has_lock == 0) next.has_lock = (uint8_t)(process + 1), advance(next, process, 0);
         break;

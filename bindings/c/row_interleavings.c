@@ -27,13 +27,12 @@
  * that call is.
  *
  * Nor does it break the rules of a bound (`KeepBound` and `FindsFull` of crates/cc_row/specs/BoundThreads.antt, and
- * `ReturnLate` of BoundedRuns.antt). A send begins at a queue to which all groups have come; or its thread has loaded
+ * `GetsFull` of BoundedRuns.antt). A send begins at a queue to which all groups have come; or its thread has loaded
  * how many items the last queue had accepted, while no other sender had a call there, then found room for each group by
  * what the group had taken of the queue that it was at, and no sender began a call there since. A close begins where
  * all groups have come, or while no sender has a call. A send returns that there is no room, or parks, after a queue
- * had none, or after loads of the same kind that find none. It is a look of the same call each time. The row is marked
- * as closed by the store of `is_closed`. A look that finds no room begins before that, and no call returns Shut,
- * Already, Closed or Ended before that.
+ * had none, or after loads of the same kind that find none. It is a look of the same call each time, and begins before
+ * a close of the row begins its call. No call returns Shut, Already, Closed or Ended before the store of `is_closed`.
  *
  * The answers are checked by an oracle that knows no row. It is one queue, first in, first out, whose calls take effect
  * at one moment between their begin and their return. With each state go all orders of the calls that explain the
@@ -112,7 +111,7 @@ enum field code_field(const void *of, const void *place, uint32_t *number) {
     const vahepito_queue *const queue = of;
     *number = 0;
     if (LIES_IN(first) || LIES_IN(retired) || LIES_IN(spare) || LIES_IN(is_opening)) return LOCKED;
-    if (LIES_IN(is_closed)) return *number = CLOSED_WORD, GUARDED;
+    if (LIES_IN(is_closed) || LIES_IN(is_closing)) return *number = CLOSED_WORD, GUARDED;
     if (LIES_IN(last)) return *number = LAST_WORD, GUARDED;
     if (LIES_IN(at)) return *number = AT_WORDS + (uint32_t)((queue_part *const *)place - queue->at), GUARDED;
     if (LIES_IN(special)) return WORD;
@@ -429,12 +428,18 @@ static bool has_sender(uint32_t number) {
     return has;
 }
 
+/* Whether a close by a caller has begun its call at the last queue. */
+static bool row_close_began(void) {
+    return world.lock > 0 && calls[world.lock - 1][processes[world.lock - 1].call] == 'c' &&
+           has_close(raw_of_part(code_queue_of(queue, 0)));
+}
+
 /* This process has loaded how many items this queue accepted, or how many a group has taken of it. */
 static void looked(uint32_t number, uint32_t group) {
     struct process *const it = this_process();
     if (group == 0) {
         it->looks_at = (uint8_t)(number + 1), it->accepted = (uint8_t)accepted_below(number + 1);
-        it->is_late = code_is_closed(queue);
+        it->is_late = code_is_closed(queue) || row_close_began();
         it->is_alone = number == queue_now(0) && !has_sender(number), it->has_room = it->finds_full = 0;
         return;
     }
@@ -470,7 +475,7 @@ static void check_bound(uint32_t number, bool closes) {
 /* A call of this process relies on it that there was no room. */
 static void check_full(void) {
     if (!this_process()->finds_full) breaks("there is no room by a wrong look");
-    if (this_process()->is_late) breaks("a look that gets Full begins after the mark");
+    if (this_process()->is_late) breaks("a look that gets Full begins after a close");
 }
 
 /* A call of this process returns with this code. */
@@ -1341,6 +1346,7 @@ static void print_path(void) {
 
 /* From small ones to large ones. */
 static const struct model models[] = {
+    {"mmm c", 1, 0, 1, 2, 0, 0, 0, false, THERE, 1},
     {"mmmm n", 0, 2, 1, 2, 0, 0, 0, false, THERE, 1}, {"b k", 0, 1, 1, 2, 1, 0, 1, false, THERE, 1},
     {"b k", 2, 0, 1, 2, 1, 0, 0, false, THERE, 1}, {"mm nn", 2, 0, 1, 1, 1, 0, 0, false, NEW, 1},
     {"mn mn", 0, 1, 1, 2, 1, 0, 0, false, NEW, 1}, {"mm no", 1, 0, 2, 2, 1, 0, 0, false, THERE, 1},

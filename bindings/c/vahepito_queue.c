@@ -330,7 +330,7 @@ struct vahepito_queue {
     uint32_t groups, words, places; /* how many seats there are: a power of two */
     size_t stride;   /* the bytes of a side's handles in a queue of the row */
     size_t own_mask; /* up to which bytes a seat begins */
-    bool has_bound, is_closed;
+    bool has_bound, is_closed, is_closing; /* a close sets `is_closing` before its call, and `is_closed` behind it */
     bool has_bells;   /* whether some bell isn't -1, or some group has left */
     bool has_left[MOST_GROUPS];
     uint32_t special; /* NARROW: some group isn't at the last queue, and there is a bound. WAS_FULL: a send found no
@@ -832,14 +832,14 @@ typedef struct {
     uint64_t number; /* of the queue that refused it */
 } send_request;
 
-/* Whether the counts of this queue say that it was full at a moment at which no close had returned: the close is looked
- * for last. The looks are by the sender of this seat, one after the other: that such looks show Full is proved
- * (looks_answer_full of the crate cc_queue). */
+/* Whether the counts of this queue say that it was full at a moment at which no close of the row had begun its call:
+ * the close is looked for last. The looks are by the sender of this seat, one after the other: that such looks show
+ * Full is proved (looks_answer_full of the crate cc_queue). */
 static bool is_full_part(const vahepito_queue *queue, queue_part *part, uint32_t seat) {
     const uint64_t accepted = accepted_count(part, queue, seat);
     for (uint32_t group = 1; group <= queue->groups; group++)
         if (taken_count(part, queue, seat, group) + queue->config.capacity <= accepted)
-            return !row_is_closed(queue);
+            return !__atomic_load_n(&queue->is_closing, __ATOMIC_SEQ_CST);
     return false;
 }
 
@@ -1296,6 +1296,7 @@ uint32_t vahepito_take_many(vahepito_queue *queue, uint32_t group, vahepito_item
 uint32_t vahepito_close(vahepito_queue *queue, uint64_t *total) {
     uint64_t number = 0;
     lock_row(queue);
+    __atomic_store_n(&queue->is_closing, true, __ATOMIC_SEQ_CST);
     const uint32_t code = close_last(queue, &number);
     __atomic_store_n(&queue->is_closed, true, __ATOMIC_SEQ_CST);
     unlock_row(queue);

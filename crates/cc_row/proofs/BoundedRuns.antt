@@ -4,6 +4,7 @@ use Rattle.std.proofs.Common.{◌≡◌, ◌⊎◌, ℕ, zero, suc, ◌+◌, ◌
 use Rattle.std.specs.List.{AllByRecursion, list_any}
 use Rattle.cc_model.specs.Record.{Record}
 use Rattle.cc_model.specs.Items.{IsPrefix, accepted, accepted_by, accepted_item, is_shut, shuts, handed}
+use Rattle.cc_model.specs.Sequential.{Exactly}
 use Rattle.std.proofs.lemmas.List.{map-append}
 use Rattle.cc_runs.specs.State.{noted}
 use Rattle.cc_runs.specs.Run.{history_of, reached}
@@ -13,7 +14,7 @@ use Rattle.cc_runs.proofs.Linear.Replay.{prefix_length, replay_even}
 use Rattle.cc_runs.proofs.KnownPrefixes.{accepted_grow}
 use Rattle.cc_runs.proofs.Linear.Insert.{exact_before}
 use Rattle.cc_runs.proofs.Linear.Orders.{timely_now}
-use Rattle.cc_row.specs.Names.{Config, Pass, Call, Entry, Answer, SendAnswer, Chain, Setting, Move}
+use Rattle.cc_row.specs.Names.{Config, Pass, Call, Item, Entry, Answer, SendAnswer, Chain, Setting, Move}
 use Rattle.cc_row.specs.BoundRuns.{waiting, waiting_at}
 use Rattle.cc_row.specs.CountedOrders.{FollowsCounts, HasCountedOrder}
 use Rattle.cc_row.proofs.Exact as exact
@@ -29,16 +30,15 @@ use Rattle.cc_row.specs.OneQueue.{own_name}
 use Rattle.cc_row.specs.Queues.{AtQueue, AreApart, InOrder, only, seen}
 use Rattle.cc_row.specs.Runs.{RowMove, FoundEnded, moves_at, flat}
 use Rattle.cc_row.specs.Threads.{RowEvent, RowSetting, IsKept, moves_of, moves_there, last_of, queue_of, final_of}
-use Rattle.cc_row.specs.Bound.{AreTogether, HasRoom, IsCrowded, IsFullRow, IsLetIn, taken_before}
-use Rattle.cc_row.specs.BoundThreads.{queue_at, accepted_below, counted_below, HasBound, HaveCome, FindsFull, KeepBound}
+use Rattle.cc_row.specs.Bound.{AreTogether, HasRoom, IsFullRow, IsLetIn, taken_before}
+use Rattle.cc_row.specs.BoundThreads.{queue_at, accepted_below, counted_below, HasBound, HaveCome, KeepBound}
 use Rattle.cc_row.proofs.Threads.{within, good, final_last}
-use Rattle.cc_row.proofs.BoundQueues.{bounded, bounded_queues}
+use Rattle.cc_row.proofs.BoundQueues.{bounded_queues}
 use Rattle.cc_row.specs.BoundQueues.{RowEffect, effects_in, AreLetIn}
-use Rattle.cc_row.specs.BoundedRuns.{Sent, GetsFull, GetFull, refused, with_looks, IsOneQueue, effects_before, LooksFindCrowds, ClosesLate, IsBoundedLinearization, BoundedThreadsAreOne}
-use Rattle.cc_row.proofs.FullLooks.{is_crowded, is_full}
-use Rattle.cc_row.proofs.ShutCalls.{accepts_none}
-use Rattle.cc_row.proofs.LateTimes.{head_same, tail_same, none_in, calls_in_time, late_in_time}
-use Rattle.cc_row.proofs.CloseRuns.{effects_at, effects_front, effects_refused, looks_none, closes_late}
+use Rattle.cc_row.specs.BoundedRuns.{Sent, GetsFull, GetFull, refused, with_looks, IsOneQueue, IsBoundedLinearization, BoundedThreadsAreOne}
+use Rattle.cc_row.proofs.FullLooks.{is_full}
+use Rattle.cc_row.proofs.RealTime.{head_same, tail_same, none_in, calls_in_time}
+use Rattle.cc_row.proofs.WithLooks.{effects_front, effects_refused, looks_none}
 use Rattle.cc_model.proofs.Grows.{any-append}
 use Rattle.cc_row.proofs.Sums.{grows}
 
@@ -70,6 +70,12 @@ split_last {X} (y ∷ front) rest (z ∷ xs) x is = elim (split_last front rest 
   | inl same ↦ inl (λ i. head_same (sym is) i ∷ same i)
   | inr p ↦ inr (p.0, λ i. head_same is i ∷ p.1 i)
 ]
+
+-- a queue that is shut accepts nothing
+pub accepts_none : (cfg : Config) (pass : Pass) (call : Call) (number known : ℕ) (items : List Item) (shut : Bool)
+    (t all : ℕ) (a : Answer) → Exactly cfg items shut t all call a → shut ≡ true
+    → length (accepted_item (record { pass = pass; call = call; number = number; known = known }) a) ≡ 0
+accepts_none cfg pass call number known items shut t all a h is = grind arith
 
 frozen_order : (cfg : Config) (l : List Effect) → IsExact cfg l → (answers : List Answer) → IsPrefix answers (replay cfg.groups l).sends.answers → list_any shuts answers ≡ true
     → length (accepted (replay cfg.groups l)) ≤ length (accepted_by (replay cfg.groups l).sends.calls answers)
@@ -394,14 +400,6 @@ module _ (r : RowSetting) (count bound : ℕ) (has : HasBound r count bound) (to
   follows_before : (m : RowMove) (earlier : List RowMove) (f : ℕ → List (List Effect)) → Follows (m ∷ earlier) f → Follows earlier (cut m.at f)
   follows_before m earlier f each q = grind (arith, cut_here, follows_tail, moves_here, cut_else, moves_else)
 
-  crowd_at : (later start : List RowEvent) → Sound r start → (f : ℕ → List (List Effect)) → Each r.of (moves_of (later ++ start)) f → ((q : ℕ) → IsExact (r.of q).config (in_order (f q))) → Follows (moves_of (later ++ start)) f
-      → (between : List RowEvent) → Sound r (between ++ start) → FindsFull r count bound between start → last_of start ≤ to → IsCrowded count bound to (map (seen own_name) (flat (effects_before later (merge (moves_of (later ++ start)) f))))
-  crowd_at [] start s f each ok follows between then finds up = is_crowded r count bound has start s f each ok follows between then finds to up
-  crowd_at (RowEvent.Moves m ∷ later) start s f each ok follows between then finds up =
-      crowd_at later start s (cut m.at f) (each_before r.of m (moves_of (later ++ start)) f each) (exacts_cut r.of m.at f ok) (follows_before m (moves_of (later ++ start)) f follows) between then finds up
-  crowd_at (_ ∷ later) start s f each ok follows between then finds up =
-      crowd_at later start s f each ok follows between then finds up
-
   module _ (whole : List RowEvent) (all_sound : Sound r whole) (up : last_of whole ≤ to) (looks : List RowEvent → List Sent)
       (full : (later seen : List RowEvent) → later ++ seen ≡ whole → AllByRecursion (λ (s : Sent). GetsFull r count bound to later seen) (looks seen)) where
     -- the looks of one moment
@@ -451,10 +449,7 @@ bounded_threads r one events has is_kept keep =
         exact = merged_exact r.of (moves_of events) f each ok;
         is_one = subst (λ (z : List RowEffect). IsOneQueue one (final_of events) z) (without_looks events f) (one_of (λ s. []) (λ later seen is. tt));
         has_looks = one_of;
-        finds_crowds = crowds;
-        closes_late = late;
-        late_in_time = late_in_time r (final_of events) events (sound_of r events is_kept) f each ok;
-        in_time = λ later seen is. calls_in_time r (final_of events) events (sound_of r events is_kept) f each ok later seen is;
+        in_time = λ later seen is. calls_in_time r events (sound_of r events is_kept) f each later seen is;
       },
     )
       where
@@ -471,29 +466,3 @@ bounded_threads r one events has is_kept keep =
             (λ q. subst (λ (z : List AtQueue). IsExact (r.of q).config (only q z)) (sym (looks_none looks events f)) (merged_exact r.of (moves_of events) f each ok q))
             (subst (λ (z : List AtQueue). InOrder own_name (final_of events) z) (sym (looks_none looks events f)) own)
             (all_let r one.groups one.capacity has (final_of events) events (sound_of r events is_kept) (final_last events) looks full [] events refl (sound_of r events is_kept) keep (final_last events) f each ok follows)
-
-        crowds : LooksFindCrowds r one.groups one.capacity events (merge (moves_of events) f)
-        crowds after between start is finds =
-            let whole : Sound r ((after ++ between) ++ start) = subst (λ (z : List RowEvent). Sound r z) (sym is) (sound_of r events is_kept) in
-            let now : Sound r (between ++ start) = sound_then r after (between ++ start) (subst (λ (z : List RowEvent). Sound r z) (append_assoc after between start) whole) in
-            subst (λ (z : List RowEvent). IsCrowded one.groups one.capacity (final_of events) (map (seen own_name) (flat (effects_before (after ++ between) (merge (moves_of z) f))))) is
-            (crowd_at r one.groups one.capacity has (final_of events) (after ++ between) start (sound_then r between start now) f (subst (λ (z : List RowEvent). Each r.of (moves_of z) f) (sym is) each) ok
-            (subst (λ (z : List RowEvent). (q : ℕ) → FollowsCounts (r.of q) (moves_there q z) (f q)) (sym is) follows) between now finds
-            (omega (arith, final_last events, last_up r (after ++ between) start, ap last_of is)))
-
-        late : ClosesLate r one (final_of events) events (merge (moves_of events) f)
-        late = closes_late r one (final_of events) events (λ q. has.capacity_is q) has.some f refl crowds
-            (bounded (λ q. (r.of q).config) one record {
-              some = has.some;
-              groups = has.groups_are;
-              capacity = has.capacity_is;
-            } (final_of events) (map RowEffect.At (flat (merge (moves_of events) f)))
-            (λ q. subst (λ (z : List AtQueue). IsExact (r.of q).config (only q z))
-            (sym (effects_at (flat (merge (moves_of events) f)))) (merged_exact r.of (moves_of events) f each ok q))
-            (subst (λ (z : List AtQueue). InOrder own_name (final_of events) z)
-            (sym (effects_at (flat (merge (moves_of events) f)))) own)
-            (subst (λ (z : List RowEffect). AreLetIn one.groups one.capacity (final_of events) z)
-            (without_looks events f)
-            (all_let r one.groups one.capacity has (final_of events) events (sound_of r events is_kept)
-            (final_last events) (λ s. []) (λ later seen is. tt) [] events refl (sound_of r events is_kept) keep
-            (final_last events) f each ok follows)))

@@ -21,10 +21,7 @@ pub mod BoundThreads
 pub mod SmallThreads
 pub mod CountedOrders
 pub mod FullLooks
-pub mod LateCloses
-pub mod CloseRuns
-pub mod ShutCalls
-pub mod LateTimes
+pub mod WithLooks
+pub mod RealTime
 pub mod BoundedRuns
 pub mod SmallBoundRun
-pub mod SmallClose

@@ -15,7 +15,7 @@ ghost use Rattle.cc_row.specs.BoundThreads.{LooksFindFullRows, ThreadsKeepBounds
 ghost use Rattle.cc_row.specs.BoundRuns.{CountedTakesAreOpen, WaitingSendsHaveRoom};
 ghost use Rattle.cc_row.specs.CountedOrders.{OrdersFollowCounts};
 ghost use Rattle.cc_row.specs.BoundedRuns.{BoundedThreadsAreOne};
-ghost use Rattle.cc_row.specs.SmallBoundRun.{SmallBoundRun, SmallClose};
+ghost use Rattle.cc_row.specs.SmallBoundRun.{SmallBoundRun};
 ghost use Rattle.cc_row.specs.Threads.{ThreadsMakeRows, LeftQueuesRest};
 
 /// Queues in a row, of which each is used after the one before it was closed, are one queue without a bound.
@@ -139,10 +139,7 @@ pub fn orders_follow_counts()
 
 /// Threads that keep the rules of a row and of its bound make one queue with this capacity, in every interleaving: the
 /// run has an order that keeps real time, of which each answer is that of a sequential queue, also Full of a queue. A
-/// Full of a look is in this order at the moment at which the look loads the number of accepted items, if no close of
-/// the row has exchanged by then. Else as many items as the bound are in the row at that place of the order, but it
-/// may be shut there. Then the calls that say that the row is shut take effect later, in another order of the run. It
-/// keeps real time too, if these calls return after the moment at which they take effect.
+/// Full of a look is in this order at the moment at which the look loads the number of accepted items.
 #[tactic(auto, using(crate::proofs::BoundedRuns::bounded_threads))]
 pub fn bounded_threads_are_one()
     ensures { BoundedThreadsAreOne }
@@ -159,11 +156,4 @@ pub fn small_threads()
 #[tactic(auto, using(crate::proofs::SmallBoundRun::small_bound_run_is))]
 pub fn small_bound_run()
     ensures { SmallBoundRun }
-{}
-
-/// A thread of a small row closes it, and a look finds the row full before the close has returned. If the close had
-/// returned, the order in which it takes effect later wouldn't keep real time.
-#[tactic(auto, using(crate::proofs::SmallClose::small_close_is))]
-pub fn small_close_run()
-    ensures { SmallClose }
 {}
