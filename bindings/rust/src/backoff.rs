@@ -101,6 +101,27 @@ fn spin_until(from: Instant, time: Duration) {
     }
 }
 
+/// How long a thread looks for a partner that is to exchange an item with it: as long as an exchange takes.
+const FOR_AN_EXCHANGE: Duration = Duration::from_nanos(400);
+/// How often it then yields its processor, which the partner may wait for, before it parks.
+const YIELDS: u32 = 4;
+
+/// Waits until this holds, by looks at a word that the partner alone writes; or until it is time to park, or this moment.
+pub fn wait_for_partner(until: Option<Instant>, is_done: impl Fn() -> bool) {
+    let (begin, mut yields) = (Instant::now(), 0);
+    while !is_done() {
+        let spent = begin.elapsed();
+        if spent < FOR_AN_EXCHANGE {
+            spin_loop();
+        } else if yields < YIELDS && until.is_none_or(|it| begin + spent < it) {
+            yields += 1;
+            thread::yield_now();
+        } else {
+            return;
+        }
+    }
+}
+
 /// How long the other side goes ahead: some items, and less than a park costs.
 const AHEAD: Duration = Duration::from_micros(1);
 

@@ -40,7 +40,7 @@
 //! `tests/channel/wakeups.rs` searches all interleavings of these steps in small models, and finds the lost wake-up
 //! if one of them is left out; `tests/channel/looks.rs` does the same for a look at the counts of seats, and `tests/channel/served.rs` for calls that
 //! another one serves.
-use crate::backoff::{PACE, Wait, for_others};
+use crate::backoff::{Wait, wait_for_partner};
 use crate::numbered::Numbered;
 use crate::scheduler::ask_processor;
 use std::any::Any;
@@ -266,9 +266,6 @@ impl Event {
     }
 }
 
-/// How many waits of a thread don't yield after a long one. Beside a busy process each wait that yields is long.
-const AFTER_LONG: u32 = 64;
-
 /// What a [`Parker`] is: idle, or its thread parks, or it was woken.
 const IDLE: u32 = 0;
 const PARKED: u32 = 1;
@@ -280,8 +277,6 @@ pub struct Parker {
     state: AtomicU32,
     /// Whether a park used up a token of the thread that no waker of this one gave. Its own thread alone has it.
     took_token: AtomicBool,
-    /// How many further waits don't yield, since a wait was long. Its own thread alone has it.
-    parks: AtomicU32,
 }
 
 impl Wake for Parker {
@@ -307,7 +302,6 @@ impl Parker {
                 thread: thread::current(),
                 state: AtomicU32::new(IDLE),
                 took_token: AtomicBool::new(false),
-                parks: AtomicU32::new(0),
             })
         });
         let done = wait(&parker);
@@ -322,13 +316,8 @@ impl Parker {
 
     /// Until it is woken, or this moment. It waits a little for a waker that is near, and then parks.
     pub fn wait(&self, until: Option<Instant>) {
-        let (begin, parks) = (Instant::now(), self.parks.load(Ordering::Relaxed));
-        let is_woken = || (self.state.load(Ordering::SeqCst) == WOKEN).then_some(());
-        for_others(parks > 0).try_until(until, is_woken);
+        wait_for_partner(until, || self.state.load(Ordering::SeqCst) == WOKEN);
         self.park(until);
-        let (is_long, fewer) = (begin.elapsed() > PACE, parks.saturating_sub(1));
-        let parks = if is_long { AFTER_LONG } else { fewer };
-        self.parks.store(parks, Ordering::Relaxed);
     }
 
     /// Until it is woken, or this moment. It may be woken by a notification of an earlier wait. After a park the thread

@@ -11,7 +11,7 @@
 //! takes no other lock; that of a row takes the row's lock. User code (an item's drop or copy, a waker) runs while none is held.
 use super::body::{Answer, Item, Kind, Lent, NoItem, Offer, Unsent};
 use super::pool::{Pool, QueueHandle, SeatGuard};
-use super::rendezvous::Rendezvous;
+use super::rendezvous::{Meeting, Rendezvous, is_sent};
 use super::row::{Row, Shape};
 use crate::backoff::PACE;
 use crate::event::{Again, Apart, Event, Panics, Try, lock};
@@ -243,6 +243,13 @@ impl Core {
         }
     }
 
+    /// A call of this side of a channel of capacity 0; None of any other channel.
+    #[inline]
+    pub fn meeting(&self, side: usize) -> Option<Meeting<'_>> {
+        let (core, of) = (self, self.rendezvous()?);
+        Some(Meeting { core, of, side })
+    }
+
     /// How many items it may hold; None if any number.
     pub fn capacity(&self) -> Option<usize> {
         match &self.flavor {
@@ -341,8 +348,11 @@ impl Core {
 
     #[inline(always)]
     fn try_to_send(&self, item: &mut impl Offer) -> Sent {
-        if let Some(rendezvous) = self.rendezvous() {
-            return item.by_itself(self.kind, move |it| rendezvous.try_send(it));
+        if let Some(meeting) = self.meeting(SENDERS) {
+            return item.by_itself(self.kind, move |it| {
+                meeting.try_now(it)?;
+                is_sent(it)
+            });
         }
         let mut seat = self.acquire_seat(&self.senders);
         if self.reserved.load(Ordering::SeqCst) > 0 {
@@ -438,8 +448,9 @@ impl Core {
     /// The same, without a look that comes first.
     #[inline]
     pub fn take_if_there(&self, group: usize) -> Try<Option<Item>> {
-        if let Some(rendezvous) = self.rendezvous() {
-            return rendezvous.try_take();
+        if let Some(meeting) = self.meeting(group) {
+            let mut item = None;
+            return meeting.try_now(&mut item).map(|()| item);
         }
         match self.take_in_seat(group, Core::take_by) {
             Ok(item) => Ok(Some(item)),

@@ -9,7 +9,7 @@
 use super::body::{Item, Unsent, put_back};
 use super::core::{Core, SENDERS, Sent, or_closed};
 use super::pool::Patience;
-use super::rendezvous::Waiter;
+use super::rendezvous::{Waiter, is_sent};
 use super::select::Case;
 use super::side::Source;
 use super::{Receiver, RecvError, SendError, Sender};
@@ -82,8 +82,12 @@ fn poll_state<R>(
 
 /// One poll of a take. It gives None if the channel is closed.
 fn poll_take(state: &mut State, case: Case, waker: &Waker) -> Poll<Option<Item>> {
-    poll_state(state, |waiting, panics| match case.meeting_place() {
-        Some((core, rendezvous)) => core.poll_met(rendezvous, waiting, waker, panics),
+    poll_state(state, |waiting, panics| match case.meeting() {
+        Some(meeting) => {
+            let mut item = None;
+            let polled = meeting.poll(waiting, &mut item, waker, panics);
+            polled.map(|()| item)
+        }
         None => waiting.poll_in_line(case, waker, panics, || case.try_take()),
     })
 }
@@ -91,8 +95,11 @@ fn poll_take(state: &mut State, case: Case, waker: &Waker) -> Poll<Option<Item>>
 /// One poll of a send. The item is put back if the channel is closed.
 fn poll_send(state: &mut State, core: &Core, item: &mut Unsent, waker: &Waker) -> Poll<Sent> {
     let case = Case::Of(core, SENDERS);
-    poll_state(state, |waiting, panics| match case.meeting_place() {
-        Some((_, rendezvous)) => core.poll_posted(rendezvous, waiting, item, waker, panics),
+    poll_state(state, |waiting, panics| match case.meeting() {
+        Some(meeting) => {
+            let polled = meeting.poll(waiting, item, waker, panics);
+            polled.map(|()| is_sent(item))
+        }
         None => waiting.poll_in_line(case, waker, panics, || or_closed(core.try_send(item))),
     })
 }
@@ -100,10 +107,10 @@ fn poll_send(state: &mut State, core: &Core, item: &mut Unsent, waker: &Waker) -
 /// The task is no more, nor is the item of a send.
 fn end(waiting: Waiting, case: Case, mut item: Unsent) {
     let mut panics = Panics::default();
-    match (waiting, case.meeting_place()) {
+    match (waiting, case.meeting()) {
         (Waiting::InLine(ticket), _) => case.line().pass_on(ticket, &mut panics),
-        (Waiting::Posted(waiter), Some((core, rendezvous))) => {
-            let posted = core.leave_list(rendezvous, case.side(), &waiter, &mut panics);
+        (Waiting::Posted(waiter), Some(meeting)) => {
+            let posted = meeting.leave(&waiter, &mut panics);
             item = item.or(posted);
         }
         _ => {}

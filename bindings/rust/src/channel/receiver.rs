@@ -42,8 +42,12 @@ impl Source {
     fn wait_for_item(&self, until: Option<Instant>) -> Result<Item, RecvTimeoutError> {
         let attempt = || self.case().try_take();
         let taken = match self.case() {
-            Case::Of(core, group) => match core.rendezvous() {
-                Some(rendezvous) => core.meet_to_take(rendezvous, until),
+            Case::Of(core, group) => match core.meeting(group) {
+                Some(meeting) => {
+                    let mut item = None;
+                    let is_done = meeting.wait(&mut item, until);
+                    (is_done || item.is_some()).then_some(item)
+                }
                 None => core.wait(group, until, attempt),
             },
             Case::Timer(timer) => wait(&timer.line, &FOR_OTHERS, until, &(), attempt),

@@ -10,8 +10,9 @@
 //! sent; of a send the items that were sent, and those that the slowest group has taken, and the capacity. Both only grow, and the
 //! operation isn't ready if they are equal. The select reads the first number of each operation, and then the second number of
 //! each; see `Turn::is_none_ready`. Where these numbers say nothing it stands in all lines, tries, and leaves: if no line
-//! was notified until then, none was ready. That is so for capacity 0, beside reserved places, and beside a call whose thread doesn't run;
-//! then others that wait in the same line may be notified in its place, and the moments may differ.
+//! was notified until then, none was ready. That is so for capacity 0 beside queues, beside reserved places, and beside a call whose thread
+//! doesn't run; then others that wait in the same line may be notified in its place, and the moments may differ. If all operations are of
+//! capacity 0, the select looks once while it has the locks of all their lists, and posts nothing.
 //!
 //! **A selected take has its item.** The try is the take itself, so there is one, and no other receiver gets the item.
 //! [`SelectedOperation`] keeps it until [`recv`](SelectedOperation::recv) hands it over.
@@ -30,7 +31,7 @@
 use super::body::{Item, Unsent};
 use super::core::{Core, NotSent, SENDERS, Sent, or_closed};
 use super::pool::Patience;
-use super::rendezvous::{Operation, Rendezvous, Waiter, meet_or_post, withdraw};
+use super::rendezvous::{Meeting, Waiter, meet_each, withdraw_each};
 use super::timer::Timer;
 use super::{
     ReadyTimeoutError, Receiver, RecvError, SelectTimeoutError, SendError, Sender, TryReadyError,
@@ -84,10 +85,10 @@ impl<'a> Case<'a> {
         }
     }
 
-    /// Its channel, and where it is posted there, if that has capacity 0.
-    pub fn meeting_place(self) -> Option<(&'a Core, &'a Rendezvous)> {
+    /// If its channel has capacity 0.
+    pub fn meeting(self) -> Option<Meeting<'a>> {
         match self {
-            Case::Of(core, _) => Some((core, core.rendezvous()?)),
+            Case::Of(core, side) => core.meeting(side),
             Case::Timer(_) => None,
         }
     }
@@ -102,7 +103,7 @@ impl<'a> Case<'a> {
     }
 
     /// It is posted: notifies those of the other side that aren't.
-    fn notify_posted(self) {
+    pub fn notify_posted(self) {
         match self {
             Case::Of(core, SENDERS) => core.notify_item(),
             Case::Of(core, _) => core.senders.line.notify_one(),
@@ -114,8 +115,8 @@ impl<'a> Case<'a> {
     #[inline]
     fn begin(self, begun: &mut Option<Begun>) -> Try<()> {
         *begun = Some(match self {
-            Case::Of(core, SENDERS) => match core.rendezvous() {
-                Some(rendezvous) => rendezvous.meet(SENDERS, &mut None)?,
+            Case::Of(core, SENDERS) => match core.meeting(SENDERS) {
+                Some(meeting) => meeting.meet(&mut None)?,
                 None => or_closed(core.reserve())?.map_or(Begun::Closed, |()| Begun::Room),
             },
             _ => self.try_take()?.map_or(Begun::Closed, Begun::Taken),
@@ -125,8 +126,8 @@ impl<'a> Case<'a> {
 
     /// Whether it is ready. It may say so though it isn't.
     pub fn look(self, patience: Patience) -> Try<()> {
-        match (self, self.meeting_place()) {
-            (Case::Of(_, side), Some((_, rendezvous))) => rendezvous.look(side),
+        match (self, self.meeting()) {
+            (_, Some(meeting)) => meeting.look(),
             (Case::Of(core, SENDERS), None) => core.seems_to_have_room(patience),
             (Case::Of(core, group), None) => core.seems_to_have_item(core.side(group), patience),
             (Case::Timer(timer), _) => timer.look(),
@@ -145,7 +146,7 @@ impl<'a> Case<'a> {
     /// that isn't known, or the channel is closed.
     fn possible(self) -> Option<u64> {
         match self {
-            _ if self.meeting_place().is_some() => None,
+            _ if self.meeting().is_some() => None,
             Case::Of(core, SENDERS) => core.possible_sends(),
             Case::Of(core, _) => core.possible_takes(),
             Case::Timer(timer) => timer.possible(),
@@ -165,13 +166,8 @@ impl<'a> Case<'a> {
 impl Core {
     /// Sends by a selected send.
     fn complete(&self, begun: &mut Option<Begun>, item: &mut Unsent) -> Sent {
-        let sent = match (&*begun, self.rendezvous()) {
-            (Some(Begun::Met(take)), Some(rendezvous)) => {
-                let sent = rendezvous.complete(take, item);
-                // If its take was dropped, the item may be kept for another one.
-                self.notify_item();
-                sent
-            }
+        let sent = match (&*begun, self.meeting(SENDERS)) {
+            (Some(Begun::Met(take)), Some(meeting)) => meeting.complete(take, item),
             (Some(Begun::Room), _) => self.send_to_room(item),
             _ => Err(NotSent::Closed),
         };
@@ -180,13 +176,19 @@ impl Core {
     }
 }
 
-/// An operation, and its index.
+/// An operation, its index, and how it waits.
 #[derive(Clone, Copy)]
-struct Entry<'a> {
+pub struct Entry<'a> {
     index: usize,
-    case: Case<'a>,
+    pub case: Case<'a>,
     /// The address of its handle.
     handle: usize,
+    /// Its place in the line, while it waits there.
+    ticket: Option<Ticket>,
+    /// Whether its line was notified when it left the line.
+    is_notified: bool,
+    /// The number under which it is posted, in a channel of capacity 0.
+    pub number: u64,
 }
 
 /// An arm of the macros, whose select stays on its thread: so its items are of any type.
@@ -208,6 +210,9 @@ impl<'a> Arm<'a> {
             index: 0,
             case,
             handle: ptr::from_ref(handle).addr(),
+            ticket: None,
+            is_notified: false,
+            number: 0,
         };
         Arm(entry, PhantomData)
     }
@@ -377,7 +382,7 @@ impl<'a> Select<'a> {
 
 /// A select of these operations, in the order in which they are tried, until this moment.
 struct Turn<'s, 'a> {
-    entries: &'s [Entry<'a>],
+    entries: &'s mut [Entry<'a>],
     aim: Aim,
     until: Option<Instant>,
     /// The operation that it has begun.
@@ -442,7 +447,7 @@ impl<'s, 'a> Turn<'s, 'a> {
 
     /// Whether it is posted for others to meet: then it isn't in a line.
     fn is_posted(&self, entry: &Entry) -> bool {
-        self.aim == Aim::Begin && entry.case.meeting_place().is_some()
+        self.aim == Aim::Begin && entry.case.meeting().is_some()
     }
 
     /// Parks until one is done, or the time is over, after a few further tries.
@@ -452,6 +457,9 @@ impl<'s, 'a> Turn<'s, 'a> {
             // A try of one operation says itself that it wasn't ready.
             if self.entries.len() == 1 {
                 return None;
+            }
+            if self.entries.iter().all(|it| self.is_posted(it)) {
+                return self.meet_at_the_end();
             }
             if let Some(end) = self.end() {
                 return end;
@@ -478,6 +486,18 @@ impl<'s, 'a> Turn<'s, 'a> {
                 }
             })
         })
+    }
+
+    /// After the time of a select over channels of capacity 0 alone: meets one that is posted, or finds that none was posted at one
+    /// moment. It posts nothing.
+    fn meet_at_the_end(&mut self) -> Option<usize> {
+        loop {
+            let (at, met) = meet_each(self.entries, None).ok()?;
+            // Or its send has given it up.
+            if let Some(at) = self.complete_meeting(at, met) {
+                return Some(at);
+            }
+        }
     }
 
     /// After the time: begins one that is ready, or finds that none was ready at one moment. None if it finds neither.
@@ -509,63 +529,67 @@ impl<'s, 'a> Turn<'s, 'a> {
     /// notification of a line is passed on if its operation wasn't tried after it, or was only looked at and is ready. If none is
     /// ready, it returns whether no line was notified: at the end none was ready then.
     fn stand_and_park(&mut self, parker: &Arc<Parker>) -> Result<usize, bool> {
-        let entries = self.entries;
-        let stand = |it: &Entry| {
-            let stands = !self.is_posted(it);
-            stands.then(|| it.case.line().stand(parker.clone().into()))
-        };
-        let tickets: Vec<_> = entries.iter().map(stand).collect();
-        let mut until = self.until;
-        let is_done = |it: &Entry| {
-            let tried = self.attempt(it.case);
-            until = tried.err().map_or(until, |again| again.before(until));
-            tried.is_ok()
-        };
-        let mut done = entries.iter().position(is_done);
-        if done.is_none() {
-            if tickets.iter().all(Option::is_some) {
-                parker.park(until);
-            } else {
-                done = self.meet(until, parker);
+        let (mut until, mut done) = (self.until, None);
+        for at in 0..self.entries.len() {
+            let entry = &self.entries[at];
+            let stands = !self.is_posted(entry);
+            let ticket = stands.then(|| entry.case.line().stand(parker.clone().into()));
+            self.entries[at].ticket = ticket;
+        }
+        for at in 0..self.entries.len() {
+            match self.attempt(self.entries[at].case) {
+                Ok(()) => {
+                    done = Some(at);
+                    break;
+                }
+                Err(again) => until = again.before(until),
             }
         }
-        let leave = |(at, ticket): (usize, Option<Ticket>)| {
+        if done.is_none() {
+            if self.entries.iter().any(|it| self.is_posted(it)) {
+                done = self.meet(until, parker);
+            } else {
+                parker.park(until);
+            }
+        }
+        for it in &mut *self.entries {
+            let ticket = it.ticket.take();
             // The waker is a parker's, whose drop doesn't panic.
-            let line = entries[at].case.line();
-            line.leave(ticket?, &mut Panics::default()).then_some(at)
-        };
-        let notified: Vec<_> = tickets.into_iter().enumerate().filter_map(leave).collect();
+            let leave = |it: &Event, ticket| it.leave(ticket, &mut Panics::default());
+            it.is_notified = ticket.is_some_and(|ticket| leave(it.case.line(), ticket));
+        }
+        let first = self.entries.iter().position(|it| it.is_notified);
         let tries = done.is_none();
         if tries {
-            let first = notified.first().copied().into_iter();
-            done = self.try_each(first.chain(0..));
+            done = self.try_each(first.into_iter().chain(0..));
         }
-        for &at in &notified {
+        for (at, it) in self.entries.iter().enumerate() {
             let is_used = done.is_none() || self.aim == Aim::Begin && done == Some(at);
-            if !(tries && is_used) {
-                entries[at].case.line().notify_one();
+            if it.is_notified && !(tries && is_used) {
+                it.case.line().notify_one();
             }
         }
-        done.ok_or(notified.is_empty())
+        done.ok_or(first.is_none())
     }
 
     /// Posts the operations of channels of capacity 0, parks, and takes them off. Gives the place of one that has met
     /// another; if that is a take, once it has its item.
     fn meet(&mut self, until: Option<Instant>, parker: &Arc<Parker>) -> Option<usize> {
-        let operations = self.entries.iter().enumerate().filter_map(|(at, it)| {
-            let (_, channel) = it.case.meeting_place()?;
-            Some(Operation::new(at, channel, it.case.side()))
-        });
-        let mut operations: Vec<_> = operations.collect();
-        let waiter = Waiter::new(Some(parker.clone().into()));
-        let met = meet_or_post(&mut operations, &waiter, &mut None);
-        let (at, met) = met.or_else(|| {
-            for it in &operations {
-                self.entries[it.at].case.notify_posted();
-            }
+        let found = meet_each(self.entries, Some(parker.clone().into()));
+        let found = found.or_else(|waiter| {
+            let posted = self.entries.iter().filter(|it| self.is_posted(it));
+            posted.for_each(|it| it.case.notify_posted());
             parker.wait(until);
-            withdraw(&operations, &waiter)
-        })?;
+            waiter
+                .and_then(|it| withdraw_each(self.entries, it))
+                .ok_or(())
+        });
+        let (at, met) = found.ok()?;
+        self.complete_meeting(at, met)
+    }
+
+    /// Begins the operation of this place, which has met another: if it is a take, once it has its item.
+    fn complete_meeting(&mut self, at: usize, met: Begun) -> Option<usize> {
         self.begun = Some(match met {
             Begun::Met(take) if self.entries[at].case.side() != SENDERS => {
                 Begun::Taken(take.wait_for_item()?)

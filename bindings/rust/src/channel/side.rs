@@ -1,6 +1,7 @@
 //! The handles of both sides: their count, the end of a side, and the wait.
 use super::body::Unsent;
 use super::core::{Core, NotSent, SENDERS, Sent, or_closed};
+use super::rendezvous::is_sent;
 use super::select::Case;
 use super::timer::Timer;
 use crate::backoff::{FOR_OTHERS, for_others, let_ahead};
@@ -114,8 +115,9 @@ impl Core {
     /// The same after a try: tries to send until it is done, or until this moment.
     #[cold]
     pub fn send_later(&self, item: &mut Unsent, until: Option<Instant>) -> Sent {
-        if let Some(rendezvous) = self.rendezvous() {
-            return self.meet_to_send(rendezvous, item, until);
+        if let Some(meeting) = self.meeting(SENDERS) {
+            let is_done = meeting.wait(item, until);
+            return is_sent(item).map_err(|it| if is_done { it } else { NotSent::Full });
         }
         let sent = self.wait(SENDERS, until, || or_closed(self.try_send(item)));
         sent.unwrap_or(Err(NotSent::Full))
