@@ -73,7 +73,7 @@ BOUNDS = {
     f"send and recv of a word, {name}": (f"let (s, r) = {opening}?;",
                                          "s.send(i).unwrap(); assert_eq!(r.recv(), Ok(i));", limit)
     for name, opening, limit in (("capacity 64", "channel::<u64>(64)", 645),
-                                 ("without a bound", "unbounded::<u64>()", 679))
+                                 ("without a bound", "try_unbounded::<u64>()", 679))
 }
 # Futures that are ready at their first poll, in a program of their own too.
 CONTEXT = "let context = &mut std::task::Context::from_waker(std::task::Waker::noop());"
@@ -97,7 +97,7 @@ IN_C = {
     "the same by the twentieth thread, with 8 places": ("few", 644, 6),
 }
 RUST = """#![allow(unused_imports)]
-use vahepito::{after, channel, groups, never, select, unbounded};
+use vahepito::{after, channel, groups, never, select, try_unbounded};
 
 fn main() -> Result<(), Box<dyn std::error::Error>> {
     let args: Vec<String> = std::env::args().collect();

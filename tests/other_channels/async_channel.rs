@@ -23,12 +23,12 @@ pub enum TrySendError<T> {
 }
 
 pub fn unbounded<T>() -> (Sender<T>, Receiver<T>) {
-    let (sender, receiver) = vahepito::unbounded().unwrap();
+    let (sender, receiver) = vahepito::unbounded();
     (Sender(sender), Receiver::of(receiver))
 }
 
 pub fn bounded<T>(capacity: usize) -> (Sender<T>, Receiver<T>) {
-    let (sender, receiver) = vahepito::bounded(capacity).unwrap();
+    let (sender, receiver) = vahepito::bounded(capacity);
     (Sender(sender), Receiver::of(receiver))
 }
 

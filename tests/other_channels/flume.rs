@@ -31,12 +31,12 @@ impl std::fmt::Display for RecvError {
 impl std::error::Error for RecvError {}
 
 pub fn unbounded<T>() -> (Sender<T>, Receiver<T>) {
-    let (sender, receiver) = vahepito::unbounded().unwrap();
+    let (sender, receiver) = vahepito::unbounded();
     (Sender(sender), Receiver(receiver))
 }
 
 pub fn bounded<T>(capacity: usize) -> (Sender<T>, Receiver<T>) {
-    let (sender, receiver) = vahepito::bounded(capacity).unwrap();
+    let (sender, receiver) = vahepito::bounded(capacity);
     (Sender(sender), Receiver(receiver))
 }
 

@@ -325,7 +325,7 @@ fn queue_of(name: &str) -> Option<Box<dyn Queue>> {
         "locked" => Box::new(locked()),
         "planted_reopened" => Box::new(Reopened(locked(), AtomicU64::new(0))),
         "vyukov" => Box::new(Vyukov::new()),
-        "vahepito" => Box::new(vahepito::bounded(CAPACITY).ok()?),
+        "vahepito" => Box::new(vahepito::bounded(CAPACITY)),
         "sync_channel" => {
             let (sender, receiver) = mpsc::sync_channel(CAPACITY);
             Box::new((sender, Mutex::new(receiver)))

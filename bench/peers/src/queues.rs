@@ -76,8 +76,8 @@ channel!(
     Typed,
     vahepito,
     |capacity| match capacity {
-        0 => vahepito::unbounded().unwrap(),
-        _ => vahepito::channel(capacity).unwrap(),
+        0 => vahepito::unbounded(),
+        _ => vahepito::bounded(capacity),
     },
     send,
     recv

@@ -24,7 +24,7 @@ fn a_burst_is_cheap_in_memory() {
     let processors = available_parallelism().map_or(1, usize::from);
     let limit = (104 + 6 * (2 * processors).next_power_of_two().min(64)) * 1024;
     let before = used();
-    let (sender, receiver) = unbounded().unwrap();
+    let (sender, receiver) = unbounded();
     for round in 0..rounds(3) {
         let sent = used_after(before, || {
             (0..items).for_each(|item| sender.send(item).unwrap());

@@ -6,7 +6,9 @@ use std::hint::black_box;
 use std::sync::Barrier;
 use std::thread;
 use std::time::Duration;
-use vahepito::{RecvTimeoutError, SendTimeoutError, TryRecvError, channel, groups};
+use vahepito::{
+    RecvTimeoutError, Select, SendTimeoutError, TryRecvError, bounded, channel, groups, select,
+};
 
 struct Counts;
 
@@ -116,4 +118,44 @@ fn a_second_wait_asks_for_none() {
         drop(there);
         assert_eq!(takes.join().unwrap(), 0);
     });
+}
+
+/// With capacity 0 a thread's first waits take some, and no later call does, nor does a select in vain.
+#[test]
+fn capacity_0_asks_for_none() {
+    const ITEMS: usize = 1000;
+    let ((sender, receiver), (_other, never)) = (bounded(0), bounded::<usize>(0));
+    // A call and a select of either side meet a call and a select of the other.
+    let sends = || {
+        for item in 0..ITEMS {
+            match item % 2 {
+                0 => sender.send(item).unwrap(),
+                _ => select! { send(sender, item) -> sent => sent.unwrap() },
+            }
+        }
+    };
+    let takes = || {
+        for item in 0..ITEMS {
+            let taken = match item % 3 {
+                0 => receiver.recv(),
+                _ => select! { recv(receiver) -> it => it, recv(never) -> _ => unreachable!() },
+            };
+            assert_eq!(taken, Ok(item));
+        }
+    };
+    thread::scope(|scope| {
+        let sent = scope.spawn(|| asked(sends));
+        let asked = [asked(takes), sent.join().unwrap()];
+        assert!(asked.iter().all(|it| *it < 20), "{asked:?}");
+    });
+    let mut waits = Select::new();
+    waits.recv(&receiver);
+    waits.recv(&never);
+    let in_vain = asked(|| {
+        for _ in 0..ITEMS {
+            assert!(waits.try_select().is_err());
+            select! { recv(receiver) -> _ => panic!(), send(sender, 0) -> _ => panic!(), default => {} }
+        }
+    });
+    assert_eq!(in_vain, 0);
 }

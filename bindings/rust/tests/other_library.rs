@@ -35,7 +35,7 @@ fn each_opening_tells() {
     is_refused(vahepito::channel::<String>(4097));
     is_refused(vahepito::groups::<String>(4, 2));
     is_refused(vahepito::groups::<String>(4, 0));
-    is_refused(vahepito::unbounded::<String>());
+    is_refused(vahepito::try_unbounded::<String>());
     // With capacity 0 no call of the library is made.
     drop(vahepito::channel::<String>(0).unwrap());
 }

@@ -46,6 +46,7 @@ use self::core::{Core, MOST_MOVED, Opened};
 use self::row::Shape;
 use self::side::{Source, Target};
 use crate::queue::{Config, OpenError};
+use std::alloc::{Layout, handle_alloc_error};
 use std::marker::PhantomData;
 use std::sync::Arc;
 
@@ -135,24 +136,34 @@ pub fn channel<T>(capacity: usize) -> Result<(Sender<T>, Receiver<T>), OpenError
     }))
 }
 
-/// The same as [`channel`], under the name that it has in crossbeam-channel, flume and async-channel.
+/// The handles of a channel; or the end of the program, as of `Vec` where there is no memory.
+fn opened<H>(handles: Result<H, OpenError>) -> H {
+    handles.unwrap_or_else(|error| match error {
+        OpenError::NoMemory => handle_alloc_error(Layout::new::<Core>()),
+        error => panic!("{error}"),
+    })
+}
+
+/// Opens a channel as [`channel`] does, and gives the handles themselves, as crossbeam-channel, flume and async-channel
+/// do. Without memory for the queue the program is aborted, as by `Vec`.
 ///
 /// ```
-/// let (sender, receiver) = vahepito::bounded(1)?;
+/// let (sender, receiver) = vahepito::bounded(1);
 /// sender.send('a').unwrap();
 /// assert!(sender.try_send('b').unwrap_err().is_full());
 /// assert_eq!(receiver.recv(), Ok('a'));
-/// # Ok::<(), vahepito::OpenError>(())
 /// ```
 ///
-/// # Errors
+/// # Panics
 ///
-/// As of [`channel`].
-pub fn bounded<T>(capacity: usize) -> Result<(Sender<T>, Receiver<T>), OpenError> {
-    channel(capacity)
+/// The linked library is another one than this crate is for.
+#[must_use]
+pub fn bounded<T>(capacity: usize) -> (Sender<T>, Receiver<T>) {
+    opened(channel(capacity))
 }
 
-/// Opens a channel that holds any number of items, and gives its first sender and its first receiver.
+/// Opens a channel that holds any number of items, and gives its first sender and its first receiver. Without memory for
+/// the first queue the program is aborted, as by `Vec`; [`try_unbounded`] returns an error then.
 ///
 /// A send never waits for room, and [`try_send`](Sender::try_send) never finds the channel full; all else is as of
 /// [`channel`]. [`capacity`](Sender::capacity) is None.
@@ -167,18 +178,34 @@ pub fn bounded<T>(capacity: usize) -> Result<(Sender<T>, Receiver<T>), OpenError
 /// memory: where that may be, a bound is better.
 ///
 /// ```
-/// let (sender, receiver) = vahepito::unbounded()?;
+/// let (sender, receiver) = vahepito::unbounded();
 /// (0..100_000).for_each(|number| sender.send(number).unwrap());
 /// assert_eq!((sender.len(), sender.capacity()), (100_000, None));
 /// drop(sender);
 /// assert!(receiver.into_iter().eq(0..100_000));
+/// ```
+///
+/// # Panics
+///
+/// As of [`bounded`].
+#[must_use]
+pub fn unbounded<T>() -> (Sender<T>, Receiver<T>) {
+    opened(try_unbounded())
+}
+
+/// Opens a channel as [`unbounded`] does.
+///
+/// ```
+/// let (sender, receiver) = vahepito::try_unbounded()?;
+/// sender.send('a').unwrap();
+/// assert_eq!(receiver.recv(), Ok('a'));
 /// # Ok::<(), vahepito::OpenError>(())
 /// ```
 ///
 /// # Errors
 ///
 /// As of [`channel`].
-pub fn unbounded<T>() -> Result<(Sender<T>, Receiver<T>), OpenError> {
+pub fn try_unbounded<T>() -> Result<(Sender<T>, Receiver<T>), OpenError> {
     Ok(pair(Core::open_row(shape(), None, 1, Kind::alone::<T>())?))
 }
 

@@ -81,7 +81,7 @@ fn a_distance_is_of_places_or_items() {
     let channels = [
         (crate::channel(63), [0, 0]),
         (crate::channel(64), [61, 3]),
-        (crate::unbounded(), [0, 3]),
+        (crate::try_unbounded(), [0, 3]),
     ];
     for (channel, distances) in channels {
         let (sender, _receiver) = channel.unwrap();
@@ -122,7 +122,7 @@ fn a_side_whose_seat_is_taken_gets_the_others() {
 /// A thread that holds a seat may not run. A look of a select whose time is over, and a poll, don't wait for it.
 #[test]
 fn a_look_doesnt_wait_for_a_holder() {
-    let channels = || [crate::channel(1), crate::channel(65), crate::bounded(4097)];
+    let channels = || [crate::channel(1), crate::channel(65), crate::channel(4097)];
     for (sender, receiver) in channels().map(Result::unwrap) {
         let mut takes = Select::new();
         takes.recv(&receiver);

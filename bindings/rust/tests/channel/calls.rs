@@ -321,13 +321,13 @@ fn handles_of_both_sides_are_counted() {
     assert_eq!(vahepito::never::<u8>().sender_count(), 0);
 }
 
-/// `bounded` is `channel`.
+/// `bounded` is `channel`, and gives the handles themselves.
 #[test]
 fn bounded_has_a_bound() {
-    let (sender, receiver) = bounded(1).unwrap();
+    let (sender, receiver) = bounded(1);
     assert_eq!((sender.send('a'), receiver.capacity()), (Ok(()), Some(1)));
     assert!(sender.try_send('b').unwrap_err().is_full());
-    assert_eq!(bounded::<u8>(4097).unwrap().0.capacity(), Some(4097));
+    assert_eq!(bounded::<u8>(4097).0.capacity(), Some(4097));
 }
 
 #[test]
