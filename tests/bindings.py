@@ -1,19 +1,19 @@
 #!/usr/bin/env python3
 """Tests what stands over the proved static library, with the archives in bindings/rust/lib: the programs in bindings/c
-by make, the crate in bindings/rust by cargo, also with the feature `unproved`, and a copy of its folder and its package
-in folders of their own; the first two again under valgrind and the sanitizers. All but the package and the copy is done
-over the default archive, which is linked if nothing is said, and what threads do again over the strict one. The package
-in bindings/rust/record, which has no library, is tested too. It needs no rt, writes into a folder of its own, and
-fetches nothing.
+by make, the crate in bindings/rust by cargo, also with `--cfg vahepito_unproved`, and a copy of its folder and its
+package in folders of their own; the first two again under valgrind and the sanitizers. All but the package and the copy
+is done over the default archive, which is linked if nothing is said, and what threads do again over the strict one. The
+package in bindings/rust/record, which has no library, is tested too. It needs no rt, writes into a folder of its own,
+and fetches nothing.
 
     tests/bindings.py [--quick]
 
 Steps run side by side, as many as there are processors. With --quick it leaves out valgrind, the sanitizers, the copy
 and the package; makes a twentieth of the rounds of the long tests, or as many of a hundred as VAHEPITO_ROUNDS says;
-does over the strict archive and with the feature unproved the tests by threads alone; gives the crate one archive of
-another version; and uses what cargo has in the folder CARGO_TARGET_DIR, if that is set. Prints a line for each step. A
-step for which something isn't on the machine is skipped, and its line says so. Exit status 0 if no step failed, 77 if
-none could be done.
+does over the strict archive and with that cfg the tests by threads alone; gives the crate one archive of another
+version; and uses what cargo has in the folder CARGO_TARGET_DIR, if that is set. Prints a line for each step. A step for
+which something isn't on the machine is skipped, and its line says so. Exit status 0 if no step failed, 77 if none could
+be done.
 """
 import glob
 import os
@@ -113,8 +113,10 @@ def add_crate(steps):
     compiled = ("Rust: compiled",)
     steps.add("Rust: tests with the feature strict", *cargo, "test", *chosen, "--features", "strict", "--", *SEARCHES,
               limit=600, CARGO_TARGET_DIR=steps.target("of_strict"), **bare, VAHEPITO_ROUNDS=rounds(25))
-    steps.add("Rust: tests with the feature unproved", *cargo, "test", *chosen, "--features", "unproved", "--",
-              *SEARCHES, limit=600, CARGO_TARGET_DIR=steps.target("of_unproved"), **bare, VAHEPITO_ROUNDS=rounds(5))
+    of_unproved = {"CARGO_TARGET_DIR": steps.target("of_unproved"), "RUSTFLAGS": "--cfg vahepito_unproved"}
+    locked = "Rust: tests with a lock in the place of the queue"
+    steps.add(locked, *cargo, "test", *chosen, "--", *SEARCHES, limit=600, **of_unproved, **bare,
+              VAHEPITO_ROUNDS=rounds(5))
     steps.add("Rust: tests in src", *lib, limit=600, after=compiled, **in_src)
     steps.add("Rust: tests beside src", *cargo, "test", "--test", "*", limit=600, after=compiled, **main)
     steps.add("Rust: tests in the documentation", *cargo, "test", "--doc", after=compiled, **main)
@@ -129,9 +131,8 @@ def add_crate(steps):
     steps.add("Rust: the recorder", *cargo, "test", *record, **of_record)
     steps.add("Rust: the recorder with stops", *cargo, "test", *record, "--all-features", "--lib",
               after=("Rust: the recorder",), **of_record)
-    steps.add("Rust: the feature unproved is warned of", "bash", "-c",
-              "cargo check --locked --offline --features unproved 2>&1 | grep 'warning: .* nothing is proved'",
-              after=("Rust: tests with the feature unproved",), CARGO_TARGET_DIR=steps.target("of_unproved"))
+    steps.add("Rust: that lock is warned of", "bash", "-c",
+              "cargo check --locked --offline 2>&1 | grep 'warning: .* nothing is proved'", after=(locked,), **of_unproved)
     for example, prints in (("thread_pool", "9592 primes below 100000"), ("pipeline", "77031 takes 350 steps"),
                             ("tasks", "the sum of the squares up to 10000 is 333383335000"),
                             ("log", "40000 events in the archive, 4000 alarms")):
@@ -266,7 +267,7 @@ def add_copies(steps):
         "grep 'links .*/vendor/vahepito/lib/'"
     steps.add("Rust: the dependency by git, vendored", "bash", "-c", vendored, folder=trial, after=(step,),
               CARGO_TARGET_DIR=room / "of_vendored")
-    refused = '''! cargo check --offline --target riscv64gc-unknown-linux-gnu 2>"$0" && grep -F 'feature `unproved`' "$0" &&
+    refused = '''! cargo check --offline --target riscv64gc-unknown-linux-gnu 2>"$0" && grep -F 'cfg vahepito_unproved' "$0" &&
         grep -F 'is built for x86_64-unknown-linux-gnu and aarch64-unknown-linux-gnu alone, and the target is riscv' "$0"
         '''
     steps.add("Rust: another target is refused", "bash", "-c", refused, room / "said", folder=copy, **own)

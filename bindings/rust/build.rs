@@ -4,7 +4,7 @@
 //! The archives lie in `lib/TARGET/`, with `PROOF`, which has their sums and the line by which they were proved.
 //! With the feature `strict` the library is the one with no plain store, as it was proved and built; for aarch64 that is the only one.
 //! `VAHEPITO_LIB` names another library, and `VAHEPITO_HEAP` other functions for memory. A line of
-//! `cargo build -vv` says which archives are linked. With the feature `unproved` none is.
+//! `cargo build -vv` says which archives are linked. With `--cfg vahepito_unproved` none is.
 use std::env;
 use std::path::{Path, PathBuf};
 use std::process::exit;
@@ -51,7 +51,7 @@ fn archive(name: &str) -> PathBuf {
                 "the proved queue of vahepito is built for {} alone, and the target is {target}",
                 SUPPORTED.join(" and ")
             ),
-            "on any other target use the feature `unproved`: a lock stands in the place of the proved queue, and nothing is proved",
+            "on any other target set RUSTFLAGS='--cfg vahepito_unproved': a lock stands in the place of the proved queue, and nothing is proved",
             "or name archives that were built for this target by VAHEPITO_LIB and VAHEPITO_HEAP",
         ]);
     }
@@ -101,9 +101,9 @@ fn link(archive: &Path) {
 
 fn main() {
     println!("cargo::rerun-if-changed=build.rs");
-    if env::var_os("CARGO_FEATURE_UNPROVED").is_some() {
+    if env::var_os("CARGO_CFG_VAHEPITO_UNPROVED").is_some() {
         println!(
-            "cargo::warning=the feature `unproved` is on: a lock stands in the place of the proved queue, and nothing is proved"
+            "cargo::warning=vahepito_unproved is set: a lock stands in the place of the proved queue, and nothing is proved"
         );
         return;
     }

@@ -11,7 +11,6 @@ use super::core::{Core, SENDERS, Sent, or_closed};
 use super::pool::Patience;
 use super::rendezvous::{Waiter, is_sent};
 use super::select::Case;
-use super::side::Source;
 use super::{Receiver, RecvError, SendError, Sender};
 use crate::event::{Again, Panics, Ticket, Try};
 use std::borrow::Cow;
@@ -53,12 +52,19 @@ impl Waiting {
                 }
                 return Poll::Ready(done);
             }
-            // Nobody else wakes it at that moment.
-            Err(Again::At(_)) => panics.run_each([waker], Waker::wake_by_ref),
-            Err(Again::WhenNotified) => {}
+            // Nobody else wakes it at that moment, unless a thread does.
+            Err(Again::At(_)) if !wakes_later(case) => {
+                panics.run_each([waker], Waker::wake_by_ref);
+            }
+            Err(_) => {}
         }
         Poll::Pending
     }
+}
+
+/// Whether a thread notifies those in line, when they are to look again.
+fn wakes_later(case: Case) -> bool {
+    matches!(case, Case::Timer(timer) if timer.notify_when_due())
 }
 
 /// None once the future is done.
@@ -133,9 +139,6 @@ pub struct RecvFuture<'a, T> {
 
 impl<'a, T> RecvFuture<'a, T> {
     pub(super) fn new(receiver: Cow<'a, Receiver<T>>) -> Self {
-        if let Source::Timer(timer) = &receiver.0 {
-            assert!(!timer.has_items, "a timer has no future: use the runtime's");
-        }
         let state = Some(Waiting::No);
         RecvFuture { receiver, state }
     }

@@ -104,7 +104,7 @@ struct Seat {
 }
 
 /// With seats of two lines an item takes 1.25 times as long at 1/1.
-#[cfg(not(feature = "unproved"))]
+#[cfg(not(vahepito_unproved))]
 const _: () = assert!(size_of::<Seat>() == 64);
 
 // SAFETY: `pass` is reached by the holder of the seat alone ([`SeatGuard`]), and there is one at a time:

@@ -199,10 +199,8 @@ impl<T> Receiver<T> {
     /// Takes an item, as a future of any runtime. If it is dropped before it is done, nothing was
     /// taken: with capacity 0 an item that it was given goes to the next receiver.
     ///
-    /// # Panics
-    ///
-    /// The receiver is one of [`after`](crate::after), [`at`](crate::at) or [`tick`](crate::tick), which no thread
-    /// serves: use the runtime's timers.
+    /// The first future of [`after`](crate::after), [`at`](crate::at) or [`tick`](crate::tick) that waits starts a
+    /// thread, which wakes the futures of all timers. If the system gives no thread, the task is polled all the time.
     ///
     /// ```
     /// async fn sum(numbers: vahepito::Receiver<u32>) -> u32 {
@@ -219,10 +217,6 @@ impl<T> Receiver<T> {
 
     /// The same as [`recv_async`](Receiver::recv_async), as a future that has the receiver. So a task may
     /// return the future, or keep it beside other values.
-    ///
-    /// # Panics
-    ///
-    /// As of [`recv_async`](Receiver::recv_async).
     ///
     /// ```
     /// use vahepito::{Receiver, RecvFuture};

@@ -1,11 +1,15 @@
-//! Timers, and a receiver that has no item. None has a queue or a thread: a call that waits parks until the moment.
+//! Timers, and a receiver that has no item. None has a queue: a call that waits parks until the moment, and futures that
+//! wait are woken by a thread, which is the same for all timers.
 use super::Receiver;
 use super::body::Item;
 use super::side::Source;
 use crate::event::{Again, Event, Panics, Try, lock};
+use std::collections::BTreeMap;
 use std::marker::PhantomData;
+use std::ptr;
 use std::sync::atomic::{AtomicBool, AtomicU64, Ordering};
-use std::sync::{Arc, Mutex};
+use std::sync::{Arc, Mutex, Weak};
+use std::thread::{self, Thread};
 use std::time::{Duration, Instant};
 
 /// When there is an item, which is the moment.
@@ -20,6 +24,47 @@ pub struct Timer {
     pub taken: AtomicU64,
     /// The line of those that wait for the moment, or for a close.
     pub line: Event,
+    this: Weak<Timer>,
+    /// The moment under which futures of this timer are awaited.
+    awaited: Mutex<Option<Instant>>,
+}
+
+/// The timers for whose moments futures wait, by the moments and the timers' addresses.
+static AWAITED: Mutex<BTreeMap<(Instant, usize), Weak<Timer>>> = Mutex::new(BTreeMap::new());
+
+/// The thread that wakes the futures, once one waits.
+static THREAD: Mutex<Option<Thread>> = Mutex::new(None);
+
+/// Notifies the line of each timer at its moment.
+fn notify_at_moments() {
+    loop {
+        let mut awaited = lock(&AWAITED);
+        let next = awaited.first_key_value().map(|it| it.0.0);
+        let rest = next.map_or(Duration::MAX, |it| {
+            it.saturating_duration_since(Instant::now())
+        });
+        let due = if rest.is_zero() {
+            awaited.pop_first()
+        } else {
+            None
+        };
+        drop(awaited);
+        match due {
+            None => thread::park_timeout(rest),
+            Some((_, timer)) => {
+                let notify = |it: Arc<Timer>| it.line.notify_all(&mut Panics::default());
+                timer.upgrade().map(notify);
+            }
+        }
+    }
+}
+
+impl Drop for Timer {
+    #[inline]
+    fn drop(&mut self) {
+        let awaited = lock(&self.awaited).take();
+        self.forget(awaited);
+    }
 }
 
 impl Timer {
@@ -41,6 +86,39 @@ impl Timer {
         *due = self.every.filter(|_| !self.is_closed()).and_then(next);
         self.taken.fetch_add(1, Ordering::SeqCst);
         Ok(Some(Item::alone(at)))
+    }
+
+    /// A thread notifies the line at the next moment. Returns whether there is such a thread.
+    pub fn notify_when_due(&self) -> bool {
+        let Some(due) = *lock(&self.due) else {
+            return true;
+        };
+        let mut awaited = lock(&self.awaited);
+        let is_new = *awaited != Some(due);
+        if is_new {
+            self.forget(awaited.replace(due));
+            lock(&AWAITED).insert((due, ptr::from_ref(self).addr()), self.this.clone());
+        }
+        drop(awaited);
+        let mut thread = lock(&THREAD);
+        if thread.is_none() {
+            let builder = thread::Builder::new().name("vahepito timers".to_string());
+            let started = builder.spawn(notify_at_moments);
+            *thread = started.ok().map(|it| it.thread().clone());
+        }
+        let unpark = |it: &Thread| {
+            if is_new {
+                it.unpark();
+            }
+        };
+        thread.as_ref().map(unpark).is_some()
+    }
+
+    /// No future waits for this moment any more.
+    fn forget(&self, awaited: Option<Instant>) {
+        if let Some(moment) = awaited {
+            lock(&AWAITED).remove(&(moment, ptr::from_ref(self).addr()));
+        }
     }
 
     /// Whether there is an item, or none will come.
@@ -81,7 +159,9 @@ impl Timer {
 }
 
 fn timer<T>(due: Option<Instant>, every: Option<Duration>, has_items: bool) -> Receiver<T> {
-    let timer = Arc::new(Timer {
+    let timer = Arc::new_cyclic(|this| Timer {
+        this: this.clone(),
+        awaited: Mutex::new(None),
         due: Mutex::new(due),
         every,
         has_items,
@@ -93,8 +173,6 @@ fn timer<T>(due: Option<Instant>, every: Option<Duration>, has_items: bool) -> R
 }
 
 /// A receiver with one item, which is there at this moment, and is the moment. Then it is empty for ever.
-///
-/// It has no future: use the runtime's timers there.
 ///
 /// ```
 /// use std::time::{Duration, Instant};
@@ -134,8 +212,6 @@ pub fn after(time: Duration) -> Receiver<Instant> {
 
 /// A receiver with an item, its moment, once in each such period, the first one a period from now. Those that
 /// aren't taken in time are left out: there is one at most.
-///
-/// It has no future: use the runtime's timers there.
 ///
 /// ```
 /// use std::time::{Duration, Instant};

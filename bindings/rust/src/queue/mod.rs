@@ -1,10 +1,10 @@
-//! The queue below a channel: its opening, and its calls. It is the proved one, unless the feature `unproved` puts
-//! another with the same calls in its place.
+//! The queue below a channel: its opening, and its calls. It is the proved one, unless `--cfg vahepito_unproved`
+//! puts another with the same calls in its place.
 mod config;
 mod error;
-#[cfg(not(feature = "unproved"))]
+#[cfg(not(vahepito_unproved))]
 pub mod handle;
-#[cfg(feature = "unproved")]
+#[cfg(vahepito_unproved)]
 #[path = "unproved.rs"]
 pub mod handle;
 #[cfg(test)]
@@ -15,17 +15,16 @@ pub use error::OpenError;
 use handle::Handle;
 use std::mem::{MaybeUninit, replace};
 
-/// Whether the library is below the channels: without the feature `unproved`. With the feature `strict` it is the library
+/// Whether the library is below the channels: without `--cfg vahepito_unproved`. With the feature `strict` it is the library
 /// as it was proved; by default some of its stores are release stores. The channels themselves are tested.
 ///
-/// Cargo builds a crate once for all that depend on it, with the features of all. A program that is to have the proved
-/// queue says so:
+/// Whoever builds a program sets that, and no dependency can. A program that is to have the proved queue says so:
 ///
 /// ```
 /// # #[cfg(any())]
 /// const _: () = assert!(vahepito::IS_PROVED);
 /// ```
-pub const IS_PROVED: bool = cfg!(not(feature = "unproved"));
+pub const IS_PROVED: bool = cfg!(not(vahepito_unproved));
 
 /// One word of a body. It may have bytes that nobody wrote.
 pub type Word = MaybeUninit<u64>;
@@ -58,7 +57,7 @@ pub fn open(config: &Config, groups: usize, words: usize) -> Result<Passes, Open
 }
 
 /// The codes that a call returns, by the header's names.
-#[cfg_attr(feature = "unproved", allow(dead_code))]
+#[cfg_attr(vahepito_unproved, allow(dead_code))]
 pub mod code {
     pub const DONE: u32 = 0;
     pub const BAD_CAPACITY: u32 = 3;
@@ -75,7 +74,7 @@ pub mod code {
     pub const EMPTY: u32 = 24;
     pub const ENDED: u32 = 25;
     pub const BAD_GROUPS: u32 = 26;
-    #[cfg(feature = "unproved")]
+    #[cfg(vahepito_unproved)]
     pub const WIDE: u32 = 30;
 }
 

@@ -1,4 +1,4 @@
-//! The queue of the feature `unproved`: std's `VecDeque` under std's `Mutex`, with the calls and the answers of the
+//! The queue of `--cfg vahepito_unproved`: std's `VecDeque` under std's `Mutex`, with the calls and the answers of the
 //! proved one. It builds for any target, and nothing of it is proved.
 use super::{Config, MOST_GROUPS, OpenError};
 pub use super::{Word, Words, code, unexpected};

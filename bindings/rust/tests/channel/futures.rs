@@ -9,8 +9,8 @@ use std::pin::pin;
 use std::sync::Arc;
 use std::task::{Context, Poll, Wake};
 use std::thread;
-use std::time::Duration;
-use vahepito::{RecvError, RecvFuture, SendError, SendFuture, channel};
+use std::time::{Duration, Instant};
+use vahepito::{RecvError, RecvFuture, SendError, SendFuture, after, channel, never, tick};
 
 struct Unpark(thread::Thread);
 
@@ -273,4 +273,38 @@ fn futures_are_small() {
     assert!(size_of::<RecvFuture<'static, [u64; 9]>>() <= 32);
     assert!(size_of::<SendFuture<'static, u64>>() <= 72);
     assert!(size_of::<SendFuture<'static, [u64; 9]>>() <= 72);
+}
+
+/// A thread wakes the futures of timers, each at its moment; and a close does.
+#[test]
+fn timers_have_futures() {
+    const SOON: Duration = Duration::from_millis(10);
+    let start = Instant::now();
+    let (late, soon, ticks) = (after(3 * SOON), after(SOON), tick(SOON));
+    let mut waits = pin!(late.recv_async());
+    assert_eq!(poll(&mut waits, &Arc::default()), Poll::Pending);
+    assert!(block_on(soon.recv_async()).unwrap() >= start + SOON);
+    for number in 1..4 {
+        let moment = block_on(ticks.recv_async()).unwrap();
+        assert!(moment >= start + number * SOON && moment <= Instant::now());
+    }
+    assert!(block_on(waits).unwrap() >= start + 3 * SOON);
+    // One whose future is dropped, one that is closed, and one that never comes.
+    let (dropped, closed) = (after(SOON), after(Duration::from_secs(100)));
+    assert_eq!(
+        poll(&mut dropped.recv_async(), &Arc::default()),
+        Poll::Pending
+    );
+    drop(dropped);
+    thread::scope(|scope| {
+        scope.spawn(|| {
+            thread::sleep(SOON);
+            closed.close();
+        });
+        assert_eq!(block_on(closed.recv_async()), Err(RecvError));
+    });
+    assert_eq!(
+        poll(&mut never::<u8>().recv_async(), &Arc::default()),
+        Poll::Pending
+    );
 }

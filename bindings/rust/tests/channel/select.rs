@@ -2,7 +2,6 @@
 use crate::parking::parked;
 use crate::rounds::rounds;
 use std::collections::HashSet;
-use std::panic::{AssertUnwindSafe, catch_unwind};
 use std::pin::pin;
 use std::sync::Arc;
 use std::sync::atomic::{AtomicUsize, Ordering};
@@ -520,10 +519,6 @@ fn timers_have_their_moments() {
     });
     assert_eq!(got.into_iter().filter(|got| *got).count(), 1);
     assert!(after(Duration::MAX).try_recv().is_err());
-    for timer in [after(SOON), tick(SOON)] {
-        let has_future = || drop(timer.recv_async());
-        assert!(catch_unwind(AssertUnwindSafe(has_future)).is_err());
-    }
     let nothing = poll(&mut none.recv_async(), &Arc::default());
     assert_eq!(nothing, Poll::Pending);
     let start = Instant::now();
