@@ -4,9 +4,13 @@
 
 #include <cstdio>
 #include <cstdlib>
+#include <new>
 #include <thread>
 
 namespace {
+
+/* How many further requests for memory this thread is granted; if negative, all. */
+thread_local int grants = -1;
 
 struct pair {
     std::uint64_t number;
@@ -18,6 +22,15 @@ void check(bool holds, const char *what) {
     if (holds) return;
     std::fprintf(stderr, "not so: %s\n", what);
     std::exit(1);
+}
+
+template <class F> bool throws(F call) {
+    try {
+        call();
+    } catch (const std::bad_alloc &) {
+        return true;
+    }
+    return false;
 }
 
 template <class F, class... With> std::uint32_t code_of(F call, With &...with) {
@@ -92,6 +105,28 @@ void receivers_go() {
     check(!sender.send(4) && sender.try_send(5) == vahepito::sent::closed, "the last receiver of all closes the queue");
 }
 
+/* Batches of several chunks, of which some, or all, find no memory: then the items that aren't taken stay. */
+void many_at_once() {
+    vahepito::config config;
+    config.capacity = 0;
+    auto [sender, receivers] = vahepito::open<std::unique_ptr<int>>(config);
+    int next = 0, due = 0;
+    for (; next < 1000; next++) check(sender.send(std::make_unique<int>(next)), "there is no bound");
+    const auto takes = [&, &taker = receivers[0]](std::size_t most, std::size_t count) {
+        const auto got = taker.take_many(most);
+        check(got.size() == count && !taker.ended(), "as many as are wanted");
+        for (const auto &item : got) check(*item == due++, "in their order");
+    };
+    takes(0, 0), takes(1, 1), takes(64, 64), takes(65, 65), takes(300, 300);
+    grants = 0;
+    check(throws([&, &taker = receivers[0]] { (void)taker.take_many(10); }) && sender.length() == 570, "all stay");
+    grants = 1;
+    takes(300, 64);
+    grants = -1;
+    takes(1000, 506);
+    check(sender.close() && receivers[0].take_many(9).empty() && receivers[0].ended(), "and then it ends");
+}
+
 void batches_and_pointers() {
     auto [sender, receivers] = vahepito::open<int>({});
     std::vector<int> numbers{1, 2, 3};
@@ -152,10 +187,21 @@ std::uint64_t many_threads() {
 
 } // namespace
 
+void *operator new(std::size_t size) {
+    void *const at = grants == 0 ? nullptr : std::malloc(size);
+    if (!at) throw std::bad_alloc();
+    if (grants > 0) grants--;
+    return at;
+}
+/* Once inlined, a compiler sees `free` of what `new` gave, and warns. */
+__attribute__((noinline)) void operator delete(void *at) noexcept { std::free(at); }
+__attribute__((noinline)) void operator delete(void *at, std::size_t) noexcept { std::free(at); }
+
 int main() {
     one_thread();
     defaults_and_moments();
     receivers_go();
     batches_and_pointers();
+    many_at_once();
     std::printf("%llu items\n", static_cast<unsigned long long>(many_threads()));
 }

@@ -10,16 +10,20 @@
  * does that of the last receiver of all; the group of a last receiver leaves. The drop of the last of all frees it. A
  * unique_ptr goes to the receiver if its send is accepted, in a queue of one group. Groups, codes and waits are those
  * of vahepito.h. */
-#ifndef VAHEPITO_HPP
+#if __cplusplus < 201703L
+#error "vahepito.hpp is for C++17 and later: compile with c++ -std=c++17"
+#elif !defined(VAHEPITO_HPP)
 #define VAHEPITO_HPP
 
 #include "vahepito.h"
+#include <algorithm>
 #include <array>
 #include <atomic>
 #include <chrono>
 #include <cstring>
 #include <functional>
 #include <memory>
+#include <new>
 #include <optional>
 #include <stdexcept>
 #include <type_traits>
@@ -178,15 +182,21 @@ public:
         const timespec time = detail::time_of(until);
         return result(vahepito_take_until(at(), group, &item, &time, nullptr));
     }
-    /* Waits for an item, and takes up to `most` of those that are there then: none at the end. */
+    /* Waits for an item, and takes up to `most` of those that are there then: none at the end. No item is lost without
+     * memory: it throws std::bad_alloc if it has taken none, and else returns those that it has. */
     std::vector<T> take_many(std::size_t most) {
-        std::vector<vahepito_item> items(most + 1);
+        std::array<vahepito_item, 64> items;
+        const timespec now{};
         std::vector<T> got;
         std::size_t taken = 0;
-        const std::uint32_t code = vahepito_take_many(at(), group, items.data(), most, nullptr, &taken, nullptr);
-        is_ended = code == VAHEPITO_ENDED;
-        got.reserve(taken);
-        for (std::size_t k = 0; k < taken; k++) got.push_back(detail::as_words<T>::read(items[k].words));
+        do {
+            const std::size_t due = std::min(items.size(), most - got.size());
+            if (!has_room(got, due)) break;
+            const timespec *const until = got.empty() ? nullptr : &now;
+            const std::uint32_t code = vahepito_take_many(at(), group, items.data(), due, until, &taken, nullptr);
+            is_ended = code == VAHEPITO_ENDED && got.empty();
+            for (std::size_t k = 0; k < taken; k++) got.push_back(detail::as_words<T>::read(items[k].words));
+        } while (taken == items.size() && got.size() < most);
         return got;
     }
     std::uint64_t length() const { return vahepito_length(at()); }
@@ -196,6 +206,16 @@ public:
     bool ended() const { return is_ended; }
 
 private:
+    /* Makes room for so many more. */
+    static bool has_room(std::vector<T> &got, std::size_t more) {
+        try {
+            if (got.capacity() < got.size() + more) got.reserve(got.size() + std::max(got.size(), more));
+            return true;
+        } catch (const std::bad_alloc &) {
+            if (got.empty()) throw;
+            return false;
+        }
+    }
     std::optional<T> result(std::uint32_t code) {
         is_ended = code == VAHEPITO_ENDED;
         if (is_ended || code == VAHEPITO_EMPTY) return std::nullopt;

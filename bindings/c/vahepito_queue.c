@@ -34,6 +34,9 @@
  * counts in one word: `waiting`, the calls in line that aren't notified, and `notified`, the notifications that no call
  * has used. ../WAITS.md says how long each wait spins, and why no wake-up is lost. The program interleavings.c runs the
  * code of this file in every interleaving of small models, and finds a lost wake-up if one of the steps is wrong. */
+#ifdef __cplusplus
+#error "vahepito_queue.c is C: compile it with cc -std=c11 -c vahepito_queue.c, and link vahepito_queue.o"
+#endif
 #ifndef _POSIX_C_SOURCE
 #define _POSIX_C_SOURCE 200809L
 #endif
