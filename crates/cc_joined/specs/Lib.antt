@@ -1,0 +1,4 @@
+pub mod Names
+pub mod Joined
+pub mod Bounded
+pub mod Narrow
