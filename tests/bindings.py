@@ -32,7 +32,8 @@ TOP = pathlib.Path(__file__).resolve().parent.parent
 RUST = TOP / "bindings/rust"
 REGISTRY = "/usr/share/cargo/registry"
 # Ends with status 1 if a command prints anything else than the first word.
-PRINTS = '''printed=$("$@") || exit; [ "$printed" = "$0" ] || { echo "it printed '$printed' in place of '$0'"; exit 1; }'''
+PRINTS = '''printed=$("$@") || exit
+[ "$printed" = "$0" ] || { echo "it printed '$printed' in place of '$0'"; exit 1; }'''
 # For each archive of another version, beside which is a program that says which: the crate refuses it.
 OTHERS = '''for archive in "$0"/c/*/libvahepito.a; do
     says=$(dirname "$archive")/version; [ -x "$says" ] || continue
@@ -132,7 +133,8 @@ def add_crate(steps):
     steps.add("Rust: the recorder with stops", *cargo, "test", *record, "--all-features", "--lib",
               after=("Rust: the recorder",), **of_record)
     steps.add("Rust: that lock is warned of", "bash", "-c",
-              "cargo check --locked --offline 2>&1 | grep 'warning: .* nothing is proved'", after=(locked,), **of_unproved)
+              "cargo check --locked --offline 2>&1 | grep 'warning: .* nothing is proved'", after=(locked,),
+              **of_unproved)
     for example, prints in (("thread_pool", "9592 primes below 100000"), ("pipeline", "77031 takes 350 steps"),
                             ("tasks", "the sum of the squares up to 10000 is 333383335000"),
                             ("log", "40000 events in the archive, 4000 alarms")):
@@ -267,7 +269,8 @@ def add_copies(steps):
         "grep 'links .*/vendor/vahepito/lib/'"
     steps.add("Rust: the dependency by git, vendored", "bash", "-c", vendored, folder=trial, after=(step,),
               CARGO_TARGET_DIR=room / "of_vendored")
-    refused = '''! cargo check --offline --target riscv64gc-unknown-linux-gnu 2>"$0" && grep -F 'cfg vahepito_unproved' "$0" &&
+    refused = '''! cargo check --offline --target riscv64gc-unknown-linux-gnu 2>"$0" &&
+        grep -F 'cfg vahepito_unproved' "$0" &&
         grep -F 'is built for x86_64-unknown-linux-gnu and aarch64-unknown-linux-gnu alone, and the target is riscv' "$0"
         '''
     steps.add("Rust: another target is refused", "bash", "-c", refused, room / "said", folder=copy, **own)
