@@ -8,7 +8,7 @@
 - Pointers: each document that a text names is there, and each section, named as `docs/NAME.md, "Heading"` or by a link.
 - For readers who have a clone and no toolchain, in the texts of STRANGERS: no program is one that a build leaves, and a
   line of code that begins with a path begins with that of a file of the tree. A size, as `NAME` (12 KB), is the file's.
-- Proofs: docs/TRUST.md explains each word of the line of each PROOF.
+- Proofs: docs/TRUST.md explains each word of the line of each PROOF, and names each library that crates.txt has.
 - Heads: each source file begins with a comment that says what is in it, as HEADS has it.
 
 The script first shows that it finds each line of WRONG. Its exit status is 0 if there is no fault; each has a line.
@@ -168,6 +168,17 @@ def wrong_proofs():
                 yield f"docs/TRUST.md doesn't explain `{word}=` of {path.relative_to(TOP)}"
 
 
+def wrong_libraries():
+    """The libraries that crates.txt has and the rows of docs/TRUST.md don't, and the reverse."""
+    lines = re.findall(r"^(\w+).*?:(.*)", (TOP / "crates.txt").read_text(), re.M)
+    used = {name for _, names in lines for name in names.split()} - {name for name, _ in lines}
+    text = (TOP / "docs/TRUST.md").read_text()
+    rows = re.findall(r"^\| the (?:ported crates|toolchain's libraries)(.*?) \|", text, re.M)
+    told = set(re.findall(r"`(\w+)`", "".join(rows))) - {"std", "io", "os", "ccq"}
+    for name in sorted(used ^ told):
+        yield f"crates.txt and docs/TRUST.md don't both have the library `{name}`"
+
+
 def has_head(path):
     """Whether a file begins with its head, if it is a source."""
     ending = path.rpartition(".")[2] if "." in path else ""
@@ -190,7 +201,8 @@ def main():
     for patterns, check in checks:
         for path in [path for path in tree.named_by(patterns) if path.name != "documents.py"]:
             found += [f"{path.relative_to(TOP)}:{line}: {said}" for line, said in check(path, path.read_text())]
-    found += [*wrong_proofs(), *(f"{path} has no head" for path in sorted(tree.files) if not has_head(path))]
+    found += [*wrong_proofs(), *wrong_libraries()]
+    found += [f"{path} has no head" for path in sorted(tree.files) if not has_head(path)]
     print("\n".join(found) or "documents: names in backticks are in the tree, pointers lead there, files have heads")
     return 1 if found else 0
 

@@ -1,4 +1,4 @@
-//! Looks at how many items a queue has accepted, how many each group has taken, and whether the queue is shut. A look is one load, takes
+//! Looks at how many items a queue has accepted, how many each group has taken, and whether the queue is shut. A look is one load, takes no
 //! memory and never waits. A pass that looks sees all calls that had ended before.
 ghost use Rattle.std.specs.Prelude.{◌≡◌, nat_lt, IsTrue, false};
 ghost use Rattle.cc_runs.specs.Words.{exists, groups, layout_of};
