@@ -377,7 +377,7 @@ impl Core {
     #[cold]
     fn send_further(&self, item: &mut Unsent, code: u32, seat: SeatGuard) -> Sent {
         if let Flavor::Row(row) = &self.flavor {
-            return self.send_in_row(row, item, seat);
+            return self.end_in_row(row, item, code, seat);
         }
         self.replace_refusing(code, seat)?;
         self.try_send(item)

@@ -286,9 +286,23 @@ impl Core {
         item: &mut Unsent,
         mut seat: SeatGuard<'a>,
     ) -> Sent {
+        let code = self.send_by(&mut seat, item);
+        self.end_in_row(row, item, code, seat)
+    }
+
+    /// Ends a send to which the queue of this seat gave this code: while it is refused, goes on to a further queue.
+    #[cold]
+    pub fn end_in_row<'a>(
+        &'a self,
+        row: &Row,
+        item: &mut Unsent,
+        mut code: u32,
+        mut seat: SeatGuard<'a>,
+    ) -> Sent {
         let mut has_appended = false;
-        while self.send_by(&mut seat, item) != code::ACCEPTED {
+        while code != code::ACCEPTED {
             has_appended |= self.next_for_senders(row, &mut seat)?;
+            code = self.send_by(&mut seat, item);
         }
         drop(seat);
         self.notify_item();
