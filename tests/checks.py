@@ -24,12 +24,10 @@ from side_by_side import Command, Side, lanes, quiet_at_interrupt
 TOP = pathlib.Path(__file__).resolve().parent.parent
 # Those that are always done, those of the gate alone behind `rt ci`, and those with --quick alone. The longest come
 # first, so that none of them is left at the end.
-ALWAYS = """tests/plain_stores.py
+ALWAYS = """tests/model.py
 tests/store_buffers.py
 tests/statements.py
 tools/release.sh
-tests/progress.py
-tests/linear.py
 tools/page_text.py
 tools/show_pictures.sh
 tools/build_library.sh --sums
@@ -38,6 +36,7 @@ tests/install.py
 tools/statements.py
 tools/steps_table.py
 tools/page_steps.py
+tools/model.py
 tests/border.py
 tests/documents.py
 tests/helps.py

@@ -4,7 +4,7 @@ tests/bindings.py, which import this.
 A command runs while it has a token: the one that the process itself was started with, or a byte of the pipe of a job
 server, as make has one (GNU make, "POSIX Jobserver"). So a check that runs steps side by side, make and cargo share the
 tokens of the process that opened the pipe. This process also says what is going on: at a terminal by a line below all
-others, as `14/25 tests/linear.py`; elsewhere by a line if nothing was printed for 15 seconds.
+others, as `14/25 tests/model.py`; elsewhere by a line if nothing was printed for 15 seconds.
 """
 import dataclasses
 import os

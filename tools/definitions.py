@@ -1,5 +1,5 @@
-"""Reads the definitions in specs/ of the crates, as trees: tools/page_steps.py writes JavaScript from them, and
-tools/steps_table.py the table of steps. BROKEN has edits of them that make broken tables.
+"""Reads the definitions in specs/ of the crates, as trees: tools/page_steps.py writes JavaScript from them,
+tools/model.py a model for Spin, and tools/steps_table.py the table of steps. BROKEN has edits that make broken tables.
 
 A tree is one of ("number", n); ("name", words), for a name with a dot between its words; ("apply", head, arguments);
 ("op", sign, left, right), where the sign may be that of a list, ∷; ("if", test, yes, no); ("of", value, fields);
@@ -18,7 +18,7 @@ STOPS = {sign for level in OPERATORS for sign in level} | {"∷", ")", "}", ";",
 # What std gives, and no file of specs/.
 LIBRARY = {"suc", "nat_lt", "length", "slice_index_or", "list_any", "drop", "not", "IsTrue", "true", "false"}
 # Broken tables: a name, and each changed definition of cc_runs with the text that is in one of its lines and the text
-# in its place.
+# in its place. The page shows the first five.
 BROKEN = {
     "marked_early": [
         ("Lines", "line", "(after_done c.config.bound job)", "(Phase.FollowNext job)"),
@@ -38,9 +38,64 @@ BROKEN = {
     "freed_dummy": [("TakeLines", "line", "(On (WriteTaken dummy parcel))", "(On (WriteTaken at parcel))")],
     "one_group": [("SendLines", "by_passed", "if passed == groups c", "if nat_lt 0 passed")],
     "full_early": [("SendLines", "by_passed", "reads == c.capacity + 1", "reads + 1 == c.capacity")],
+    "returns_unserved": [
+        ("Lines", "after_state", "Phase.ReadNext record { at = own; served = 0 }", "Phase.ReadAnswer"),
+    ],
+    "answer_late": [
+        ("Lines", "after_answer", "= Phase.WriteAnswerTag job item", "= Phase.MarkFirst job item"),
+        ("Lines", "line", "line (Phase.HandOver at) _ =",
+         "line (Phase.MarkFirst job item) _ = store Kind.MarkDone (Word.Node x job.round.at NodeField.State) 2 "
+         "(Phase.LateTag job item)\n"
+         "line (Phase.LateTag job item) _ = store Kind.WriteAnswer (Word.Node x job.round.at NodeField.Tag) "
+         "(tag_of item) (Phase.LateBody job item)\n"
+         "line (Phase.LateBody job item) _ = store Kind.WriteAnswer (Word.Node x job.round.at (NodeField.Body 0)) "
+         "(word (body_words item) 0) (after_done c.config.bound job)\n"
+         "line (Phase.HandOver at) _ ="),
+    ],
+    "freed_before_read": [
+        ("TakeLines", "line", "(On (ReadDummyNext dummy taken))", "(On (AddFirst dummy taken))"),
+        ("TakeLines", "line", "line g (ReadDummyNext dummy taken) next =",
+         "line g (AddFirst dummy taken) _ = add Kind.AddPassed (Word.Item dummy ItemField.Passed) 1 "
+         "(On (ReadDummyNext dummy taken))\n"
+         "line g (ReadDummyNext dummy taken) next ="),
+        ("TakeLines", "line", "(parcel.place + 1) (On (AddPassed dummy parcel))",
+         "(parcel.place + 1) (Decides (Answer.Take (TakeAnswer.Got (item_in parcel))))"),
+    ],
+    "empty_always": [
+        ("TakeLines", "by_next", "On (ReadItemTag dummy taken at)", "Decides (Answer.Take TakeAnswer.Empty)"),
+    ],
+    "full_always": [("SendLines", "by_passed", "On (ResetPassed parcel at)", "Decides (Answer.Send SendAnswer.Full)")],
+    "never_shut": [
+        ("SendLines", "line", "(mark c + 1) (On (WriteShut total))",
+         "(mark c + 1) (Tells (Answer.Close (CloseAnswer.Shut total)))"),
+    ],
+    "ended_early": [
+        ("TakeLines", "line", "(On (ReadDummyNext dummy taken))", "(On (LookAtShut dummy taken))"),
+        ("TakeLines", "line", "line g (ReadDummyNext dummy taken) next =",
+         "line g (LookAtShut dummy taken) shut = load Kind.ReadObject (Word.Object Object.Shut) (if shut == 0 then On "
+         "(ReadDummyNext dummy taken) else Decides (Answer.Take (TakeAnswer.Ended taken)))\n"
+         "line g (ReadDummyNext dummy taken) next ="),
+    ],
+    "same_again": [
+        ("TakeLines", "line", "(at + 1) (On (WriteTaken dummy parcel))", "(dummy + 1) (On (WriteTaken dummy parcel))"),
+    ],
+    "past_the_bound": [("Lines", "after_done", "job.round.served + 1 == bound", "job.round.served == bound")],
+    "waits_for_a_link": [("Lines", "after_next", "= Phase.HandOver round.at", "= Phase.ReadNext round")],
+    "scans_again": [
+        ("SendLines", "by_passed", "Decides (Answer.Send SendAnswer.Full)", "On (ReadPassed parcel (after c at) 1)"),
+    ],
+    "keeps_the_chain": [
+        ("Lines", "line", "(Word.Node x at NodeField.State) 0 Phase.ReadAnswer",
+         "(Word.Node x at NodeField.State) 1 Phase.ReadAnswer"),
+    ],
+    "marks_nothing": [("Lines", "line", "NodeField.State) 2 (after_done", "NodeField.State) 1 (after_done")],
+    "links_nothing": [
+        ("Lines", "line", "NodeField.Next) (put + 1) Phase.ReadState", "NodeField.Next) 0 Phase.ReadState"),
+    ],
 }
 # The places that only broken tables have, with the names of what they hold.
-FURTHER_PLACES = {"FollowNext": ("was",)}
+FURTHER_PLACES = {"FollowNext": ("was",), "MarkFirst": ("job", "item"), "LateTag": ("job", "item"),
+                  "LateBody": ("job", "item"), "AddFirst": ("dummy", "taken"), "LookAtShut": ("dummy", "taken")}
 
 
 @dataclasses.dataclass
@@ -96,6 +151,11 @@ def definition_at(place):
 
 def meaning(crate, module, words):
     """What a name means in a file of specs/: a definition, or a constructor with the names of what it holds."""
+    return meaning_of(crate, module, tuple(words))
+
+
+@functools.cache
+def meaning_of(crate, module, words):
     first, last = words[0], words[-1]
     if last in FURTHER_PLACES:
         return "constructor", last, FURTHER_PLACES[last]
@@ -118,15 +178,16 @@ def meaning(crate, module, words):
         module, enum = path[1:-1], path[-1]
         while module[-1][0].isupper():
             enum = module.pop()
-        return "constructor", last, fields(crate, module, enum, last)
+        return "constructor", last, fields(crate, "/".join(module), enum, last)
     if read_module(crate, ".".join(path)):
         return meaning(crate, ".".join(path), words[1:])
     return meaning(crate, ".".join(path[:-1]), [path[-1], *words[1:]])
 
 
+@functools.cache
 def fields(crate, module, enum, variant):
     """The names of what a variant of an enum of the code holds."""
-    items = read_items(read_text(TOP / "crates" / crate / "src" / ("/".join(module) + ".rt")))
+    items = read_items(read_text(TOP / "crates" / crate / "src" / (module + ".rt")))
     for part in next(item.parts for item in items if (item.kind, item.name) == ("enum", enum)):
         found = re.fullmatch(r"(\w+)(?: {(.*)}|\((.*)\))?", part)
         if found and found[1] == variant:

@@ -1,7 +1,7 @@
 #!/usr/bin/env python3
 """The machine in the page of `ccq show`, as JavaScript, written from the definitions in crates/cc_runs/specs: the table
 of steps (`line` of Lines, which names SendLines, TakeLines and CountLines), what the laws of progress count (PROGRESS),
-and all definitions that these name; and the broken tables of BROKEN, each of which is that table with some lines
+and all definitions that these name; and the broken tables of VARIANTS, each of which is that table with some lines
 changed.
 
     tools/page_steps.py            compares the page with the definitions; exit status 0 if it has their machine
@@ -17,7 +17,7 @@ import sys
 
 sys.dont_write_bytecode = True
 import written
-from definitions import BROKEN, definition_at, edited, meaning, read_cases
+from definitions import definition_at, edited, meaning, read_cases
 from sources import Unreadable
 
 MARKS = "// <steps>\n", "// </steps>\n"
@@ -42,6 +42,8 @@ WANTED = [
     ("cc_model", "Body", "words_of"),
     *PROGRESS,
 ]
+# The broken tables that the page shows, by their names in tools/definitions.py.
+VARIANTS = ["marked_early", "handed_past", "freed_dummy", "one_group", "full_early"]
 # Functions of the library of the definitions, in JavaScript.
 LIBRARY = {
     "suc": "({} + 1n)",
@@ -212,7 +214,7 @@ def changed():
     """The changed definitions, by the place of each and the name of its broken table; and of each table its lines
     before and after."""
     found, shows = {}, {}
-    for variant in BROKEN:
+    for variant in VARIANTS:
         definitions, edits = edited(variant)
         found |= {(place, variant): definition for place, definition in definitions.items()}
         shows[variant] = [{"in": ".".join(place[1:]), "was": "" if was in now else shown(was),

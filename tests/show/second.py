@@ -12,12 +12,54 @@ from dataclasses import dataclass, field
 sys.dont_write_bytecode = True
 sys.path.insert(0, str(pathlib.Path(__file__).resolve().parent.parent))
 import derive
-import linear
 
 SENDERS = derive.SENDERS
 ENTERS = {"ResetNext", "ResetState", "Exchange", "WriteRequest"}
 # The steps of a combiner that are no step of a service.
 BETWEEN = {"ReadState", "ReadNext", "HandOver", "ReadAnswer", "Link", *ENTERS}
+
+
+@dataclass
+class Sequential:
+    """A queue that one caller at a time uses."""
+
+    capacity: int
+    life: int
+    groups: int
+    items: list[str] = field(default_factory=list)
+    shut: bool = False
+
+    def __post_init__(self) -> None:
+        self.handed = [0] * self.groups
+        self.sends: dict[int, int] = {}
+
+    def answer(self, chain: int, number: int, call: str) -> str:
+        """What the next call returns: of the pass with this number, on the chain of the senders or of a group."""
+        word, _, body = call.partition(" ")
+        if word == "take":
+            return self.take(chain - 1)
+        count = len(self.items)
+        if word == "close":
+            told = "already" if self.shut else "shut"
+            self.shut = True
+            return f"{told} {count}"
+        self.sends[number] = self.sends.get(number, 0) + 1
+        if self.shut:
+            return "closed"
+        if count == self.life:
+            return "spent"
+        if count - min(self.handed) == self.capacity:
+            return "full"
+        self.items.append(f"{count} s{number} {self.sends[number]} {body}")
+        return f"accepted {count}"
+
+    def take(self, group: int) -> str:
+        """What a take of a group returns."""
+        place = self.handed[group]
+        if place == len(self.items):
+            return f"ended {place}" if self.shut else "empty"
+        self.handed[group] += 1
+        return "got " + self.items[place]
 
 
 class Broken(derive.Machine):
@@ -271,7 +313,7 @@ class Story:
     def order_fault(self, n):
         """The first answer in the order of effects that a sequential queue doesn't give, as its call, the answer and
         the one that is due; or None."""
-        queue = linear.Sequential(self.capacity, self.machine.life, self.groups)
+        queue = Sequential(self.capacity, self.machine.life, self.groups)
         for _, e, call in self.effects(n):
             due = queue.answer(e.chain, int(call.name[1:]), call.text) if call else "nothing"
             if due != e.decides:
