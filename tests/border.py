@@ -179,8 +179,7 @@ def differences():
                     yield f"{kind} {name}: the library has {in_library}, {user} {own}"
     crate = number_of(r'^version = "(\d+)\.(\d+)\.(\d+)"', "bindings/rust/Cargo.toml")
     versions = {"cc_capi/src/version.rt": library[1], "vahepito.h": header[1], "bindings/rust/Cargo.toml": crate}
-    versions["cc_cli/src/help.rt"] = number_of(r'VERSION: &\[u8\] = b"ccq (\d+)\.(\d+)\.(\d+)\\n";',
-                                               "crates/cc_cli/src/help.rt")
+    versions["cc_line/src/help.rt"] = number_of(r'VERSION: &str = "(\d+)\.(\d+)\.(\d+)";', "crates/cc_line/src/help.rt")
     versions["bindings/rust/record/Cargo.toml"] = number_of(r'^version = "(\d+)\.(\d+)\.(\d+)"',
                                                             "bindings/rust/record/Cargo.toml")
     versions["the first heading of CHANGELOG.md"] = number_of(r"^## (\d+)\.(\d+)\.(\d+) ", "CHANGELOG.md")

@@ -1,8 +1,8 @@
 #!/usr/bin/env python3
 """A second program for the texts of `ccq`, and 900 inputs with what has to come of each: the corpus.
 
-    tests/derive.py FOLDER                        writes the corpus into a folder: NAME.in, and NAME.due
-    tests/derive.py play|audit|trace|why < INPUT  derives what is due of one input
+    tests/derive.py FOLDER                          writes the corpus into a folder: NAME.in, and NAME.due
+    tests/derive.py play|audit|trace|place < INPUT  derives what is due of one input, or the place of its fault
 
 The program is written from docs/FORMATS.md and docs/ARCHITECTURE.md alone: a strict reader of JSON, the checks of plans
 and receipts, the machine one step at a time, the audit by its seven kinds, and the place of a fault. It never runs the
@@ -10,7 +10,8 @@ program that is tested. Of each row that is to be refused or audited the fault i
 that are played the report; if the two differ, it ends with status 1. `tests/rows.py` gives these rows to `ccq`, and
 compares their sums with tests/derived.sums.
 
-NAME.due: line 1 has the task and the exit status, line 2 the standard error, and the others the standard output.
+NAME.due: line 1 has the task and the exit status, line 2 the standard error, and the others the standard output. If the
+input is refused, line 3 is the place that a terminal shows.
 """
 import collections
 import json
@@ -494,8 +495,8 @@ def keys_place(tree, version, wants, receipts):
     return None
 
 
-def why_of(data):
-    """What is told of where an input is refused."""
+def place_of(data):
+    """What is told at a terminal of where an input is refused."""
     if len(data) > LIMIT:
         return "input is out of its range"
     try:
@@ -878,9 +879,6 @@ def trace_of(plan):
 
 def outcome_of(task, data):
     """The status, what is told on standard error, and the lines on standard output."""
-    if task == "why":
-        said = why_of(data)
-        return int(not said.startswith("no fault: ")), "", [said]
     try:
         if task == "trace":
             return trace_of(plan_of(data))
@@ -1989,28 +1987,28 @@ def check(name, task, outcome, wanted):
 
 
 def derived():
-    """Of each row its name, its task, its bytes and its outcome, if all rows are as they have to be; and the same of
-    `ccq why` for its bytes."""
+    """Of each row its name, its task, its bytes, its outcome and the place of its fault, if all rows are as they have to
+    be."""
     names = {}
     for name, task, data, wanted in rows():
         for key, what in ((name, "name"), ((task, data), "input")):
             if key in names:
                 sys.exit("%s has the %s of %s" % (name, what, names[key]))
             names[key] = name
-        outcome, place = outcome_of(task, data), outcome_of("why", data)
+        outcome, place = outcome_of(task, data), place_of(data)
         check(name, task, outcome, wanted)
         # A refused plan may be receipts that aren't refused.
-        if outcome[0] != 2 and place[0] == 1:
-            sys.exit("%s isn't refused, and has a fault: %s" % (name, place[2]))
-        yield name, task, data, outcome
-        yield "why_" + name, "why", data, place
+        if outcome[0] != 2 and not place.startswith("no fault: "):
+            sys.exit("%s isn't refused, and has a fault: %s" % (name, place))
+        yield name, task, data, outcome, place
 
 
 def write_corpus(folder):
     """Writes all rows into a folder, which may be there."""
     os.makedirs(folder, exist_ok=True)
-    for name, task, data, (status, told, lines) in derived():
-        due = "".join(line + "\n" for line in ["%s %d" % (task, status), told, *lines])
+    for name, task, data, (status, told, lines), place in derived():
+        shown = [place] if status == 2 else lines
+        due = "".join(line + "\n" for line in ["%s %d" % (task, status), told, *shown])
         for ending, content in ((".in", data), (".due", due.encode())):
             with open(os.path.join(folder, name + ending), "wb") as out:
                 out.write(content)
@@ -2018,14 +2016,15 @@ def write_corpus(folder):
 
 def derive_one(task):
     """Writes what is due of the input on standard input. Ends with the status."""
-    status, told, lines = outcome_of(task, sys.stdin.buffer.read())
+    data = sys.stdin.buffer.read()
+    status, told, lines = (0, "", [place_of(data)]) if task == "place" else outcome_of(task, data)
     sys.stdout.write("".join(line + "\n" for line in lines))
     sys.stderr.write(told and told + "\n")
     sys.exit(status)
 
 
 if __name__ == "__main__":
-    if sys.argv[1:] in (["play"], ["audit"], ["trace"], ["why"]):
+    if sys.argv[1:] in (["play"], ["audit"], ["trace"], ["place"]):
         derive_one(sys.argv[1])
     elif len(sys.argv) != 2 or sys.argv[1].startswith("-"):
         print(__doc__)

@@ -133,7 +133,7 @@ def helps():
     commands = re.search(r"^Commands:\n((?:  .*\n)+)", output(CCQ, "--help"), re.M)[1]
     named = re.findall(r"^  (\w+)", commands, re.M)
     return {name: set(re.findall(r"^ +(?:-\w, )?--([a-z-]+)", output(CCQ, name, "--help"), re.M)) - {"help"}
-            for name in named}
+            for name in named if name != "help"}
 
 
 def in_bash(text):

@@ -1,6 +1,6 @@
 #!/usr/bin/env python3
-"""Gives `ccq play`, `ccq audit` and `ccq why` inputs near the limits in the memory that docs/FORMATS.md says they take
-at most, and no more.
+"""Gives `ccq play` and `ccq audit`, at a terminal too, inputs near the limits in the memory that docs/FORMATS.md says
+they take at most, and no more.
 
 Usage: tests/memory.py
 
@@ -11,6 +11,7 @@ one of each kind is given in a quarter of that memory, where `ccq` must say that
 program. Exit status 0 if all did so.
 """
 
+import dataclasses
 import json
 import os
 import re
@@ -18,9 +19,9 @@ import sys
 
 sys.dont_write_bytecode = True
 import asked
-from programs import PROGRAM, TOP, Row, does, refused
+from programs import PROGRAM, TOP, Row, does, placed, refused
 
-SAYS = (r"at most (\d+) bytes of memory for each byte of a plan or of\s+receipts, "
+SAYS = (r"at most (\d+) bytes of memory for each byte of a\s+plan or of receipts, "
         r"(\d+) for each byte of any other input, and (\d+) MB")
 QUARTER = 4 << 20
 
@@ -47,28 +48,25 @@ def audit(verdict, status, accepted, taken):
 TWO_WORDS = plan("[1,1]", 32800, 64, 2)
 
 
-def place(text, at, said):
-    """The row of `ccq why` for an input of one line that is refused there."""
-    return Row(["why"], 1, f"1:{text.index(at) + 1} {said}\n".encode(), input=text)
-
-
 def rows():
     """What an input has, and its row."""
     yield "bodies of one word", clean(plan("[1]", 65536, 63, 2))
     yield "bodies of two words, half of the room to spare", clean(TWO_WORDS)
     yield "numbers, half of the room to spare", clean(plan("1", 32800, 64))
-    strange = plan("[1]", 65536, 63, 2, '["s99",1]')
-    yield "a stranger in the schedule", refused("play", strange, "P4 at 0")
-    yield "the place of the stranger", place(strange, b'"s99"', 'schedule[0][0]: "s99" names no pass (s1 to s63, r1)')
-    yield "no place", Row(["why"], 0, b"no fault: this plan isn't refused\n", input=TWO_WORDS)
+    strange = refused("play", plan("[1]", 65536, 63, 2, '["s99",1]'), "P4 at 0")
+    yield "a stranger in the schedule", strange
+    place = f"1:{strange.input.index(b's99')} schedule[0][0]: \"s99\" names no pass (s1 to s63, r1)"
+    yield "the place of the stranger", placed(strange, place)
+    yield "two words, at a terminal", dataclasses.replace(clean(TWO_WORDS), at_terminal=True)
     long = plan("1", 1, 1, schedule=",".join(['["s1",1]'] * 1800000))
     yield "a schedule past its limit", refused("play", long, "P3 schedule")
     body = plan("[" + ",".join("1" * 8300000) + "]", 1, 1, 2)
-    yield "a body of too many words", refused("play", body, "P3 senders")
+    wide = refused("play", body, "P3 senders")
+    yield "a body of too many words", wide
     words = "senders[0][0]: an array of 8300000 elements is no array of 1 to 4 elements"
-    yield "the place of the body", place(body, b"[1,1", words)
-    end = f"1:{len(body)}: the text ends too early\n"
-    yield "the place where a text ends", Row(["why"], 1, end.encode(), input=body[:-1])
+    yield "the place of the body", placed(wide, f"1:{body.index(b'[1,1') + 1} {words}")
+    place = f"1:{len(body)}: the text ends too early"
+    yield "the place where a text ends", placed(refused("play", body[:-1], "P1"), place)
     often = plan("1", 1, 1, receivers=",".join("1" * 8300000))
     yield "receivers past their limit", refused("play", often, "P3 receivers")
     items = range(330000)
@@ -104,12 +102,13 @@ def main():
     no_memory = lambda task, text: Row([task], 3, err=b"ccq: out of memory\n", input=text)
     cases = [(name, row, factor) for name, row in rows()]
     for name, text in others():
-        cases.append((name, refused("play", text, "P2"), other))
-        said = f"1:1: an array of {len(json.loads(text))} elements is no object\n"
-        cases.append((f"the place of {name}", Row(["why"], 1, said.encode(), input=text), other))
+        row = refused("play", text, "P2")
+        cases.append((name, row, other))
+        place = f"1:1: an array of {len(json.loads(text))} elements is no object"
+        cases.append((f"the place of {name}", placed(row, place), other))
     cases.append(("two words, in a quarter of the memory", no_memory("play", TWO_WORDS), factor // 4))
     deep = dict(others())["objects of objects"]
-    cases.append(("objects of objects, in a quarter of the memory", no_memory("why", deep), other // 4))
+    cases.append(("objects of objects, in a quarter of the memory", no_memory("play", deep), other // 4))
     right = []
     for name, row, bytes_a_byte in cases:
         right.append(within(row, bytes_a_byte))

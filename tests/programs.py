@@ -3,11 +3,13 @@ one."""
 import dataclasses
 import os
 import pathlib
+import pty
 import re
 import resource
 import subprocess
 import sys
 import tempfile
+import tty
 
 sys.dont_write_bytecode = True
 import derive
@@ -20,7 +22,8 @@ UNREAD = b"untouched"
 @dataclasses.dataclass(frozen=True)
 class Row:
     """Arguments and input of the program, and what has to come of them. With `more` the output that has text may go on;
-    `is_read` says whether the whole input is read or all of it left, and None that it isn't looked at."""
+    `is_read` says whether the whole input is read or all of it left, and None that it isn't looked at. With
+    `at_terminal` standard error is a terminal without colours."""
 
     words: list
     status: int
@@ -29,6 +32,7 @@ class Row:
     input: bytes = UNREAD
     is_read: bool | None = None
     more: bool = False
+    at_terminal: bool = False
 
 
 def by_hand(name):
@@ -45,27 +49,56 @@ def by_hand(name):
         due = due[:-1] if more else due
         out, err = (due, b"") if output == "output" else (b"", due)
         yield re.sub(r"\W+", "_", title[1]) if title else f"line_{number}", Row(words, int(status), out, err,
-            given or UNREAD, bool(given), more)
+            given or UNREAD, bool(given), more, output == "terminal")
 
 
 def derived():
     """The rows of tests/derive.py, by their names."""
-    for name, task, data, (status, told, lines) in derive.derived():
+    for name, task, data, (status, told, lines), _ in derive.derived():
         out = "".join(f"{it}\n" for it in lines)
         yield name, Row([task], status, out.encode(), f"{told}\n".encode() if told else b"", data)
+
+
+def places():
+    """At a terminal, the rows of tests/derive.py whose input is refused."""
+    for name, task, data, (status, told, _), place in derive.derived():
+        if status == 2:
+            yield "place_" + name, placed(Row([task], status, err=f"{told}\n".encode(), input=data), place)
+
+
+def terminal():
+    """A terminal that shows bytes as they are: the end that a person sees, and the program's."""
+    ours, theirs = pty.openpty()
+    tty.setraw(theirs)
+    return ours, theirs
+
+
+def shown_at(ours, theirs):
+    """What a terminal showed by the end of the program."""
+    os.close(theirs)
+    shown = b""
+    with open(ours, "rb", buffering=0) as screen:
+        try:
+            while part := screen.read(4096):
+                shown += part
+        except OSError: # the end, as Linux has it
+            pass
+    return shown
 
 
 def run(program, row, seconds=120, memory=None):
     """What the program does of a row: the row as it should have been written."""
     bounds = (lambda: resource.setrlimit(resource.RLIMIT_AS, (memory, memory))) if memory else None
+    ours, errors = terminal() if row.at_terminal else (None, subprocess.PIPE)
     with tempfile.TemporaryFile() as given:
         given.write(row.input)
         given.seek(0)
-        ran = subprocess.run([program, *row.words], stdin=given, capture_output=True, timeout=seconds,
-                             preexec_fn=bounds, cwd=TOP)
+        ran = subprocess.run([program, *row.words], stdin=given, stdout=subprocess.PIPE, stderr=errors, timeout=seconds,
+                             preexec_fn=bounds, cwd=TOP, env={**os.environ, "TERM": "dumb"})
         at = os.lseek(given.fileno(), 0, os.SEEK_CUR)
+    err = shown_at(ours, errors) if row.at_terminal else ran.stderr
     is_read = True if at == len(row.input) else False if at == 0 else None
-    return dataclasses.replace(row, status=ran.returncode, out=ran.stdout, err=ran.stderr, is_read=is_read)
+    return dataclasses.replace(row, status=ran.returncode, out=ran.stdout, err=err, is_read=is_read)
 
 
 def does(program, row, **how):
@@ -84,3 +117,8 @@ def does(program, row, **how):
 
 def refused(task, input, why):
     return Row([task], 2, err=f"ccq: plan refused: {why}\n".encode(), input=input)
+
+
+def placed(row, place):
+    """The row of a refused input at a terminal, where a second line has the place."""
+    return dataclasses.replace(row, err=row.err + f"ccq: standard input: {place}\n".encode(), at_terminal=True)

@@ -5,9 +5,9 @@ them.
     tests/refuse.py
 
 - `ccq play` and `ccq audit` on every plan and on the receipts of examples/, on seven rows of tests/rows.py, for help
-and for a
-  command line that is refused: each allocation in turn. The program must end with status 3, say so on standard error
-  and have written nothing; or it did without that memory, and leaves just what it leaves with it.
+  and for command lines that are refused: each allocation in turn. The program must end with status 3, say so on
+  standard error and have written nothing; or it did without that memory, and leaves just what it leaves with it. At a
+  terminal the line with the place of a fault may be missing.
 - `ccq drive` by three threads that send 100 items each beside two that take: each allocation, until ten runs in a row
 have
   asked for fewer, since their number depends on the order of the threads; then each of the five threads isn't started.
@@ -31,7 +31,7 @@ import sys
 import tempfile
 
 sys.dont_write_bytecode = True
-from programs import TOP, by_hand, derived
+from programs import TOP, by_hand, derived, places, shown_at, terminal
 
 NO_MEMORY, NO_THREAD = b"ccq: out of memory\n", b"ccq: a thread was refused\n"
 DRIVE = "drive --senders 3 --receivers 2 --items 100 --capacity 4 --bound 2".split()
@@ -44,7 +44,10 @@ FAULTS = {
     b"audit: AllocError\n",
 }
 ROWS = ["close_in_every_place", "a_place_that_was_passed_over", "greatest_configuration"]
-ROWS += [f"why_{name}" for name in ("first_of_two_strangers", "text_in_a_row", "of_a_key_that_no_plan_has", "no_colon")]
+ROWS += ["place_first_of_two_strangers", "place_text_in_a_row", "place_no_colon"]
+ROWS += ["a_key_that_no_plan_has_at_a_terminal"]
+# Of each kind of answer to a line without a task one
+LINES = ["--help", "-h", "--version", "help play", "plaz", "play x y", "drive --senders 64", "judge --until 1 --skew 1"]
 MET = 9
 AGAIN = b"begin: 1 refused, and made again\n"
 
@@ -66,27 +69,33 @@ def compiled(room):
     return refuses, answers
 
 
-def run(library, words, input=os.devnull, memory=0, thread=0):
-    """Runs a program with the allocation, and the thread, of this number refused; 0 for none."""
-    env = {**os.environ, "LD_PRELOAD": library, "REFUSE": str(memory), "REFUSE_THREAD": str(thread)}
+def run(library, words, input=os.devnull, memory=0, thread=0, at_terminal=False):
+    """Runs a program with the allocation, and the thread, of this number refused; 0 for none. Standard error may be a
+    terminal."""
+    env = {**os.environ, "LD_PRELOAD": library, "REFUSE": str(memory), "REFUSE_THREAD": str(thread), "TERM": "dumb"}
+    ours, errors = terminal() if at_terminal else (None, subprocess.PIPE)
     with open(input, "rb") as given, tempfile.TemporaryFile() as met:
         # The library writes a byte there for each allocation.
         os.dup2(met.fileno(), MET)
-        ran = subprocess.run(words, stdin=given, capture_output=True, timeout=60, env=env, pass_fds=[MET])
+        ran = subprocess.run(words, stdin=given, stdout=subprocess.PIPE, stderr=errors, timeout=60, env=env,
+                             pass_fds=[MET])
         sizes = os.pread(MET, os.fstat(MET).st_size, 0)
-        return Ran(ran.returncode, ran.stdout, ran.stderr, len(sizes), max(sizes, default=0))
+        err = shown_at(ours, errors) if at_terminal else ran.stderr
+        return Ran(ran.returncode, ran.stdout, err, len(sizes), max(sizes, default=0))
 
 
-def refuse_each(library, words, input=os.devnull):
-    """Refuses each allocation in turn: how many runs there were, and how many of them ended for want of memory."""
-    whole, refused = run(library, words, input), 0
+def refuse_each(library, words, input=os.devnull, at_terminal=False):
+    """Refuses each allocation in turn: how many runs there were, and how many of them ended for want of memory. At a
+    terminal the second line, with the place of a fault, may be missing."""
+    whole, refused = run(library, words, input, at_terminal=at_terminal), 0
+    first = (*whole[:2], whole.err.partition(b"\n")[0] + b"\n")
     for number in range(1, whole.met + 1):
-        ran = run(library, words, input, number)
+        ran = run(library, words, input, number, at_terminal=at_terminal)
         if ran.met < number:
             raise Wrong(f"{words} <{input}: allocation {number} of {whole.met} was not asked for again")
         if (ran.status, ran.out, ran.err) == (3, b"", NO_MEMORY):
             refused += 1
-        elif ran[:3] != whole[:3]:
+        elif ran[:3] != whole[:3] and not (at_terminal and ran[:3] == first):
             raise Wrong(f"{words} <{input}: allocation {number} of {whole.met} refused: neither status 3 with nothing "
                         f"written nor the whole, but {ran}")
     if refused == 0:
@@ -106,23 +115,23 @@ def check_this_script(library, answers):
 
 
 def inputs(room):
-    """The words and the input of each run with a plan or with receipts, and of three command lines."""
+    """The words and the input of each run with a plan or with receipts, and of some command lines; and whether standard
+    error is a terminal."""
     for path in sorted((TOP / "examples").glob("*.json")):
-        yield (["audit"] if path.name.startswith("receipts") else ["play"]), path
-    yield ["judge"], TOP / "examples/calls.jsonl"
-    there = {**dict(derived()), **dict(by_hand("worked_rows"))}
+        yield (["audit"] if path.name.startswith("receipts") else ["play"]), path, False
+    yield ["judge"], TOP / "examples/calls.jsonl", False
+    there = {**dict(derived()), **dict(places()), **dict(by_hand("worked_rows"))}
     for name in ROWS:
         path = pathlib.Path(room, name)
         path.write_bytes(there[name].input)
-        yield there[name].words, path
-    yield ["--help"], os.devnull
-    yield ["help", "play"], os.devnull
-    yield ["plaz"], os.devnull
+        yield there[name].words, path, there[name].at_terminal
+    for line in LINES:
+        yield line.split(), os.devnull, False
 
 
 def refuse_plans(library, program):
     with tempfile.TemporaryDirectory() as room:
-        counts = [refuse_each(library, [program, *words], input) for words, input in inputs(room)]
+        counts = [refuse_each(library, [program, *words], input, at) for words, input, at in inputs(room)]
     runs, refused = map(sum, zip(*counts))
     return (f"each allocation on {len(counts)} inputs and lines: {runs} runs, {refused} ended with status 3 "
             "and nothing written, the others did without")

@@ -1,6 +1,6 @@
 #!/usr/bin/env python3
 """Gives `ccq`, as the gate left it by each compiler, every row: those of tests/worked_rows and tests/command_lines,
-which are written by hand, and those of tests/derive.py, each also to `ccq why`.
+which are written by hand, and those of tests/derive.py, refused ones also at a terminal.
 
     tests/rows.py            the programs in crates/ccq/out
     tests/rows.py --try      the program that `rt try` compiles, on the first row of each task and status and each
@@ -13,9 +13,9 @@ The head of tests/command_lines says how the rows by hand are written.
 After the rows: every strict prefix of two plans; inputs of 16 MiB, at the limit and one byte past it; lists of a plan
 at their limit and one item past it; a large input in little memory; a word that is no text; outputs without room, at
 once or after a prefix of the text; inputs that can't be read; what a person at a terminal is told, and in which
-colours, by a terminal of the script's own; and the width of each text of help. Before them, the script shows that it
-finds a wrong status, a wrong text, a wrong prefix, one on the other output, a word too many, and an input that was
-read. Exit status 0 if all did so. It proves and builds nothing: `rt ci` does.
+colours, by a terminal of the script's own; and the width and the height of each text of help. Before them, the script
+shows that it finds a wrong status, a wrong text, a wrong prefix, one on the other output, a word too many, and an input
+that was read. Exit status 0 if all did so. It proves and builds nothing: `rt ci` does.
 """
 import collections
 import dataclasses
@@ -36,22 +36,23 @@ import time
 
 sys.dont_write_bytecode = True
 import derive
-from programs import TOP, Row, by_hand, derived, does, refused
+from programs import TOP, Row, by_hand, derived, does, placed, places, refused
 
 LIMIT = 16777216
 CLEAN = b"E 0 s1 send 7 -> accepted 0\naudit clean\n"
 SUMS = TOP / "tests/derived.sums"
-TASKS = ["play", "audit", "judge", "why", "show", "drive"]
+TASKS = ["play", "audit", "judge", "show", "drive"]
 HELPS = ["ccq", *(f"ccq {task}" for task in TASKS)]
 
 
 def sums():
     """The lines of tests/derived.sums: of each task and status how many rows there are, and a sum of them all."""
     parts = collections.defaultdict(list)
-    for name, row in derived():
-        parts[row.words[0], row.status].append(b"\0".join([name.encode(), row.input, row.out, row.err]))
-    for (task, status), rows in sorted(parts.items()):
-        yield f"{task} {status}: {len(rows)} rows, sha256 {hashlib.sha256(repr(sorted(rows)).encode()).hexdigest()}\n"
+    for name, row in [*derived(), *places()]:
+        kind = f"{row.words[0]} {row.status}{' at a terminal' if row.at_terminal else ''}"
+        parts[kind].append(b"\0".join([name.encode(), row.input, row.out, row.err]))
+    for kind, rows in sorted(parts.items()):
+        yield f"{kind}: {len(rows)} rows, sha256 {hashlib.sha256(repr(sorted(rows)).encode()).hexdigest()}\n"
 
 
 def is_derived():
@@ -60,17 +61,19 @@ def is_derived():
     wrong, number = 0, 0
     for number, (name, row) in enumerate(by_hand("worked_rows"), 1):
         task, *files = row.words
-        status, told, lines = derive.outcome_of(task, (TOP / files[0]).read_bytes() if files else row.input)
-        texts = "".join(f"{it}\n" for it in lines).encode(), f"{told}\n".encode() if told else b""
-        if (status, *texts) != (row.status, row.out, row.err):
+        data = (TOP / files[0]).read_bytes() if files else row.input
+        status, told, lines = derive.outcome_of(task, data)
+        due = Row(row.words, status, "".join(f"{it}\n" for it in lines).encode(), f"{told}\n".encode() if told else b"")
+        due = placed(due, derive.place_of(data)) if row.at_terminal else due
+        if (due.status, due.out, due.err) != (row.status, row.out, row.err):
             wrong += 1
-            print(f"rows: tests/worked_rows, {name}: by hand {row.out or row.err}, and derived {texts}")
+            print(f"rows: tests/worked_rows, {name}: by hand {row.out or row.err}, and derived {due.out or due.err}")
     now, kept = list(sums()), SUMS.read_text().splitlines(keepends=True)
     for line in now:
         if line not in kept:
             print(f"rows: other rows are derived than tests/derived.sums has (tests/rows.py --sums): {line}", end="")
     print(f"rows: {number} worked rows by the second program, {wrong} of them wrong; and the sums of its own "
-          f"{sum(1 for _ in derived())}")
+          f"{sum(1 for _ in [*derived(), *places()])}")
     return wrong == 0 and now == kept
 
 
@@ -83,10 +86,10 @@ def others():
     for task in ("play", "audit"):
         yield refused(task, b" " * LIMIT, "P1")
         yield refused(task, b" " * (LIMIT + 1), "P3 input")
-    yield Row(["why"], 1, b"1:16777217: the text ends too early\n", input=b" " * LIMIT)
-    yield Row(["why"], 1, b"input is out of its range\n", input=b" " * (LIMIT + 1))
-    yield Row(["why"], 1, b"1:1: an array of 8388607 elements is no object\n",
-              input=b"[" + b"0," * (LIMIT // 2 - 2) + b"0]")
+    yield placed(refused("play", b" " * LIMIT, "P1"), "1:16777217: the text ends too early")
+    yield placed(refused("audit", b" " * (LIMIT + 1), "P3 input"), "input is out of its range")
+    zeros = b"[" + b"0," * (LIMIT // 2 - 2) + b"0]"
+    yield placed(refused("play", zeros, "P2"), "1:1: an array of 8388607 elements is no object")
     front = b'{"capacity":2,"bound":2,"life":10,"receivers":[0],"schedule":['
     for length in (65536, 65537):
         sends = front + b'["s1",28]],"senders":[[7' + b",7" * (length - 1) + b"]]}"
@@ -127,7 +130,7 @@ def without_room(program):
     """A large input in little memory, a word that is no text, and outputs that are full, at once or after some
     bytes."""
     objects = b"[" + (b'{"a":0},' * (LIMIT // 8))[: LIMIT - 8] + b"0]"
-    for task in ("play", "audit", "why"):
+    for task in ("play", "audit"):
         yield does(program, Row([task], 3, err=b"ccq: out of memory\n", input=objects), memory=20000 * 1024)
     no_text = (b"error: invalid UTF-8 was detected in one or more arguments; a file of such a name is read by `ccq "
                b"TASK < FILE`\n\n"
@@ -147,7 +150,7 @@ def unread(program):
     """Inputs that can't be read: a folder as standard input, and a file without permission."""
     folder = os.open(TOP, os.O_RDONLY)
     reason = b"ccq: standard input: Is a directory (os error 21)\n"
-    for task in ("play", "audit", "judge", "why", "show"):
+    for task in ("play", "audit", "judge", "show"):
         yield is_told(program, [task], 4, reason, stdin=folder, stdout=subprocess.DEVNULL, stderr=subprocess.PIPE)
     os.close(folder)
     with tempfile.TemporaryDirectory() as room:
@@ -238,11 +241,10 @@ def at_terminals(program):
 
 
 def hints(program):
-    """At a terminal a second line after a refusal says where the input is refused, for the tasks whose inputs `ccq why`
-    explains."""
+    """At a terminal a second line after a refusal of a plan or of receipts has the place, by the name of the input."""
     place = "standard input: 1:1: x is no JSON here\r\n"
     due = {"play": "ccq: plan refused: P1\r\nccq: " + place, "show": "ccq: plan refused: P1\r\nccq: " + place,
-           "audit": "ccq: plan refused: P1\r\nccq: " + place, "why": "",
+           "audit": "ccq: plan refused: P1\r\nccq: " + place,
            "judge": "ccq: log refused: line 1: no JSON object\r\n",
            "play examples/receipts.json": "ccq: plan refused: P2\r\nccq: examples/receipts.json: no fault: these "
                                           "receipts aren't refused\r\n"}
@@ -259,23 +261,16 @@ def hints(program):
 
 
 def colours(program):
-    """At a terminal that has colours the head of a verdict, of a place or of a fault stands between marks, and the rest
-    is as it is elsewhere. So is the whole if the environment forbids colours, or if only the other stream is a
-    terminal."""
-    red, green, bold = (b"\x1b[%sm" % it for it in (b"1;31", b"1;32", b"1"))
+    """At a terminal that has colours the head of a log's verdict or of a fault stands between marks, and the rest is as
+    it is elsewhere. So is the whole if the environment forbids colours, or if only the other stream is a terminal."""
+    red, green = (b"\x1b[%sm" % it for it in (b"1;31", b"1;32"))
     twice = b'{"thread":1,"begin":0,"end":1,"send":[5]}\n' + b"".join(
         b'{"thread":%d,"begin":2,"end":3,"take":[5]}\n' % it for it in (2, 3))
     lines = [
         ("judge examples/calls.jsonl", b"", "stdout", green, rb"judge clean"),
         ("judge", twice, "stdout", red, rb"judge fault"),
-        ("why examples/one_item.json", b"", "stdout", green, rb"no fault"),
-        ("why examples/calls.jsonl", b"", "stdout", red, rb"neither a plan nor receipts"),
-        ("why", b'{"version":1,\n"life":x}', "stdout", bold, rb"2:8:"),
-        ("why", b'{"capacity":2,"bound":2,"life":"x","senders":[[7]],"receivers":[1],"schedule":[]}', "stdout", bold,
-         rb"1:32"),
         ("play no_such_file", b"", "stderr", red, rb"ccq"),
         ("judge", b"x", "stderr", red, rb"ccq"),
-        ("why no_such_file", b"", "stderr", red, rb"ccq"),
         ("judge --skew", b"", "stderr", red, rb"error"),
         ("judge --page examples/calls.jsonl extra", b"", "stderr", red, rb"error"),
         ("plays", b"", "stderr", red, rb"error"),
@@ -316,13 +311,14 @@ def colours(program):
 
 
 def is_narrow(program):
-    """Whether no line of the texts of help has more than 100 columns."""
-    texts = [subprocess.run([program, *it.split()[1:], "--help"], capture_output=True, text=True, check=True).stdout
-             for it in HELPS]
-    wide = [line for line, said in zip(HELPS, texts) if any(len(it) > 100 for it in said.split("\n"))]
-    for line in wide:
-        print(f"{program} {line} --help: a line of more than 100 columns")
-    return not wide
+    """Whether no line of the texts of help has more than 78 columns, and no short text more than 24 lines."""
+    texts = {f"{it} {flag}": subprocess.run([program, *it.split()[1:], flag], capture_output=True, text=True,
+             check=True).stdout.splitlines() for it in HELPS for flag in ("-h", "--help")}
+    wide = [line for line, said in texts.items() if any(len(it) > 78 for it in said)]
+    tall = [line for line, said in texts.items() if line.endswith(" -h") and len(said) > 24]
+    for line in wide + tall:
+        print(f"{program} {line}: a line of more than 78 columns, or more than 24 lines")
+    return not wide + tall
 
 
 def programs():
@@ -336,7 +332,7 @@ def programs():
 def finds_what_is_wrong(program):
     """Whether each of these wrong rows, and none of the right ones, is one that the program doesn't do."""
     worked = dict(by_hand("worked_rows"))
-    item, place = worked["words_for_two_groups"], worked["why_of_a_pass_that_isn_t_there"]
+    item, place = worked["words_for_two_groups"], worked["a_pass_that_isn_t_there_at_a_terminal"]
     plan = Row(["play"], 2, err=b"ccq: plan refused: P1\n", input=b"{")
     line = Row(["play", "x", "y"], 64, err=b"error:", is_read=False, more=True)
     wrong = [
@@ -346,8 +342,8 @@ def finds_what_is_wrong(program):
         dataclasses.replace(item, out=item.out.replace(b"D 2 0", b"D 1 1")),
         dataclasses.replace(item, out=item.out.replace(b"1 7 8\n", b"1 7\n")),
         dataclasses.replace(plan, out=plan.err, err=b""),
-        dataclasses.replace(place, out=place.out.replace(b"[1]", b"[0]")),
-        dataclasses.replace(place, out=place.out.replace(b"3:", b"2:")),
+        dataclasses.replace(place, err=place.err.replace(b"[1]", b"[0]")),
+        dataclasses.replace(place, err=place.err.replace(b"3:", b"2:")),
         dataclasses.replace(line, words=["play"]),
         dataclasses.replace(line, input=b"x", is_read=True),
         dataclasses.replace(line, err=b"error: no"),
@@ -366,8 +362,8 @@ def finds_what_is_wrong(program):
 def on_programs():
     built = programs()
     for program in built:
-        rows = [[it for _, it in part]
-                for part in (by_hand("worked_rows"), derived(), by_hand("command_lines"))] + [list(others())]
+        parts = by_hand("worked_rows"), [*derived(), *places()], by_hand("command_lines")
+        rows = [[it for _, it in part] for part in parts] + [list(others())]
         well = finds_what_is_wrong(program)
         for row in (it for part in rows for it in part):
             well &= does(program, row)
@@ -383,7 +379,7 @@ def on_programs():
 
 def on_tried():
     """The rows as the cases of one `rt try`, whose lines tell each one's status, and whether its output is the expected
-    one."""
+    one. Rows at a terminal aren't tried."""
     if not shutil.which("rt"):
         print("rows: the program that is tried: SKIPPED: rt is not on this machine")
         sys.exit(77)
@@ -392,7 +388,7 @@ def on_tried():
     for name, row in rows:
         task, *others = row.words or [""]
         # `rt try` runs the program in a folder of its own
-        if not any((TOP / word).exists() for word in others):
+        if not row.at_terminal and not any((TOP / word).exists() for word in others):
             alike[task if task in TASKS else "", row.status].append((name, row))
     rows = dict(it for part in alike.values() for it in part[::250])
     with tempfile.TemporaryDirectory() as folder:

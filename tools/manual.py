@@ -5,10 +5,10 @@
     tools/manual.py --write    writes docs/ccq.1
 
 A text of help is what the task does, how it is called, its options, and blocks between empty lines. A block is a
-paragraph; or lines that are indented by two columns, below a paragraph: a table if they have a gap of two blanks, and
-else lines as they are. The options of all tasks are in OPTIONS, their tables of exit statuses in EXIT STATUS, their
-examples in EXAMPLES; all else is in the section of the task. So each word of a text of help is in the page. The date is
-that of the version in CHANGELOG.md. The variable CCQ names another program.
+paragraph; or lines that are indented by two columns, below a paragraph: a table if they have a gap of two blanks, or
+options with their texts below them, and else lines as they are. The options of all tasks are in OPTIONS, their tables
+of exit statuses in EXIT STATUS, their examples in EXAMPLES; all else is in the section of the task. So each word of a
+text of help is in the page. The date is that of the version in CHANGELOG.md. The variable CCQ names another program.
 """
 import os
 import pathlib
@@ -55,11 +55,11 @@ def rows(block):
     """The rows of a table, each a name and its text, which may go on below it; none if the lines are no table."""
     found = []
     for line in block:
-        row = re.fullmatch(r" {2,6}(\S.*?) {2,}(\S.*)", line)
+        row = re.fullmatch(r" {2,6}(\S.*?) {2,}(\S.*)", line) or re.fullmatch(r" {2,6}(-\S.*)()", line)
         if row and not line.startswith(" " * 7):
             found.append([row[1], row[2]])
         elif found and line.startswith(" " * 4):
-            found[-1][1] += " " + line.strip()
+            found[-1][1] = f"{found[-1][1]} {line.strip()}".strip()
         else:
             return []
     return found
@@ -94,6 +94,8 @@ def body(block):
 def parted(text):
     """Of a text of help: what the task does, its usage, its blocks by their kind: options, exit statuses, examples,
     others."""
+    # The options of a long help stand apart
+    text = re.sub(r"\n\n+(?=  )", "\n", re.sub(r" +$", "", text, flags=re.M))
     about, usage, *blocks = [it.split("\n") for it in text.rstrip("\n").split("\n\n")]
     kinds = {"options": [], "statuses": [], "examples": [], "others": []}
     for block in blocks:
@@ -101,7 +103,7 @@ def parted(text):
         kind = next((kind for word,
                      kind in (("Option", "options"), ("Exit status:", "statuses"), ("Example", "examples"))
                      if head.startswith(word)), "others")
-        if head != "Commands:":
+        if head not in ("Commands:", "Arguments:"):
             kinds[kind].append(block)
     return about, usage[0].removeprefix("Usage: "), kinds
 

@@ -1,7 +1,7 @@
 # Completions of `ccq` for bash.
 _ccq() {
     local word=${COMP_WORDS[COMP_CWORD]} before=${COMP_WORDS[COMP_CWORD - 1]} command=${COMP_WORDS[1]-}
-    local commands='play audit judge why show drive'
+    local commands='play audit judge show drive'
     local -A options=(
         [judge]='--follow --page --capacity --skew --from --until'
         [show]='--trace'

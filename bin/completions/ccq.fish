@@ -1,12 +1,11 @@
 # Completions of `ccq` for fish.
-set -l commands play audit judge why show drive
+set -l commands play audit judge show drive
 complete -c ccq -n "not __fish_seen_subcommand_from $commands help" -f
 complete -c ccq -n "not __fish_seen_subcommand_from $commands help" -s V -l version -d 'print the version'
 complete -c ccq -s h -l help -d 'print help'
 complete -c ccq -n __fish_use_subcommand -a play -d 'play a plan and write the report of its whole history'
 complete -c ccq -n __fish_use_subcommand -a audit -d 'audit receipts and write the verdict on them'
 complete -c ccq -n __fish_use_subcommand -a judge -d 'judge whether the calls of a log are linearizable'
-complete -c ccq -n __fish_use_subcommand -a why -d 'report the place at which a plan or receipts are refused'
 complete -c ccq -n __fish_use_subcommand -a show -d 'show the run of a plan as a page or a trace'
 complete -c ccq -n __fish_use_subcommand -a drive -d 'drive a queue by threads and audit their receipts'
 complete -c ccq -n __fish_use_subcommand -a help -d 'print the help of a command'

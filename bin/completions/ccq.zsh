@@ -7,7 +7,6 @@ _ccq() {
     'play:play a plan and write the report of its whole history'
     'audit:audit receipts and write the verdict on them'
     'judge:judge whether the calls of a log are linearizable'
-    'why:report the place at which a plan or receipts are refused'
     'show:show the run of a plan as a page or a trace'
     'drive:drive a queue by threads and audit their receipts'
   )
@@ -34,7 +33,6 @@ _ccq() {
             '--until[the time until which the log is judged]:a number:' \
             "${file}1:log:_files"
           ;;
-        why) _arguments $help "${file}1:plan or receipts:_files" ;;
         show) _arguments $help '--trace[write a line of JSON for each event]' "${file}1:plan:_files" ;;
         drive)
           _arguments $help \

@@ -1,5 +1,3 @@
-pub mod Explained
 pub mod Hard
 pub mod Judged
 pub mod RefusedClaims
-pub mod Steps

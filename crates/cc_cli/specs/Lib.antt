@@ -1,13 +1,9 @@
 pub mod Names
-pub mod Table
-pub mod Line
-pub mod Options
+pub mod Task
 pub mod Input
 pub mod Failures
 pub mod Judged
 pub mod Refused
-pub mod Refusal
-pub mod Why
 pub mod Run
 pub mod Drive
 pub mod Hint

@@ -1,21 +1,12 @@
 -- The types in specs, proofs and contracts of this crate. A variant comes after its type, as `Task.Play`.
 pub use Rattle.cc_audit.specs.declared.receipt.Verdict.{Verdict}
-pub use Rattle.cc_io.specs.declared.input.InputFault.{InputFault}
 pub use Rattle.cc_judge.specs.declared.log.Call.{Call}
 pub use Rattle.cc_judge.specs.declared.log.Rules.{Rules}
 pub use Rattle.cc_judge.specs.declared.log.Tie.{Tie}
-pub use Rattle.cc_plan.specs.declared.fault.PlanFault.{PlanFault}
 pub use Rattle.cc_play.specs.declared.fault.PlayFault.{PlayFault}
 pub use Rattle.cc_show.specs.declared.fault.ShowFault.{ShowFault}
 pub use Rattle.cc_show.specs.declared.form.Form.{Form}
-pub use Rattle.cc_cli.specs.declared.table.Task.{Task}
-pub use Rattle.cc_cli.specs.declared.table.Name.{Name}
-pub use Rattle.cc_cli.specs.declared.table.Opt.{Opt}
-pub use Rattle.cc_cli.specs.declared.line.Given.{Given}
-pub use Rattle.cc_cli.specs.declared.line.Wanted.{Wanted}
-pub use Rattle.cc_cli.specs.declared.line.Fault.{Fault}
-pub use Rattle.cc_cli.specs.declared.line.At.{At}
-pub use Rattle.cc_cli.specs.declared.line.Read.{Read}
+pub use Rattle.cc_cli.specs.declared.task.Task.{Task}
 pub use Rattle.cc_drive.specs.declared.config.DriveConfig.{DriveConfig}
 pub use Rattle.cc_log.specs.declared.fault.LogFault.{LogFault}
 pub use Rattle.cc_log.specs.declared.parse.Log.{Log}

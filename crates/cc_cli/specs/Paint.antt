@@ -1,5 +1,5 @@
 -- The colours of a text at a terminal: marks before and behind its head. The text goes to one sink and the marks to another.
-use Rattle.std.specs.Prelude.{ℕ, ◌==◌, ◌&&◌, ◌||◌, ◌++◌, Bool, true, false, not, List, [], ◌∷◌, codes, if◌then◌else◌, Option, Some, None, nat_le, position, length, unwrap_or}
+use Rattle.std.specs.Prelude.{ℕ, ◌==◌, ◌&&◌, ◌||◌, ◌++◌, Bool, true, false, not, List, [], ◌∷◌, codes, if◌then◌else◌, Option, Some, None}
 use Rattle.std.specs.List.{starts_with}
 use Rattle.std.specs.Str.{bytes_eq}
 use Rattle.std.specs.Io.KnownBytes.{Appends, Keeps}
@@ -10,47 +10,30 @@ use Rattle.cc_cli.specs.Names.{Head, Mark, Painter, Task}
 abbrev pub wants_colours : (term no_color : List ℕ) → Bool
 wants_colours term no_color = not (bytes_eq term [] || bytes_eq term (codes "dumb")) && bytes_eq no_color []
 
--- a task that answers by a verdict or a place
+-- a task that answers by the verdict on a log
 abbrev pub is_painted : Task → Bool
-is_painted Task.Judge = true
-is_painted Task.Why = true
+is_painted (Task.Judge options) = true
 is_painted task = false
 
 -- the text begins with these bytes
 abbrev pub begins : (text bytes : List ℕ) → Bool
 begins text bytes = starts_with (λ a b. a == b) text bytes
 
--- a digit or a colon
-abbrev pub is_of_place : ℕ → Bool
-is_of_place byte = nat_le 48 byte && nat_le byte 58
-
--- the place of the first byte that is neither
-abbrev pub first_other : List ℕ → Option ℕ
-first_other text = position (λ byte. not (is_of_place byte)) text
-
--- how many digits and colons begin a text: the length of a place, as `3:14`
-abbrev pub place_length : List ℕ → ℕ
-place_length text = unwrap_or (first_other text) (length text)
-
--- a head of this length, unless it is empty
+-- a head of this length
 abbrev pub head_at : ℕ → Mark → Option Head
-head_at length mark = if length == 0 then None else Some (record { length = length; mark = mark })
+head_at length mark = Some (record { length = length; mark = mark })
 
--- the head of a text: the name of a fault or of a good verdict, or a place
+-- the head of a text: the name of a fault or of a good verdict
 abbrev pub head_of : List ℕ → Option Head
 head_of text = if begins text (codes "error: ") then head_at 5 Mark.Fault
     else (if begins text (codes "ccq: ") then head_at 3 Mark.Fault
     else (if begins text (codes "judge fault: ") then head_at 11 Mark.Fault
-    else (if begins text (codes "judge clean: ") then head_at 11 Mark.Good
-    else (if begins text (codes "no fault: ") then head_at 8 Mark.Good
-    else (if begins text (codes "neither a plan nor receipts: ") then head_at 27 Mark.Fault
-    else head_at (place_length text) Mark.Place)))))
+    else (if begins text (codes "judge clean: ") then head_at 11 Mark.Good else None)))
 
 -- the bytes that begin a mark
 abbrev pub mark_text : Mark → List ℕ
 mark_text Mark.Fault = 27 ∷ codes "[1;31m"
 mark_text Mark.Good = 27 ∷ codes "[1;32m"
-mark_text Mark.Place = 27 ∷ codes "[1m"
 
 -- the bytes that end each mark
 abbrev pub end_text : List ℕ

@@ -3,11 +3,8 @@ use Rattle.std.specs.Prelude.{ℕ, ◌≡◌, ◌+◌, true, false, List, [], �
 use Rattle.cc_judge.specs.Cuts.{AreShort}
 use Rattle.cc_log.specs.Log.{Spelled}
 use Rattle.cc_cli.specs.Judged.{IsDue, Judges}
-use Rattle.cc_cli.specs.Line.{line_of}
-use Rattle.cc_cli.specs.Names.{Fault, Given, Head, Options, Task, Tie}
-use Rattle.cc_cli.specs.Options.{drive_of}
+use Rattle.cc_cli.specs.Names.{Head, Options, Tie}
 use Rattle.cc_cli.specs.Paint.{due_head, wants_colours}
-use Rattle.cc_cli.specs.Why.{Explains}
 
 -- a claim that doesn't hold
 abbrev pub Refused : Type 0 → Type 0
@@ -25,19 +22,7 @@ pub record RefusedClaims : Type 0 where
   -- a terminal has colours that is dumb, or though NO_COLOR is set
   pub dumb_with_colours : Refused (wants_colours (codes "dumb") [] ≡ true)
   pub colours_forbidden : Refused (wants_colours (codes "xterm") (codes "1") ≡ true)
-  -- of an input whose read failed: memory was refused
-  pub read_failure_hidden : (old new : Option (List ℕ)) (reads fails : ℕ) → Refused (Explains old new reads (reads + 1) fails fails 3)
-  -- a line was written, and its write failed
-  pub write_failure_hidden : (old new : Option (List ℕ)) (reads fails : ℕ) → Refused (Explains old new reads reads fails (fails + 1) 0)
-  -- a device failed, and none did
-  pub failure_made_up : (old new : Option (List ℕ)) (reads fails : ℕ) → Refused (Explains old new reads reads fails fails 4)
   -- of a log whose read failed: memory was refused
   pub log_failure_hidden : (options : Options) (left : Option (List ℕ)) (reads fails : ℕ) → Refused (Judges options left reads (reads + 1) fails fails 3)
   -- a device failed while a log was judged, and none did
   pub log_failure_made_up : (options : Options) (left : Option (List ℕ)) (reads fails : ℕ) → Refused (Judges options left reads reads fails fails 4)
-  -- a line with an option asks for the default
-  pub option_ignored : (given : List Given) (file : Option ℕ) → line_of (codes "drive" ∷ codes "--senders" ∷ codes "3" ∷ []) ≡ Ok (Task.Drive, given, file) → Refused ((drive_of given).senders ≡ 4)
-  -- a line with an option that there isn't asks for a drive
-  pub fault_overlooked : (line : Task × List Given × Option ℕ) → Refused (line_of (codes "drive" ∷ codes "--sender" ∷ []) ≡ Ok line)
-  -- a line without a fault is declined
-  pub fault_made_up : (fault : Fault) → Refused (line_of (codes "drive" ∷ []) ≡ Err fault)

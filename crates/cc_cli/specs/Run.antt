@@ -1,15 +1,13 @@
 -- The answer of a task, and its line on standard error.
 use Rattle.std.specs.Prelude.{ℕ, ◌≡◌, ◌⊎◌, ◌+◌, ◌++◌, codes, List, Option, Result, Err}
 use Rattle.std.specs.Io.KnownBytes.{Keeps}
-use Rattle.cc_cli.specs.Names.{Verdict, PlayFault, ShowFault, Form, Given, Task}
+use Rattle.cc_cli.specs.Names.{Verdict, PlayFault, ShowFault, Form, Task}
 use Rattle.cc_io.specs.FaultLine.{Told, no_memory_line}
 use Rattle.cc_play.specs.Outcome.{line_of, status_of}
 use Rattle.cc_play.specs.Play.{Plays, Audits, failed_reads, failed_writes}
 use Rattle.cc_show.specs.Show.{Shows, failed_reads_of, failed_writes_of, shown_line, shown_status}
 use Rattle.cc_cli.specs.Drive.{Drives}
 use Rattle.cc_cli.specs.Judged.{Judges}
-use Rattle.cc_cli.specs.Options.{drive_of, form_of, judged_by}
-use Rattle.cc_cli.specs.Why.{Explains}
 
 -- the line if the input of this name can't be opened or read, with the system's reason
 abbrev pub unread_line : (name reason : List ℕ) → List ℕ
@@ -38,8 +36,7 @@ module _ (errors_old errors_new : Option (List ℕ)) (before after status : ℕ)
 
 -- The bytes that a task leaves, on its input too, with the number of failed reads. A play, an audit and a show are done as far as
 -- they go and their outcome reported, by the name of their input if reading that failed. Of a judged log the status is that of a
--- right verdict, or says that memory was refused or a device failed; of an explained input it says whether it has a fault. A drive
--- reads nothing.
+-- right verdict, or says that memory was refused or a device failed. A drive reads nothing.
 module _ (left_old left_new : Option (List ℕ)) (reads reads_after : ℕ) (old new : Option (List ℕ)) (fails fails_after : ℕ) (errors_old errors_new : Option (List ℕ)) (before after status : ℕ) where
   abbrev pub Does : (name : List ℕ) → (Option (List ℕ) → Option (List ℕ) → Result Verdict PlayFault → Option (List ℕ) → Option (List ℕ) → Type 0) → Type 0
   Does name Work = (outcome : Result Verdict PlayFault) × Work left_old left_new outcome old new × (reads_after ≡ reads + failed_reads outcome) × (fails_after ≡ fails + failed_writes outcome)
@@ -49,10 +46,9 @@ module _ (left_old left_new : Option (List ℕ)) (reads reads_after : ℕ) (old 
   DoesShow name form = (outcome : Result Verdict ShowFault) × Shows form left_old left_new outcome old new × (reads_after ≡ reads + failed_reads_of outcome) × (fails_after ≡ fails + failed_writes_of outcome)
       × (status ≡ shown_status outcome) × TellsShown errors_old errors_new before after name outcome
 
-  abbrev pub Runs : (name : List ℕ) → Task → List Given → Type 0
-  Runs name Task.Play given = Does name Plays
-  Runs name Task.Audit given = Does name Audits
-  Runs name Task.Judge given = Judges (judged_by given) left_old reads reads_after fails fails_after status
-  Runs name Task.Why given = Explains left_old left_new reads reads_after fails fails_after status
-  Runs name Task.Show given = DoesShow name (form_of given)
-  Runs name Task.Drive given = Keeps left_old left_new × (reads_after ≡ reads) × Drives (drive_of given) old new fails fails_after errors_old errors_new before after status
+  abbrev pub Runs : (name : List ℕ) → Task → Type 0
+  Runs name Task.Play = Does name Plays
+  Runs name Task.Audit = Does name Audits
+  Runs name (Task.Judge options) = Judges options left_old reads reads_after fails fails_after status
+  Runs name (Task.Show form) = DoesShow name form
+  Runs name (Task.Drive config) = Keeps left_old left_new × (reads_after ≡ reads) × Drives config old new fails fails_after errors_old errors_new before after status

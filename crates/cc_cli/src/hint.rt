@@ -1,17 +1,17 @@
 //! The lines for a person at a terminal, beside the answer: the input that a task waits for, and that a page is for a browser; and
-//! the tasks whose refusals are explained there.
+//! the tasks whose refusals have a line with their place.
 ghost use Rattle.std.specs.Prelude.{◌≡◌, ◌<◌, ◌-◌, ◌^◌};
 ghost use Rattle.cc_cli.specs.Hint.{is_explained, page_line, waits_line};
 ghost use Rattle.cc_io.specs.FaultLine.{Told};
 
-use crate::table::Task;
+use crate::task::Task;
 use cc_io::{Sink, told};
 
-/// Whether `ccq why` explains why the input of this task is refused: it reads a plan or receipts.
+/// Whether the place is reported at which the input of this task is refused: it reads a plan or receipts.
 pub fn is_explained(task: Task) -> bool
     ensures { result ≡ is_explained task }
 {
-    matches!(task, Task::Play | Task::Audit | Task::Show)
+    matches!(task, Task::Play | Task::Audit | Task::Show(_))
 }
 
 /// The line of a task that waits for its input; none of one that reads nothing.
@@ -19,11 +19,11 @@ fn waits_line(task: Task) -> &'static [u8]
     ensures { result.now ≡ waits_line task }
 {
     match task {
-        Task::Play | Task::Show => b"ccq: waiting for a plan on standard input; Ctrl-D ends it\n",
+        Task::Play | Task::Show(_) =>
+            b"ccq: waiting for a plan on standard input; Ctrl-D ends it\n",
         Task::Audit => b"ccq: waiting for receipts on standard input; Ctrl-D ends them\n",
-        Task::Judge => b"ccq: waiting for a log on standard input; Ctrl-D ends it\n",
-        Task::Why => b"ccq: waiting for a plan or receipts on standard input; Ctrl-D ends them\n",
-        Task::Drive => b"",
+        Task::Judge(_) => b"ccq: waiting for a log on standard input; Ctrl-D ends it\n",
+        Task::Drive(_) => b"",
     }
 }
 

@@ -6,9 +6,9 @@ ghost use Rattle.std.specs.Prelude.{◌≡◌, ◌<◌, ◌≤◌, ◌-◌, ◌^
 ghost use Rattle.std.specs.Io.KnownBytes.{Appends, WriteAppends};
 ghost use Rattle.cc_model.specs.Items.{IsPrefix};
 ghost use Rattle.cc_io.specs.Device.{failures_after_write};
-ghost use Rattle.cc_cli.specs.Paint.{Marks, due_head, end_text, first_other, head_at, head_of, is_due, is_of_place, is_painted, mark_text, marks_of, place_length, text_of, wants_colours};
+ghost use Rattle.cc_cli.specs.Paint.{Marks, due_head, end_text, head_at, head_of, is_due, is_painted, mark_text, marks_of, text_of, wants_colours};
 
-use crate::table::Task;
+use crate::task::Task;
 use cc_io::{DeviceFault, Sink, write_bytes};
 
 /// Whether a terminal of the kind `term` has colours, and the value of `NO_COLOR` doesn't forbid them. Each is empty if it isn't set.
@@ -18,11 +18,11 @@ pub fn wants_colours(term: &str, no_color: &str) -> bool
     !matches!(term, "" | "dumb") && no_color == ""
 }
 
-/// Whether the answer of this task has colours at a terminal: it is a verdict or a place.
+/// Whether the answer of this task has colours at a terminal: it is the verdict on a log.
 pub fn is_painted(task: Task) -> bool
     ensures { result ≡ is_painted task }
 {
-    matches!(task, Task::Judge | Task::Why)
+    matches!(task, Task::Judge(_))
 }
 
 /// The meaning of the head of a text.
@@ -32,8 +32,6 @@ pub enum Mark {
     Fault,
     /// The name of a good verdict.
     Good,
-    /// A place in an input.
-    Place,
 }
 
 /// The head of a text.
@@ -52,33 +50,6 @@ fn mark_text(mark: Mark) -> &'static [u8]
     match mark {
         Mark::Fault => b"\x1b[1;31m",
         Mark::Good => b"\x1b[1;32m",
-        Mark::Place => b"\x1b[1m",
-    }
-}
-
-/// Whether the byte is a digit or a colon.
-fn is_of_place(byte: u8) -> bool
-    ensures { result ≡ is_of_place byte }
-{
-    matches!(byte, b'0'..=b':')
-}
-
-/// The place of the first byte that is neither a digit nor a colon.
-fn first_other(text: &[u8]) -> Option<usize>
-    ensures value { result ≡ first_other text.now }
-    ensures within { IfSome result (λ place. place < length text.now) }
-{
-    text.iter().position(|byte| !is_of_place(*byte))
-}
-
-/// The length of the place that begins a text: of its digits and colons.
-fn place_length(text: &[u8]) -> usize
-    ensures value { result ≡ place_length text.now }
-    ensures within { result ≤ length text.now }
-{
-    match first_other(text) {
-        Some(length) => length,
-        None => text.len(),
     }
 }
 
@@ -96,18 +67,10 @@ fn head_of(text: &[u8]) -> Option<Head>
         (11, Mark::Fault)
     } else if text.starts_with(b"judge clean: ") {
         (11, Mark::Good)
-    } else if text.starts_with(b"no fault: ") {
-        (8, Mark::Good)
-    } else if text.starts_with(b"neither a plan nor receipts: ") {
-        (27, Mark::Fault)
     } else {
-        (place_length(text), Mark::Place)
+        return None;
     };
-    if length == 0 {
-        None
-    } else {
-        Some(Head { length, mark })
-    }
+    Some(Head { length, mark })
 }
 
 /// A sink of a text and of the marks around its head.

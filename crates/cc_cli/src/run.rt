@@ -1,4 +1,4 @@
-//! Doing what a command line asks for.
+//! Doing a task.
 ghost use Rattle.std.specs.Prelude.{◌<◌, ◌-◌, ◌^◌};
 ghost use Rattle.cc_cli.specs.Run.{Runs};
 ghost use Rattle.cc_cli.specs.Drive.{Drives};
@@ -6,11 +6,8 @@ ghost use Rattle.cc_cli.specs.Drive.{Drives};
 use crate::driving::{drive_to, tell_end};
 use crate::input::Reasoned;
 use crate::judging::judge_input;
-use crate::line::Line;
-use crate::options::{drive_of, form_of, judged_by};
 use crate::reading::{tell_outcome, tell_shown_outcome};
-use crate::table::Task;
-use crate::why::why_input;
+use crate::task::Task;
 use cc_drive::{DriveConfig, Gate};
 use cc_io::{Sink, Source};
 use cc_play::audit_bytes;
@@ -20,15 +17,15 @@ use std::alloc::Global;
 use std::sync::Wait;
 use std::thread::Threads;
 
-/// Does what a command line asks for, on the input of this name: plays the plan of the source or shows its run, audits its receipts,
-/// judges its log or explains its fault; or drives a queue by threads, each with a copy of the gate, and reads nothing. It returns
+/// Does a task, on the input of this name: plays the plan of the source or shows its run, audits its receipts or
+/// judges its log; or drives a queue by threads, each with a copy of the gate, and reads nothing. It returns
 /// the exit status: 0 if that was done and the verdict is clean, 1 if a fault was found, 2 if the input is refused, 3 if memory or a
 /// thread is, or a worker reached its limit, 4 if a device fails, and 5 if the judge is undecided or a run is too long to be shown.
 /// Faults are reported on `errors`, whose own failures change nothing.
 pub fn run<R: Threads + Wait + Sync, G: Gate + Send + Copy, S: Source + Reasoned, W: Sink, E: Sink>(
     rt: &R,
     alloc: Global,
-    line: &Line,
+    task: Task,
     name: &str,
     gate: G,
     source: &mut S,
@@ -44,10 +41,9 @@ pub fn run<R: Threads + Wait + Sync, G: Gate + Send + Copy, S: Source + Reasoned
         (W.bytes_written sink.old) (W.bytes_written sink.new)
         (W.write_failures sink.old) (W.write_failures sink.new)
         (E.bytes_written errors.old) (E.bytes_written errors.new)
-        (E.write_failures errors.old) (E.write_failures errors.new) result name.now line.now.task line.now.given.items }
+        (E.write_failures errors.old) (E.write_failures errors.new) result name.now task }
 {
-    let given = line.given.as_slice();
-    match line.task {
+    match task {
         Task::Play => {
             let outcome = play(alloc, source, sink);
             tell_outcome(alloc, errors, name, source, outcome)
@@ -56,13 +52,12 @@ pub fn run<R: Threads + Wait + Sync, G: Gate + Send + Copy, S: Source + Reasoned
             let outcome = audit_bytes(alloc, source, sink);
             tell_outcome(alloc, errors, name, source, outcome)
         }
-        Task::Judge => judge_input(alloc, judged_by(given), name, source, sink, errors),
-        Task::Why => why_input(alloc, name, source, sink, errors),
-        Task::Show => {
-            let outcome = show(alloc, form_of(given), source, sink);
+        Task::Judge(options) => judge_input(alloc, options, name, source, sink, errors),
+        Task::Show(form) => {
+            let outcome = show(alloc, form, source, sink);
             tell_shown_outcome(alloc, errors, name, source, outcome)
         }
-        Task::Drive => answer(rt, alloc, &drive_of(given), gate, sink, errors),
+        Task::Drive(config) => answer(rt, alloc, &config, gate, sink, errors),
     }
 }
 

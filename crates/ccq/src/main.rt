@@ -7,22 +7,22 @@ ghost use Rattle.std.specs.Prelude.{◌<◌, ◌-◌, ◌^◌};
 
 use cc_cli::hint::{decline_page, is_explained, tell_waiting};
 use cc_cli::input::{Input, Reasoned};
-use cc_cli::line::{Fault, Line, asked, file_in, spelled};
-use cc_cli::options::writes_page;
 use cc_cli::paint::{Painter, is_painted, wants_colours};
+use cc_cli::place::explain_refusal;
 use cc_cli::reading::{decline_file, tell_unread};
-use cc_cli::refusal::decline;
 use cc_cli::run::run;
-use cc_cli::why::explain_refusal;
+use cc_cli::task::Task;
 use cc_io::{Device, InputFault, Sink, Source, out_of_memory, read_input};
+use cc_line::asked::{Line, asked};
+use cc_line::refusal::{decline, unread};
 use progress::{Behind, Counter, Meter};
-use std::env;
 use std::env::VarError;
 use std::fs::{File, Files};
-use std::io::{ErrorKind, IsTerminal};
+use std::io::IsTerminal;
 use std::process::ExitCode;
 use std::sync::Wait;
 use std::thread::Threads;
+use std::{env, io};
 
 fn main(rt: HostRuntime) -> ExitCode {
     let is_told = rt.stderr().is_terminal();
@@ -35,13 +35,10 @@ fn main(rt: HostRuntime) -> ExitCode {
         ),
         meter.as_ref(),
     );
-    let alloc = rt.alloc();
-    let (words, line) = match words(&rt) {
-        Ok(words) => {
-            let line = asked(alloc, words.as_slice());
-            (words, line)
-        }
-        Err(fault) => (Vec::new(alloc), Err(fault)),
+    let words = words(&rt);
+    let line = match &words {
+        Ok(words) => asked(rt.alloc(), words.as_slice()),
+        Err(error) => Err(unread(rt.alloc(), error)),
     };
     let colours = match &line {
         Ok(line) => rt.stdout().is_terminal() && is_painted(line.task) && has_colours(&rt),
@@ -52,17 +49,9 @@ fn main(rt: HostRuntime) -> ExitCode {
     let status = match &line {
         Ok(line) => {
             let gate = Counter::new(meter.as_ref());
-            answer(
-                &rt,
-                &rt,
-                gate,
-                words.as_slice(),
-                line,
-                &mut sink,
-                &mut errors,
-            )
+            answer(&rt, &rt, gate, *line, &mut sink, &mut errors)
         }
-        Err(fault) => decline(alloc, words.as_slice(), *fault, &mut sink, &mut errors),
+        Err(error) => decline(rt.alloc(), error, &mut sink, &mut errors),
     };
     ExitCode::from(status)
 }
@@ -80,15 +69,8 @@ fn has_colours(rt: &HostRuntime) -> bool {
 
 /// The words of the command line, without the program's name; or why there are none: one of them is no text, or memory
 /// was refused.
-fn words(rt: &HostRuntime) -> Result<Vec<String>, Fault> {
-    match env::args(rt) {
-        Ok(args) => match args.skip(1).collect(rt.alloc()) {
-            Ok(words) => spelled(rt.alloc(), words).map_err(|_| Fault::NoMemory),
-            Err(_) => Err(Fault::NoMemory),
-        },
-        Err(e) if e.kind() == ErrorKind::OutOfMemory => Err(Fault::NoMemory),
-        Err(_) => Err(Fault::NotText),
-    }
+fn words(rt: &HostRuntime) -> io::Result<Vec<String>> {
+    Ok(env::args(rt)?.skip(1).collect(rt.alloc())?)
 }
 
 /// Does a line over the file that it names, or over standard input if it names none, and answers the exit status. The host has the
@@ -97,18 +79,17 @@ fn answer<R: Threads + Wait + Sync + Files, W: Sink, E: Sink>(
     rt: &R,
     host: &HostRuntime,
     gate: Counter<'_>,
-    words: &[String],
-    line: &Line,
+    line: Line<'_>,
     sink: &mut W,
     errors: &mut E,
 ) -> u8
     requires writes { W.write_failures sink.old < 2 ^ 64 - 1 }
     requires errors { E.write_failures errors.old < 2 ^ 64 - 1 }
 {
-    if host.stdout().is_terminal() && writes_page(line) {
+    if host.stdout().is_terminal() && line.task.writes_page() {
         return decline_page(errors);
     }
-    let Some(name) = file_in(words, line) else {
+    let Some(name) = line.file else {
         if host.stderr().is_terminal() && host.stdin().is_terminal() {
             tell_waiting(&mut Device::new(host.stderr()), line.task);
         }
@@ -117,7 +98,7 @@ fn answer<R: Threads + Wait + Sync + Files, W: Sink, E: Sink>(
             rt,
             host,
             gate,
-            line,
+            line.task,
             "standard input",
             &mut source,
             sink,
@@ -129,7 +110,7 @@ fn answer<R: Threads + Wait + Sync + Files, W: Sink, E: Sink>(
             rt,
             host,
             gate,
-            line,
+            line.task,
             name,
             &mut Input::new(file),
             sink,
@@ -145,7 +126,7 @@ fn answer_over<R: Threads + Wait + Sync, S: Source + Reasoned, W: Sink, E: Sink>
     rt: &R,
     host: &HostRuntime,
     gate: Counter<'_>,
-    line: &Line,
+    task: Task,
     name: &str,
     source: &mut S,
     sink: &mut W,
@@ -155,13 +136,13 @@ fn answer_over<R: Threads + Wait + Sync, S: Source + Reasoned, W: Sink, E: Sink>
     requires writes { W.write_failures sink.old < 2 ^ 64 - 1 }
     requires errors { E.write_failures errors.old < 2 ^ 64 - 1 }
 {
-    if !is_explained(line.task) || !host.stderr().is_terminal() {
-        return run(rt, host.alloc(), line, name, gate, source, sink, errors);
+    if !is_explained(task) || !host.stderr().is_terminal() {
+        return run(rt, host.alloc(), task, name, gate, source, sink, errors);
     }
     match read_input(host.alloc(), source) {
         Ok(input) => {
             let mut kept = Input::new(input.as_slice());
-            match run(rt, host.alloc(), line, name, gate, &mut kept, sink, errors) {
+            match run(rt, host.alloc(), task, name, gate, &mut kept, sink, errors) {
                 2 => explain_refusal(host.alloc(), &mut Device::new(host.stderr()), name, &input),
                 status => status,
             }

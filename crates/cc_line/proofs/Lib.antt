@@ -1,0 +1,4 @@
+pub mod Clap
+pub mod Ranges
+pub mod RefusedClaims
+pub mod Words
