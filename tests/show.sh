@@ -8,7 +8,8 @@
 #
 # Usage: tests/show.sh
 #
-# `rt run` in crates/ccq builds the program first. Prints a line for each step; what the machine
+# The program is the one that `rt run` in crates/ccq has built, or else the one in bin/, if that is of these sources, or
+# the one that the variable CCQ names. Prints a line for each step; what the machine
 # doesn't have is skipped, and its line says so. The exit status is 0 if no step failed, 77 if none could be done.
 set -u
 cd "$(dirname "$0")/.." || exit 1
@@ -27,12 +28,15 @@ if has node; then
     step 'what is ahead of passes that wait, by the laws of progress' tests/show/progress.py
     step 'shortest solutions of the exercises' tests/show/pages.py shortest
 fi
-if [ ! -x crates/ccq/out/ccq ]; then
-    skip 'traces and pages' "crates/ccq/out/ccq isn't there"
+export CCQ=${CCQ:-crates/ccq/out/ccq}
+if [ ! -x "$CCQ" ] && tools/programs.sh --sums >/dev/null 2>&1; then CCQ=bin/x86_64-unknown-linux-gnu/ccq; fi
+if [ ! -x "$CCQ" ]; then
+    skip 'traces and pages' "crates/ccq/out/ccq isn't there, and the program in bin/ isn't of these sources"
     end_steps
 fi
+CCQ=$(realpath "$CCQ")
 step 'traces of examples/ and of the rows' tests/trace.py
-is_page() { crates/ccq/out/ccq show docs/pages/plan.json | cmp - docs/pages/index.html; }
+is_page() { "$CCQ" show docs/pages/plan.json | cmp - docs/pages/index.html; }
 export -f is_page
 step 'docs/pages has the page that the program writes' bash -c is_page
 

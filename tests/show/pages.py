@@ -213,7 +213,10 @@ def by_node():
 
 def lessons():
     """The plans of the lessons: those of examples/ are its files, and each has the report of `ccq play`."""
-    right = True
+    site = re.search(r'id="site">([^<]*)', INDEX.read_text())[1]
+    right = site == (TOP / "docs/pages/plan.json").read_text().strip()
+    if not right:
+        print("the page knows another plan than docs/pages/plan.json as its own")
     for lesson in alone("lessons", INDEX):
         if lesson["kind"] == "example" and lesson["given"] != json.loads(
                 (TOP / "examples" / f"{lesson['id']}.json").read_text()):
@@ -305,6 +308,10 @@ def looks():
     light = [{"test": "hands", "page": empty, **LAPTOP}, {"test": "player", "page": pages["bodies_of_words"], **LAPTOP},
              {"test": "turns", "page": turns, **LAPTOP},
              {"test": "sizes", **index, **LAPTOP}, {"test": "sizes", **index, **PHONE},
+             *({"test": "opens", **index, **size} for size in (LAPTOP, PHONE)),
+             *({"test": "opens", "page": pages[name], "title": title, **size} for size in (LAPTOP, PHONE)
+               for name, title in (("one_item", "A run of 1 sender and 1 receiver, 51 events"),
+                                   ("two_groups", "A run of 1 sender and 2 groups of 1 receiver, 239 events"))),
              *({"test": "covered", **index, **size} for size in (SMALL, PHONE, ZOOMED, LAPTOP)),
              {"test": "phone", **index, **PHONE},
              *({"test": "in_view", "page": page, **LAPTOP} for page in [*pages.values(), large]),

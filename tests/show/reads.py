@@ -387,7 +387,8 @@ def chain_due(at, chain):
     no chain."""
     story, nodes, last = at.story, at.state.nodes, at.state.last
     state = lambda node: f"state {at.node(chain, 'state', node)}: {STATES[at.node(chain, 'state', node)]}"
-    at_node = {turn[1]: ["being served" if turn[2] else "combiner"]
+    # A combiner is at the node that it serves, and each other pass at its own.
+    at_node = {turn[1]: [f"{name} serves this" if turn[2] else f"{name} is here"]
                for name, turn in at.state.turns.items() if story.passes[name].chain == chain}
     inside = sorted((name for name in story.on(chain) if story.inside(name, at.n)),
                     key=lambda name: at.state.calls[name].place)
@@ -400,10 +401,11 @@ def chain_due(at, chain):
                                        and is_unfinished(at, name))
         lines = [f"node {node}", f"{name} writes its request" if writes else story.asked(chain, node, at.n),
                  state(node)]
+        here = at_node.get(node, []) + [name] * (name not in at.state.turns)
         if then is None:
-            return [at_node.get(node, []), lines + [at.answer_at(chain, node)]
+            return [here, lines + [at.answer_at(chain, node)]
                     + ["next: " + value_said(at, "e.next", link)] * bool(story.table), ""]
-        return [at_node.get(node, []), lines, "not linked" if link == 0 else "" if link - 1 == then
+        return [here, lines, "not linked" if link == 0 else "" if link - 1 == then
                 else f"to node {link - 1}"]
 
     follows = [nodes[name] for name in waiting[1:]] + [tail]

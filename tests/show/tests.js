@@ -205,7 +205,7 @@ const tests = {
     assert(/Decided: accepted as item 1/.test($('event').textContent), 'the next decision is ' + $('event').textContent);
     $('before').click();
     assert(whereOf($) === first, 'back to a decision leads elsewhere');
-    assert(/tail/.test($('chain-1').textContent) && /being served/.test($('chain-1').querySelector('.end.serves').textContent), 'no node is being served');
+    assert(/tail/.test($('chain-1').textContent) && /serves this/.test($('chain-1').querySelector('.end.serves').textContent), 'no node is being served');
     // s3 serves its own call first, then that of s2, and then that of s1 (examples/README.md)
     assert(key(page.body, 'D') || key(page.body, 'd'), 'the keys of decisions do nothing');
     key(player, 'Home');
@@ -324,8 +324,9 @@ const tests = {
     $('pair').click();
     assert($('pair').getAttribute('aria-pressed') === 'false' && !visible($('other')), 'the other queue stays');
     $('pair').click();
-    // a branch: s1 alone, and then s2
+    // a branch: s1 alone, and then s2; no box differs as long as both do the same
     key($('player'), 'Home');
+    assert(!page.querySelector('.box.differs'), 'a box differs at the opening');
     for (let k = 0; k < 6; k++) key(page.body, '1');
     for (let k = 0; k < 6; k++) key(page.body, '2');
     for (let k = 0; k < 21; k++) key(page.body, '1');
@@ -333,6 +334,8 @@ const tests = {
     assert(/part at event 32\./.test($('parting').textContent), 'the branch says: ' + textOf($('parting')));
     // the right queue hands over to s2, and the broken one leaves it behind
     const box = (id, name) => [...$(id).querySelectorAll('.box')].map(one => [...one.children].map(textOf)).find(lines => lines[0] === name);
+    const marks = [...$('sides').querySelectorAll('.box.differs b')].map(textOf);
+    assert(marks.includes('node 1'), 'marked are ' + marks.join(', '));
     same(['other-chain-1', 'chain-1'].map(id => box(id, 'node 1')), [['node 1', 's2 sends 2', 'state 0: serve'], ['node 1', 's2 sends 2', 'state 1: wait']], 'the node of s2');
     return true;
   },
@@ -441,6 +444,7 @@ const tests = {
       await wait(250);
       const address = '#exercise=' + exercise.id + '&steps=' + text + '&event=' + (from + steps);
       same(view.location.hash, address, 'the address');
+      assert(textOf($('task-why')) === 'Why: ' + bare(exercise.why) && visible($('next-exercise')) === (exercise !== exercises.at(-1)), exercise.id + ' ends with ' + textOf($('task')));
       $('again').click();
       assert(whereOf($) === from && textOf($('task-state')) === 'Not solved yet.', 'start again leads to ' + $('where').textContent);
       await follow(view, '');
@@ -523,15 +527,16 @@ const tests = {
   async motion({ $, page, view, job, wait }) {
     assert(view.matchMedia('(prefers-reduced-motion: reduce)').matches === job.still, 'motion is not what was asked for');
     page.querySelector('#choose a[data-id=three]').click();
-    let moved = 0;
+    let moved = 0, travelled = 0;
     for (const lecture of [false, true]) {
       if (lecture) key(page.body, 'l');
       for (let k = 0; k < 8; k++) {
         key(page.body, lecture ? 'PageDown' : 'm');
         moved += page.getAnimations().filter(one => one.effect.getKeyframes().some(frame => /translate/.test(frame.transform || ''))).length;
+        travelled += page.querySelectorAll('.traveller').length;
       }
     }
-    assert(job.still ? page.getAnimations().length === 0 : moved >= 4, moved + ' nodes moved');
+    assert(job.still ? page.getAnimations().length === 0 : moved >= 4 && travelled >= 3, moved + ' nodes moved, and ' + travelled + ' items');
     await wait(1500);
     assert(page.getAnimations().length === 0, 'a motion does not end');
     // In no frame of a motion has the page a scroll bar, nor a row of nodes one that it doesn't have at rest: also from a screen
@@ -735,6 +740,24 @@ const tests = {
     }
     const names = new Set([...$('kinds').querySelectorAll('dt')].map(line => line.textContent.split(' ')[1]));
     assert(names.size === 21, 'a kind has no name');
+    return true;
+  },
+
+  // The page of a plan begins with its run, and has a title of its own; that of the site begins with the text, beside which the run
+  // is played. A key that moves the run shows it.
+  opens({ $, page, view, job }) {
+    const player = () => $('player').getBoundingClientRect();
+    if (job.page) {
+      assert(player().top >= 0 && player().top < 140 && !visible($('live')), 'the run begins at ' + player().top);
+      assert(textOf(page.querySelector('h1')) === job.title && page.title.startsWith(job.title), 'the titles are ' + textOf(page.querySelector('h1')) + ' and ' + page.title);
+      return true;
+    }
+    assert(player().top > view.innerHeight && $('live').getBoundingClientRect().bottom < view.innerHeight * 1.2, 'the page does not begin with its text');
+    $('live-play').click();
+    assert(textOf($('live-play')) === 'stop' && view.scrollY === 0, 'play leads away');
+    $('live-play').click();
+    assert(key(page.body, 'ArrowRight') && whereOf($) === 1 && textOf($('live-event')) && player().bottom < view.innerHeight, 'the run is not shown by a key');
+    same(boxesIn($('live-picture')).length > 2, true, 'the picture beside the text');
     return true;
   },
 

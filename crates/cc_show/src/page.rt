@@ -36,540 +36,534 @@ d currentColor; font-style: normal; cursor: help; }\n#tip { position: absolute; 
 w); background: var(--ink); color: var(--card); border-radius: 6px; padding: 6px 10px;\n  font-size: 13px; }\n.bad { b\
 ackground: var(--mark); color: var(--card); padding: 8px 12px; border-radius: 8px; margin: 0 0 8px; font-weight: 600; \
 }\n.good { color: var(--serve); font-weight: 600; }\n.intro { display: grid; grid-template-columns: minmax(0, 5fr) min\
-max(300px, 6fr); gap: 6px 24px; align-items: center; }\n.intro ol { margin: 0 0 8px; padding-left: 20px; } .intro li \
-{ margin-bottom: 5px; }\n.picture { display: grid; grid-template-columns: 1fr 1fr; max-width: 720px; } .intro svg { di\
-splay: block; width: 100%; height: auto; }\n#whole-picture text, #turns text, #lanes text { fill: var(--ink); font: 13\
-px system-ui, sans-serif; }\n#whole-picture .node { fill: var(--back); stroke: var(--edge); stroke-width: 1.5; } #whol\
-e-picture .busy { fill: var(--turn); stroke: var(--serve); }\n#whole-picture .small { fill: var(--dim); }\n.link { str\
-oke: var(--ink); stroke-width: 1.6; fill: none; } .tip-of-link { fill: var(--ink); stroke: none; }\n.choose { display\
-: grid; grid-template-columns: 9fr 8fr 7fr 6fr; gap: 4px 20px; }\n#tour, #examples { columns: 2; column-gap: 24px; } .\
-choose li { break-inside: avoid; }\n.choose ol, .choose ul { margin: 0; padding: 0 0 0 22px; } .choose ul { list-style\
-: none; padding-left: 0; }\n.own { display: grid; grid-template-columns: repeat(auto-fit, minmax(min(100%, 150px), 1fr\
-)); gap: 6px 12px; align-items: end; }\n.own label { display: block; font-size: 13px; } .own input, .own select { disp\
-lay: block; width: 100%; }\n#stage { display: grid; grid-template-columns: minmax(0, 1fr); gap: 0 8px; scroll-margin-t\
-op: calc(0px - var(--bar) - 4px); }\n#player { position: sticky; top: 0; z-index: 3; box-shadow: 0 3px 8px rgb(0 0 0 \
-/ 12%); }\n#stage:focus, #player:focus { outline: none; }\n#slider { flex: 1 1 90px; min-width: 60px; height: 32px; ma\
-rgin: 0; padding: 0; accent-color: var(--enter); }\n#where { font-variant-numeric: tabular-nums; }\n#event { margin: 5\
-px 0 0; min-height: 2.9em; }\n#breaks:not(:empty) { background: var(--mark); color: var(--card); border-radius: 6px; p\
-adding: 4px 10px; margin-top: 4px; font-weight: 600; }\n#player:not(.open) #more { display: none; } #more { width: 100\
-%; }\n@media (min-width: 1100px) {\n  #event { min-height: 1.45em; }\n  #stage { grid-template-columns: minmax(0, 1fr\
-) 436px; grid-template-rows: auto auto auto auto auto auto 1fr; }\n  #stage > * { grid-column: 1; } #stage > #player \
-{ grid-column: 1 / -1; }\n  #stage > #code { grid-column: 2; grid-row: 2 / span 6; align-self: start; position: sticky\
-; top: calc(var(--bar) + 8px);\n    max-height: calc(100vh - var(--bar) - 34px); overflow: auto; }\n  #stage:not(.pair\
-) .side .parts { flex-wrap: nowrap; } #stage:not(.pair) .side .outside { flex: 1 100 0; min-width: 180px; }\n  .side .\
-parts > .strip { flex: 0 1 auto; }\n  #stage.pair > #lesson, #stage.pair > #sides { grid-column: 1 / -1; } #stage.pai\
-r > #code { grid-row: 4 / span 4; }\n}\n/* On a low screen, as at 200 %, the player scrolls with the page. */\n@media \
-(max-height: 520px), (max-width: 640px) and (max-height: 700px) { #player { position: static; } #stage > #code { posit\
-ion: static; max-height: none; }\n  html { scroll-padding-top: 8px; } }\n.top { display: flex; flex-wrap: wrap; gap: 2\
-px 16px; align-items: center; justify-content: space-between; }\n#body { width: 10.5em; }\n#hint { color: var(--wait)\
-; font-weight: 600; }\n.moment { display: grid; grid-template-columns: auto 1fr; gap: 8px; align-items: start; margin-\
-top: 4px; }\n#moments { display: flex; flex-wrap: wrap; gap: 4px; }\n#task { margin-top: 4px; } #task > * { margin-bot\
-tom: 4px; }\n#lanes { display: grid; grid-template-columns: var(--names) minmax(0, 1fr); overflow: auto; max-height: m\
-ax(118px, calc(100vh - 652px)); position: relative; }\n#turns svg, #lanes svg { display: block; }\n#lanes .code { font\
-: 600 12px system-ui, sans-serif; fill: var(--card); text-anchor: middle; }\n#lanes .later .code { fill: var(--ink); }\
-\n#lanes text.tick, #turns text.side { fill: var(--dim); font-size: 12px; }\n#lanes .lane { stroke: var(--line); }\n#l\
-anes .cell, #turns .turn { cursor: pointer; }\n#lanes .now { fill: none; stroke: var(--ink); stroke-width: 2.5; }\n#tu\
-rns .turn rect { fill: var(--turn); stroke: var(--serve); } #turns .turn rect.later { fill: none; stroke-dasharray: 3 \
-3; }\n#turns .now { stroke: var(--ink); stroke-width: 2; }\n#turns .turn text { font-size: 12.5px; }\n.pass { display\
-: flex; height: 36px; padding: 2px 6px 2px 0; gap: 4px; }\n.pass button { padding: 0 6px; white-space: nowrap; overflo\
-w: hidden; }\n.pass .step { flex: 1; min-width: 0; display: flex; gap: 6px; align-items: center; text-align: left; }\n\
-.pass .step span { flex: 1; overflow: hidden; text-overflow: ellipsis; color: var(--dim); font-size: 12.5px; }\n.pass \
-.step b { min-width: 22px; }\n.pass .step i.next { font-size: 12px; font-style: normal; font-weight: 600; }\n.pass.mov\
-ed .step { border-color: var(--ink); border-width: 2px; }\n.dot { display: inline-block; flex: none; width: 11px; heig\
-ht: 11px; border-radius: 3px; margin-right: 3px; }\n.legend { font-size: 12.5px; margin: 4px 0 0; } .legend span { dis\
-play: inline-block; margin-right: 10px; }\n.strip { overflow-x: auto; padding-bottom: 3px; } .strip.roomy, .list.room\
-y { overflow: visible; }\n.boxes { display: flex; flex-wrap: nowrap; align-items: stretch; list-style: none; margin: 0\
-; padding: 0; width: max-content; font-size: 12.5px; }\n.boxes > li { display: flex; align-items: flex-end; }\n#stage.\
-pair .boxes { font-size: 12px; } #stage.pair .boxes:not(.many) { flex-wrap: wrap; width: auto; }\n.parts { display: fl\
-ex; flex-wrap: wrap; gap: 4px 2.2em; align-items: flex-end; } .parts > * { max-width: 100%; min-width: 0; } .outside h\
-3 { margin: 0; }\n.boxes.loose > li { margin-right: .7em; }\n.boxes .done-one { margin-right: .6em; } .boxes .apart { \
-border-left: 2px dotted var(--edge); padding-left: .9em; }\n.stack { display: flex; flex-direction: column; justify-co\
-ntent: flex-end; }\n.ends { display: flex; gap: .7em; justify-content: center; min-height: 2.7em; align-items: flex-en\
-d; }\n.end { display: flex; flex-direction: column; align-items: center; line-height: 1.2; font-weight: 600; color: va\
-r(--enter); white-space: nowrap; }\n.end.tail { color: var(--answer); } .end.cursor { color: var(--hand); } .end.look\
-s { color: var(--wait); } .end.serves { color: var(--serve); }\n.end.note { color: var(--dim); font-weight: 400; }\n.e\
-nd.touch { background: var(--touch); color: var(--ink); border-radius: 4px 4px 0 0; padding: 0 4px; }\n.end svg { widt\
-h: 1.1em; height: 1.1em; } .end svg path { stroke: currentColor; stroke-width: 2; fill: none; }\n.end svg .tip-of-lin\
-k { fill: currentColor; stroke: none; }\n.box { display: block; border: 1.5px solid var(--edge); border-radius: 6px; p\
-adding: .15em .6em; line-height: 1.35; background: var(--back); min-width: 6.6em;\n  white-space: nowrap; }\n.box.touc\
-h, tr.touch td, .word.touch { background: var(--touch); border-color: var(--touch-line); }\n.box.touch .dim, tr.touch \
-.pending { color: var(--ink); }\n.box.serve { border-color: var(--serve); border-width: 2.5px; } .box.wait { border-co\
-lor: var(--wait); }\n.box.done, .box.dummy { border-style: dashed; } .box.free { border-style: dotted; color: var(--di\
-m); }\n.box.prepare { border-color: var(--hand); border-style: dashed; border-width: 2px; }\n.line { display: block; }\
-\n.arrow { flex: none; align-self: flex-end; padding: 0 .25em; margin-bottom: 1.5em; color: var(--dim); white-space: n\
-owrap; display: flex;\n  flex-direction: column; align-items: center; }\n.arrow svg { display: block; width: 2.8em; he\
-ight: 1.1em; } .arrow.none { color: var(--wait); }\n.arrow.none .link { stroke: var(--wait); stroke-dasharray: 3 3; }\
-\n.arrow.wrong { color: var(--mark); font-weight: 600; }\n.words { display: flex; flex-wrap: wrap; gap: 3px 5px; margi\
-n-top: 6px; }\n.word { border: 1px solid var(--line); border-radius: 5px; padding: 1px 6px; font-size: 12.5px; }\ntabl\
-e { border-collapse: collapse; width: 100%; font-size: 12.5px; }\ntd, th { padding: 0 10px 0 0; border: 0; vertical-al\
-ign: top; white-space: nowrap; text-align: left; font-weight: inherit; }\n.two { display: grid; grid-template-columns\
-: repeat(auto-fit, minmax(min(100%, 400px), 1fr)); gap: 0 8px; align-items: start; }\n.columns { display: grid; grid-t\
-emplate-columns: repeat(auto-fit, minmax(min(100%, 230px), 1fr)); gap: 0 12px; }\n#sides { display: grid; grid-templat\
-e-columns: minmax(0, 1fr); gap: 0 8px; align-items: start; }\n.pair .chain { min-width: 100%; } .pair .chain.idle { di\
-splay: none; }\n@media (min-width: 900px) { .pair #sides, #lecture.pair #lecture-sides { grid-template-columns: minmax\
-(0, 1fr) minmax(0, 1fr); } }\n.side { min-width: 0; } .side > h2, .side > p { padding: 0 2px; margin: 0 0 4px; } #side\
--event, #other-event { min-height: 2.9em; }\n#side-event:empty { display: none; }\n.chains { display: flex; flex-wrap\
-: wrap; gap: 0 8px; }\n.chain { flex: 1 1 0; min-width: min(100%, 260px); } .chain h2, .chain > div, .chain .head { di\
-splay: inline; } .chain h2 { margin-right: 8px; }\n.chain .head { color: var(--dim); font-size: 13px; }\n.chain.idle \
-{ flex: 0 1 auto; min-width: 0; align-self: flex-start; } .chain.idle .nodes { display: none; }\n.nodes { display: fle\
-x; flex-wrap: wrap; gap: 0 16px; align-items: flex-end; } .nodes > * { min-width: 0; max-width: 100%; } .nodes .words \
-{ margin: 0 0 6px; }\n.of-list h2, .of-list > div, .of-list > div > .words { display: inline; } .of-list .word { displ\
-ay: inline-block; margin: 0 4px 3px 0; }\n.of-list h2 { margin-right: 8px; }\n.list { position: relative; max-height: \
-190px; overflow: auto; }\n.pending { color: var(--wait); }\n.program { list-style: none; margin: 0; padding: 0; font: \
-12.5px/1.5 ui-monospace, \"DejaVu Sans Mono\", Menlo, monospace; }\n.program li { display: flex; justify-content: spac\
-e-between; gap: 8px; padding: 0 6px; border-left: 4px solid transparent; white-space: pre; }\n.program li span:last-ch\
-ild { color: var(--dim); font-family: system-ui, sans-serif; font-size: 12px; }\n.program li.lit { background: var(--t\
-ouch); border-left-color: var(--touch-line); font-weight: 700; } .program li.lit span:last-child { color: var(--ink); \
-}\n.program li.changed { border-left-color: var(--mark); background: var(--was); } .program li.changed.lit { backgroun\
-d: var(--touch); }\n#code-head { position: sticky; top: -8px; margin-top: -8px; padding-top: 8px; background: var(--ca\
-rd); }\n#holds { border-bottom: 1px solid var(--line); padding-bottom: 3px; min-height: 5em; } .part:first-child h3 { \
-margin-top: 5px; }\n#law .row { flex-wrap: nowrap; align-items: flex-start; } #law .row button { flex: none; } #law .r\
-ow span { padding-top: 5px; }\n.change { font-size: 12.5px; white-space: pre-wrap; overflow-wrap: anywhere; margin: 2p\
-x 0; padding: 2px 6px; border-radius: 4px; display: block;\n  text-decoration: none; }\ndel.change { background: var(-\
--was); } ins.change { background: var(--is); }\npre, textarea { margin: 0; max-height: 320px; overflow: auto; white-sp\
-ace: pre-wrap; overflow-wrap: anywhere; }\ntextarea { display: block; width: 100%; height: 7em; padding: 4px 8px; }\nd\
-l { display: grid; grid-template-columns: auto 1fr; gap: 2px 14px; margin: 0; font-size: 13px; }\ndt { font-weight: 60\
-0; } dd { margin: 0; color: var(--dim); }\nfooter { padding-bottom: 24px; font-size: 13px; }\nbody.bare header, body.b\
-are #intro, body.bare #choose, body.bare footer { display: none; } body.bare main { padding-top: 8px; }\n/* The lectur\
-e: one moment a screen. */\n#handout { display: none; max-width: 900px; margin: 0 auto; padding: 14px; } body.handout \
-#handout { display: block; }\nbody.handout > header, body.handout > main, body.handout > footer, body.handout > .skip \
-{ display: none; }\n#handout .answer { border-bottom: 1px solid var(--edge); min-height: 3em; }\nbody.lecture { overfl\
-ow-x: clip; } body.lecture > header, body.lecture > main, body.lecture > footer, body.lecture > .skip { display: none\
-; }\n#lecture { min-height: 100vh; display: grid; grid-template-columns: minmax(0, 1fr); grid-template-rows: auto aut\
-o 1fr auto auto; gap: 8px; padding: 14px 26px;\n  max-width: 2800px; margin: 0 auto; }\n#lecture h2 { font-size: clamp\
-(20px, 2.3vw, 60px); line-height: 1.2; margin: 0; } #lecture .top { align-items: baseline; }\n#lecture-count { font-si\
-ze: clamp(14px, 1.3vw, 34px); color: var(--dim); white-space: nowrap; }\n#lecture-text { font-size: clamp(18px, 2vw, 5\
-2px); line-height: 1.35; margin: 0; min-height: 1.35em; }\n#lecture-sides { display: grid; grid-template-columns: minm\
-ax(0, 1fr); gap: 10px 26px; align-items: center; }\n#lecture h3 { font-size: clamp(15px, 1.35vw, 36px); margin: 0 0 2p\
-x; font-weight: 400; } #lecture .side > h2 { font-size: clamp(17px, 1.6vw, 42px); }\n#lecture .part-chain .boxes { fon\
-t-size: var(--of-chain, 20px); } #lecture .part-list .boxes { font-size: var(--of-list, 20px); }\n#lecture.pair h3 { f\
-ont-size: clamp(14px, 1.1vw, 28px); } #lecture.pair #lecture-sides { align-items: start; } #lecture.pair .part { margi\
-n-bottom: 4px; }\n#lecture .part { margin-bottom: 10px; }\n#lecture-line { margin: 0; min-height: 3.4em; font-size: cl\
-amp(16px, 1.75vw, 46px); display: grid;\n  grid-template-columns: repeat(auto-fit, minmax(min(100%, 420px), 1fr)); gap\
-: 4px 26px; align-items: center; }\n#lecture-line p { margin: 0; background: var(--touch); border-left: 6px solid var(\
---touch-line); border-radius: 4px; padding: 4px 14px; }\n#lecture-line span { color: var(--dim); font-size: .75em; mar\
-gin-right: 1em; } #lecture-line p span { color: var(--ink); }\n#lecture-line code { font-size: .95em; white-space: pre\
--wrap; font-weight: 600; }\n#lecture-code { display: grid; grid-auto-flow: column; grid-auto-columns: minmax(0, 1fr); \
-gap: 26px; align-content: center; }\n#lecture-code .program { font-size: clamp(12.5px, min(2.1vw, 66vh / var(--lines) \
-/ 1.5), 44px); } #lecture.pair #lecture-code .program { font-size: clamp(12px, min(1.05vw, 66vh / var(--lines) / 1.5)\
-, 30px); }\n#lecture-code li { white-space: pre-wrap; } #lecture-code li span:last-child { display: none; }\n#lecture \
-nav { gap: 8px; align-items: center; } #lecture nav button, #lecture nav select { min-height: 40px; font-size: 16px; \
-} #lecture nav .gap { flex: 1; }\nbody.lecture #tip { font-size: clamp(15px, 1.5vw, 22px); max-width: min(560px, 94vw)\
-; }\nbody.blank #lecture > *, body.blank #tip { visibility: hidden; } body.blank { background: #000; }\n@media (max-he\
-ight: 700px) { #lecture { padding: 6px 26px; gap: 4px; } #lecture-line { min-height: 2em; } }\n@media (max-width: 1180\
-px) { #lecture.pair .boxes:not(.many) { flex-wrap: wrap; width: auto; } .intro { grid-template-columns: minmax(0, 1fr)\
-; } .choose { grid-template-columns: 1fr 1fr; } }\n@media (max-width: 900px) { .boxes:not(.many) { flex-wrap: wrap; wi\
-dth: auto; } .choose { grid-template-columns: minmax(0, 1fr); }\n  #tour, #examples { columns: auto 220px; } .choose l\
-i { margin: 2px 0; } }\n@media (max-width: 640px) {\n  :root { --names: 104px; }\n  .picture { grid-template-columns: \
-minmax(0, 1fr); max-width: 400px; }\n  header, main, footer { padding-left: 8px; padding-right: 8px; }\n  .card { padd\
-ing: 7px 8px; }\n  .pass .step span, .pass .step i.next { display: none; }\n  .moment { grid-template-columns: minmax(\
-0, 1fr); }\n  #event { font-size: 13px; max-height: 8.4em; overflow: auto; }\n  #event .dim { display: none; }\n  dl \
-{ grid-template-columns: minmax(0, 1fr); } dd { margin-bottom: 6px; }\n  .program { font-size: 12px; } .program li { w\
-hite-space: pre-wrap; } .program li span { overflow-wrap: anywhere; }\n  #lecture { padding: 8px; }\n  #lecture nav .g\
-ap { display: none; }\n}\n@media (max-width: 400px) { td, th { white-space: normal; } .program li span:last-child { di\
-splay: none; } .pass { padding-right: 2px; gap: 2px; } }\n@media (prefers-reduced-motion: no-preference) {\n  .box.tou\
-ch, .word.touch, .end.touch { animation: flash .6s ease-out; }\n  @keyframes flash { from { box-shadow: 0 0 0 6px var(\
---touch-line); } to { box-shadow: 0 0 0 0 transparent; } }\n}\n@media print {\n  :root { color-scheme: light; --back: \
-#fff; --card: #fff; --ink: #000; --dim: #444; --line: #999; --edge: #555; --mark: #8c1d18; --enter: #1d4f9e;\n    --wa\
-it: #7a4900; --serve: #125c38; --hand: #6b2d92; --answer: #075b66; --rest: #555; --touch: #fff0b8; --touch-line: #8a67\
-00; --turn: #dcefe4;\n    --was: #fbe4e2; --is: #dff2e6; }\n  * { print-color-adjust: exact; -webkit-print-color-adjus\
-t: exact; animation: none !important; }\n  body { font-size: 10pt; } #program { columns: 2; } .part { break-inside: av\
-oid; }\n  body:not(.begins) #intro, nav, #choose, footer, .skip, #player .row, #moments, #lesson .row, .more, .leap, #\
-add, #texts, #tip, #parting button, #task .row { display: none !important; }\n  #player, #stage > #code, #code-head { \
-position: static; box-shadow: none; max-height: none; overflow: visible; }\n  #lanes, .list, .strip { max-height: none\
-; overflow: visible; } #cells, #turns { overflow: hidden; }\n  #law button { border: 0; padding: 0; min-height: 0; bac\
-kground: none; font-weight: 600; } #law .row span { padding-top: 0; }\n  details:not([open]), .chain.idle { display: n\
-one; }\n  .hints { break-before: page; } .card { break-inside: avoid; } .boxes { width: auto; flex-wrap: wrap; } .prog\
-ram li { white-space: pre-wrap; }\n  #stage { display: block; } #lecture { min-height: 0; padding: 0; } #lecture .par\
-t .boxes { font-size: 15px; } #lecture.pair .part .boxes { font-size: 12px; }\n  .pair #sides, #lecture.pair #lecture-\
-sides { grid-template-columns: minmax(0, 1fr) minmax(0, 1fr); }\n}\n</style>\n</head>\n<body>\n<a class=\"skip\" href=\
-\"#stage\">To the run</a>\n<header>\n<h1>CC-Queue, step by step</h1>\n<nav aria-label=\"Parts of this page\"><a href=\
-\"#choose\">Tour and exercises</a><a href=\"#stage\">The run</a><a href=\"#lecture=lone\">Lecture</a>\n<a href=\"#own\
-\">Your own queue</a><a href=\"#glossary\">Words</a><a href=\"#keys\">Keys</a></nav>\n</header>\n<main>\n<noscript><p \
-class=\"bad\">The pictures are drawn by the script of this page, which is turned off. The events and the report are i\
-n its source.</p></noscript>\n<div id=\"alarm\" role=\"alert\"></div>\n<section class=\"card\" id=\"intro\" aria-label\
-ledby=\"intro-title\">\n<p>This page shows CC-Queue (Fatourou and Kallimanis, PPoPP 2012) step by step. It is the algo\
-rithm of Vahepito, a queue that is proved for every\norder of these steps. Vahepito's program <code>ccq</code> writes \
-this page for a run of your own: <code>ccq show PLAN &gt; page.html</code>.</p>\n<h2 id=\"intro-title\">The algorithm \
-in five sentences</h2>\n<div class=\"intro\">\n<ol>\n<li>CC-Queue is a first-in, first-out queue that many threads us\
-e at once: each\n<dfn class=\"term\" tabindex=\"0\" role=\"button\" data-word=\"pass\" aria-describedby=\"word-pass\">\
-pass</dfn> is one of them, a sender that appends items or a receiver\nthat takes them.</li>\n<li>Senders don't conten\
-d for a lock: each swaps a <dfn class=\"term\" tabindex=\"0\" role=\"button\" data-word=\"node\" aria-describedby=\"wo\
-rd-node\">node</dfn> into a\n<dfn class=\"term\" tabindex=\"0\" role=\"button\" data-word=\"chain\" aria-describedby=\
-\"word-chain\">chain</dfn> and writes its request there, and one of them, the\n<dfn class=\"term\" tabindex=\"0\" role\
-=\"button\" data-word=\"combiner\" aria-describedby=\"word-combiner\">combiner</dfn>, serves the requests of all, up t\
-o a\n<dfn class=\"term\" tabindex=\"0\" role=\"button\" data-word=\"bound\" aria-describedby=\"word-bound\">bound</dfn\
->, and then hands over.</li>\n<li>The items are in a linked list whose first node is a\n<dfn class=\"term\" tabindex=\
-\"0\" role=\"button\" data-word=\"dummy\" aria-describedby=\"word-dummy\">dummy</dfn>, so that senders append at one e\
-nd while receivers, who\nhave chains of their own, take at the other.</li>\n<li>Each <dfn class=\"term\" tabindex=\"0\
-\" role=\"button\" data-word=\"step\" aria-describedby=\"word-step\">step</dfn> of a pass reads or changes one word, t\
-he steps of\nall passes interleave in any order, and for every order it is proved that items leave in the order in whi\
-ch they came.</li>\n<li>On this page you choose the order: follow the tour, make the steps of each pass yourself, see \
-what broken queues lose, and solve exercises.</li>\n</ol>\n<div class=\"picture\"><svg viewBox=\"0 0 310 250\" role=\"\
-img\"\naria-label=\"Two receivers on their chain, of which the first combines and takes from the head of the list; thr\
-ee senders on theirs, of which the first combines\nand appends after the last node.\">\n<defs><marker id=\"tip-of-arro\
-w\" viewBox=\"0 0 10 10\" refX=\"9\" refY=\"5\" markerWidth=\"7\" markerHeight=\"7\" orient=\"auto\"><path class=\"tip\
--of-link\" d=\"M0 0L10 5L0 10z\"/></marker></defs>\n<g id=\"whole-picture\"><text x=\"8\" y=\"18\">The chain of the re\
-ceivers</text><text x=\"320\" y=\"18\">The chain of the senders</text>\n<rect class=\"node busy\" x=\"8\" y=\"28\" wid\
-th=\"74\" height=\"42\" rx=\"6\"/><text x=\"18\" y=\"46\">r1: take</text><text class=\"small\" x=\"18\" y=\"63\">serve\
-s</text>\n<rect class=\"node\" x=\"112\" y=\"28\" width=\"74\" height=\"42\" rx=\"6\"/><text x=\"122\" y=\"46\">r2: ta\
-ke</text><text class=\"small\" x=\"122\" y=\"63\">waits</text>\n<path class=\"link\" d=\"M82 49H110\" marker-end=\"url\
-(#tip-of-arrow)\"/>\n<rect class=\"node busy\" x=\"320\" y=\"28\" width=\"74\" height=\"42\" rx=\"6\"/><text x=\"330\
-\" y=\"46\">s1: 7</text><text class=\"small\" x=\"330\" y=\"63\">serves</text>\n<rect class=\"node\" x=\"424\" y=\"28\
-\" width=\"74\" height=\"42\" rx=\"6\"/><text x=\"434\" y=\"46\">s2: 8</text><text class=\"small\" x=\"434\" y=\"63\">\
-waits</text>\n<rect class=\"node\" x=\"528\" y=\"28\" width=\"74\" height=\"42\" rx=\"6\"/><text x=\"538\" y=\"46\">s3\
-: 9</text><text class=\"small\" x=\"538\" y=\"63\">waits</text>\n<path class=\"link\" d=\"M394 49H422\" marker-end=\"u\
-rl(#tip-of-arrow)\"/><path class=\"link\" d=\"M498 49H526\" marker-end=\"url(#tip-of-arrow)\"/>\n<text x=\"8\" y=\"195\
-\">The list</text>\n<rect class=\"node\" x=\"70\" y=\"170\" width=\"92\" height=\"40\" rx=\"6\" stroke-dasharray=\"5 4\
-\"/><text x=\"84\" y=\"195\">dummy</text>\n<rect class=\"node\" x=\"200\" y=\"170\" width=\"92\" height=\"40\" rx=\"6\
-\"/><text x=\"214\" y=\"195\">item 4</text>\n<rect class=\"node\" x=\"330\" y=\"170\" width=\"92\" height=\"40\" rx=\"\
-6\"/><text x=\"344\" y=\"195\">item 5</text>\n<rect class=\"node\" x=\"460\" y=\"170\" width=\"92\" height=\"40\" rx=\
-\"6\"/><text x=\"474\" y=\"195\">item 6</text>\n<path class=\"link\" d=\"M162 190H198\" marker-end=\"url(#tip-of-arrow\
-)\"/><path class=\"link\" d=\"M292 190H328\" marker-end=\"url(#tip-of-arrow)\"/><path class=\"link\" d=\"M422 190H458\
-\" marker-end=\"url(#tip-of-arrow)\"/>\n<path class=\"link\" d=\"M45 70C45 125 116 110 116 168\" marker-end=\"url(#tip\
--of-arrow)\"/><text x=\"126\" y=\"128\">r1 takes 4, the oldest item</text>\n<path class=\"link\" d=\"M357 70C357 125 5\
-06 105 506 168\" marker-end=\"url(#tip-of-arrow)\"/><text x=\"446\" y=\"100\">s1 appends 7, 8 and 9</text>\n<text clas\
-s=\"small\" x=\"98\" y=\"226\">head</text><text class=\"small\" x=\"494\" y=\"226\">last</text></g>\n</svg><svg viewBo\
-x=\"310 0 310 250\" aria-hidden=\"true\"><use href=\"#whole-picture\"/></svg></div>\n</div>\n</section>\n<section clas\
-s=\"card\" id=\"choose\" aria-labelledby=\"choose-title\">\n<h2 id=\"choose-title\">Each of these opens a run that yo\
-u can drive on</h2>\n<div class=\"choose\">\n<div><h3>Guided tour</h3><ol id=\"tour\"></ol></div>\n<div><h3>Scenarios<\
-/h3><ul id=\"examples\"></ul></div>\n<div><h3>Broken queues, beside the right one</h3><ul id=\"broken\"></ul></div>\n<\
-div><h3>Exercises</h3><ul id=\"exercise-list\"></ul><p><a class=\"pick\" href=\"#handout\">all of them, to be printed<\
-/a></p></div>\n</div>\n<details id=\"own\"><summary>Your own queue, or a plan</summary>\n<form id=\"own-form\" class=\
-\"own\">\n<label>senders<input name=\"senders\" type=\"number\" min=\"1\" max=\"64\" value=\"2\"></label>\n<label>rece\
-ivers of a group<input name=\"receivers\" type=\"number\" min=\"1\" max=\"64\" value=\"1\"></label>\n<label>groups<inp\
-ut name=\"groups\" type=\"number\" min=\"1\" max=\"8\" value=\"1\"></label>\n<label>capacity<input name=\"capacity\" t\
-ype=\"number\" min=\"1\" max=\"4096\" value=\"2\"></label>\n<label>bound<input name=\"bound\" type=\"number\" min=\"1\
-\" max=\"1024\" value=\"2\"></label>\n<label>life (items ever accepted)<input name=\"life\" type=\"number\" min=\"1\" \
-max=\"281474976710656\" value=\"100\"></label>\n<label>sends of each sender<input name=\"sends\" type=\"number\" min=\
-\"0\" max=\"1000\" value=\"2\"></label>\n<label>words of an item<input name=\"words\" type=\"number\" min=\"1\" max=\"\
-4\" value=\"1\"></label>\n<label>takes of each receiver<input name=\"takes\" type=\"number\" min=\"0\" max=\"1000\" va\
-lue=\"4\"></label>\n<label>table of steps<select name=\"table\" class=\"tables\"></select></label>\n<button>open this \
-queue</button>\n</form>\n<h3>Open a plan: paste its JSON, or choose a file</h3>\n<textarea id=\"import\" class=\"mono\
-\" aria-label=\"a plan in JSON\" placeholder='{\"capacity\":2,\"bound\":2,\"life\":10,\"senders\":[[7]],\"receivers\":\
-[1],\"schedule\":[[\"s1\",100],[\"r1\",100]]}'></textarea>\n<div class=\"row\" style=\"margin-top:5px\"><button id=\"o\
-pen-plan\" type=\"button\">open this plan</button><input id=\"file\" type=\"file\" accept=\".json,application/json\" a\
-ria-label=\"a file with a plan\"></div>\n<p id=\"import-hint\" role=\"status\"></p>\n</details>\n</section>\n<section \
-id=\"stage\" tabindex=\"-1\" aria-label=\"The run\">\n<div class=\"card\" id=\"player\" tabindex=\"-1\" role=\"group\
-\" aria-label=\"Player\">\n<div class=\"row\">\n<button id=\"back\" title=\"one event back (left arrow)\">&#8592; back\
-</button>\n<button id=\"play\" title=\"plays event by event (space)\" aria-pressed=\"false\">play</button>\n<button id\
-=\"next\" title=\"one event on (right arrow)\">next &#8594;</button>\n<input id=\"slider\" type=\"range\" min=\"0\" va\
-lue=\"0\" step=\"1\" aria-label=\"event\">\n<span id=\"where\"></span>\n<button id=\"more-toggle\" aria-expanded=\"fal\
-se\" aria-controls=\"more\">more</button>\n<div class=\"row\" id=\"more\">\n<button id=\"first\" title=\"to the openin\
-g (Home)\">first</button>\n<button id=\"before\" title=\"to the decision before this event (D)\">&#171; decision</butt\
-on>\n<button id=\"after\" title=\"to the next decision (d)\">decision &#187;</button>\n<button id=\"last\" title=\"to \
-the last event (End)\">last</button>\n<select id=\"speed\" aria-label=\"speed of play\"><option value=\"1000\">1 a sec\
-ond</option><option value=\"333\" selected>3 a second</option>\n<option value=\"100\">10 a second</option><option valu\
-e=\"33\">30 a second</option></select>\n<select id=\"branches\" aria-label=\"which run\"></select>\n<button id=\"expor\
-t\" title=\"the plan whose run is this one, up to this event, and a link to it\">export plan</button>\n</div>\n</div>\
-\n<div id=\"event\" role=\"status\" aria-live=\"polite\" aria-atomic=\"true\"></div>\n<div id=\"breaks\" role=\"alert\
-\"></div>\n</div>\n<section class=\"card\" id=\"lesson\" aria-labelledby=\"lesson-title\">\n<div class=\"top\"><h2 id=\
-\"lesson-title\"></h2><div class=\"row\"><button id=\"stop-before\" title=\"the stop before (p)\">&#171; stop</button>\
-\n<button id=\"stop-next\" title=\"the next stop (n)\">next stop &#187;</button>\n<button id=\"to-lecture\" title=\"on\
-e moment a screen, in large letters (l)\">lecture</button>\n<button id=\"pair\" aria-pressed=\"false\" title=\"the sam\
-e steps by the other table\">side by side</button><button id=\"compare\"></button></div></div>\n<p id=\"lesson-text\">\
-</p>\n<div class=\"moment\" id=\"moment\"><div id=\"moments\" role=\"group\" aria-label=\"moments of this run\"></div>\
-<div id=\"moment-text\"></div></div>\n<p id=\"parting\" hidden></p>\n<div id=\"task\" hidden><p id=\"task-state\" role\
-=\"status\"></p><p id=\"task-hint\" hidden></p><div class=\"row\"><button id=\"hint-button\">hint</button>\n<button id\
-=\"solve\">a shortest solution</button><button id=\"again\">start again</button><span class=\"dim\" id=\"task-length\"\
-></span></div></div>\n</section>\n<section id=\"sides\" aria-label=\"The chains and the list\">\n<div class=\"side\"><\
-h2 id=\"side-title\"></h2><p id=\"side-event\"></p><div class=\"chains\" id=\"chains\"></div>\n<section class=\"card o\
-f-list\" aria-labelledby=\"list-title\"><h2 id=\"list-title\">The list</h2><div id=\"list\"></div></section></div>\n<d\
-iv class=\"side\" id=\"other\" hidden><h2 id=\"other-title\"></h2><p id=\"other-event\"></p><div class=\"chains\" id=\
-\"other-chains\"></div>\n<section class=\"card of-list\" aria-label=\"The list of the other queue\"><h2>The list</h2><\
-div id=\"other-list\"></div></section></div>\n</section>\n<section class=\"card\" id=\"passes\" aria-labelledby=\"lane\
-s-title\">\n<div class=\"top\">\n<h2 id=\"lanes-title\">The passes: press one to step</h2>\n<form id=\"add\" class=\"r\
-ow\" hidden>\n<select id=\"caller\" aria-label=\"the pass that gets a further call\"></select>\n<input id=\"body\" ari\
-a-label=\"the words of the item\" placeholder=\"one to four words\" autocomplete=\"off\" inputmode=\"numeric\">\n<butt\
-on id=\"add-send\">add send</button><button id=\"add-close\" type=\"button\">add close</button><button id=\"add-take\
-\" type=\"button\">add take</button>\n</form>\n<span class=\"dim\" id=\"config\"></span>\n<label id=\"all-label\"><inp\
-ut id=\"all\" type=\"checkbox\"> all passes</label>\n</div>\n<p id=\"hint\" role=\"status\" hidden></p>\n<div id=\"tur\
-ns\"></div>\n<div id=\"lanes\" tabindex=\"0\" role=\"group\" aria-label=\"lanes of the passes\"><div id=\"names\"></di\
-v><div id=\"cells\"></div></div>\n<div id=\"waits\"></div>\n<p class=\"legend\" id=\"legend\"></p>\n</section>\n<secti\
-on class=\"card\" id=\"law-card\" aria-labelledby=\"law-title\" hidden>\n<h2 id=\"law-title\">What is broken</h2>\n<di\
-v id=\"law\"></div>\n<div class=\"row\" id=\"adversary\"><button id=\"search\" title=\"random schedules of this queue \
-until one breaks a law, and then a shortest one\">break it at random</button>\n<span id=\"search-state\" role=\"status\
-\"></span></div>\n</section>\n<section class=\"card\" id=\"code\" tabindex=\"0\" aria-labelledby=\"code-title\">\n<di\
-v id=\"code-head\"><h2 id=\"code-title\">The program, and the line of this step</h2><div id=\"holds\"></div></div>\n<d\
-iv id=\"program\"></div>\n</section>\n<div id=\"rest\">\n<div class=\"chains\" id=\"more-chains\"></div>\n<section cla\
-ss=\"card\" aria-labelledby=\"history-title\">\n<h2 id=\"history-title\">The history so far, in the order of the swaps\
-</h2>\n<div id=\"history\" class=\"columns\"></div>\n</section>\n<details class=\"card\" id=\"order\"><summary>An orde\
-r of all calls</summary><div id=\"order-text\"></div></details>\n<details class=\"card\" id=\"texts\"><summary>The pla\
-n up to this event, its link, and its report</summary>\n<div class=\"two\">\n<div><h3>plan</h3><textarea id=\"plan\" c\
-lass=\"mono\" readonly aria-label=\"plan\"></textarea>\n<div class=\"row\" style=\"margin-top:5px\"><a id=\"save\" cla\
-ss=\"pick\" download=\"plan.json\">save plan.json</a><button id=\"copy\" type=\"button\">copy the link</button></div>\
-\n<input id=\"link\" class=\"mono\" readonly aria-label=\"link to this run\" style=\"width:100%\"></div>\n<div><h3>rep\
-ort, as <code>ccq play</code> writes it</h3><pre class=\"mono\" id=\"whole\" tabindex=\"0\"></pre></div>\n</div>\n</de\
-tails>\n</div>\n</section>\n</main>\n<section id=\"lecture\" hidden aria-label=\"Lecture\">\n<div class=\"top\"><h2 id\
-=\"lecture-title\"></h2><span id=\"lecture-count\"></span></div>\n<p id=\"lecture-text\" role=\"status\" aria-live=\"p\
-olite\"></p>\n<div id=\"lecture-sides\"></div>\n<div id=\"lecture-code\" hidden></div>\n<div id=\"lecture-line\"></div\
->\n<nav aria-label=\"Lecture\"><button id=\"lecture-back\" title=\"the screen before (left arrow, Page up)\">&#8592; b\
-ack</button>\n<select id=\"lecture-lesson\" aria-label=\"the lesson\"></select><span class=\"gap\"></span>\n<button id\
-=\"lecture-program\" title=\"the program in large letters, or the picture (c)\" aria-pressed=\"false\">program</button\
->\n<button id=\"lecture-full\" title=\"the whole screen (f)\">full screen</button><button id=\"lecture-leave\" title=\
-\"back to the run (Escape)\">leave</button>\n<button id=\"lecture-next\" title=\"the next screen (right arrow, space, \
-Page down)\">next &#8594;</button></nav>\n</section>\n<section id=\"handout\" aria-label=\"The exercises on paper\"></\
-section>\n<footer>\n<section id=\"keys\"><h2>Keys</h2>\n<p><kbd>&#8592;</kbd> <kbd>&#8594;</kbd> one event; <kbd>space\
-</kbd> plays and stops, except in a field for text, and <kbd>Enter</kbd> presses a button; <kbd>d</kbd> <kbd>D</kbd> t\
-he next\ndecision, and the one before; <kbd>1</kbd> to <kbd>9</kbd> a step of the first to ninth pass, and with <kbd>S\
-hift</kbd> its steps until its call returns or it waits; <kbd>n</kbd> <kbd>p</kbd> the next stop,\nand the one before\
-; <kbd>m</kbd> <kbd>M</kbd> the next moment of a stop, and the one before; <kbd>l</kbd> the lecture; <kbd>Esc</kbd> hi\
-des the explanation of a word. In the player <kbd>Home</kbd> and\n<kbd>End</kbd> go to the first and the last event, <\
-kbd>Page up</kbd> and <kbd>Page down</kbd> to decisions. A step that the run doesn't have next begins a branch.</p>\n<\
-p>In a lecture <kbd>&#8594;</kbd>, <kbd>space</kbd>, <kbd>Enter</kbd> and <kbd>Page down</kbd> show the next screen, <\
-kbd>&#8592;</kbd>, <kbd>Backspace</kbd> and <kbd>Page up</kbd> the one before, <kbd>Home</kbd> and\n<kbd>End</kbd> th\
-e first and the last of the lesson; <kbd>c</kbd> shows the program in place of the picture, <kbd>f</kbd> fills the who\
-le screen, <kbd>b</kbd> or <kbd>.</kbd> blanks it, and <kbd>Esc</kbd> leaves. Presenters' clickers press these keys.</\
-p></section>\n<section id=\"glossary\"><h2>Words</h2><dl id=\"words\"></dl></section>\n<details><summary>What a step o\
-f each kind does</summary><dl id=\"kinds\"></dl></details>\n</footer>\n<div id=\"tip\" role=\"tooltip\" hidden></div>\
-\n<script type=\"application/json\" id=\"exercises\">\n[\n{\"id\":\"empty\",\"title\":\"Empty beside an item\",\n \"te\
-xt\":\"Make a take return Empty while an accepted item is in the queue. The queue is the right one, so this is no faul\
-t: find out why.\",\n \"hint\":\"An answer is fixed at its [[decision]], and returned later. Stop r1 in between, and l\
-et s1 send.\",\n \"plan\":{\"capacity\":2,\"bound\":2,\"life\":10,\"senders\":[[7]],\"receivers\":[1],\"schedule\":[]}\
-,\n \"goal\":{\"returns\":\"Empty\"},\n \"solution\":[[\"r1\",9],[\"s1\",20],[\"r1\",5]]},\n{\"id\":\"full\",\"title\"\
-:\"Full beside a free node\",\n \"text\":\"The capacity is 1, and s1 has sent 5. Make the send of 6 return Full while \
-no item waits. The queue is the right one.\",\n \"hint\":\"Full takes effect when the scan begins. Stop s2 before it r\
-eads its answer, and let r1 take the item.\",\n \"plan\":{\"capacity\":1,\"bound\":2,\"life\":10,\"senders\":[[5],[6]]\
-,\"receivers\":[1],\"schedule\":[[\"s1\",28]]},\n \"goal\":{\"returns\":\"Full\"},\n \"solution\":[[\"s2\",19],[\"r1\"\
-,14],[\"s2\",1]]},\n{\"id\":\"passed_over\",\"title\":\"A call is passed over\",\n \"text\":\"At the bound, which is \
-1 here, this combiner hands over to the node after the one where it has to stop. Make it hand over past a call that wa\
-its.\",\n \"hint\":\"The combiner needs a link to follow: let both senders link their requests before s1 stops.\",\n \
-\"plan\":{\"capacity\":2,\"bound\":1,\"life\":10,\"senders\":[[1],[2]],\"receivers\":[0],\"schedule\":[]},\n \"table\"\
-:\"handed_past\",\n \"goal\":{\"breaks\":[\"hand\"]},\n \"solution\":[[\"s1\",25],[\"s2\",6],[\"s1\",2]]},\n{\"id\":\"\
-left_behind\",\"title\":\"Lose an item by an early mark\",\n \"text\":\"This combiner follows the next link of a node \
-only after it has marked the node done. Make its hand-over miss, so that the item of a send is lost.\",\n \"hint\":\"L\
-et s1 serve s2 and mark its node done. Then s2 returns and begins its next send before s1 reads the link.\",\n \"plan\
-\":{\"capacity\":2,\"bound\":2,\"life\":10,\"senders\":[[1],[2,3]],\"receivers\":[0],\"schedule\":[]},\n \"table\":\"m\
-arked_early\",\n \"goal\":{\"breaks\":[\"hand\"]},\n \"solution\":[[\"s1\",26],[\"s2\",6],[\"s1\",18],[\"s2\",3],[\"s1\
-\",2]]},\n{\"id\":\"lost\",\"title\":\"Lose an item of a group\",\n \"text\":\"s1 has sent 5, for two groups. This que\
-ue uses a list node as soon as one group has gone past it. Make the take of r2 return Empty, although 5 waits for grou\
-p 2.\",\n \"hint\":\"Let group 1 go past node 0, and then let s1 use node 0 for its send of 6.\",\n \"plan\":{\"versio\
-n\":2,\"groups\":2,\"capacity\":1,\"bound\":2,\"life\":10,\"senders\":[[[5],[6]]],\"receivers\":[1,1],\"schedule\":[[\
-\"s1\",28]]},\n \"table\":\"one_group\",\n \"goal\":{\"breaks\":[\"empty\",\"fifo\"]},\n \"solution\":[[\"r1\",14],[\"\
-s1\",16],[\"r2\",9]]},\n{\"id\":\"twice\",\"title\":\"Get an item twice\",\n \"text\":\"s1 has sent 5. A take of this \
-queue frees the node that is the dummy from then on. Make r1 get one item twice.\",\n \"hint\":\"After the take of 5 n\
-ode 1 is the dummy and counts as free. A send that uses node 1 links it to itself.\",\n \"plan\":{\"capacity\":1,\"bou\
-nd\":2,\"life\":10,\"senders\":[[5,6]],\"receivers\":[3],\"schedule\":[[\"s1\",28]]},\n \"table\":\"freed_dummy\",\n \
-\"goal\":{\"breaks\":[\"fifo\"]},\n \"solution\":[[\"r1\",14],[\"s1\",21],[\"r1\",46]]}\n]\n</script>\n<script type=\"\
-application/json\" id=\"lessons\">\n[\n{\"kind\":\"tour\",\"id\":\"lone\",\"title\":\"A lone send\",\n \"text\":\"{pas\
-s:s1} sends {sent:7}, and no other [[pass]] moves. {combiner:s1} swaps its [[node]] into the [[tail]] of the send [[ch\
-ain]], finds that no pass combines, and serves its own request.\",\n \"plan\":{\"capacity\":2,\"bound\":2,\"life\":10,\
-\"senders\":[[7]],\"receivers\":[1],\"schedule\":[[\"s1\",28]]},\n \"moments\":[\n  [3,\"Exchange\",\"{pass:s1} swaps \
-{to:node 1} into the tail and gets {was:node 0}: its call enters the [[history]] as the {place:1st} send.\"],\n  [6,\"\
-Link\",\"{pass:s1} links {node:node 0} to {to:node 1}, the node in the tail: only now can a [[combiner]] serve the req\
-uest.\"],\n  [7,\"ReadState\",\"{pass:s1} reads state {value:0}: no pass combines, so {pass:s1} is the combiner.\"],\
-\n  [20,\"LinkLast\",\"{pass:s1} links list {to:node 1}, which has the item {item:7}, to {node:node 0}: this step is t\
-he [[decision]], {decided:accepted as item 0}.\"],\n  [27,\"HandOver\",\"No further request is linked, so {pass:s1} ha\
-nds over to {node:node 1}, the node in the tail.\"],\n  [28,\"ReadAnswer\",\"{pass:s1} reads its answer: its call retu\
-rns {returned:accepted as item 0}.\"]]},\n{\"kind\":\"tour\",\"id\":\"three\",\"title\":\"Three sends that one serves\
-\",\n \"text\":\"Three senders link their requests before any is served. {combiner:s1} is the [[combiner]]: it serves \
-all three in one [[turn]], in the order of their swaps, while the others only read their own states.\",\n \"plan\":{\"\
-capacity\":4,\"bound\":4,\"life\":10,\"senders\":[[1],[2],[3]],\"receivers\":[0],\"schedule\":[[\"s1\",6],[\"s2\",6],[\
-\"s3\",6],[\"s2\",2],[\"s3\",2],[\"s1\",58],[\"s2\",2],[\"s3\",2]]},\n \"moments\":[\n  [18,\"Link\",\"Three requests \
-are linked now: {linked:node 0 of s1, node 1 of s2 and node 2 of s3}. The tail names {tail:node 3}, which no call has.\
-\"],\n  [19,\"ReadState\",\"{pass:s2} reads state {waits:1} and begins to wait: it reads its own node alone, and chang\
-es no word.\"],\n  [42,\"ReadNext\",\"{pass:s1} reads the next link of {node:node 1} before it serves {owner:s2}: it n\
-ames {to:node 2}, so the request of {owner:s2} is whole.\"],\n  [59,\"MarkDone\",\"{pass:s1} has written the answer o\
-f {owner:s2} and marks {node:node 1} done: from now on {owner:s2} may return.\"],\n  [79,\"HandOver\",\"{pass:s1} has \
-served {served:three} requests, and hands over to {node:node 3}, the node in the tail.\"],\n  [84,\"ReadAnswer\",\"{pa\
-ss:s3} reads its answer: its call returns {returned:accepted as item 2}. {pass:s3} has not touched the list.\"]]},\n{\
-\"kind\":\"tour\",\"id\":\"bound\",\"title\":\"The hand-over at the bound\",\n \"text\":\"The [[bound]] is {bound:2}: \
-a [[combiner]] serves at most two requests in one [[turn]]. {combiner:s1} serves {turn:s1 and s2}, and hands over to {\
-next:s3}.\",\n \"plan\":{\"capacity\":4,\"bound\":2,\"life\":10,\"senders\":[[1],[2],[3]],\"receivers\":[0],\"schedule\
-\":[[\"s1\",6],[\"s2\",6],[\"s3\",8],[\"s1\",39],[\"s3\",22],[\"s2\",2]]},\n \"moments\":[\n  [57,\"MarkDone\",\"{pass\
-:s1} marks {node:node 1} done: it has served {served:two} requests, as many as the bound.\"],\n  [58,\"HandOver\",\"{p\
-ass:s1} hands over to {node:node 2} of {owner:s3}, the first call without an answer.\"],\n  [60,\"ReadState\",\"{pass:\
-s3} reads state {value:0}: no pass combines, so {pass:s3} is the combiner. At no moment did two passes combine.\"],\
-\n  [73,\"LinkLast\",\"{pass:s3} serves its own request: this step is the decision, {decided:accepted as item 2}.\"]]}\
-,\n{\"kind\":\"tour\",\"id\":\"take\",\"title\":\"A take\",\n \"text\":\"{pass:s1} has sent {sent:7}, and {taker:r1} t\
-akes it. The receivers have a [[chain]] of their own. The list begins with its [[dummy]], a node with no item to take.\
-\",\n \"plan\":{\"capacity\":2,\"bound\":2,\"life\":10,\"senders\":[[7]],\"receivers\":[1],\"schedule\":[[\"s1\",28],[\
-\"r1\",23]]},\n \"moments\":[\n  [35,\"ReadObject\",\"{pass:r1} combines in the take chain and reads the [[head]]: {to\
-:node 0} is the dummy.\"],\n  [37,\"ReadDummyNext\",\"{pass:r1} reads the next link of the dummy: it names {to:node 1}\
-, so the list has an item.\"],\n  [39,\"ReadItem\",\"{pass:r1} reads the word of the item, {value:7}, in {node:node 1}\
-, which is still in the list.\"],\n  [40,\"WriteObject\",\"{pass:r1} moves the head to {to:node 1}: this is the dummy \
-from now on.\"],\n  [42,\"AddPassed\",\"{pass:r1} adds one to the [[passed]] count of {node:node 0}: this step is the \
-[[decision]], {decided:got 7 as item 0}. This node is free from now on.\"]]},\n{\"kind\":\"tour\",\"id\":\"empty\",\"t\
-itle\":\"Empty, and a send in between\",\n \"text\":\"{pass:s1} has prepared a list node and stops one step before th\
-e link. A take that runs now returns Empty, and rightly: the send has not taken effect yet.\",\n \"plan\":{\"capacity\
-\":2,\"bound\":2,\"life\":10,\"senders\":[[7]],\"receivers\":[2],\"schedule\":[[\"s1\",19],[\"r1\",14],[\"s1\",9],[\"r\
-1\",23]]},\n \"moments\":[\n  [19,\"ReadObject\",\"{pass:s1} stops before the link: {prepared:node 1} has the item {it\
-em:7}, and no link of the list names it.\"],\n  [28,\"ReadDummyNext\",\"{pass:r1} reads null in the next link of the d\
-ummy: this step is the decision, {decided:empty}.\"],\n  [34,\"LinkLast\",\"{pass:s1} links list {to:node 1}, which ha\
-s the item {item:7}, to {node:node 0}: the send takes effect now, after the take.\"],\n  [56,\"AddPassed\",\"{pass:r1\
-} takes the item {got:7}: it is the second take of {pass:r1}.\"]]},\n{\"kind\":\"tour\",\"id\":\"scan\",\"title\":\"Fu\
-ll, and when it takes effect\",\n \"text\":\"The [[capacity]] is {capacity:1}, and the item {sent:5} waits. The send o\
-f {full:6} scans all list nodes for a free one. During the scan {taker:r1} takes the item, and the send still returns \
-Full: it takes effect when its scan begins.\",\n \"plan\":{\"capacity\":1,\"bound\":2,\"life\":10,\"senders\":[[5],[6]\
-],\"receivers\":[1],\"schedule\":[[\"s1\",28],[\"s2\",14],[\"r1\",23],[\"s2\",6]]},\n \"moments\":[\n  [41,\"ReadObjec\
-t\",\"{pass:s2} reads the [[cursor]], and its scan begins at {cursor:node 0}: both list nodes are busy at this moment\
-, and the Full of this send takes effect here.\"],\n  [42,\"ReadPassed\",\"{pass:s2} reads that no group has gone pas\
-t {node:node 0}, which is the dummy: it is busy.\"],\n  [56,\"AddPassed\",\"{pass:r1} takes the item {got:5}: {node:no\
-de 0} is free from now on, but the scan has read it already.\"],\n  [66,\"ReadPassed\",\"{pass:s2} reads that no grou\
-p has gone past {node:node 1}, which is the dummy now: this step is the decision, {decided:full}.\"]],\n \"opens\":\"o\
-rder\"},\n{\"kind\":\"tour\",\"id\":\"again\",\"title\":\"A node that is used again\",\n \"text\":\"The [[capacity]] i\
-s {capacity:1}, so the list has two ordinary nodes. {taker:r1} takes the item {sent:5}, which frees a list node. The s\
-end of {sent:7} uses {again:node 0} again, and no item is lost.\",\n \"plan\":{\"capacity\":1,\"bound\":2,\"life\":10,\
-\"senders\":[[5],[7]],\"receivers\":[2],\"schedule\":[[\"s1\",28],[\"r1\",23],[\"s2\",28],[\"r1\",23]]},\n \"moments\"\
-:[\n  [42,\"AddPassed\",\"{pass:r1} takes the item {got:5}: every group has gone past {node:node 0}, and it is free fr\
-om now on.\"],\n  [65,\"ReadPassed\",\"{pass:s2} begins its scan at the cursor, and finds {node:node 0} free.\"],\n  [\
-67,\"ResetListNode\",\"{pass:s2} clears the {word:next link} of {node:node 0}, as it did the passed count: {node:node \
-0} is not in the list, so no take can read it.\"],\n  [71,\"LinkLast\",\"{pass:s2} links list {to:node 0}, which has t\
-he item {item:7}, to {node:node 1}: this step is the decision, {decided:accepted as item 1}.\"],\n  [93,\"AddPassed\",\
-\"{pass:r1} takes the item {got:7}: {node:node 1} is free from now on.\"]]},\n{\"kind\":\"tour\",\"id\":\"close\",\"ti\
-tle\":\"A close\",\n \"text\":\"{pass:s1} sends {sent:5}, closes the queue, and tries to send {sent:6}. The [[closing \
-mark]] is a list node of its own, so a close is never Full. {taker:r1} takes what is left, and then gets Ended.\",\n \
-\"plan\":{\"capacity\":2,\"bound\":2,\"life\":10,\"senders\":[[5,\"close\",6]],\"receivers\":[2],\"schedule\":[[\"s1\"\
-,65],[\"r1\",38]]},\n \"moments\":[\n  [42,\"LinkLast\",\"{pass:s1} links the closing mark to {node:node 1}: this ste\
-p is the [[decision]], {decided:shut after 1 item}.\"],\n  [44,\"WriteObject\",\"{pass:s1} sets the {word:shut} word: \
-the later send reads it, and returns Closed.\"],\n  [60,\"ReadObject\",\"{pass:s1} serves the send of {asked:6} and re\
-ads that the queue is shut: this step is the decision, {decided:closed}.\"],\n  [79,\"AddPassed\",\"{pass:r1} takes th\
-e item {got:5}, which was accepted before the close.\"],\n  [98,\"ReadItem\",\"{pass:r1} reads the tag of the node aft\
-er the dummy: it is {value:0}, so this node is the mark, and this step is the decision, {decided:ended after 1 item}.\
-\"]]},\n{\"kind\":\"tour\",\"id\":\"groups\",\"title\":\"Two groups\",\n \"text\":\"Two [[group]]s of receivers read o\
-ne list: {groups:r1 is group 1, and r2 is group 2}. Each group has its own [[head]] and gets every item. A node is fre\
-e when both groups have gone past it.\",\n \"plan\":{\"version\":2,\"groups\":2,\"capacity\":1,\"bound\":2,\"life\":10\
-,\"senders\":[[[5],[6],[6]]],\"receivers\":[2,2],\"schedule\":[[\"s1\",28],[\"r1\",23],[\"s1\",20],[\"r2\",23],[\"s1\"\
-,28],[\"r1\",23],[\"r2\",23]]},\n \"moments\":[\n  [42,\"AddPassed\",\"Group {group:1} takes the item {got:5}: one of \
-two groups has gone past {node:node 0}, and it is not free.\"],\n  [66,\"ReadPassed\",\"The send of {asked:6} finds n\
-o free node: this step is the decision, {decided:full}. Group {slow:2} has not taken the item {next:5}, and holds the \
-sender back.\"],\n  [85,\"AddPassed\",\"Group {group:2} takes the item {got:5} too: every group has gone past {node:no\
-de 0}, and it is free from now on.\"],\n  [114,\"LinkLast\",\"The next send of {asked:6} uses {to:node 0}: this step i\
-s the decision, {decided:accepted as item 1}.\"],\n  [159,\"AddPassed\",\"Group {group:2} takes the item {got:6} too: \
-each group got all items, in one order.\"]]},\n{\"kind\":\"tour\",\"id\":\"order\",\"title\":\"An order of all calls\"\
-,\n \"text\":\"Calls overlap, and yet there is one order of all calls in which each answer is that of a queue that doe\
-s one call after another. Each call takes effect between its swap and its [[decision]]. Every run of the algorithm is \
-linearizable in this sense, and that is proved: the law is RunsAreLinearizable in crates/cc_runs. The card \\\"An orde\
-r of all calls\\\" shows this order for the run on the page.\",\n \"plan\":{\"capacity\":1,\"bound\":2,\"life\":10,\"s\
-enders\":[[5],[6]],\"receivers\":[2],\"schedule\":[[\"s1\",19],[\"r1\",14],[\"s1\",9],[\"s2\",14],[\"r1\",23],[\"s2\",\
-6]]},\n \"moments\":[\n  [28,\"ReadDummyNext\",\"{pass:r1} reads null in the next link of the dummy: the take is Empt\
-y while a send is under way, and is {order:1st} in the order.\"],\n  [34,\"LinkLast\",\"{pass:s1} links list {to:node \
-1}, which has the item {item:5}, to {node:node 0}: the send takes effect now, and is {order:2nd} in the order.\"],\n  \
-[55,\"ReadObject\",\"{pass:s2} reads the cursor, and its scan begins at {cursor:node 0}: the Full of this send takes e\
-ffect here, and is {order:3rd} in the order.\"],\n  [70,\"AddPassed\",\"{pass:r1} takes the item {got:5}: the take is \
-{order:4th} in the order.\"],\n  [80,\"ReadPassed\",\"{pass:s2} reads that no group has gone past {node:node 1}, whic\
-h is the dummy now: this step is the decision, {decided:full}. In the order it comes before the take.\"]],\n \"opens\"\
-:\"order\"},\n{\"kind\":\"example\",\"id\":\"bodies_of_words\",\"title\":\"Items of one to four words\",\n \"text\":\"\
-Three senders send items of one to four words. {combiner:s3} serves the first send of each.\",\n \"plan\":{\"version\"\
-:2,\"groups\":1,\"capacity\":4,\"bound\":4,\"life\":10,\"senders\":[[[1],[2,20]],[[3,30,300]],[[4,40,400,4000]]],\"rec\
-eivers\":[4],\"schedule\":[[\"s3\",9],[\"s2\",8],[\"s1\",6],[\"s3\",200],[\"s1\",200],[\"r1\",200]]},\n \"moments\":[]\
-},\n{\"kind\":\"example\",\"id\":\"full\",\"title\":\"A full queue\",\n \"text\":\"A send finds no free node, and a no\
-de that a take freed is used again.\",\n \"plan\":{\"capacity\":1,\"bound\":2,\"life\":10,\"senders\":[[5,6],[7]],\"re\
-ceivers\":[1],\"schedule\":[[\"s1\",500],[\"r1\",500],[\"s2\",500]]},\n \"moments\":[]},\n{\"kind\":\"example\",\"id\"\
-:\"close_and_drain\",\"title\":\"Close and drain\",\n \"text\":\"{pass:s1} closes the queue. A later send returns Clos\
-ed, and a later close Already. {taker:r1} takes what is left, and then gets Ended.\",\n \"plan\":{\"capacity\":2,\"bou\
-nd\":2,\"life\":10,\"senders\":[[5,\"close\",6,\"close\"]],\"receivers\":[3],\"schedule\":[[\"s1\",500],[\"r1\",500]]}\
-,\n \"moments\":[]},\n{\"kind\":\"example\",\"id\":\"two_groups\",\"title\":\"Two groups, one slow\",\n \"text\":\"Tw\
-o groups take every item, and the slower group holds the sender back.\",\n \"plan\":{\"version\":2,\"groups\":2,\"capa\
-city\":1,\"bound\":2,\"life\":10,\"senders\":[[[5],[6],[6],[6],\"close\"]],\"receivers\":[3,3],\"schedule\":[[\"s1\",4\
-8],[\"r1\",23],[\"s1\",20],[\"r2\",23],[\"s1\",28],[\"r1\",23],[\"s1\",100],[\"r2\",100],[\"r1\",100]]},\n \"moments\"\
-:[]},\n{\"kind\":\"example\",\"id\":\"two_sends_combined\",\"title\":\"Two sends, one combiner\",\n \"text\":\"Two sen\
-ds swap, and the pass of the first send serves both.\",\n \"plan\":{\"capacity\":2,\"bound\":2,\"life\":10,\"senders\"\
-:[[7],[9]],\"receivers\":[0],\"schedule\":[[\"s1\",3],[\"s2\",100],[\"s1\",100]]},\n \"moments\":[]},\n{\"kind\":\"exa\
-mple\",\"id\":\"bound_one\",\"title\":\"Bound 1\",\n \"text\":\"The combiner hands over after one request, and the sec\
-ond send is pending at the end.\",\n \"plan\":{\"capacity\":2,\"bound\":1,\"life\":10,\"senders\":[[7],[9]],\"receiver\
-s\":[0],\"schedule\":[[\"s1\",3],[\"s2\",100],[\"s1\",100]]},\n \"moments\":[]},\n{\"kind\":\"example\",\"id\":\"cut_b\
-efore_the_link\",\"title\":\"Cut before the link\",\n \"text\":\"A send that stops one step before its decision is pen\
-ding at the end.\",\n \"plan\":{\"capacity\":2,\"bound\":2,\"life\":10,\"senders\":[[7]],\"receivers\":[1],\"schedule\
-\":[[\"s1\",19]]},\n \"moments\":[]},\n{\"kind\":\"example\",\"id\":\"one_item\",\"title\":\"One item\",\n \"text\":\"\
-One item is sent and taken.\",\n \"plan\":{\"capacity\":2,\"bound\":2,\"life\":10,\"senders\":[[7]],\"receivers\":[1],\
-\"schedule\":[[\"s1\",100],[\"r1\",100]]},\n \"moments\":[]},\n{\"kind\":\"broken\",\"id\":\"marked_early\",\"title\":\
-\"Marked done before the link is followed\",\n \"text\":\"This [[combiner]] follows the next link of a node only afte\
-r it has marked the node done. In between, the owner of the node returns, begins another send, and clears the link.\",\
-\n \"plan\":{\"capacity\":4,\"bound\":4,\"life\":10,\"senders\":[[1,5],[2,4],[3]],\"receivers\":[3],\"schedule\":[[\"s\
-1\",6],[\"s2\",6],[\"s3\",6],[\"s1\",38],[\"s2\",5],[\"s1\",3],[\"s2\",5],[\"s3\",4],[\"s1\",29],[\"r1\",72],[\"s3\",2\
-]]},\n \"moments\":[\n  [56,\"MarkDone\",\"{pass:s1} marks {node:node 1} of {owner:s2} done: only its next step reads \
-the link by which it goes on.\"],\n  [59,\"ResetNext\",\"{pass:s2} has returned and begins its next send: it clears th\
-e {word:next link} of {node:node 1}, which led to {was:node 2} of {led:s3}.\"],\n  [63,\"HandOver\",\"{pass:s1} found \
-null in that link, and hands over to {node:node 1}, the node in the tail: the call of {first:s3} is the first without \
-an answer, and is skipped.\"],\n  [70,\"ReadState\",\"{pass:s3} reads state {waits:1} and begins to wait: no link lead\
-s to its node any more.\"],\n  [81,\"ReadNext\",\"{pass:s1} sends again and got {node:node 1} with state {state:0}: i\
-t serves its own request, past that of {first:s3}.\"],\n  [164,\"AddPassed\",\"{pass:r1} gets {got:5} as item {number:\
-2}: by the history item {number:2} is that of {whose:s3}, whose send still waits.\"]],\n \"table\":\"marked_early\",\"\
-breaks\":\"hand\",\n \"lost\":\"Lost: the items {pending:3 and 4}. At the end of this run their sends wait for ever: n\
-o pass has a next step that changes a word.\",\n \"right\":{\"title\":\"The link is read before the request is served\
-\",\n  \"text\":\"The right [[combiner]] reads the next link of a node before it serves the request. {pass:s2} return\
-s and clears its link as before, and {combiner:s1} already knows the next node.\",\n  \"moments\":[\n  [38,\"ReadNext\
-\",\"{pass:s1} reads the next link of {node:node 1} before it serves {owner:s2}: it names {to:node 2}, so the request \
-of {owner:s2} is whole.\"],\n  [55,\"MarkDone\",\"{pass:s1} has written the answer of {owner:s2} and marks {node:node \
-1} done: from now on {owner:s2} may return.\"],\n  [56,\"ReadNext\",\"{pass:s1} goes on to {node:node 2} of {owner:s3}\
-, the first call without an answer.\"],\n  [59,\"ResetNext\",\"{pass:s2} has returned and begins its next send: it cle\
-ars the {word:next link} of {node:node 1}, and {combiner:s1} is at {at:node 2} already.\"],\n  [82,\"LinkLast\",\"{pas\
-s:s1} serves the request of {client:s3}: this step is the decision, {decided:accepted as item 2}.\"],\n  [162,\"AddPas\
-sed\",\"{pass:r1} gets {got:3} as item {number:2}: no accepted item is lost.\"],\n  [173,\"ReadAnswer\",\"{pass:s3} re\
-ads its answer: its call returns {returned:accepted as item 2}.\"]]}},\n{\"kind\":\"broken\",\"id\":\"handed_past\",\"\
-title\":\"Handed over past a request\",\n \"text\":\"At the [[bound]] this [[combiner]] reads one link too many, and h\
-ands over to the node after the one where it has to stop.\",\n \"plan\":{\"capacity\":4,\"bound\":1,\"life\":10,\"send\
-ers\":[[1],[2],[3]],\"receivers\":[3],\"schedule\":[[\"s1\",6],[\"s2\",6],[\"s3\",6],[\"s1\",22],[\"s3\",22],[\"s2\",2\
-1],[\"s3\",21],[\"r1\",69],[\"s2\",2]]},\n \"moments\":[\n  [37,\"MarkDone\",\"{pass:s1} marks {node:node 0} done: it \
-has served {served:one} request, as many as the bound. The next request is that of {first:s2}, in {open_node:node 1}.\
-\"],\n  [39,\"HandOver\",\"{pass:s1} hands over to {node:node 2} of {owner:s3}, past the request of {first:s2}.\"],\
-\n  [42,\"ReadNext\",\"{pass:s3} serves its own request, and the first call without an answer is that of {first:s2}.\"\
-],\n  [62,\"ReadAnswer\",\"{pass:s3} reads its answer: its call returns {returned:accepted as item 1}. By the history \
-this is the answer of {answered:s2}.\"],\n  [120,\"AddPassed\",\"{pass:r1} gets {got:3} as item {number:1}: by the his\
-tory item {number:1} is that of {whose:s2}, whose send still waits.\"]],\n \"table\":\"handed_past\",\"breaks\":\"hand\
-\",\n \"lost\":\"Lost: the item {pending:2}. At the end of this run its send waits for ever: no pass has a next step t\
-hat changes a word.\",\n \"right\":{\"title\":\"Handed over to the next request\",\n  \"text\":\"The right [[combiner]\
-] hands over to the node where it stops. At the [[bound]] that is the node of the next request.\",\n  \"moments\":[\
-\n  [37,\"MarkDone\",\"{pass:s1} marks {node:node 0} done: it has served {served:one} request, as many as the bound. T\
-he next request is that of {first:s2}, in {open_node:node 1}.\"],\n  [38,\"HandOver\",\"{pass:s1} hands over to {node:\
-node 1} of {owner:s2}, the first call without an answer.\"],\n  [40,\"ReadState\",\"{pass:s3} reads state {waits:1} an\
-d begins to wait: it reads its own node alone, and changes no word.\"],\n  [62,\"ReadState\",\"{pass:s2} reads state {\
-value:0}: no pass combines, so {pass:s2} is the combiner.\"],\n  [75,\"LinkLast\",\"{pass:s2} serves its own request: \
-this step is the decision, {decided:accepted as item 1}.\"],\n  [139,\"AddPassed\",\"{pass:r1} gets {got:2} as item {n\
-umber:1}: no accepted item is lost.\"]]}},\n{\"kind\":\"broken\",\"id\":\"freed_dummy\",\"title\":\"Freed while the no\
-de is the dummy\",\n \"text\":\"This take adds to the [[passed]] count of the node that it took the item from. But thi\
-s node is the [[dummy]] from now on, and a send may use it.\",\n \"plan\":{\"capacity\":1,\"bound\":2,\"life\":10,\"se\
-nders\":[[5,6]],\"receivers\":[3],\"schedule\":[[\"s1\",28],[\"r1\",23],[\"s1\",29],[\"r1\",46]]},\n \"moments\":[\n  \
-[42,\"AddPassed\",\"{pass:r1} takes the item {got:5} out of {dummy:node 1}, and adds one to the passed count of {node:\
-node 1}, which is the dummy now.\"],\n  [67,\"ResetListNode\",\"The next send finds {node:node 1} free and clears its \
-{word:passed count}, while the head names it.\"],\n  [72,\"LinkLast\",\"{pass:s1} links {to:node 1} to itself.\"],\n  \
-[94,\"AddPassed\",\"{pass:r1} gets {got:6} as item {number:1}: the head names {dummy:node 1}, and so does its next lin\
-k.\"],\n  [117,\"AddPassed\",\"{pass:r1} gets {got:6} as item {number:2}: the same item again.\"]],\n \"table\":\"free\
-d_dummy\",\"breaks\":\"reset\",\n \"lost\":\"Got twice: the item {twice:6}.\",\n \"right\":{\"title\":\"The old dummy \
-is freed\",\n  \"text\":\"The right take adds to the [[passed]] count of the old [[dummy]]. The new dummy stays busy, \
-so no send uses it.\",\n  \"moments\":[\n  [42,\"AddPassed\",\"{pass:r1} takes the item {got:5} out of {dummy:node 1}\
-, and adds one to the passed count of {node:node 0}, the old dummy.\"],\n  [66,\"ResetListNode\",\"The next send find\
-s {node:node 0} free and clears its {word:passed count}: {node:node 0} is not in the list, so no take can read it.\"],\
-\n  [71,\"LinkLast\",\"{pass:s1} links list {to:node 0}, which has the item {item:6}, to {node:node 1}: this step is t\
-he decision, {decided:accepted as item 1}.\"],\n  [93,\"AddPassed\",\"{pass:r1} gets {got:6} as item {number:1}: no ac\
-cepted item is lost.\"],\n  [111,\"ReadDummyNext\",\"{pass:r1} reads null in the next link of the dummy: this step is \
-the decision, {decided:empty}.\"]]}},\n{\"kind\":\"broken\",\"id\":\"one_group\",\"title\":\"Freed after one group\",\
-\n \"text\":\"This send uses a node as soon as one [[group]] has gone past it. Another group may still need the node.\
-\",\n \"plan\":{\"version\":2,\"groups\":2,\"capacity\":2,\"bound\":2,\"life\":10,\"senders\":[[[5],[6],[7]]],\"receiv\
-ers\":[1,3],\"schedule\":[[\"s1\",56],[\"r1\",23],[\"s1\",28],[\"r2\",60]]},\n \"moments\":[\n  [70,\"AddPassed\",\"Gr\
-oup {group:1} takes the item {got:5}: one of two groups has gone past {node:node 0}, which is still the dummy of grou\
-p {behind:2}.\"],\n  [94,\"ResetListNode\",\"The next send finds {node:node 0} free and clears its {word:passed count}\
-, while the head of group {behind:2} names it.\"],\n  [95,\"ResetListNode\",\"{pass:s1} clears the {word:next link} o\
-f {node:node 0}: group {behind:2} has lost its way to the items {cut:5 and 6}.\"],\n  [116,\"ReadDummyNext\",\"{pass:r\
-2} reads null in the next link of the dummy: this step is the decision, {decided:empty}, while {waiting:3} items wait \
-for group {group:2}.\"]],\n \"table\":\"one_group\",\"breaks\":\"reset\",\n \"lost\":\"Lost for group {behind:2}: the \
-items {untaken:5, 6 and 7}.\",\n \"right\":{\"title\":\"Freed after every group\",\n  \"text\":\"The right send uses \
-a node only after every [[group]] has gone past it. So the send of {full:7} returns Full, and each group gets its item\
-s.\",\n  \"moments\":[\n  [70,\"AddPassed\",\"Group {group:1} takes the item {got:5}: one of two groups has gone past \
-{node:node 0}, which is still the dummy of group {behind:2}.\"],\n  [95,\"ReadPassed\",\"The send of {asked:7} finds n\
-o free node: this step is the decision, {decided:full}. Group {slow:2} has not taken the item {next:5}, and holds the \
-sender back.\"],\n  [114,\"AddPassed\",\"Group {group:2} takes the item {got:5} too: every group has gone past {node:n\
-ode 0}, and it is free from now on.\"],\n  [137,\"AddPassed\",\"Group {group:2} takes the item {got:6}: no accepted it\
-em is lost.\"]]}},\n{\"kind\":\"broken\",\"id\":\"full_early\",\"title\":\"Full two nodes early\",\n \"text\":\"This s\
-can ends two nodes early. One node early would change no answer: the last node of a scan is the one that was linked la\
-st, and it is busy.\",\n \"plan\":{\"capacity\":3,\"bound\":2,\"life\":10,\"senders\":[[5,6,7,8,9]],\"receivers\":[5],\
-\"schedule\":[[\"s1\",98],[\"r1\",46],[\"s1\",51],[\"r1\",78]]},\n \"moments\":[\n  [98,\"ReadPassed\",\"The scan of t\
-he send of {asked:8} reads {node:node 0}, which is busy: {waiting:3} items wait, so the queue is full.\"],\n  [135,\"A\
-ddPassed\",\"{pass:r1} takes the item {got:6}: the nodes {free:0 and 1} are free now.\"],\n  [145,\"ReadPassed\",\"Th\
-e scan of the send of {asked:8} goes on and finds {node:node 1} free, of the free nodes {free:0 and 1}.\"],\n  [174,\"\
-ReadPassed\",\"The scan of the send of {asked:9} has read two busy nodes: this step is the decision, {decided:full}, w\
-hile only {waiting:2} of {capacity:3} items wait and node {free:0} is free.\"]],\n \"table\":\"full_early\",\"breaks\"\
-:\"full\",\n \"lost\":\"Refused: the item {full:9}, while only {waiting:2} of {capacity:3} items wait.\",\n \"right\":\
-{\"title\":\"Full after a whole scan\",\n  \"text\":\"The right scan reads every node once before it returns Full. So \
-the send of {sent:9} finds {again:node 0}.\",\n  \"moments\":[\n  [98,\"ReadPassed\",\"The scan of the send of {asked:\
-8} reads {node:node 0}, which is busy: {waiting:3} items wait, so the queue is full.\"],\n  [135,\"AddPassed\",\"{pass\
-:r1} takes the item {got:6}: the nodes {free:0 and 1} are free now.\"],\n  [145,\"ReadPassed\",\"The scan of the send \
-of {asked:8} goes on and finds {node:node 1} free, of the free nodes {free:0 and 1}.\"],\n  [175,\"ReadPassed\",\"The \
-scan of the send of {asked:9} has read two busy nodes, and finds {node:node 0} free.\"],\n  [181,\"LinkLast\",\"{pass:\
-s1} links list {to:node 0}, which has the item {item:9}, to {node:node 1}: this step is the decision, {decided:accepte\
-d as item 4}.\"],\n  [249,\"AddPassed\",\"{pass:r1} gets {got:9} as item {number:4}: no accepted item is lost.\"]]}}\n\
-]\n</script>\n<script type=\"text/plain\" id=\"run\">";
+max(300px, 6fr); gap: 6px 24px; align-items: start; }\n.intro > ol { margin: 0 0 8px; padding-left: 20px; } .intro > o\
+l > li { margin-bottom: 5px; }\nbody.own-run #live { display: none; } body.own-run .intro { grid-template-columns: min\
+max(0, 1fr); } #live { min-height: 380px; } #live h3 { margin: 4px 0 0; } #live-event { min-height: 2.9em; } #live .bo\
+xes:not(.many) { flex-wrap: wrap; width: auto; font-size: 12px; }\n#live .ends { min-height: 1.5em; } #live .end svg, \
+#live .outside { display: none; } #live .nodes { gap: 0 12px; } #live-play { min-width: 90px; min-height: 40px; font-w\
+eight: 600; }\n#turns text, #lanes text { fill: var(--ink); font: 13px system-ui, sans-serif; }\n.link { stroke: var(-\
+-ink); stroke-width: 1.6; fill: none; } .tip-of-link { fill: var(--ink); stroke: none; }\n.choose { display: grid; gri\
+d-template-columns: 9fr 8fr 7fr 6fr; gap: 4px 20px; }\n#tour, #examples { columns: 2; column-gap: 24px; } .choose li \
+{ break-inside: avoid; }\n.choose ol, .choose ul { margin: 0; padding: 0 0 0 22px; } .choose ul { list-style: none; pa\
+dding-left: 0; }\n.own { display: grid; grid-template-columns: repeat(auto-fit, minmax(min(100%, 150px), 1fr)); gap: 6\
+px 12px; align-items: end; }\n.own label { display: block; font-size: 13px; } .own input, .own select { display: block\
+; width: 100%; }\n#stage { display: grid; grid-template-columns: minmax(0, 1fr); gap: 0 8px; scroll-margin-top: calc(0\
+px - var(--bar) - 4px); }\n#player { position: sticky; top: 0; z-index: 3; box-shadow: 0 3px 8px rgb(0 0 0 / 12%); }\n\
+#stage:focus, #player:focus { outline: none; }\n#slider { flex: 1 1 90px; min-width: 60px; height: 32px; margin: 0; pa\
+dding: 0; accent-color: var(--enter); }\n#where { font-variant-numeric: tabular-nums; }\n#event { margin: 5px 0 0; min\
+-height: 2.9em; }\n#breaks:not(:empty) { background: var(--mark); color: var(--card); border-radius: 6px; padding: 4p\
+x 10px; margin-top: 4px; font-weight: 600; }\n#player:not(.open) #more { display: none; } #more { width: 100%; }\n@med\
+ia (min-width: 1100px) {\n  #event { min-height: 1.45em; }\n  #stage { grid-template-columns: minmax(0, 1fr) 436px; gr\
+id-template-rows: auto auto auto auto auto auto 1fr; }\n  #stage > * { grid-column: 1; } #stage > #player { grid-colum\
+n: 1 / -1; }\n  #stage > #code { grid-column: 2; grid-row: 2 / span 6; align-self: start; position: sticky; top: calc(\
+var(--bar) + 8px);\n    max-height: calc(100vh - var(--bar) - 34px); overflow: auto; }\n  #stage:not(.pair) .side .par\
+ts { flex-wrap: nowrap; } #stage:not(.pair) .side .outside { flex: 1 100 0; min-width: 180px; }\n  .side .parts > .str\
+ip { flex: 0 1 auto; }\n  #stage.pair > #lesson, #stage.pair > #sides { grid-column: 1 / -1; } #stage.pair > #code { g\
+rid-row: 4 / span 4; }\n}\n/* On a low screen, as at 200 %, the player scrolls with the page. */\n@media (max-height: \
+520px), (max-width: 640px) and (max-height: 700px) { #player { position: static; } #stage > #code { position: static; \
+max-height: none; }\n  html { scroll-padding-top: 8px; } }\n.top { display: flex; flex-wrap: wrap; gap: 2px 16px; alig\
+n-items: center; justify-content: space-between; }\n#body { width: 10.5em; }\n#hint { color: var(--wait); font-weight\
+: 600; }\n.moment { display: grid; grid-template-columns: auto 1fr; gap: 8px; align-items: start; margin-top: 4px; }\n\
+#moments { display: flex; flex-wrap: wrap; gap: 4px; }\n#task { margin-top: 4px; } #task > * { margin-bottom: 4px; }\n\
+#lanes { display: grid; grid-template-columns: var(--names) minmax(0, 1fr); overflow: auto; max-height: max(118px, cal\
+c(100vh - 652px)); position: relative; }\n#turns svg, #lanes svg { display: block; }\n#lanes .code { font: 600 12px sy\
+stem-ui, sans-serif; fill: var(--card); text-anchor: middle; }\n#lanes .later .code { fill: var(--ink); }\n#lanes text\
+.tick, #turns text.side { fill: var(--dim); font-size: 12px; }\n#lanes .lane { stroke: var(--line); }\n#lanes .cell, #\
+turns .turn { cursor: pointer; }\n#lanes .now { fill: none; stroke: var(--ink); stroke-width: 2.5; }\n#turns .turn rec\
+t { fill: var(--turn); stroke: var(--serve); } #turns .turn rect.later { fill: none; stroke-dasharray: 3 3; }\n#turns \
+.now { stroke: var(--ink); stroke-width: 2; }\n#turns .turn text { font-size: 12.5px; }\n.pass { display: flex; height\
+: 36px; padding: 2px 6px 2px 0; gap: 4px; }\n.pass button { padding: 0 6px; white-space: nowrap; overflow: hidden; }\n\
+.pass .step { flex: 1; min-width: 0; display: flex; gap: 6px; align-items: center; text-align: left; }\n.pass .step sp\
+an { flex: 1; overflow: hidden; text-overflow: ellipsis; color: var(--dim); font-size: 12.5px; }\n.pass .step b { min-\
+width: 22px; }\n.pass .step i.next { font-size: 12px; font-style: normal; font-weight: 600; }\n.pass.moved .step { bor\
+der-color: var(--ink); border-width: 2px; }\n.dot { display: inline-block; flex: none; width: 11px; height: 11px; bord\
+er-radius: 3px; margin-right: 3px; }\n.legend { font-size: 12.5px; margin: 4px 0 0; } .legend span { display: inline-b\
+lock; margin-right: 10px; }\n.strip { overflow-x: auto; padding-bottom: 3px; } .strip.roomy, .list.roomy { overflow: v\
+isible; }\n.boxes { display: flex; flex-wrap: nowrap; align-items: stretch; list-style: none; margin: 0; padding: 0; w\
+idth: max-content; font-size: 12.5px; }\n.boxes > li { display: flex; align-items: flex-end; }\n#stage.pair .boxes { f\
+ont-size: 12px; } #stage.pair .boxes:not(.many) { flex-wrap: wrap; width: auto; }\n.parts { display: flex; flex-wrap: \
+wrap; gap: 4px 2.2em; align-items: flex-end; } .parts > * { max-width: 100%; min-width: 0; } .outside h3 { margin: 0; \
+}\n.boxes.loose > li { margin-right: .7em; }\n.boxes .done-one { margin-right: .6em; } .boxes .apart { border-left: 2p\
+x dotted var(--edge); padding-left: .9em; }\n.stack { display: flex; flex-direction: column; justify-content: flex-end\
+; }\n.ends { display: flex; gap: .7em; justify-content: center; min-height: 2.7em; align-items: flex-end; }\n.end { di\
+splay: flex; flex-direction: column; align-items: center; line-height: 1.2; font-weight: 600; color: var(--enter); whi\
+te-space: nowrap; }\n.end.tail { color: var(--answer); } .end.cursor { color: var(--hand); } .end.looks { color: var(-\
+-wait); } .end.serves { color: var(--serve); }\n.end.note { color: var(--dim); font-weight: 400; }\n.standing { displa\
+y: flex; flex-direction: column; } .standing:only-child { margin: 0 -1.6em; } .end.stands { display: block; text-align\
+: center; line-height: 1.35; }\n.token { background: var(--enter); color: var(--card); border-radius: 9px; padding: 0 \
+6px; display: inline-block; }\n.end.serves .token { background: var(--serve); }\n.traveller { position: absolute; z-in\
+dex: 15; pointer-events: none; background: var(--touch); color: var(--ink); border: 2px solid var(--touch-line); borde\
+r-radius: 9px;\n  padding: 0 8px; font-weight: 700; font-size: 14px; }\n.box.differs { outline: 3px solid var(--mark)\
+; outline-offset: -3px; }\n.end.touch { background: var(--touch); color: var(--ink); border-radius: 4px 4px 0 0; paddi\
+ng: 0 4px; }\n.end svg { width: 1.1em; height: 1.1em; } .end svg path { stroke: currentColor; stroke-width: 2; fill: n\
+one; }\n.end svg .tip-of-link { fill: currentColor; stroke: none; }\n.box { display: block; border: 1.5px solid var(--\
+edge); border-radius: 6px; padding: .15em .6em; line-height: 1.35; background: var(--back); min-width: 6.6em;\n  white\
+-space: nowrap; }\n.box.touch, tr.touch td, .word.touch { background: var(--touch); border-color: var(--touch-line); }\
+\n.box.touch .dim, tr.touch .pending { color: var(--ink); }\n.box.serve { border-color: var(--serve); border-width: 2.\
+5px; } .box.wait { border-color: var(--wait); }\n.box.done, .box.dummy { border-style: dashed; } .box.free { border-st\
+yle: dotted; color: var(--dim); }\n.box.prepare { border-color: var(--hand); border-style: dashed; border-width: 2px; \
+}\n.line { display: block; }\n.arrow { flex: none; align-self: flex-end; padding: 0 .25em; margin-bottom: 1.5em; color\
+: var(--dim); white-space: nowrap; display: flex;\n  flex-direction: column; align-items: center; }\n.arrow svg { disp\
+lay: block; width: 2.8em; height: 1.1em; } .arrow.none { color: var(--wait); }\n.arrow.none .link { stroke: var(--wait\
+); stroke-dasharray: 3 3; }\n.arrow.wrong { color: var(--mark); font-weight: 600; }\n.words { display: flex; flex-wrap\
+: wrap; gap: 3px 5px; margin-top: 6px; }\n.word { border: 1px solid var(--line); border-radius: 5px; padding: 1px 6px\
+; font-size: 12.5px; }\ntable { border-collapse: collapse; width: 100%; font-size: 12.5px; }\ntd, th { padding: 0 10p\
+x 0 0; border: 0; vertical-align: top; white-space: nowrap; text-align: left; font-weight: inherit; }\n.two { display\
+: grid; grid-template-columns: repeat(auto-fit, minmax(min(100%, 400px), 1fr)); gap: 0 8px; align-items: start; }\n.co\
+lumns { display: grid; grid-template-columns: repeat(auto-fit, minmax(min(100%, 230px), 1fr)); gap: 0 12px; }\n#sides \
+{ display: grid; grid-template-columns: minmax(0, 1fr); gap: 0 8px; align-items: start; }\n.pair .chain { min-width: 1\
+00%; } .pair .chain.idle { display: none; }\n@media (min-width: 900px) { .pair #sides, #lecture.pair #lecture-sides { \
+grid-template-columns: minmax(0, 1fr) minmax(0, 1fr); } }\n.side { min-width: 0; } .side > h2, .side > p { padding: 0 \
+2px; margin: 0 0 4px; } #side-event, #other-event { min-height: 2.9em; }\n#side-event:empty { display: none; }\n.chain\
+s { display: flex; flex-wrap: wrap; gap: 0 8px; }\n.chain { flex: 1 1 0; min-width: min(100%, 260px); } .chain h2, .ch\
+ain > div, .chain .head { display: inline; } .chain h2 { margin-right: 8px; }\n.chain .head { color: var(--dim); font-\
+size: 13px; }\n.chain.idle { flex: 0 1 auto; min-width: 0; align-self: flex-start; } .chain.idle .nodes { display: non\
+e; }\n.nodes { display: flex; flex-wrap: wrap; gap: 0 16px; align-items: flex-end; } .nodes > * { min-width: 0; max-wi\
+dth: 100%; } .nodes .words { margin: 0 0 6px; }\n.of-list h2, .of-list > div, .of-list > div > .words { display: inlin\
+e; } .of-list .word { display: inline-block; margin: 0 4px 3px 0; }\n.of-list h2 { margin-right: 8px; }\n.list { posit\
+ion: relative; max-height: 190px; overflow: auto; }\n.pending { color: var(--wait); }\n.program { list-style: none; ma\
+rgin: 0; padding: 0; font: 12.5px/1.5 ui-monospace, \"DejaVu Sans Mono\", Menlo, monospace; }\n.program li { display: \
+flex; justify-content: space-between; gap: 8px; padding: 0 6px; border-left: 4px solid transparent; white-space: pre; \
+}\n.program li span:last-child { color: var(--dim); font-family: system-ui, sans-serif; font-size: 12px; }\n.program l\
+i.lit { background: var(--touch); border-left-color: var(--touch-line); font-weight: 700; } .program li.lit span:last-\
+child { color: var(--ink); }\n.program li.changed { border-left-color: var(--mark); background: var(--was); } .progra\
+m li.changed.lit { background: var(--touch); }\n#code-head { position: sticky; top: -8px; margin-top: -8px; padding-to\
+p: 8px; background: var(--card); }\n#holds { border-bottom: 1px solid var(--line); padding-bottom: 3px; min-height: 5e\
+m; } .part:first-child h3 { margin-top: 5px; }\n#law .row { flex-wrap: nowrap; align-items: flex-start; } #law .row bu\
+tton { flex: none; } #law .row span { padding-top: 5px; }\n.change { font-size: 12.5px; white-space: pre-wrap; overflo\
+w-wrap: anywhere; margin: 2px 0; padding: 2px 6px; border-radius: 4px; display: block;\n  text-decoration: none; }\nde\
+l.change { background: var(--was); } ins.change { background: var(--is); }\npre, textarea { margin: 0; max-height: 320\
+px; overflow: auto; white-space: pre-wrap; overflow-wrap: anywhere; }\ntextarea { display: block; width: 100%; height\
+: 7em; padding: 4px 8px; }\ndl { display: grid; grid-template-columns: auto 1fr; gap: 2px 14px; margin: 0; font-size: \
+13px; }\ndt { font-weight: 600; } dd { margin: 0; color: var(--dim); }\nfooter { padding-bottom: 24px; font-size: 13px\
+; }\nbody.bare header, body.bare #intro, body.bare #choose, body.bare footer { display: none; } body.bare main { paddi\
+ng-top: 8px; }\n/* The lecture: one moment a screen. */\n#handout { display: none; max-width: 900px; margin: 0 auto; p\
+adding: 14px; } body.handout #handout { display: block; }\nbody.handout > header, body.handout > main, body.handout > \
+footer, body.handout > .skip { display: none; }\n#handout .answer { border-bottom: 1px solid var(--edge); min-height: \
+3em; }\nbody.lecture { overflow-x: clip; } body.lecture > header, body.lecture > main, body.lecture > footer, body.lec\
+ture > .skip { display: none; }\n#lecture { min-height: 100vh; display: grid; grid-template-columns: minmax(0, 1fr); g\
+rid-template-rows: auto auto 1fr auto auto; gap: 8px; padding: 14px 26px;\n  max-width: 2800px; margin: 0 auto; }\n#le\
+cture h2 { font-size: clamp(20px, 2.3vw, 60px); line-height: 1.2; margin: 0; } #lecture .top { align-items: baseline; \
+}\n#lecture-count { font-size: clamp(14px, 1.3vw, 34px); color: var(--dim); white-space: nowrap; }\n#lecture-text { fo\
+nt-size: clamp(18px, 2vw, 52px); line-height: 1.35; margin: 0; min-height: 1.35em; }\n#lecture-sides { display: grid; \
+grid-template-columns: minmax(0, 1fr); gap: 10px 26px; align-items: center; }\n#lecture h3 { font-size: clamp(15px, 1.\
+35vw, 36px); margin: 0 0 2px; font-weight: 400; } #lecture .side > h2 { font-size: clamp(17px, 1.6vw, 42px); }\n#lectu\
+re .part-chain .boxes { font-size: var(--of-chain, 20px); } #lecture .part-list .boxes { font-size: var(--of-list, 20p\
+x); }\n#lecture.pair h3 { font-size: clamp(14px, 1.1vw, 28px); } #lecture.pair #lecture-sides { align-items: start; } \
+#lecture.pair .part { margin-bottom: 4px; }\n#lecture .part { margin-bottom: 10px; }\n#lecture-line { margin: 0; min-h\
+eight: 3.4em; font-size: clamp(16px, 1.75vw, 46px); display: grid;\n  grid-template-columns: repeat(auto-fit, minmax(m\
+in(100%, 420px), 1fr)); gap: 4px 26px; align-items: center; }\n#lecture-line p { margin: 0; background: var(--touch); \
+border-left: 6px solid var(--touch-line); border-radius: 4px; padding: 4px 14px; }\n#lecture-line span { color: var(--\
+dim); font-size: .75em; margin-right: 1em; } #lecture-line p span { color: var(--ink); }\n#lecture-line code { font-si\
+ze: .95em; white-space: pre-wrap; font-weight: 600; }\n#lecture-code { display: grid; grid-auto-flow: column; grid-aut\
+o-columns: minmax(0, 1fr); gap: 26px; align-content: center; }\n#lecture-code .program { font-size: clamp(12.5px, min(\
+2.1vw, 66vh / var(--lines) / 1.5), 44px); } #lecture.pair #lecture-code .program { font-size: clamp(12px, min(1.05vw, \
+66vh / var(--lines) / 1.5), 30px); }\n#lecture-code li { white-space: pre-wrap; } #lecture-code li span:last-child { d\
+isplay: none; }\n#lecture nav { gap: 8px; align-items: center; } #lecture nav button, #lecture nav select { min-height\
+: 40px; font-size: 16px; } #lecture nav .gap { flex: 1; }\nbody.lecture #tip { font-size: clamp(15px, 1.5vw, 22px); ma\
+x-width: min(560px, 94vw); }\nbody.blank #lecture > *, body.blank #tip { visibility: hidden; } body.blank { background\
+: #000; }\n@media (max-height: 700px) { #lecture { padding: 6px 26px; gap: 4px; } #lecture-line { min-height: 2em; } }\
+\n@media (max-width: 1180px) { #lecture.pair .boxes:not(.many) { flex-wrap: wrap; width: auto; } .intro { grid-templat\
+e-columns: minmax(0, 1fr); } #live { order: -1; } .choose { grid-template-columns: 1fr 1fr; } }\n@media (max-width: 90\
+0px) { .boxes:not(.many) { flex-wrap: wrap; width: auto; } .choose { grid-template-columns: minmax(0, 1fr); }\n  #tour\
+, #examples { columns: auto 220px; } .choose li { margin: 2px 0; } }\n@media (max-width: 640px) {\n  :root { --names: \
+104px; }\n  header, main, footer { padding-left: 8px; padding-right: 8px; }\n  .card { padding: 7px 8px; }\n  .pass .s\
+tep span, .pass .step i.next { display: none; }\n  .moment { grid-template-columns: minmax(0, 1fr); }\n  #event { font\
+-size: 13px; max-height: 8.4em; overflow: auto; }\n  #event .dim { display: none; }\n  dl { grid-template-columns: min\
+max(0, 1fr); } dd { margin-bottom: 6px; }\n  .program { font-size: 12px; } .program li { white-space: pre-wrap; } .pro\
+gram li span { overflow-wrap: anywhere; }\n  #lecture { padding: 8px; }\n  #lecture nav .gap { display: none; }\n}\n@m\
+edia (max-width: 400px) { td, th { white-space: normal; } .program li span:last-child { display: none; } .pass { paddi\
+ng-right: 2px; gap: 2px; } }\n@media (prefers-reduced-motion: no-preference) {\n  .box.touch, .word.touch, .end.touch \
+{ animation: flash .6s ease-out; }\n  @keyframes flash { from { box-shadow: 0 0 0 6px var(--touch-line); } to { box-sh\
+adow: 0 0 0 0 transparent; } }\n}\n@media print {\n  :root { color-scheme: light; --back: #fff; --card: #fff; --ink: #\
+000; --dim: #444; --line: #999; --edge: #555; --mark: #8c1d18; --enter: #1d4f9e;\n    --wait: #7a4900; --serve: #125c3\
+8; --hand: #6b2d92; --answer: #075b66; --rest: #555; --touch: #fff0b8; --touch-line: #8a6700; --turn: #dcefe4;\n    --\
+was: #fbe4e2; --is: #dff2e6; }\n  * { print-color-adjust: exact; -webkit-print-color-adjust: exact; animation: none !i\
+mportant; }\n  body { font-size: 10pt; } #program { columns: 2; } .part { break-inside: avoid; }\n  body:not(.begins) \
+#intro, nav, #choose, footer, .skip, #player .row, #moments, #lesson .row, .more, .leap, #add, #texts, #tip, #parting \
+button, #task .row { display: none !important; }\n  #player, #stage > #code, #code-head { position: static; box-shadow\
+: none; max-height: none; overflow: visible; }\n  #lanes, .list, .strip { max-height: none; overflow: visible; } #cell\
+s, #turns { overflow: hidden; }\n  #law button { border: 0; padding: 0; min-height: 0; background: none; font-weight: \
+600; } #law .row span { padding-top: 0; }\n  details:not([open]), .chain.idle { display: none; }\n  .hints { break-bef\
+ore: page; } .card { break-inside: avoid; } .boxes { width: auto; flex-wrap: wrap; } .program li { white-space: pre-wr\
+ap; }\n  #stage { display: block; } #lecture { min-height: 0; padding: 0; } #lecture .part .boxes { font-size: 15px; \
+} #lecture.pair .part .boxes { font-size: 12px; }\n  .pair #sides, #lecture.pair #lecture-sides { grid-template-column\
+s: minmax(0, 1fr) minmax(0, 1fr); }\n}\n</style>\n</head>\n<body>\n<a class=\"skip\" href=\"#stage\">To the run</a>\n<\
+header>\n<h1>CC-Queue, step by step</h1>\n<nav aria-label=\"Parts of this page\"><a href=\"#choose\">Tour and exercise\
+s</a><a href=\"#stage\">The run</a><a href=\"#lecture=lone\">Lecture</a>\n<a href=\"#own\">Your own queue</a><a href=\
+\"#glossary\">Words</a><a href=\"#keys\">Keys</a></nav>\n</header>\n<main>\n<noscript><p class=\"bad\">The pictures ar\
+e drawn by the script of this page, which is turned off. The events and the report are in its source.</p></noscript>\n\
+<div id=\"alarm\" role=\"alert\"></div>\n<section class=\"card\" id=\"intro\" aria-labelledby=\"intro-title\">\n<p>Thi\
+s page shows CC-Queue (Fatourou and Kallimanis, PPoPP 2012) step by step. It is the algorithm of Vahepito, a queue tha\
+t is proved for every\norder of these steps. Vahepito's program <code>ccq</code> writes this page for a run of your ow\
+n: <code>ccq show PLAN &gt; page.html</code>.</p>\n<h2 id=\"intro-title\">The algorithm in five sentences</h2>\n<div c\
+lass=\"intro\">\n<ol>\n<li>CC-Queue is a first-in, first-out queue that many threads use at once: each\n<dfn class=\"t\
+erm\" tabindex=\"0\" role=\"button\" data-word=\"pass\" aria-describedby=\"word-pass\">pass</dfn> is one of them, a se\
+nder that appends items or a receiver\nthat takes them.</li>\n<li>Senders don't contend for a lock: each swaps a <dfn \
+class=\"term\" tabindex=\"0\" role=\"button\" data-word=\"node\" aria-describedby=\"word-node\">node</dfn> into a\n<df\
+n class=\"term\" tabindex=\"0\" role=\"button\" data-word=\"chain\" aria-describedby=\"word-chain\">chain</dfn> and wr\
+ites its request there, and one of them, the\n<dfn class=\"term\" tabindex=\"0\" role=\"button\" data-word=\"combiner\
+\" aria-describedby=\"word-combiner\">combiner</dfn>, serves the requests of all, up to a\n<dfn class=\"term\" tabinde\
+x=\"0\" role=\"button\" data-word=\"bound\" aria-describedby=\"word-bound\">bound</dfn>, and then hands over.</li>\n<l\
+i>The items are in a linked list whose first node is a\n<dfn class=\"term\" tabindex=\"0\" role=\"button\" data-word=\
+\"dummy\" aria-describedby=\"word-dummy\">dummy</dfn>, so that senders append at one end while receivers, who\nhave ch\
+ains of their own, take at the other.</li>\n<li>Each <dfn class=\"term\" tabindex=\"0\" role=\"button\" data-word=\"st\
+ep\" aria-describedby=\"word-step\">step</dfn> of a pass reads or changes one word, the steps of\nall passes interleav\
+e in any order, and for every order it is proved that items leave in the order in which they came.</li>\n<li>On this p\
+age you choose the order: follow the tour, make the steps of each pass yourself, see what broken queues lose, and solv\
+e exercises.</li>\n</ol>\n<div id=\"live\" class=\"side\"><div class=\"row\"><button id=\"live-play\" aria-pressed=\"f\
+alse\">play</button><a class=\"pick\" href=\"#stage\">each step of this run, and its program</a></div>\n<p id=\"live-e\
+vent\"></p><div id=\"live-picture\" inert></div></div>\n</div>\n</section>\n<section class=\"card\" id=\"choose\" aria\
+-labelledby=\"choose-title\">\n<h2 id=\"choose-title\">Each of these opens a run that you can drive on</h2>\n<div clas\
+s=\"choose\">\n<div><h3>Guided tour</h3><ol id=\"tour\"></ol></div>\n<div><h3>Scenarios</h3><ul id=\"examples\"></ul><\
+/div>\n<div><h3>Broken queues, beside the right one</h3><ul id=\"broken\"></ul></div>\n<div><h3>Exercises</h3><ul id=\
+\"exercise-list\"></ul><p><a class=\"pick\" href=\"#handout\">all of them, to be printed</a></p></div>\n</div>\n<detai\
+ls id=\"own\"><summary>Your own queue, or a plan</summary>\n<form id=\"own-form\" class=\"own\">\n<label>senders<inpu\
+t name=\"senders\" type=\"number\" min=\"1\" max=\"64\" value=\"2\"></label>\n<label>receivers of a group<input name=\
+\"receivers\" type=\"number\" min=\"1\" max=\"64\" value=\"1\"></label>\n<label>groups<input name=\"groups\" type=\"nu\
+mber\" min=\"1\" max=\"8\" value=\"1\"></label>\n<label>capacity<input name=\"capacity\" type=\"number\" min=\"1\" max\
+=\"4096\" value=\"2\"></label>\n<label>bound<input name=\"bound\" type=\"number\" min=\"1\" max=\"1024\" value=\"2\"><\
+/label>\n<label>life (items ever accepted)<input name=\"life\" type=\"number\" min=\"1\" max=\"281474976710656\" value\
+=\"100\"></label>\n<label>sends of each sender<input name=\"sends\" type=\"number\" min=\"0\" max=\"1000\" value=\"2\"\
+></label>\n<label>words of an item<input name=\"words\" type=\"number\" min=\"1\" max=\"4\" value=\"1\"></label>\n<lab\
+el>takes of each receiver<input name=\"takes\" type=\"number\" min=\"0\" max=\"1000\" value=\"4\"></label>\n<label>tab\
+le of steps<select name=\"table\" class=\"tables\"></select></label>\n<button>open this queue</button>\n</form>\n<h3>O\
+pen a plan: paste its JSON, or choose a file</h3>\n<textarea id=\"import\" class=\"mono\" aria-label=\"a plan in JSON\
+\" placeholder='{\"capacity\":2,\"bound\":2,\"life\":10,\"senders\":[[7]],\"receivers\":[1],\"schedule\":[[\"s1\",100]\
+,[\"r1\",100]]}'></textarea>\n<div class=\"row\" style=\"margin-top:5px\"><button id=\"open-plan\" type=\"button\">ope\
+n this plan</button><input id=\"file\" type=\"file\" accept=\".json,application/json\" aria-label=\"a file with a plan\
+\"></div>\n<p id=\"import-hint\" role=\"status\"></p>\n</details>\n</section>\n<section id=\"stage\" tabindex=\"-1\" a\
+ria-label=\"The run\">\n<div class=\"card\" id=\"player\" tabindex=\"-1\" role=\"group\" aria-label=\"Player\">\n<div \
+class=\"row\">\n<button id=\"back\" title=\"one event back (left arrow)\">&#8592; back</button>\n<button id=\"play\" t\
+itle=\"plays event by event (space)\" aria-pressed=\"false\">play</button>\n<button id=\"next\" title=\"one event on (\
+right arrow)\">next &#8594;</button>\n<input id=\"slider\" type=\"range\" min=\"0\" value=\"0\" step=\"1\" aria-label=\
+\"event\">\n<span id=\"where\"></span>\n<button id=\"more-toggle\" aria-expanded=\"false\" aria-controls=\"more\">more\
+</button>\n<div class=\"row\" id=\"more\">\n<button id=\"first\" title=\"to the opening (Home)\">first</button>\n<butt\
+on id=\"before\" title=\"to the decision before this event (D)\">&#171; decision</button>\n<button id=\"after\" title=\
+\"to the next decision (d)\">decision &#187;</button>\n<button id=\"last\" title=\"to the last event (End)\">last</but\
+ton>\n<select id=\"speed\" aria-label=\"speed of play\"><option value=\"1000\">1 a second</option><option value=\"333\
+\" selected>3 a second</option>\n<option value=\"100\">10 a second</option><option value=\"33\">30 a second</option></\
+select>\n<select id=\"branches\" aria-label=\"which run\"></select>\n<button id=\"export\" title=\"the plan whose run \
+is this one, up to this event, and a link to it\">export plan</button>\n</div>\n</div>\n<div id=\"event\" role=\"statu\
+s\" aria-live=\"polite\" aria-atomic=\"true\"></div>\n<div id=\"breaks\" role=\"alert\"></div>\n</div>\n<section class\
+=\"card\" id=\"lesson\" aria-labelledby=\"lesson-title\">\n<div class=\"top\"><h2 id=\"lesson-title\"></h2><div class=\
+\"row\"><button id=\"stop-before\" title=\"the stop before (p)\">&#171; stop</button>\n<button id=\"stop-next\" title=\
+\"the next stop (n)\">next stop &#187;</button>\n<button id=\"to-lecture\" title=\"one moment a screen, in large lette\
+rs (l)\">lecture</button>\n<button id=\"pair\" aria-pressed=\"false\" title=\"the same steps by the other table\">sid\
+e by side</button><button id=\"compare\"></button></div></div>\n<p id=\"lesson-text\"></p>\n<div class=\"moment\" id=\
+\"moment\"><div id=\"moments\" role=\"group\" aria-label=\"moments of this run\"></div><div id=\"moment-text\"></div><\
+/div>\n<p id=\"parting\" hidden></p>\n<div id=\"task\" hidden><p id=\"task-state\" role=\"status\"></p><p id=\"task-wh\
+y\"></p><p id=\"task-hint\" hidden></p><div class=\"row\"><button id=\"hint-button\">hint</button>\n<button id=\"solve\
+\">a shortest solution</button><button id=\"next-exercise\" hidden>next exercise &#8594;</button><button id=\"again\">\
+start again</button><span class=\"dim\" id=\"task-length\"></span></div></div>\n</section>\n<section id=\"sides\" aria\
+-label=\"The chains and the list\">\n<div class=\"side\"><h2 id=\"side-title\"></h2><p id=\"side-event\"></p><div clas\
+s=\"chains\" id=\"chains\"></div>\n<section class=\"card of-list\" aria-labelledby=\"list-title\"><h2 id=\"list-title\
+\">The list</h2><div id=\"list\"></div></section></div>\n<div class=\"side\" id=\"other\" hidden><h2 id=\"other-title\
+\"></h2><p id=\"other-event\"></p><div class=\"chains\" id=\"other-chains\"></div>\n<section class=\"card of-list\" ar\
+ia-label=\"The list of the other queue\"><h2>The list</h2><div id=\"other-list\"></div></section></div>\n</section>\n<\
+section class=\"card\" id=\"passes\" aria-labelledby=\"lanes-title\">\n<div class=\"top\">\n<h2 id=\"lanes-title\">Th\
+e passes: press one to step</h2>\n<form id=\"add\" class=\"row\" hidden>\n<select id=\"caller\" aria-label=\"the pass \
+that gets a further call\"></select>\n<input id=\"body\" aria-label=\"the words of the item\" placeholder=\"one to fou\
+r words\" autocomplete=\"off\" inputmode=\"numeric\">\n<button id=\"add-send\">add send</button><button id=\"add-close\
+\" type=\"button\">add close</button><button id=\"add-take\" type=\"button\">add take</button>\n</form>\n<span class=\
+\"dim\" id=\"config\"></span>\n<label id=\"all-label\"><input id=\"all\" type=\"checkbox\"> all passes</label>\n</div>\
+\n<p id=\"hint\" role=\"status\" hidden></p>\n<div id=\"turns\"></div>\n<div id=\"lanes\" tabindex=\"0\" role=\"group\
+\" aria-label=\"lanes of the passes\"><div id=\"names\"></div><div id=\"cells\"></div></div>\n<div id=\"waits\"></div>\
+\n<p class=\"legend\" id=\"legend\"></p>\n</section>\n<section class=\"card\" id=\"law-card\" aria-labelledby=\"law-ti\
+tle\" hidden>\n<h2 id=\"law-title\">What is broken</h2>\n<div id=\"law\"></div>\n<div class=\"row\" id=\"adversary\"><\
+button id=\"search\" title=\"random schedules of this queue until one breaks a law, and then a shortest one\">break i\
+t at random</button>\n<span id=\"search-state\" role=\"status\"></span></div>\n</section>\n<section class=\"card\" id=\
+\"code\" tabindex=\"0\" aria-labelledby=\"code-title\">\n<div id=\"code-head\"><h2 id=\"code-title\">The program, and \
+the line of this step</h2><div id=\"holds\"></div></div>\n<div id=\"program\"></div>\n</section>\n<div id=\"rest\">\n<\
+div class=\"chains\" id=\"more-chains\"></div>\n<section class=\"card\" aria-labelledby=\"history-title\">\n<h2 id=\"h\
+istory-title\">The history so far, in the order of the swaps</h2>\n<div id=\"history\" class=\"columns\"></div>\n</sec\
+tion>\n<details class=\"card\" id=\"order\"><summary>An order of all calls</summary><div id=\"order-text\"></div></det\
+ails>\n<details class=\"card\" id=\"texts\"><summary>The plan up to this event, its link, and its report</summary>\n<d\
+iv class=\"two\">\n<div><h3>plan</h3><textarea id=\"plan\" class=\"mono\" readonly aria-label=\"plan\"></textarea>\n<d\
+iv class=\"row\" style=\"margin-top:5px\"><a id=\"save\" class=\"pick\" download=\"plan.json\">save plan.json</a><butt\
+on id=\"copy\" type=\"button\">copy the link</button></div>\n<input id=\"link\" class=\"mono\" readonly aria-label=\"l\
+ink to this run\" style=\"width:100%\"></div>\n<div><h3>report, as <code>ccq play</code> writes it</h3><pre class=\"mo\
+no\" id=\"whole\" tabindex=\"0\"></pre></div>\n</div>\n</details>\n</div>\n</section>\n</main>\n<section id=\"lecture\
+\" hidden aria-label=\"Lecture\">\n<div class=\"top\"><h2 id=\"lecture-title\"></h2><span id=\"lecture-count\"></span>\
+</div>\n<p id=\"lecture-text\" role=\"status\" aria-live=\"polite\"></p>\n<div id=\"lecture-sides\"></div>\n<div id=\"\
+lecture-code\" hidden></div>\n<div id=\"lecture-line\"></div>\n<nav aria-label=\"Lecture\"><button id=\"lecture-back\
+\" title=\"the screen before (left arrow, Page up)\">&#8592; back</button>\n<select id=\"lecture-lesson\" aria-label=\
+\"the lesson\"></select><span class=\"gap\"></span>\n<button id=\"lecture-program\" title=\"the program in large lette\
+rs, or the picture (c)\" aria-pressed=\"false\">program</button>\n<button id=\"lecture-full\" title=\"the whole scree\
+n (f)\">full screen</button><button id=\"lecture-leave\" title=\"back to the run (Escape)\">leave</button>\n<button id\
+=\"lecture-next\" title=\"the next screen (right arrow, space, Page down)\">next &#8594;</button></nav>\n</section>\n<\
+section id=\"handout\" aria-label=\"The exercises on paper\"></section>\n<footer>\n<section id=\"keys\"><h2>Keys</h2>\
+\n<p><kbd>&#8592;</kbd> <kbd>&#8594;</kbd> one event; <kbd>space</kbd> plays and stops, except in a field for text, an\
+d <kbd>Enter</kbd> presses a button; <kbd>d</kbd> <kbd>D</kbd> the next\ndecision, and the one before; <kbd>1</kbd> t\
+o <kbd>9</kbd> a step of the first to ninth pass, and with <kbd>Shift</kbd> its steps until its call returns or it wai\
+ts; <kbd>n</kbd> <kbd>p</kbd> the next stop,\nand the one before; <kbd>m</kbd> <kbd>M</kbd> the next moment of a stop\
+, and the one before; <kbd>l</kbd> the lecture; <kbd>Esc</kbd> hides the explanation of a word. In the player <kbd>Hom\
+e</kbd> and\n<kbd>End</kbd> go to the first and the last event, <kbd>Page up</kbd> and <kbd>Page down</kbd> to decisio\
+ns. A step that the run doesn't have next begins a branch.</p>\n<p>In a lecture <kbd>&#8594;</kbd>, <kbd>space</kbd>, \
+<kbd>Enter</kbd> and <kbd>Page down</kbd> show the next screen, <kbd>&#8592;</kbd>, <kbd>Backspace</kbd> and <kbd>Pag\
+e up</kbd> the one before, <kbd>Home</kbd> and\n<kbd>End</kbd> the first and the last of the lesson; <kbd>c</kbd> show\
+s the program in place of the picture, <kbd>f</kbd> fills the whole screen, <kbd>b</kbd> or <kbd>.</kbd> blanks it, an\
+d <kbd>Esc</kbd> leaves. Presenters' clickers press these keys.</p></section>\n<section id=\"glossary\"><h2>Words</h2>\
+<dl id=\"words\"></dl></section>\n<details><summary>What a step of each kind does</summary><dl id=\"kinds\"></dl></det\
+ails>\n</footer>\n<div id=\"tip\" role=\"tooltip\" hidden></div>\n<script type=\"application/json\" id=\"site\">{\"cap\
+acity\":4,\"bound\":4,\"life\":10,\"senders\":[[7],[8],[9]],\"receivers\":[2],\"schedule\":[[\"s1\",6],[\"s2\",6],[\"s\
+3\",6],[\"s1\",32],[\"r1\",6],[\"s1\",26],[\"r1\",17],[\"s2\",2],[\"s3\",2],[\"r1\",23]]}</script>\n<script type=\"app\
+lication/json\" id=\"exercises\">\n[\n{\"id\":\"empty\",\"title\":\"Empty beside an item\",\n \"text\":\"Make a take r\
+eturn Empty while an accepted item is in the queue. The queue is the right one, so this is no fault: find out why.\",\
+\n \"hint\":\"An answer is fixed at its [[decision]], and returned later. Stop r1 in between, and let s1 send.\",\n \"\
+why\":\"The take took effect when it read null after the dummy, before the send linked its item: an answer may be old \
+when it is returned, and still right at one moment of its call.\",\n \"plan\":{\"capacity\":2,\"bound\":2,\"life\":10,\
+\"senders\":[[7]],\"receivers\":[1],\"schedule\":[]},\n \"goal\":{\"returns\":\"Empty\"},\n \"solution\":[[\"r1\",9],[\
+\"s1\",20],[\"r1\",5]]},\n{\"id\":\"full\",\"title\":\"Full beside a free node\",\n \"text\":\"The capacity is 1, and \
+s1 has sent 5. Make the send of 6 return Full while no item waits. The queue is the right one.\",\n \"hint\":\"Full ta\
+kes effect when the scan begins. Stop s2 before it reads its answer, and let r1 take the item.\",\n \"why\":\"The sen\
+d took effect when its scan began, and at that moment all nodes were busy: the take came later, and its answer was fix\
+ed by then.\",\n \"plan\":{\"capacity\":1,\"bound\":2,\"life\":10,\"senders\":[[5],[6]],\"receivers\":[1],\"schedule\"\
+:[[\"s1\",28]]},\n \"goal\":{\"returns\":\"Full\"},\n \"solution\":[[\"s2\",19],[\"r1\",14],[\"s2\",1]]},\n{\"id\":\"p\
+assed_over\",\"title\":\"A call is passed over\",\n \"text\":\"At the bound, which is 1 here, this combiner hands ove\
+r to the node after the one where it has to stop. Make it hand over past a call that waits.\",\n \"hint\":\"The combin\
+er needs a link to follow: let both senders link their requests before s1 stops.\",\n \"why\":\"The next combiner serv\
+es only calls behind its own node, so no link leads to the call that was passed over, and it waits for ever.\",\n \"pl\
+an\":{\"capacity\":2,\"bound\":1,\"life\":10,\"senders\":[[1],[2]],\"receivers\":[0],\"schedule\":[]},\n \"table\":\"h\
+anded_past\",\n \"goal\":{\"breaks\":[\"hand\"]},\n \"solution\":[[\"s1\",25],[\"s2\",6],[\"s1\",2]]},\n{\"id\":\"left\
+_behind\",\"title\":\"Lose an item by an early mark\",\n \"text\":\"This combiner follows the next link of a node onl\
+y after it has marked the node done. Make its hand-over miss, so that the item of a send is lost.\",\n \"hint\":\"Let \
+s1 serve s2 and mark its node done. Then s2 returns and begins its next send before s1 reads the link.\",\n \"why\":\"\
+The owner of a node that is marked done may clear its link at once, so the combiner lost its way to the next request: \
+the link has to be read before the mark.\",\n \"plan\":{\"capacity\":2,\"bound\":2,\"life\":10,\"senders\":[[1],[2,3]]\
+,\"receivers\":[0],\"schedule\":[]},\n \"table\":\"marked_early\",\n \"goal\":{\"breaks\":[\"hand\"]},\n \"solution\":\
+[[\"s1\",26],[\"s2\",6],[\"s1\",18],[\"s2\",3],[\"s1\",2]]},\n{\"id\":\"lost\",\"title\":\"Lose an item of a group\",\
+\n \"text\":\"s1 has sent 5, for two groups. This queue uses a list node as soon as one group has gone past it. Make t\
+he take of r2 return Empty, although 5 waits for group 2.\",\n \"hint\":\"Let group 1 go past node 0, and then let s1 \
+use node 0 for its send of 6.\",\n \"why\":\"The node was the dummy of the other group, and the send cleared its link\
+: so a node may be used again only when every group has gone past it.\",\n \"plan\":{\"version\":2,\"groups\":2,\"capa\
+city\":1,\"bound\":2,\"life\":10,\"senders\":[[[5],[6]]],\"receivers\":[1,1],\"schedule\":[[\"s1\",28]]},\n \"table\":\
+\"one_group\",\n \"goal\":{\"breaks\":[\"empty\",\"fifo\"]},\n \"solution\":[[\"r1\",14],[\"s1\",16],[\"r2\",9]]},\n{\
+\"id\":\"twice\",\"title\":\"Get an item twice\",\n \"text\":\"s1 has sent 5. A take of this queue frees the node tha\
+t is the dummy from then on. Make r1 get one item twice.\",\n \"hint\":\"After the take of 5 node 1 is the dummy and c\
+ounts as free. A send that uses node 1 links it to itself.\",\n \"why\":\"The node from which an item was taken is th\
+e dummy from then on, and a head names it: so a take frees the dummy before it.\",\n \"plan\":{\"capacity\":1,\"bound\
+\":2,\"life\":10,\"senders\":[[5,6]],\"receivers\":[3],\"schedule\":[[\"s1\",28]]},\n \"table\":\"freed_dummy\",\n \"g\
+oal\":{\"breaks\":[\"fifo\"]},\n \"solution\":[[\"r1\",14],[\"s1\",21],[\"r1\",46]]}\n]\n</script>\n<script type=\"app\
+lication/json\" id=\"lessons\">\n[\n{\"kind\":\"tour\",\"id\":\"lone\",\"title\":\"A lone send\",\n \"text\":\"{pass:s\
+1} sends {sent:7}, and no other [[pass]] moves. {combiner:s1} swaps its [[node]] into the [[tail]] of the send [[chain\
+]], finds that no pass combines, and serves its own request.\",\n \"plan\":{\"capacity\":2,\"bound\":2,\"life\":10,\"s\
+enders\":[[7]],\"receivers\":[1],\"schedule\":[[\"s1\",28]]},\n \"moments\":[\n  [3,\"Exchange\",\"{pass:s1} swaps {to\
+:node 1} into the tail and gets {was:node 0}: its call enters the [[history]] as the {place:1st} send.\"],\n  [6,\"Lin\
+k\",\"{pass:s1} links {node:node 0} to {to:node 1}, the node in the tail: only now can a [[combiner]] serve the reques\
+t.\"],\n  [7,\"ReadState\",\"{pass:s1} reads state {value:0}: no pass combines, so {pass:s1} is the combiner.\"],\n  [\
+20,\"LinkLast\",\"{pass:s1} links list {to:node 1}, which has the item {item:7}, to {node:node 0}: this step is the [[\
+decision]], {decided:accepted as item 0}.\"],\n  [27,\"HandOver\",\"No further request is linked, so {pass:s1} hands o\
+ver to {node:node 1}, the node in the tail.\"],\n  [28,\"ReadAnswer\",\"{pass:s1} reads its answer: its call returns {\
+returned:accepted as item 0}.\"]]},\n{\"kind\":\"tour\",\"id\":\"three\",\"title\":\"Three sends that one serves\",\n \
+\"text\":\"Three senders link their requests before any is served. {combiner:s1} is the [[combiner]]: it serves all th\
+ree in one [[turn]], in the order of their swaps, while the others only read their own states.\",\n \"plan\":{\"capaci\
+ty\":4,\"bound\":4,\"life\":10,\"senders\":[[1],[2],[3]],\"receivers\":[0],\"schedule\":[[\"s1\",6],[\"s2\",6],[\"s3\"\
+,6],[\"s2\",2],[\"s3\",2],[\"s1\",58],[\"s2\",2],[\"s3\",2]]},\n \"moments\":[\n  [18,\"Link\",\"Three requests are li\
+nked now: {linked:node 0 of s1, node 1 of s2 and node 2 of s3}. The tail names {tail:node 3}, which no call has.\"],\
+\n  [19,\"ReadState\",\"{pass:s2} reads state {waits:1} and begins to wait: it reads its own node alone, and changes n\
+o word.\"],\n  [42,\"ReadNext\",\"{pass:s1} reads the next link of {node:node 1} before it serves {owner:s2}: it name\
+s {to:node 2}, so the request of {owner:s2} is whole.\"],\n  [59,\"MarkDone\",\"{pass:s1} has written the answer of {o\
+wner:s2} and marks {node:node 1} done: from now on {owner:s2} may return.\"],\n  [79,\"HandOver\",\"{pass:s1} has serv\
+ed {served:three} requests, and hands over to {node:node 3}, the node in the tail.\"],\n  [84,\"ReadAnswer\",\"{pass:s\
+3} reads its answer: its call returns {returned:accepted as item 2}. {pass:s3} has not touched the list.\"]]},\n{\"kin\
+d\":\"tour\",\"id\":\"bound\",\"title\":\"The hand-over at the bound\",\n \"text\":\"The [[bound]] is {bound:2}: a [[c\
+ombiner]] serves at most two requests in one [[turn]]. {combiner:s1} serves {turn:s1 and s2}, and hands over to {next:\
+s3}.\",\n \"plan\":{\"capacity\":4,\"bound\":2,\"life\":10,\"senders\":[[1],[2],[3]],\"receivers\":[0],\"schedule\":[[\
+\"s1\",6],[\"s2\",6],[\"s3\",8],[\"s1\",39],[\"s3\",22],[\"s2\",2]]},\n \"moments\":[\n  [57,\"MarkDone\",\"{pass:s1} \
+marks {node:node 1} done: it has served {served:two} requests, as many as the bound.\"],\n  [58,\"HandOver\",\"{pass:s\
+1} hands over to {node:node 2} of {owner:s3}, the first call without an answer.\"],\n  [60,\"ReadState\",\"{pass:s3} r\
+eads state {value:0}: no pass combines, so {pass:s3} is the combiner. At no moment did two passes combine.\"],\n  [73,\
+\"LinkLast\",\"{pass:s3} serves its own request: this step is the decision, {decided:accepted as item 2}.\"]]},\n{\"ki\
+nd\":\"tour\",\"id\":\"take\",\"title\":\"A take\",\n \"text\":\"{pass:s1} has sent {sent:7}, and {taker:r1} takes it\
+. The receivers have a [[chain]] of their own. The list begins with its [[dummy]], a node with no item to take.\",\n \
+\"plan\":{\"capacity\":2,\"bound\":2,\"life\":10,\"senders\":[[7]],\"receivers\":[1],\"schedule\":[[\"s1\",28],[\"r1\"\
+,23]]},\n \"moments\":[\n  [35,\"ReadObject\",\"{pass:r1} combines in the take chain and reads the [[head]]: {to:node \
+0} is the dummy.\"],\n  [37,\"ReadDummyNext\",\"{pass:r1} reads the next link of the dummy: it names {to:node 1}, so t\
+he list has an item.\"],\n  [39,\"ReadItem\",\"{pass:r1} reads the word of the item, {value:7}, in {node:node 1}, whic\
+h is still in the list.\"],\n  [40,\"WriteObject\",\"{pass:r1} moves the head to {to:node 1}: this is the dummy from n\
+ow on.\"],\n  [42,\"AddPassed\",\"{pass:r1} adds one to the [[passed]] count of {node:node 0}: this step is the [[deci\
+sion]], {decided:got 7 as item 0}. This node is free from now on.\"]]},\n{\"kind\":\"tour\",\"id\":\"empty\",\"title\"\
+:\"Empty, and a send in between\",\n \"text\":\"{pass:s1} has prepared a list node and stops one step before the link\
+. A take that runs now returns Empty, and rightly: the send has not taken effect yet.\",\n \"plan\":{\"capacity\":2,\"\
+bound\":2,\"life\":10,\"senders\":[[7]],\"receivers\":[2],\"schedule\":[[\"s1\",19],[\"r1\",14],[\"s1\",9],[\"r1\",23]\
+]},\n \"moments\":[\n  [19,\"ReadObject\",\"{pass:s1} stops before the link: {prepared:node 1} has the item {item:7}, \
+and no link of the list names it.\"],\n  [28,\"ReadDummyNext\",\"{pass:r1} reads null in the next link of the dummy: t\
+his step is the decision, {decided:empty}.\"],\n  [34,\"LinkLast\",\"{pass:s1} links list {to:node 1}, which has the i\
+tem {item:7}, to {node:node 0}: the send takes effect now, after the take.\"],\n  [56,\"AddPassed\",\"{pass:r1} takes \
+the item {got:7}: it is the second take of {pass:r1}.\"]]},\n{\"kind\":\"tour\",\"id\":\"scan\",\"title\":\"Full, and \
+when it takes effect\",\n \"text\":\"The [[capacity]] is {capacity:1}, and the item {sent:5} waits. The send of {full:\
+6} scans all list nodes for a free one. During the scan {taker:r1} takes the item, and the send still returns Full: i\
+t takes effect when its scan begins.\",\n \"plan\":{\"capacity\":1,\"bound\":2,\"life\":10,\"senders\":[[5],[6]],\"rec\
+eivers\":[1],\"schedule\":[[\"s1\",28],[\"s2\",14],[\"r1\",23],[\"s2\",6]]},\n \"moments\":[\n  [41,\"ReadObject\",\"{\
+pass:s2} reads the [[cursor]], and its scan begins at {cursor:node 0}: both list nodes are busy at this moment, and th\
+e Full of this send takes effect here.\"],\n  [42,\"ReadPassed\",\"{pass:s2} reads that no group has gone past {node:n\
+ode 0}, which is the dummy: it is busy.\"],\n  [56,\"AddPassed\",\"{pass:r1} takes the item {got:5}: {node:node 0} is \
+free from now on, but the scan has read it already.\"],\n  [66,\"ReadPassed\",\"{pass:s2} reads that no group has gon\
+e past {node:node 1}, which is the dummy now: this step is the decision, {decided:full}.\"]],\n \"opens\":\"order\"},\
+\n{\"kind\":\"tour\",\"id\":\"again\",\"title\":\"A node that is used again\",\n \"text\":\"The [[capacity]] is {capac\
+ity:1}, so the list has two ordinary nodes. {taker:r1} takes the item {sent:5}, which frees a list node. The send of {\
+sent:7} uses {again:node 0} again, and no item is lost.\",\n \"plan\":{\"capacity\":1,\"bound\":2,\"life\":10,\"sender\
+s\":[[5],[7]],\"receivers\":[2],\"schedule\":[[\"s1\",28],[\"r1\",23],[\"s2\",28],[\"r1\",23]]},\n \"moments\":[\n  [4\
+2,\"AddPassed\",\"{pass:r1} takes the item {got:5}: every group has gone past {node:node 0}, and it is free from now o\
+n.\"],\n  [65,\"ReadPassed\",\"{pass:s2} begins its scan at the cursor, and finds {node:node 0} free.\"],\n  [67,\"Res\
+etListNode\",\"{pass:s2} clears the {word:next link} of {node:node 0}, as it did the passed count: {node:node 0} is no\
+t in the list, so no take can read it.\"],\n  [71,\"LinkLast\",\"{pass:s2} links list {to:node 0}, which has the item \
+{item:7}, to {node:node 1}: this step is the decision, {decided:accepted as item 1}.\"],\n  [93,\"AddPassed\",\"{pass:\
+r1} takes the item {got:7}: {node:node 1} is free from now on.\"]]},\n{\"kind\":\"tour\",\"id\":\"close\",\"title\":\"\
+A close\",\n \"text\":\"{pass:s1} sends {sent:5}, closes the queue, and tries to send {sent:6}. The [[closing mark]] i\
+s a list node of its own, so a close is never Full. {taker:r1} takes what is left, and then gets Ended.\",\n \"plan\":\
+{\"capacity\":2,\"bound\":2,\"life\":10,\"senders\":[[5,\"close\",6]],\"receivers\":[2],\"schedule\":[[\"s1\",65],[\"r\
+1\",38]]},\n \"moments\":[\n  [42,\"LinkLast\",\"{pass:s1} links the closing mark to {node:node 1}: this step is the [\
+[decision]], {decided:shut after 1 item}.\"],\n  [44,\"WriteObject\",\"{pass:s1} sets the {word:shut} word: the later \
+send reads it, and returns Closed.\"],\n  [60,\"ReadObject\",\"{pass:s1} serves the send of {asked:6} and reads that t\
+he queue is shut: this step is the decision, {decided:closed}.\"],\n  [79,\"AddPassed\",\"{pass:r1} takes the item {go\
+t:5}, which was accepted before the close.\"],\n  [98,\"ReadItem\",\"{pass:r1} reads the tag of the node after the dum\
+my: it is {value:0}, so this node is the mark, and this step is the decision, {decided:ended after 1 item}.\"]]},\n{\"\
+kind\":\"tour\",\"id\":\"groups\",\"title\":\"Two groups\",\n \"text\":\"Two [[group]]s of receivers read one list: {g\
+roups:r1 is group 1, and r2 is group 2}. Each group has its own [[head]] and gets every item. A node is free when bot\
+h groups have gone past it.\",\n \"plan\":{\"version\":2,\"groups\":2,\"capacity\":1,\"bound\":2,\"life\":10,\"senders\
+\":[[[5],[6],[6]]],\"receivers\":[2,2],\"schedule\":[[\"s1\",28],[\"r1\",23],[\"s1\",20],[\"r2\",23],[\"s1\",28],[\"r1\
+\",23],[\"r2\",23]]},\n \"moments\":[\n  [42,\"AddPassed\",\"Group {group:1} takes the item {got:5}: one of two group\
+s has gone past {node:node 0}, and it is not free.\"],\n  [66,\"ReadPassed\",\"The send of {asked:6} finds no free nod\
+e: this step is the decision, {decided:full}. Group {slow:2} has not taken the item {next:5}, and holds the sender bac\
+k.\"],\n  [85,\"AddPassed\",\"Group {group:2} takes the item {got:5} too: every group has gone past {node:node 0}, an\
+d it is free from now on.\"],\n  [114,\"LinkLast\",\"The next send of {asked:6} uses {to:node 0}: this step is the dec\
+ision, {decided:accepted as item 1}.\"],\n  [159,\"AddPassed\",\"Group {group:2} takes the item {got:6} too: each grou\
+p got all items, in one order.\"]]},\n{\"kind\":\"tour\",\"id\":\"order\",\"title\":\"An order of all calls\",\n \"tex\
+t\":\"Calls overlap, and yet there is one order of all calls in which each answer is that of a queue that does one cal\
+l after another. Each call takes effect between its swap and its [[decision]]. Every run of the algorithm is lineariza\
+ble in this sense, and that is proved: the law is RunsAreLinearizable in crates/cc_runs. The card \\\"An order of all \
+calls\\\" shows this order for the run on the page.\",\n \"plan\":{\"capacity\":1,\"bound\":2,\"life\":10,\"senders\":\
+[[5],[6]],\"receivers\":[2],\"schedule\":[[\"s1\",19],[\"r1\",14],[\"s1\",9],[\"s2\",14],[\"r1\",23],[\"s2\",6]]},\n \
+\"moments\":[\n  [28,\"ReadDummyNext\",\"{pass:r1} reads null in the next link of the dummy: the take is Empty while \
+a send is under way, and is {order:1st} in the order.\"],\n  [34,\"LinkLast\",\"{pass:s1} links list {to:node 1}, whic\
+h has the item {item:5}, to {node:node 0}: the send takes effect now, and is {order:2nd} in the order.\"],\n  [55,\"Re\
+adObject\",\"{pass:s2} reads the cursor, and its scan begins at {cursor:node 0}: the Full of this send takes effect he\
+re, and is {order:3rd} in the order.\"],\n  [70,\"AddPassed\",\"{pass:r1} takes the item {got:5}: the take is {order:4\
+th} in the order.\"],\n  [80,\"ReadPassed\",\"{pass:s2} reads that no group has gone past {node:node 1}, which is the \
+dummy now: this step is the decision, {decided:full}. In the order it comes before the take.\"]],\n \"opens\":\"order\
+\"},\n{\"kind\":\"example\",\"id\":\"bodies_of_words\",\"title\":\"Items of one to four words\",\n \"text\":\"Three se\
+nders send items of one to four words. {combiner:s3} serves the first send of each.\",\n \"plan\":{\"version\":2,\"gro\
+ups\":1,\"capacity\":4,\"bound\":4,\"life\":10,\"senders\":[[[1],[2,20]],[[3,30,300]],[[4,40,400,4000]]],\"receivers\"\
+:[4],\"schedule\":[[\"s3\",9],[\"s2\",8],[\"s1\",6],[\"s3\",200],[\"s1\",200],[\"r1\",200]]},\n \"moments\":[]},\n{\"k\
+ind\":\"example\",\"id\":\"full\",\"title\":\"A full queue\",\n \"text\":\"A send finds no free node, and a node that \
+a take freed is used again.\",\n \"plan\":{\"capacity\":1,\"bound\":2,\"life\":10,\"senders\":[[5,6],[7]],\"receivers\
+\":[1],\"schedule\":[[\"s1\",500],[\"r1\",500],[\"s2\",500]]},\n \"moments\":[]},\n{\"kind\":\"example\",\"id\":\"clos\
+e_and_drain\",\"title\":\"Close and drain\",\n \"text\":\"{pass:s1} closes the queue. A later send returns Closed, an\
+d a later close Already. {taker:r1} takes what is left, and then gets Ended.\",\n \"plan\":{\"capacity\":2,\"bound\":2\
+,\"life\":10,\"senders\":[[5,\"close\",6,\"close\"]],\"receivers\":[3],\"schedule\":[[\"s1\",500],[\"r1\",500]]},\n \"\
+moments\":[]},\n{\"kind\":\"example\",\"id\":\"two_groups\",\"title\":\"Two groups, one slow\",\n \"text\":\"Two group\
+s take every item, and the slower group holds the sender back.\",\n \"plan\":{\"version\":2,\"groups\":2,\"capacity\":\
+1,\"bound\":2,\"life\":10,\"senders\":[[[5],[6],[6],[6],\"close\"]],\"receivers\":[3,3],\"schedule\":[[\"s1\",48],[\"r\
+1\",23],[\"s1\",20],[\"r2\",23],[\"s1\",28],[\"r1\",23],[\"s1\",100],[\"r2\",100],[\"r1\",100]]},\n \"moments\":[]},\n\
+{\"kind\":\"example\",\"id\":\"two_sends_combined\",\"title\":\"Two sends, one combiner\",\n \"text\":\"Two sends swap\
+, and the pass of the first send serves both.\",\n \"plan\":{\"capacity\":2,\"bound\":2,\"life\":10,\"senders\":[[7],[\
+9]],\"receivers\":[0],\"schedule\":[[\"s1\",3],[\"s2\",100],[\"s1\",100]]},\n \"moments\":[]},\n{\"kind\":\"example\",\
+\"id\":\"bound_one\",\"title\":\"Bound 1\",\n \"text\":\"The combiner hands over after one request, and the second sen\
+d is pending at the end.\",\n \"plan\":{\"capacity\":2,\"bound\":1,\"life\":10,\"senders\":[[7],[9]],\"receivers\":[0]\
+,\"schedule\":[[\"s1\",3],[\"s2\",100],[\"s1\",100]]},\n \"moments\":[]},\n{\"kind\":\"example\",\"id\":\"cut_before_t\
+he_link\",\"title\":\"Cut before the link\",\n \"text\":\"A send that stops one step before its decision is pending a\
+t the end.\",\n \"plan\":{\"capacity\":2,\"bound\":2,\"life\":10,\"senders\":[[7]],\"receivers\":[1],\"schedule\":[[\"\
+s1\",19]]},\n \"moments\":[]},\n{\"kind\":\"example\",\"id\":\"one_item\",\"title\":\"One item\",\n \"text\":\"One ite\
+m is sent and taken.\",\n \"plan\":{\"capacity\":2,\"bound\":2,\"life\":10,\"senders\":[[7]],\"receivers\":[1],\"sched\
+ule\":[[\"s1\",100],[\"r1\",100]]},\n \"moments\":[]},\n{\"kind\":\"broken\",\"id\":\"marked_early\",\"title\":\"Marke\
+d done before the link is followed\",\n \"text\":\"This [[combiner]] follows the next link of a node only after it ha\
+s marked the node done. In between, the owner of the node returns, begins another send, and clears the link.\",\n \"pl\
+an\":{\"capacity\":4,\"bound\":4,\"life\":10,\"senders\":[[1,5],[2,4],[3]],\"receivers\":[3],\"schedule\":[[\"s1\",6],\
+[\"s2\",6],[\"s3\",6],[\"s1\",38],[\"s2\",5],[\"s1\",3],[\"s2\",5],[\"s3\",4],[\"s1\",29],[\"r1\",72],[\"s3\",2]]},\n \
+\"moments\":[\n  [56,\"MarkDone\",\"{pass:s1} marks {node:node 1} of {owner:s2} done: only its next step reads the lin\
+k by which it goes on.\"],\n  [59,\"ResetNext\",\"{pass:s2} has returned and begins its next send: it clears the {word\
+:next link} of {node:node 1}, which led to {was:node 2} of {led:s3}.\"],\n  [63,\"HandOver\",\"{pass:s1} found null i\
+n that link, and hands over to {node:node 1}, the node in the tail: the call of {first:s3} is the first without an ans\
+wer, and is skipped.\"],\n  [70,\"ReadState\",\"{pass:s3} reads state {waits:1} and begins to wait: no link leads to i\
+ts node any more.\"],\n  [81,\"ReadNext\",\"{pass:s1} sends again and got {node:node 1} with state {state:0}: it serve\
+s its own request, past that of {first:s3}.\"],\n  [164,\"AddPassed\",\"{pass:r1} gets {got:5} as item {number:2}: by \
+the history item {number:2} is that of {whose:s3}, whose send still waits.\"]],\n \"table\":\"marked_early\",\"breaks\
+\":\"hand\",\n \"lost\":\"Lost: the items {pending:3 and 4}. At the end of this run their sends wait for ever: no pas\
+s has a next step that changes a word.\",\n \"right\":{\"title\":\"The link is read before the request is served\",\
+\n  \"text\":\"The right [[combiner]] reads the next link of a node before it serves the request. {pass:s2} returns an\
+d clears its link as before, and {combiner:s1} already knows the next node.\",\n  \"moments\":[\n  [38,\"ReadNext\",\"\
+{pass:s1} reads the next link of {node:node 1} before it serves {owner:s2}: it names {to:node 2}, so the request of {o\
+wner:s2} is whole.\"],\n  [55,\"MarkDone\",\"{pass:s1} has written the answer of {owner:s2} and marks {node:node 1} do\
+ne: from now on {owner:s2} may return.\"],\n  [56,\"ReadNext\",\"{pass:s1} goes on to {node:node 2} of {owner:s3}, th\
+e first call without an answer.\"],\n  [59,\"ResetNext\",\"{pass:s2} has returned and begins its next send: it clears \
+the {word:next link} of {node:node 1}, and {combiner:s1} is at {at:node 2} already.\"],\n  [82,\"LinkLast\",\"{pass:s1\
+} serves the request of {client:s3}: this step is the decision, {decided:accepted as item 2}.\"],\n  [162,\"AddPassed\
+\",\"{pass:r1} gets {got:3} as item {number:2}: no accepted item is lost.\"],\n  [173,\"ReadAnswer\",\"{pass:s3} read\
+s its answer: its call returns {returned:accepted as item 2}.\"]]}},\n{\"kind\":\"broken\",\"id\":\"handed_past\",\"ti\
+tle\":\"Handed over past a request\",\n \"text\":\"At the [[bound]] this [[combiner]] reads one link too many, and han\
+ds over to the node after the one where it has to stop.\",\n \"plan\":{\"capacity\":4,\"bound\":1,\"life\":10,\"sender\
+s\":[[1],[2],[3]],\"receivers\":[3],\"schedule\":[[\"s1\",6],[\"s2\",6],[\"s3\",6],[\"s1\",22],[\"s3\",22],[\"s2\",21]\
+,[\"s3\",21],[\"r1\",69],[\"s2\",2]]},\n \"moments\":[\n  [37,\"MarkDone\",\"{pass:s1} marks {node:node 0} done: it ha\
+s served {served:one} request, as many as the bound. The next request is that of {first:s2}, in {open_node:node 1}.\"]\
+,\n  [39,\"HandOver\",\"{pass:s1} hands over to {node:node 2} of {owner:s3}, past the request of {first:s2}.\"],\n  [4\
+2,\"ReadNext\",\"{pass:s3} serves its own request, and the first call without an answer is that of {first:s2}.\"],\n  \
+[62,\"ReadAnswer\",\"{pass:s3} reads its answer: its call returns {returned:accepted as item 1}. By the history this i\
+s the answer of {answered:s2}.\"],\n  [120,\"AddPassed\",\"{pass:r1} gets {got:3} as item {number:1}: by the history i\
+tem {number:1} is that of {whose:s2}, whose send still waits.\"]],\n \"table\":\"handed_past\",\"breaks\":\"hand\",\n \
+\"lost\":\"Lost: the item {pending:2}. At the end of this run its send waits for ever: no pass has a next step that ch\
+anges a word.\",\n \"right\":{\"title\":\"Handed over to the next request\",\n  \"text\":\"The right [[combiner]] hand\
+s over to the node where it stops. At the [[bound]] that is the node of the next request.\",\n  \"moments\":[\n  [37,\
+\"MarkDone\",\"{pass:s1} marks {node:node 0} done: it has served {served:one} request, as many as the bound. The next \
+request is that of {first:s2}, in {open_node:node 1}.\"],\n  [38,\"HandOver\",\"{pass:s1} hands over to {node:node 1} \
+of {owner:s2}, the first call without an answer.\"],\n  [40,\"ReadState\",\"{pass:s3} reads state {waits:1} and begin\
+s to wait: it reads its own node alone, and changes no word.\"],\n  [62,\"ReadState\",\"{pass:s2} reads state {value:0\
+}: no pass combines, so {pass:s2} is the combiner.\"],\n  [75,\"LinkLast\",\"{pass:s2} serves its own request: this st\
+ep is the decision, {decided:accepted as item 1}.\"],\n  [139,\"AddPassed\",\"{pass:r1} gets {got:2} as item {number:1\
+}: no accepted item is lost.\"]]}},\n{\"kind\":\"broken\",\"id\":\"freed_dummy\",\"title\":\"Freed while the node is t\
+he dummy\",\n \"text\":\"This take adds to the [[passed]] count of the node that it took the item from. But this node \
+is the [[dummy]] from now on, and a send may use it.\",\n \"plan\":{\"capacity\":1,\"bound\":2,\"life\":10,\"senders\"\
+:[[5,6]],\"receivers\":[3],\"schedule\":[[\"s1\",28],[\"r1\",23],[\"s1\",29],[\"r1\",46]]},\n \"moments\":[\n  [42,\"A\
+ddPassed\",\"{pass:r1} takes the item {got:5} out of {dummy:node 1}, and adds one to the passed count of {node:node 1}\
+, which is the dummy now.\"],\n  [67,\"ResetListNode\",\"The next send finds {node:node 1} free and clears its {word:p\
+assed count}, while the head names it.\"],\n  [72,\"LinkLast\",\"{pass:s1} links {to:node 1} to itself.\"],\n  [94,\"A\
+ddPassed\",\"{pass:r1} gets {got:6} as item {number:1}: the head names {dummy:node 1}, and so does its next link.\"],\
+\n  [117,\"AddPassed\",\"{pass:r1} gets {got:6} as item {number:2}: the same item again.\"]],\n \"table\":\"freed_dumm\
+y\",\"breaks\":\"reset\",\n \"lost\":\"Got twice: the item {twice:6}.\",\n \"right\":{\"title\":\"The old dummy is fre\
+ed\",\n  \"text\":\"The right take adds to the [[passed]] count of the old [[dummy]]. The new dummy stays busy, so no \
+send uses it.\",\n  \"moments\":[\n  [42,\"AddPassed\",\"{pass:r1} takes the item {got:5} out of {dummy:node 1}, and a\
+dds one to the passed count of {node:node 0}, the old dummy.\"],\n  [66,\"ResetListNode\",\"The next send finds {node:\
+node 0} free and clears its {word:passed count}: {node:node 0} is not in the list, so no take can read it.\"],\n  [71,\
+\"LinkLast\",\"{pass:s1} links list {to:node 0}, which has the item {item:6}, to {node:node 1}: this step is the decis\
+ion, {decided:accepted as item 1}.\"],\n  [93,\"AddPassed\",\"{pass:r1} gets {got:6} as item {number:1}: no accepted i\
+tem is lost.\"],\n  [111,\"ReadDummyNext\",\"{pass:r1} reads null in the next link of the dummy: this step is the deci\
+sion, {decided:empty}.\"]]}},\n{\"kind\":\"broken\",\"id\":\"one_group\",\"title\":\"Freed after one group\",\n \"text\
+\":\"This send uses a node as soon as one [[group]] has gone past it. Another group may still need the node.\",\n \"pl\
+an\":{\"version\":2,\"groups\":2,\"capacity\":2,\"bound\":2,\"life\":10,\"senders\":[[[5],[6],[7]]],\"receivers\":[1,3\
+],\"schedule\":[[\"s1\",56],[\"r1\",23],[\"s1\",28],[\"r2\",60]]},\n \"moments\":[\n  [70,\"AddPassed\",\"Group {group\
+:1} takes the item {got:5}: one of two groups has gone past {node:node 0}, which is still the dummy of group {behind:2\
+}.\"],\n  [94,\"ResetListNode\",\"The next send finds {node:node 0} free and clears its {word:passed count}, while th\
+e head of group {behind:2} names it.\"],\n  [95,\"ResetListNode\",\"{pass:s1} clears the {word:next link} of {node:nod\
+e 0}: group {behind:2} has lost its way to the items {cut:5 and 6}.\"],\n  [116,\"ReadDummyNext\",\"{pass:r2} reads nu\
+ll in the next link of the dummy: this step is the decision, {decided:empty}, while {waiting:3} items wait for group {\
+group:2}.\"]],\n \"table\":\"one_group\",\"breaks\":\"reset\",\n \"lost\":\"Lost for group {behind:2}: the items {unta\
+ken:5, 6 and 7}.\",\n \"right\":{\"title\":\"Freed after every group\",\n  \"text\":\"The right send uses a node only \
+after every [[group]] has gone past it. So the send of {full:7} returns Full, and each group gets its items.\",\n  \"m\
+oments\":[\n  [70,\"AddPassed\",\"Group {group:1} takes the item {got:5}: one of two groups has gone past {node:node 0\
+}, which is still the dummy of group {behind:2}.\"],\n  [95,\"ReadPassed\",\"The send of {asked:7} finds no free node\
+: this step is the decision, {decided:full}. Group {slow:2} has not taken the item {next:5}, and holds the sender back\
+.\"],\n  [114,\"AddPassed\",\"Group {group:2} takes the item {got:5} too: every group has gone past {node:node 0}, an\
+d it is free from now on.\"],\n  [137,\"AddPassed\",\"Group {group:2} takes the item {got:6}: no accepted item is lost\
+.\"]]}},\n{\"kind\":\"broken\",\"id\":\"full_early\",\"title\":\"Full two nodes early\",\n \"text\":\"This scan ends t\
+wo nodes early. One node early would change no answer: the last node of a scan is the one that was linked last, and i\
+t is busy.\",\n \"plan\":{\"capacity\":3,\"bound\":2,\"life\":10,\"senders\":[[5,6,7,8,9]],\"receivers\":[5],\"schedul\
+e\":[[\"s1\",98],[\"r1\",46],[\"s1\",51],[\"r1\",78]]},\n \"moments\":[\n  [98,\"ReadPassed\",\"The scan of the send o\
+f {asked:8} reads {node:node 0}, which is busy: {waiting:3} items wait, so the queue is full.\"],\n  [135,\"AddPassed\
+\",\"{pass:r1} takes the item {got:6}: the nodes {free:0 and 1} are free now.\"],\n  [145,\"ReadPassed\",\"The scan o\
+f the send of {asked:8} goes on and finds {node:node 1} free, of the free nodes {free:0 and 1}.\"],\n  [174,\"ReadPass\
+ed\",\"The scan of the send of {asked:9} has read two busy nodes: this step is the decision, {decided:full}, while onl\
+y {waiting:2} of {capacity:3} items wait and node {free:0} is free.\"]],\n \"table\":\"full_early\",\"breaks\":\"full\
+\",\n \"lost\":\"Refused: the item {full:9}, while only {waiting:2} of {capacity:3} items wait.\",\n \"right\":{\"titl\
+e\":\"Full after a whole scan\",\n  \"text\":\"The right scan reads every node once before it returns Full. So the sen\
+d of {sent:9} finds {again:node 0}.\",\n  \"moments\":[\n  [98,\"ReadPassed\",\"The scan of the send of {asked:8} read\
+s {node:node 0}, which is busy: {waiting:3} items wait, so the queue is full.\"],\n  [135,\"AddPassed\",\"{pass:r1} ta\
+kes the item {got:6}: the nodes {free:0 and 1} are free now.\"],\n  [145,\"ReadPassed\",\"The scan of the send of {ask\
+ed:8} goes on and finds {node:node 1} free, of the free nodes {free:0 and 1}.\"],\n  [175,\"ReadPassed\",\"The scan o\
+f the send of {asked:9} has read two busy nodes, and finds {node:node 0} free.\"],\n  [181,\"LinkLast\",\"{pass:s1} li\
+nks list {to:node 0}, which has the item {item:9}, to {node:node 1}: this step is the decision, {decided:accepted as i\
+tem 4}.\"],\n  [249,\"AddPassed\",\"{pass:r1} gets {got:9} as item {number:4}: no accepted item is lost.\"]]}}\n]\n</s\
+cript>\n<script type=\"text/plain\" id=\"run\">";
 
 /// The text between the run and the report.
 pub const MIDDLE: &[u8] = b"\
@@ -1286,9 +1280,16 @@ function turnText(run, row, served, is_over) {\n  const of = served.length ? ': 
 x are ' : '') + served.slice(-6).map(call => requestText(run, call)).join(', ') : '';\n  return is_over ? 'In the las\
 t turn *' + run.passName(row) + '* served ' + plural(served.length, 'request') + of + '.'\n    : '*' + run.passName(ro\
 w) + '* combines, and has served ' + served.length + ' of at most ' + plural(run.bound, 'request') + of + '.';\n}\n\n\
-// The arrow from a node to the one that is drawn next, by its next link.\nconst linkText = (next, wanted, name) => ne\
-xt === 0n ? { kind: 'none', text: name } : next - 1n === BigInt(wanted) ? { kind: '', text: '' } : { kind: 'wrong', te\
-xt: 'to node ' + (next - 1n) };\n\n\
+// The arrow from a node to the one that is drawn next, by its next link.\n// Marks in what is told of one queue each \
+box that the other queue has otherwise, or not at all.\nfunction markDifferences(told, other) {\n  const boxes = one =\
+> [...(one.done || []), ...(one.boxes || []), ...(one.rows || []).flat(), ...(one.free || [])].filter(box => box.key);\
+\n  const text = box => box.lines.join() + (box.arrow ? box.arrow.kind + box.arrow.text : ''), others = new Map(boxes(\
+other).map(box => [box.key, text(box)]));\n  for (const box of boxes(told)) box.differs = others.get(box.key) !== text\
+(box);\n  return told;\n}\n\n\
+const linkText = (next, wanted, name) => next === 0n ? { kind: 'none', text: name } : next - 1n === BigInt(wanted) ? \
+{ kind: '', text: '' } : { kind: 'wrong', text: 'to node ' + (next - 1n) };\n\n\
+// While a pass is at such a place its node has the request of an earlier call, or a part of its own.\nconst OUTSIDE_O\
+F_REQUEST = new Set(['WriteTag', 'WriteBody']);\n\n\
 // The node that a combiner is at.\nfunction combinerAt({ place: p }) {\n  const at = p.round ? p.round.at : p.job ? p\
 .job.round.at : p.was ? p.was.round.at : p.at;\n  return at === undefined ? -1 : Number(at);\n}\n\n\
 // The turn; the nodes of calls that wait, in the order of their swaps, and the node in the tail; the nodes that are m\
@@ -1297,24 +1298,30 @@ ame } = run, rows = run.rowsOf(x), name = chainName(run, x);\n  const state = i 
 \n  const inside = rows.filter(row => !OUTSIDE.has(stands[row].place.is)).sort((a, b) => stands[a].call.entered - stan\
 ds[b].call.entered);\n  const combiners = rows.filter(row => stands[row].turn), last = run.lastTurn(x);\n  const head \
 = combiners.map(row => turnText(run, row, stands[row].turn, false));\n  if (!combiners.length) head.push('No pass comb\
-ines.', ...(last ? [turnText(run, last.row, last.served, true)] : []));\n  // where the combiners are, and whether the\
-y serve the request there\n  const at = new Map(combiners.map(row => [combinerAt(stands[row]), [{ kind: 'serves', text\
-: stands[row].place.job ? 'being served' : 'combiner' }]]));\n  const end = Number(read(tail(x))) - 1, w = touched(run\
-);\n  const box = (row, role) => {\n    const i = stands[row].node, is_done = state(i) === 2;\n    return { key: name \
-+ ' ' + i, role, ends: at.get(i) || [], touch: isTouched(run, 'node', x, i),\n      lines: ['node ' + i, askedAt(run, \
-x, i, row), 'state ' + state(i) + ': ' + STATES[state(i)], ...(is_done ? [answerAt(run, x, i)] : []),\n        ...(is_\
-done && run.variant ? ['next: ' + valueText(run, node(x, i, 'next'), read(node(x, i, 'next')))] : [])] };\n  };\n  con\
-st all = inside.filter(row => state(stands[row].node) !== 2), waiting = all.slice(0, 24);\n  const boxes = waiting.map\
-((row, k) => ({ ...box(row, at.has(stands[row].node) ? 'serve' : 'wait'),\n    arrow: linkText(read(node(x, stands[row\
-].node, 'next')), k + 1 < all.length ? stands[all[k + 1]].node : end, 'not linked') }));\n  const more = all.length - \
-waiting.length;\n  const ends = [{ kind: 'tail', text: 'tail', touch: w.at === 'tail' && w.x === x }, ...(at.get(end) \
-|| [])];\n  boxes.push({ key: name + ' ' + end, role: 'free', ends, touch: isTouched(run, 'node', x, end), more, lines\
-: ['node ' + end, 'of no call yet', 'state ' + state(end) + ': ' + STATES[state(end)]] });\n  const done = inside.filt\
-er(row => state(stands[row].node) === 2).slice(0, 24).map(row => box(row, 'done'));\n  const spare = rows.filter(row =\
-> OUTSIDE.has(stands[row].place.is));\n  return { x, name, head, boxes, done, is_used: rows.some(row => stands[row].ma\
-de > 0 || run.nextCall(row, 0)),\n    is_busy: boxes.length > 1 || done.length > 0,\n    spare: spare.slice(0, 24).map\
-(row => ({ key: name + ' ' + stands[row].node, text: passName(row) + ': node ' + stands[row].node,\n      touch: isTou\
-ched(run, 'node', x, stands[row].node) })), more_spare: Math.max(0, spare.length - 24) };\n}\n\n\
+ines.', ...(last ? [turnText(run, last.row, last.served, true)] : []));\n  // A pass is a token at its node. A combine\
+r goes from node to node: where it is, and whether it serves the request there.\n  const token = (row, says = '') => (\
+{ kind: says ? 'stands serves' : 'stands', text: passName(row) + says, of: passName(row) });\n  const at = new Map(com\
+biners.map(row => [combinerAt(stands[row]), [token(row, stands[row].place.job ? ' serves this' : ' is here')]]));\n  /\
+/ the items in the lines of a node: that of a send, and that of an answer\n  const asked = (row, i) => x >= 0 || OUTSI\
+DE_OF_REQUEST.has(stands[row].place.is) || !read(node(x, i, 'tag')) ? [] : [[1, 'asked', read(node(x, i, 'tag'))]];\
+\n  const got = i => x >= 0 && codeOf(read(node(x, i, 'ret'))) === 1 ? [[3, 'got ' + x, read(node(x, i, 'tag'))]] : []\
+;\n  const end = Number(read(tail(x))) - 1, w = touched(run);\n  const box = (row, role) => {\n    const i = stands[ro\
+w].node, is_done = state(i) === 2;\n    return { key: name + ' ' + i, role, ends: [...(at.get(i) || []), ...(stands[ro\
+w].turn ? [] : [token(row)])], touch: isTouched(run, 'node', x, i),\n      items: [...asked(row, i), ...(is_done ? got\
+(i) : [])],\n      lines: ['node ' + i, askedAt(run, x, i, row), 'state ' + state(i) + ': ' + STATES[state(i)], ...(is\
+_done ? [answerAt(run, x, i)] : []),\n        ...(is_done && run.variant ? ['next: ' + valueText(run, node(x, i, 'next\
+'), read(node(x, i, 'next')))] : [])] };\n  };\n  const all = inside.filter(row => state(stands[row].node) !== 2), wai\
+ting = all.slice(0, 24);\n  const boxes = waiting.map((row, k) => ({ ...box(row, at.has(stands[row].node) ? 'serve' : \
+'wait'),\n    arrow: linkText(read(node(x, stands[row].node, 'next')), k + 1 < all.length ? stands[all[k + 1]].node : \
+end, 'not linked') }));\n  const more = all.length - waiting.length;\n  const ends = [{ kind: 'tail', text: 'tail', to\
+uch: w.at === 'tail' && w.x === x }, ...(at.get(end) || [])];\n  boxes.push({ key: name + ' ' + end, role: 'free', end\
+s, touch: isTouched(run, 'node', x, end), more, lines: ['node ' + end, 'of no call yet', 'state ' + state(end) + ': ' \
++ STATES[state(end)]] });\n  const done = inside.filter(row => state(stands[row].node) === 2).slice(0, 24).map(row => \
+box(row, 'done'));\n  const spare = rows.filter(row => OUTSIDE.has(stands[row].place.is));\n  return { x, name, head, \
+boxes, done, is_used: rows.some(row => stands[row].made > 0 || run.nextCall(row, 0)),\n    is_busy: boxes.length > 1 |\
+| done.length > 0,\n    spare: spare.slice(0, 24).map(row => ({ key: name + ' ' + stands[row].node, of: passName(row)\
+, text: passName(row) + ': node ' + stands[row].node,\n      touch: isTouched(run, 'node', x, stands[row].node) })), m\
+ore_spare: Math.max(0, spare.length - 24) };\n}\n\n\
 // ---- The list.\n\n\
 // The heads of the groups; the nodes that each group can reach from its head; and these nodes as rows, each up to nul\
 l or to a node that\n// is there already. The right queue has one row.\nfunction listOf(run) {\n  const { read, capaci\
@@ -1330,7 +1337,8 @@ t });\n  }\n  const serving = run.rowsOf(-1).filter(row => run.stands[row].turn)
 ice).filter(service => service);\n  const at = kinds => serving.filter(service => kinds.includes(service.is)).map(serv\
 ice => Number(service.node));\n  return { ends, walks, rows, all, mark: capacity + 1, last: Number(read(object('last')\
 )) - 1, cursor: Number(read(object('cursor'))),\n    prepared: at(['ResetItemNext', 'WriteItemTag', 'WriteItemBody', '\
-ReadLast', 'LinkItem']), scanned: at(['ReadPassed']) };\n}\n\n\
+ReadLast', 'LinkItem']), scanned: at(['ReadPassed']),\n    unwritten: at(['ResetItemNext', 'WriteItemTag', 'WriteItemB\
+ody']) };\n}\n\n\
 function itemBox(run, list, i) {\n  const { read, groups } = run, w = touched(run);\n  const tag = read(item(i, 'tag')\
 ), is_mark = i === list.mark, passed = read(item(i, 'passed'));\n  const role = list.prepared.includes(i) ? 'prepare' \
 : !list.all.has(i) || !is_mark && passed === BigInt(groups) ? 'free' : list.walks.some(places => places.get(i) > 0) ? \
@@ -1340,9 +1348,10 @@ e => e.head === i).map(e => ({ kind: 'head', text: 'head' + (groups > 1 ? ' ' + 
 (i === list.cursor) ends.push({ kind: 'cursor', text: 'cursor', touch: points('cursor') });\n  if (list.scanned.includ\
 es(i)) ends.push({ kind: 'looks', text: 'looks here' });\n  const held = tag === 0n ? ['no item'] : ['item ' + bodyAt(\
 run, tag, n => item(i, 'body', n)), tagText(tag)];\n  const lines = is_mark ? ['closing mark'] : { prepare: ['is prepa\
-red', ...held], free: ['free'], dummy: ['dummy'], wait: held }[role];\n  return { key: 'list ' + i, role, ends, touch\
-: isTouched(run, 'item', 0, i), lines: ['node ' + i, ...lines, ...(is_mark ? [] : ['passed by ' + passed + ' of ' + gr\
-oups])] };\n}\n\n\
+red', ...held], free: ['free'], dummy: ['dummy'], wait: held }[role];\n  const items = lines.includes(held[0]) && tag \
+!== 0n && !list.unwritten.includes(i) ? [[lines.indexOf(held[0]) + 1, 'item', tag]] : [];\n  return { key: 'list ' + i\
+, role, ends, items, touch: isTouched(run, 'item', 0, i), lines: ['node ' + i, ...lines, ...(is_mark ? [] : ['passed b\
+y ' + passed + ' of ' + groups])] };\n}\n\n\
 function list(run) {\n  const { capacity, groups, read } = run, list = listOf(run), w = touched(run);\n  const boxesO\
 f = ({ nodes, end }) => {\n    const shown = nodes.length > 30 ? nodes.slice(0, 15).concat([-1], nodes.slice(-14)) : n\
 odes;\n    return shown.map((i, k) => i < 0 ? { more: nodes.length - 29 }\n      : { ...itemBox(run, list, i), arrow: \
@@ -1458,6 +1467,9 @@ call), answer: answerOf(one.answer) })) };\n}\n\n\
 // Of two runs of one schedule: where they part.\nfunction parting(pair) {\n  return pair.parts < 0 ? 'In this run bot\
 h queues do the same.' : 'The two queues do the same up to event ' + pair.parts + ', and part at event ' + (pair.part\
 s + 1) + '.';\n}\n\n\
+// What a run is of, as its title.\nfunction titleOf(run) {\n  const sends = run.rows - run.groups * run.receivers, ma\
+ny = run.groups > 1 ? run.groups + ' groups of ' : '';\n  return 'A run of ' + plural(sends, 'sender') + ' and ' + man\
+y + plural(run.receivers, 'receiver') + ', ' + plural(run.events.length, 'event');\n}\n\n\
 // ---- Lessons and exercises.\n\n\
 // The lessons of their text. A field of a sentence, {pass:s1}, is shown as its value, which tests/show/reads.py decid\
 es.\nconst lessons = text => JSON.parse(text.replace(/\\{\\w+:([^{}\"]*)\\}/g, '$1'));\n\n\
@@ -1484,9 +1496,10 @@ eaks || []).find(one => (goal.breaks || []).includes(one));\n  return { solved: 
 :* ' + (law ? 'it breaks the law \"' + LAWS[law][0].replace(/\\.$/, '') + '\".'\n    : goal.returns === 'Empty' ? 'th\
 e take of ' + run.passName(e.row) + ' returns empty, and an accepted item is in the queue.' : 'the send of '\n      + \
 run.passName(e.row) + ' returns full, and a list node is free.') };\n}\n\n\
-return { answerOf, chainName, requestText, valueText, wordText, event, pass, waits, chain, list, PROGRAM, BROKEN_LINES\
-, WORDS_OF, program, placeOf, layOut,\n  turnTitle, waitText, broken, banner, order, parting, lessons, lessonPart, scr\
-eens, stepsOf, makeSteps, task, plural };\n})();\n</script>\n<script type=\"text/plain\" id=\"report\">";
+return { answerOf, chainName, requestText, valueText, wordText, event, pass, waits, chain, list, markDifferences, titl\
+eOf, PROGRAM, BROKEN_LINES, WORDS_OF, program, placeOf, layOut,\n  turnTitle, waitText, broken, banner, order, parting\
+, lessons, lessonPart, screens, stepsOf, makeSteps, task, plural };\n})();\n</script>\n<script type=\"text/plain\" id=\
+\"report\">";
 
 /// The text after the report.
 pub const BACK: &[u8] = b"\
@@ -1534,44 +1547,71 @@ nt.clientWidth - tip.offsetWidth - 8)) + window.scrollX + 'px';\n  tip.style.top
 => { $('tip').hidden = true; };\n\n\
 // ---- Motion: what is in both of two pictures moves from its place in the first to that in the second.\n\n\
 const STILL = window.matchMedia('(prefers-reduced-motion: reduce), print');\nlet moved_from = null;        // the run \
-and its event, or the lesson and its screen, from which the pictures move\nconst placesOf = parts => new Map(parts.fla\
-tMap(part => [...part.querySelectorAll('[data-key]')]).filter(element => element.getClientRects().length)\n  .map(elem\
-ent => [element.dataset.key, element.getBoundingClientRect()]));\nfunction moving(parts, of, at, draw) {\n  const move\
-s = moved_from && moved_from.of === of && moved_from.at !== at;\n  moved_from = { of, at };\n  if (!moves || STILL.mat\
-ches || playing && Number($('speed').value) < 300) { draw(); return; }\n  const before = placesOf(parts), all = select\
-or => parts.flatMap(part => [...part.querySelectorAll(selector)]);\n  draw();\n  if (!before.size) return;\n  // A ro\
-w with room for its nodes shows them also while they are outside of it, and so has no scroll bar in motion.\n  const r\
-oomy = all('.strip, .list').filter(row => row.scrollWidth <= row.clientWidth && row.scrollHeight <= row.clientHeight);\
-\n  const moved = all('[data-key]').map(element => [element, before.get(element.dataset.key), element.getBoundingClien\
-tRect()]);\n  for (const row of roomy) row.classList.add('roomy');\n  const done = moved.map(([element, was, is]) => {\
-\n    if (!was) return element.animate([{ opacity: 0 }, { opacity: 1 }], 240).finished;\n    const x = was.left - is.l\
-eft, y = was.top - is.top;\n    return Math.abs(x) + Math.abs(y) <= 1 ? null\n      : element.animate([{ transform: 't\
-ranslate(' + x + 'px,' + y + 'px)' }, { transform: 'none' }], { duration: 260, easing: 'ease-out' }).finished;\n  });\
-\n  Promise.allSettled(done).then(() => { for (const row of roomy) row.classList.remove('roomy'); });\n}\n\n\
+and its event, or the lesson and its screen, from which the pictures move\n// What is drawn has a key in its side, an\
+d an item a key of its own.\nconst sideOf = element => { const side = element.closest('.side'); return side ? [...docu\
+ment.querySelectorAll('.side')].indexOf(side) + ' ' : ''; };\nconst placesOf = (parts, selector, keyOf) => new Map(par\
+ts.flatMap(part => [...part.querySelectorAll(selector)]).filter(element => element.getClientRects().length)\n  .map(el\
+ement => [sideOf(element) + keyOf(element), element.getBoundingClientRect()]));\nconst boxesOf = parts => placesOf(par\
+ts, '[data-key]', element => element.dataset.key);\nconst itemsOf = parts => placesOf(parts, '[data-item]', element =\
+> element.dataset.item);\n// Where an item was last, in the page: it leaves the list some steps before it is in an ans\
+wer.\nlet items_were = new Map();\nfunction keepItems(items) {\n  for (const [key, { left, top }] of items) items_were\
+.set(key, { left: left + window.scrollX, top: top + window.scrollY });\n}\n// An item goes from where it was to where \
+it is.\nfunction travels(element) {\n  const was = items_were.get(sideOf(element) + element.dataset.from), is = elemen\
+t.getBoundingClientRect();\n  if (!was || !is.width) return null;\n  const left = is.left + window.scrollX, top = is.t\
+op + window.scrollY, token = document.createElement('span');\n  token.className = 'traveller';\n  token.setAttribute('\
+aria-hidden', 'true');\n  token.textContent = element.textContent.replace(/^\\w\\d+ sends |^got | as item .*|^item /g\
+, '');\n  token.style.cssText = 'left:' + left + 'px;top:' + top + 'px';\n  document.body.append(token);\n  const awa\
+y = 'translate(' + (was.left - left) + 'px,' + (was.top - top) + 'px)';\n  const motion = token.animate([{ transform: \
+away }, { transform: away + ' scale(1.25)', offset: .2 }, { transform: 'none' }], { duration: 700, easing: 'ease-in-ou\
+t' });\n  return motion.finished.finally(() => token.remove());\n}\nfunction moving(parts, of, at, draw) {\n  const mo\
+ves = moved_from && moved_from.of === of && moved_from.at !== at, is_forwards = moves && at > moved_from.at;\n  if (!m\
+oved_from || moved_from.of !== of) items_were = new Map();\n  moved_from = { of, at };\n  if (!moves || STILL.matches \
+|| playing && Number($('speed').value) < 300) { draw(); return; }\n  const before = boxesOf(parts), items = itemsOf(pa\
+rts), all = selector => parts.flatMap(part => [...part.querySelectorAll(selector)]);\n  keepItems(items);\n  draw();\
+\n  if (!before.size) return;\n  // A row with room for its nodes shows them also while they are outside of it, and s\
+o has no scroll bar in motion.\n  const roomy = all('.strip, .list').filter(row => row.scrollWidth <= row.clientWidth \
+&& row.scrollHeight <= row.clientHeight);\n  const moved = all('[data-key]').map(element => [element, before.get(sideO\
+f(element) + element.dataset.key), element.getBoundingClientRect()]);\n  for (const row of roomy) row.classList.add('r\
+oomy');\n  const done = moved.map(([element, was, is]) => {\n    if (!was) return element.animate([{ opacity: 0 }, { o\
+pacity: 1 }], 240).finished;\n    const x = was.left - is.left, y = was.top - is.top;\n    return Math.abs(x) + Math.a\
+bs(y) <= 1 ? null\n      : element.animate([{ transform: 'translate(' + x + 'px,' + y + 'px)' }, { transform: 'none' }\
+], { duration: 260, easing: 'ease-out' }).finished;\n  });\n  if (is_forwards) for (const element of all('[data-item]'\
+)) if (!items.has(sideOf(element) + element.dataset.item)) travels(element);\n  keepItems(itemsOf(parts));\n  Promise.\
+allSettled(done).then(() => { for (const row of roomy) row.classList.remove('roomy'); });\n}\n\n\
 // ---- Pictures of a chain and of the list, by the texts of Telling.\n\n\
 const DOWN = '<svg viewBox=\"0 0 14 14\" aria-hidden=\"true\"><path d=\"M7 0V9\"/><path class=\"tip-of-link\" d=\"M2 7\
 L7 14L12 7z\"/></svg>';\nconst ACROSS = '<svg viewBox=\"0 0 38 14\" aria-hidden=\"true\"><path class=\"link\" d=\"M0 7\
 H30\"/><path class=\"tip-of-link\" d=\"M28 2L38 7L28 12z\"/></svg>';\nconst GAP = '<svg viewBox=\"0 0 38 14\" aria-hid\
 den=\"true\"><path class=\"link\" d=\"M0 7H36\"/></svg>';\n\n\
-const endText = (end, of) => '<span class=\"end ' + end.kind + (end.touch ? ' touch' : '') + '\" data-key=\"' + of + \
-' ' + end.text + '\">' + end.text + (end.kind === 'note' ? '' : DOWN) + '</span>';\nconst arrowText = ({ kind, text }\
-) => '<span class=\"arrow ' + kind + '\">' + (kind === 'none' ? GAP : text === 'null' ? '' : ACROSS) + text + '</span>\
-';\nconst boxText = (box, of, kind = '') => '<li' + kind + '>' + (box.more ? '<span class=\"arrow\">' + box.more + ' m\
-ore' + ACROSS + '</span>' : '')\n  + '<span class=\"stack\"><span class=\"ends\">' + box.ends.map(end => endText(end, \
-of)).join('') + '</span><span class=\"box ' + box.role + (box.touch ? ' touch' : '') + '\" data-key=\"' + box.key + '\
-\">'\n  + box.lines.map((line, k) => k === 0 ? '<b>' + line + '</b>' : '<span class=\"line' + (k > 1 ? ' dim' : '') + \
-'\">' + line + '</span>').join('')\n    + '</span></span>' + (box.arrow ? arrowText(box.arrow) : '') + '</li>';\ncons\
-t stripText = (boxes, name, loose = '') => '<div class=\"strip\" tabindex=\"0\" role=\"group\" aria-label=\"' + name \
-+ '\"><ol class=\"boxes' + loose\n  + (boxes.length > 8 ? ' many' : '') + '\">' + boxes.join('') + '</ol></div>';\n\n\
-// A chain: the nodes that are marked done, and apart from them those that wait, and the node in the tail.\nfunction c\
-hainText(told, with_spare) {\n  const boxes = told.done.map(box => boxText({ ...box, ends: [...box.ends, { kind: 'note\
-', text: 'marked done' }] }, box.key, ' class=\"done-one\"')).concat(\n    told.boxes.map((box, k) => boxText(box, tol\
-d.name, k === 0 && told.done.length ? ' class=\"apart\"' : '')));\n  return '<p class=\"head\">' + told.head.map(marke\
-d).join(' ') + '</p><div class=\"nodes\">' + stripText(boxes, 'nodes of the ' + told.name)\n    + (with_spare && told.\
-spare.length ? '<div class=\"words\"><span class=\"dim\">in no chain:</span>'\n      + told.spare.map(one => '<span cl\
-ass=\"word' + (one.touch ? ' touch' : '') + '\" data-key=\"' + one.key + '\">' + one.text + '</span>').join('')\
-\n      + (told.more_spare ? '<span class=\"dim\">and ' + told.more_spare + ' more</span>' : '') + '</div>' : '') + '<\
-/div>';\n}\n\n\
+const tokenText = (name, says) => '<b class=\"token\" data-key=\"token ' + name + '\">' + name + '</b>' + says;\ncons\
+t endText = (end, of) => end.of ? '<span class=\"end ' + end.kind + '\">' + tokenText(end.of, end.text.slice(end.of.le\
+ngth)) + '</span>'\n  : '<span class=\"end ' + end.kind + (end.touch ? ' touch' : '') + '\" data-key=\"' + of + ' ' + \
+end.text + '\">' + end.text + (end.kind === 'note' ? '' : DOWN) + '</span>';\n// The passes that stand at a node, one \
+above the other.\nfunction endsText(ends, of) {\n  let html = '', is_open = false;\n  for (const end of ends) {\n    i\
+f (!!end.of !== is_open) { html += is_open ? '</span>' : '<span class=\"standing\">'; is_open = !is_open; }\n    html \
++= endText(end, of);\n  }\n  return html + (is_open ? '</span>' : '');\n}\n// Which item a line has: an item comes int\
+o the list from a request, and out of it into an answer.\nconst CAME_FROM = { item: 'asked', got: 'item' };\nconst ite\
+mOf = (box, k) => (box.items || []).filter(([line]) => line === k).map(([, at, tag]) => ' data-item=\"' + at + ' ' + t\
+ag + '\" data-from=\"'\n  + (CAME_FROM[at.split(' ')[0]] || '') + ' ' + tag + '\"').join('');\nconst arrowText = ({ ki\
+nd, text }) => '<span class=\"arrow ' + kind + '\">' + (kind === 'none' ? GAP : text === 'null' ? '' : ACROSS) + text \
++ '</span>';\nconst boxText = (box, of, kind = '') => '<li' + kind + '>' + (box.more ? '<span class=\"arrow\">' + box.\
+more + ' more' + ACROSS + '</span>' : '')\n  + '<span class=\"stack\"><span class=\"ends\">' + endsText(box.ends, of) \
++ '</span><span class=\"box ' + box.role + (box.touch ? ' touch' : '') + (box.differs ? ' differs' : '') + '\"' + (box\
+.differs ? ' title=\"the other queue has something else here\"' : '') + ' data-key=\"' + box.key + '\">'\n  + box.line\
+s.map((line, k) => k === 0 ? '<b>' + line + '</b>' : '<span class=\"line' + (k > 1 ? ' dim' : '') + '\"' + itemOf(box\
+, k) + '>' + line + '</span>').join('')\n    + '</span></span>' + (box.arrow ? arrowText(box.arrow) : '') + '</li>';\n\
+const stripText = (boxes, name, loose = '') => '<div class=\"strip\" tabindex=\"0\" role=\"group\" aria-label=\"' + na\
+me + '\"><ol class=\"boxes' + loose\n  + (boxes.length > 8 ? ' many' : '') + '\">' + boxes.join('') + '</ol></div>';\n\
+\n\
+const HEAD = /^<p class=\"head\">.*?<\\/p>/;\n// A chain: the nodes that are marked done, and apart from them those th\
+at wait, and the node in the tail.\nfunction chainText(told, with_spare) {\n  const boxes = told.done.map(box => boxTe\
+xt({ ...box, ends: [...box.ends, { kind: 'note', text: 'marked done' }] }, box.key, ' class=\"done-one\"')).concat(\
+\n    told.boxes.map((box, k) => boxText(box, told.name, k === 0 && told.done.length ? ' class=\"apart\"' : '')));\n  \
+return '<p class=\"head\">' + told.head.map(marked).join(' ') + '</p><div class=\"nodes\">' + stripText(boxes, 'nodes \
+of the ' + told.name)\n    + (with_spare && told.spare.length ? '<div class=\"words\"><span class=\"dim\">in no chain:\
+</span>'\n      + told.spare.map(one => '<span class=\"word' + (one.touch ? ' touch' : '') + '\" data-key=\"' + one.ke\
+y + '\">' + tokenText(one.of, one.text.slice(one.of.length)) + '</span>').join('')\n      + (told.more_spare ? '<span \
+class=\"dim\">and ' + told.more_spare + ' more</span>' : '') + '</div>' : '') + '</div>';\n}\n\n\
 function listText(told, with_words) {\n  const more = told.more ? ['<li class=\"dim\">and ' + told.more + ' more</li>'\
 ] : [];\n  return (with_words ? '<div class=\"words\">'\n    + told.words.map(word => '<span class=\"word' + (word.tou\
 ch ? ' touch' : '') + '\">' + word.name + ' <b>' + word.text + '</b></span>').join('') + '</div>'\n    : '')\n    + '<\
@@ -1587,23 +1627,32 @@ of.left || at.right > of.right) strip.scrollLeft += at.left - of.left - of.width
 // The two runs of the side: the one that is driven, and the one beside it.\nlet pair = null;\n\n\
 // The chains whose cards come first: the senders', and that of the group that moved last. The cards of other groups f\
 ollow below the\n// passes, and those of the other queue each below the first.\nfunction drawSide(shown, prefix) {\n  \
-let newest = shown.now;\n  while (newest > 0 && shown.events[newest - 1].x < 0) newest--;\n  const first = newest ? sh\
-own.events[newest - 1].x : 0;\n  for (let x = -1; x < groups; x++) {\n    const told = Telling.chain(shown, x), id = p\
-refix + 'chain' + x, card = $(id).parentElement;\n    const place = $(x < 0 || x === first || prefix ? prefix + 'chain\
-s' : 'more-chains');\n    if (card.parentElement !== place) place.append(card);\n    card.style.order = x < 0 ? 0 : x \
-=== first ? 1 : 2;\n    card.classList.toggle('idle', !(pair ? told.is_busy || x === (shown.now ? shown.events[shown.n\
-ow - 1].x : -1) : told.is_used));\n    // a card is as wide as what is in it asks for\n    card.style.flexGrow = told.\
-is_used ? [...told.boxes, ...told.done].reduce((sum, box) => sum + 6 + Math.max(...box.lines.map(line => line.length))\
-, told.spare.length ? 20 : 0) : '';\n    if (show(id, chainText(told, true))) showTouched($(id));\n  }\n  if (show(pre\
-fix + 'list', listText(Telling.list(shown), true))) showTouched($(prefix + 'list'));\n}\n\n\
-function drawSides() {\n  moving([$('sides')], run, run.now, () => {\n    drawSide(run, '');\n    $('other').hidden = \
-!pair;\n    $('stage').classList.toggle('pair', !!pair);\n    $('parting').hidden = !pair;\n    $('side-title').textCo\
-ntent = pair ? tableName(run.variant) : '';\n    show('side-event', pair ? sentenceOf(run) : '');\n    if (!pair) retu\
-rn;\n    if (pair.events !== run.events) openPair();\n    pair.follow();\n    $('other-title').textContent = tableName\
-(pair.run.variant);\n    drawSide(pair.run, 'other-');\n    show('other-event', sentenceOf(pair.run));\n    show('part\
-ing', marked(Telling.parting(pair)) + (pair.parts < 0 ? '' : ' <button data-event=\"' + (pair.parts + 1) + '\">to even\
-t ' + (pair.parts + 1) + '</button>'));\n  });\n}\nconst sentenceOf = shown => Telling.event(shown).map(marked).join(\
-' ');\nconst tableName = variant => variant ? 'The broken queue' : 'The right queue';\n\n\
+const against = (told, tell) => pair ? Telling.markDifferences(told, tell(prefix ? run : pair.run)) : told;\n  let new\
+est = shown.now;\n  while (newest > 0 && shown.events[newest - 1].x < 0) newest--;\n  const first = newest ? shown.eve\
+nts[newest - 1].x : 0;\n  for (let x = -1; x < groups; x++) {\n    const told = against(Telling.chain(shown, x), one =\
+> Telling.chain(one, x)), id = prefix + 'chain' + x, card = $(id).parentElement;\n    const place = $(x < 0 || x === f\
+irst || prefix ? prefix + 'chains' : 'more-chains');\n    if (card.parentElement !== place) place.append(card);\n    c\
+ard.style.order = x < 0 ? 0 : x === first ? 1 : 2;\n    card.classList.toggle('idle', !(pair ? told.is_busy || x === (\
+shown.now ? shown.events[shown.now - 1].x : -1) : told.is_used));\n    // a card is as wide as what is in it asks for\
+\n    card.style.flexGrow = told.is_used ? [...told.boxes, ...told.done].reduce((sum, box) => sum + 6 + Math.max(...bo\
+x.lines.map(line => line.length)), told.spare.length ? 20 : 0) : '';\n    if (show(id, chainText(told, true))) showTou\
+ched($(id));\n  }\n  if (show(prefix + 'list', listText(against(Telling.list(shown), Telling.list), true))) showTouche\
+d($(prefix + 'list'));\n}\n\n\
+function drawSides() {\n  if (pair && pair.events !== run.events) openPair();\n  if (pair) pair.follow();\n  moving([$\
+('sides'), $('live')], run, run.now, () => {\n    drawLive();\n    drawSide(run, '');\n    $('other').hidden = !pair;\
+\n    $('stage').classList.toggle('pair', !!pair);\n    $('parting').hidden = $('side-title').hidden = !pair;\n    $('\
+side-title').textContent = pair ? tableName(run.variant) : '';\n    show('side-event', pair ? sentenceOf(run) : '');\
+\n    if (!pair) return;\n    $('other-title').textContent = tableName(pair.run.variant);\n    drawSide(pair.run, 'oth\
+er-');\n    show('other-event', sentenceOf(pair.run));\n    show('parting', marked(Telling.parting(pair)) + (pair.part\
+s < 0 ? '' : ' <button data-event=\"' + (pair.parts + 1) + '\">to event ' + (pair.parts + 1) + '</button>'));\n  });\n\
+}\n\n\
+// The run beside the text at the head of the page: the chains and the list, without their words.\nfunction drawLive(\
+) {\n  if (!$('live').getClientRects().length) return;\n  const chains = [0, -1].map(x => Telling.chain(run, x));\n  s\
+how('live-picture', chains.map(told => '<h3>The ' + told.name + '</h3>' + chainText(told, true).replace(HEAD, '')).joi\
+n('') + '<h3>The list</h3>' + listText(Telling.list(run), false));\n  show('live-event', run.now > 0 ? sentenceOf(run\
+) : 'Press <b>play</b>: three senders send, and a receiver takes.');\n}\n\n\
+const sentenceOf = shown => Telling.event(shown).map(marked).join(' ');\nconst tableName = variant => variant ? 'The b\
+roken queue' : 'The right queue';\n\n\
 function openPair() {\n  pair = Machine.beside(run, run.variant ? '' : source.lesson ? source.lesson.table : '');\n  f\
 or (const key of Object.keys(drawn)) if (key.startsWith('other-')) delete drawn[key];\n}\nconst canPair = () => !!run.\
 variant || !!(source.lesson && source.lesson.table);\n\n\
@@ -1784,10 +1833,11 @@ of these buttons, or the key <b>m</b>.'\n      : (moments[at][0] === run.now ? '
 moments[at][0] + ':</span> ') + marked(moments[at][2]));\n}\n\n\
 // The schedule that the reader made: the steps after those of the plan.\nconst stepsBy = () => Telling.stepsOf(run, s\
 ource.from);\nfunction drawTask() {\n  const { exercise } = source;\n  $('task').hidden = !exercise;\n  if (!exercise\
-) return;\n  const told = Telling.task(run, exercise, source.from), own = run.now - source.from;\n  show('task-state'\
-, (told.solved ? '<span class=\"good\">' : '<span>') + marked(told.text) + '</span>');\n  $('task-length').textConten\
-t = 'Your schedule has ' + plural(own, 'step') + '. A shortest solution has ' + exercise.solution.reduce((sum, [, coun\
-t]) => sum + count, 0) + '.';\n}\n\n\
+) return;\n  const told = Telling.task(run, exercise, source.from), own = run.now - source.from;\n  show('task-why', t\
+old.solved ? '<b>Why:</b> ' + marked(exercise.why) : '');\n  $('next-exercise').hidden = !told.solved || EXERCISES.ind\
+exOf(exercise) === EXERCISES.length - 1;\n  show('task-state', (told.solved ? '<span class=\"good\">' : '<span>') + ma\
+rked(told.text) + '</span>');\n  $('task-length').textContent = 'Your schedule has ' + plural(own, 'step') + '. A shor\
+test solution has ' + exercise.solution.reduce((sum, [, count]) => sum + count, 0) + '.';\n}\n\n\
 // The laws that a broken table breaks, and how the table was changed.\nfunction drawLaw() {\n  const variant = run.va\
 riant || (source.lesson && source.lesson.table) || '';\n  $('law-card').hidden = !variant;\n  $('adversary').hidden = \
 !run.variant || !!source.exercise;\n  if (!variant) { show('law', ''); return; }\n  const found = Telling.broken(run, \
@@ -1829,15 +1879,15 @@ chedule that breaks a law');\n    tell('The first random schedule that broke a l
 and this one has ' + best.now + ': '\n      + (path ? 'no schedule that breaks a law is shorter.' : 'the shortest tha\
 t random tries found.'));\n    keepPlace();\n  } catch (stopped) { if (mine === searches) throw stopped; }\n}\n\n\
 // ---- The handout: the exercises on paper.\n\n\
-function openHandout() {\n  $('handout').innerHTML = '<h2>CC-Queue: exercises</h2><p>Open ' + escape(location.href.rep\
-lace(/#.*/, '')) + ' in a browser, choose an exercise, and make the steps of each pass. Write down the schedule that y\
-ou found, and why it does that.</p>'\n    + EXERCISES.map(({ title, text, plan, table, goal, id }, k) => '<article cla\
-ss=\"card\"><h3>' + (k + 1) + '. ' + title + '</h3><p>' + marked(text) + '</p><p class=\"dim\">Capacity '\n      + pla\
-n.capacity + ', bound ' + plan.bound + '; ' + (table ? 'a broken queue' : 'the right queue') + '; the address ends wit\
-h <code>#exercise=' + id + '</code></p>'\n      + '<p class=\"answer\">Schedule:</p><p class=\"answer\">Why:</p></arti\
-cle>').join('')\n    + '<article class=\"card hints\"><h3>Hints</h3><ol>' + EXERCISES.map(({ hint }) => '<li>' + marke\
-d(hint) + '</li>').join('') + '</ol></article>';\n  document.body.classList.add('handout');\n  document.title = 'Exerc\
-ises - CC-Queue';\n}\n\n\
+function openHandout() {\n  $('handout').innerHTML = '<h2>CC-Queue: exercises</h2><p>Open ' + (location.protocol === '\
+file:' ? 'the page ______________________' : escape(location.href.replace(/#.*/, ''))) + ' in a browser, choose an exe\
+rcise, and make the steps of each pass. Write down the schedule that you found, and why it does that.</p>'\n    + EXER\
+CISES.map(({ title, text, plan, table, goal, id }, k) => '<article class=\"card\"><h3>' + (k + 1) + '. ' + title + '</\
+h3><p>' + marked(text) + '</p><p class=\"dim\">Capacity '\n      + plan.capacity + ', bound ' + plan.bound + '; ' + (t\
+able ? 'a broken queue' : 'the right queue') + '; the address ends with <code>#exercise=' + id + '</code></p>'\n      \
++ '<p class=\"answer\">Schedule:</p><p class=\"answer\">Why:</p></article>').join('')\n    + '<article class=\"card hi\
+nts\"><h3>Hints</h3><ol>' + EXERCISES.map(({ hint }) => '<li>' + marked(hint) + '</li>').join('') + '</ol></article>';\
+\n  document.body.classList.add('handout');\n  document.title = 'Exercises - CC-Queue';\n}\n\n\
 // ---- The lecture: the screens of a lesson, each with a title, a sentence, the picture and the line of the program.\
 \n\n\
 let lecture = null;\nconst LECTURES = LESSONS.filter(lesson => lesson.moments.length);\n\n\
@@ -1875,7 +1925,7 @@ Width > strip.clientWidth ? 0 : -1;\n  $('lecture-lesson').value = lesson.id;\n 
 0 && LECTURES[0] === lesson;\n  $('lecture-next').disabled = at === screens.length - 1 && LECTURES[LECTURES.length - 1\
 ] === lesson;\n}\nlet has_code = false;         // whether the lecture shows the program in place of the picture\nfunc\
 tion toggleCode() {\n  has_code = !has_code;\n  drawLecture();\n}\nconst stripOfLecture = told => chainText(told, fals\
-e).replace(/^<p class=\"head\">.*?<\\/p>/, '');\n\n\
+e).replace(HEAD, '');\n\n\
 // Draws the chain and the list as large as they fit on the screen: first in width, and then in height, the list befor\
 e the chain.\nconst LETTERS = [64, 54, 46, 39, 33, 29, 26, 23, 21, 19, 18, 17, 16, 15, 14, 13, 12.5];\nfunction fitLec\
 ture() {\n  const largest = LETTERS.findIndex(size => size <= Math.max(26, window.innerWidth / 58));\n  const sides = \
@@ -1912,9 +1962,10 @@ function nextDecision(from, step) {\n  for (let i = from + step; i > 0 && i <= r
 vents[i - 1].decides) return i;\n  return step > 0 ? run.events.length : 0;\n}\n\n\
 // Plays event by event; at the end it begins again.\nlet playing = 0;\nfunction play(on) {\n  clearInterval(playing);\
 \n  if (on && run.now === run.events.length) goTo(0);\n  playing = on ? setInterval(() => { if (run.now === run.events\
-.length) play(false); else goTo(run.now + 1); }, Number($('speed').value)) : 0;\n  $('play').textContent = on ? 'stop\
-' : 'play';\n  $('play').setAttribute('aria-pressed', on ? 'true' : 'false');\n  // a fast play isn't read out event b\
-y event\n  $('event').setAttribute('aria-live', on && Number($('speed').value) < 1000 ? 'off' : 'polite');\n}\n\n\
+.length) play(false); else goTo(run.now + 1); }, Number($('speed').value)) : 0;\n  for (const id of ['play', 'live-pla\
+y']) {\n    $(id).textContent = on ? 'stop' : 'play';\n    $(id).setAttribute('aria-pressed', on ? 'true' : 'false');\
+\n  }\n  // a fast play isn't read out event by event\n  $('event').setAttribute('aria-live', on && Number($('speed').\
+value) < 1000 ? 'off' : 'polite');\n}\n\n\
 // Stops the play, and goes to an event.\nfunction seek(n) {\n  play(false);\n  goTo(n);\n}\n\n\
 // One step of a pass, or its steps until its call returns or it waits.\nfunction stepOf(row, leaps) {\n  play(false);\
 \n  let done = run.step(row);\n  for (let k = 1; leaps && done && k < 1000; k++) {\n    const e = run.events[run.now \
@@ -1938,32 +1989,35 @@ ll;\n  cardsOf('');\n  cardsOf('other-');\n  $('caller').innerHTML = [...Array(r
 = true;\n  choosePass(0);\n  const { lesson, exercise } = from, { title, text } = lesson ? part() : exercise || { titl\
 e: from.title, text: '' };\n  document.body.classList.toggle('begins', !!from.is_own);\n  $('lesson-title').textConten\
 t = lesson ? (lesson.kind === 'tour' ? 'Stop ' + (TOUR.indexOf(lesson) + 1) + ' of ' + TOUR.length + ': ' : '') + titl\
-e\n    : (exercise ? 'Exercise: ' : '') + title;\n  document.title = title + ' - CC-Queue';\n  $('lesson-text').innerH\
-TML = marked(from.is_own && !run.faults.length ? 'This page played it too, with the same events and report.' : text);\
-\n  $('stop-before').hidden = $('stop-next').hidden = !(lesson && lesson.kind === 'tour');\n  $('to-lecture').hidden \
-= !(lesson && lesson.moments.length);\n  $('compare').hidden = !(lesson && lesson.table);\n  $('compare').textContent \
-= run.variant ? 'the right queue' : 'the broken queue';\n  $('pair').hidden = !canPair();\n  $('task-hint').hidden = t\
-rue;\n  $('config').textContent = 'Capacity ' + run.capacity + ', bound ' + run.bound + ', life ' + run.life + '; ' + \
-plural(senders, 'sender') + ', '\n    + (groups > 1 ? groups + ' groups of ' : '') + plural(receivers, 'receiver') + '\
-.';\n  for (const link of document.querySelectorAll('#choose a[data-id]')) {\n    const here = (lesson || exercise || \
-{}).id === link.dataset.id && !lesson === (link.dataset.of === 'exercise');\n    link.classList.toggle('here', here);\
-\n    if (here) link.setAttribute('aria-current', 'true'); else link.removeAttribute('aria-current');\n  }\n  // the o\
-rder of all calls is up here in a lesson about it\n  const about_order = !!(lesson && lesson.opens === 'order');\n  i\
-f (about_order) $('lesson').after($('order')); else $('rest').insertBefore($('order'), $('texts'));\n  $('order').ope\
-n = about_order;\n  $('alarm').innerHTML = '';\n  if (run.faults.length) {\n    $('alarm').innerHTML = '<p class=\"bad\
-\">' + (from.is_own ? 'This page and the program disagree. ' : '') + run.faults.map(() => '<span></span>').join(' ') \
-+ '</p>';\n    $('alarm').querySelectorAll('span').forEach((span, i) => { span.textContent = run.faults[i]; });\n  }\
-\n  if (lesson && lesson.table) openPair();\n  $('pair').setAttribute('aria-pressed', pair ? 'true' : 'false');\n  dra\
-wNames();\n  measure();\n  run.goTo(event);\n  draw();\n  if (measure()) draw();\n}\n\n\
-const OWN = { is_own: true, title: 'The run that the program wrote' };\nconst openOwn = event => openRun(Machine.open(\
-Machine.planOfRun($('run').textContent), '', $('report').textContent), OWN, event);\nfunction openLesson(id, event, ta\
-ble) {\n  const lesson = LESSONS.find(one => one.id === id);\n  if (!lesson) return false;\n  openRun(Machine.open(Mac\
-hine.planOfText(JSON.stringify(lesson.plan)), table === 'right' ? '' : lesson.table || ''), { lesson }, event);\n  ret\
-urn true;\n}\n// Opens an exercise with the steps that were made, as far as the passes have these steps.\nfunction ope\
-nExercise(id, steps, event) {\n  const exercise = EXERCISES.find(one => one.id === id);\n  if (!exercise) return false\
-;\n  const opened = Machine.open(Machine.planOfText(JSON.stringify(exercise.plan)), exercise.table || ''), from = open\
-ed.now;\n  Telling.makeSteps(opened, steps);\n  openRun(opened, { exercise, from }, event === null ? opened.events.len\
-gth : Math.max(from, event));\n  return true;\n}\n// Opens a plan in JSON, and says what is wrong with it, or nothing.\
+e\n    : (exercise ? 'Exercise: ' : '') + title;\n  document.title = (from.is_own && !from.is_site ? Telling.titleOf(r\
+un) : title) + ' - CC-Queue';\n  $('lesson-text').innerHTML = marked(from.is_own && !run.faults.length ? 'This page pl\
+ayed it too, with the same events and report.' : text);\n  $('stop-before').hidden = $('stop-next').hidden = !(lesson \
+&& lesson.kind === 'tour');\n  $('to-lecture').hidden = !(lesson && lesson.moments.length);\n  $('compare').hidden = !\
+(lesson && lesson.table);\n  $('compare').textContent = run.variant ? 'the right queue' : 'the broken queue';\n  $('pa\
+ir').hidden = !canPair();\n  $('task-hint').hidden = true;\n  $('config').textContent = 'Capacity ' + run.capacity + '\
+, bound ' + run.bound + ', life ' + run.life + '; ' + plural(senders, 'sender') + ', '\n    + (groups > 1 ? groups + \
+' groups of ' : '') + plural(receivers, 'receiver') + '.';\n  for (const link of document.querySelectorAll('#choose a[\
+data-id]')) {\n    const here = (lesson || exercise || {}).id === link.dataset.id && !lesson === (link.dataset.of === \
+'exercise');\n    link.classList.toggle('here', here);\n    if (here) link.setAttribute('aria-current', 'true'); else \
+link.removeAttribute('aria-current');\n  }\n  // the order of all calls is up here in a lesson about it\n  const about\
+_order = !!(lesson && lesson.opens === 'order');\n  if (about_order) $('lesson').after($('order')); else $('rest').ins\
+ertBefore($('order'), $('texts'));\n  $('order').open = about_order;\n  $('alarm').innerHTML = '';\n  if (run.faults.l\
+ength) {\n    $('alarm').innerHTML = '<p class=\"bad\">' + (from.is_own ? 'This page and the program disagree. ' : ''\
+) + run.faults.map(() => '<span></span>').join(' ') + '</p>';\n    $('alarm').querySelectorAll('span').forEach((span, \
+i) => { span.textContent = run.faults[i]; });\n  }\n  if (lesson && lesson.table) openPair();\n  $('pair').setAttribut\
+e('aria-pressed', pair ? 'true' : 'false');\n  drawNames();\n  measure();\n  run.goTo(event);\n  draw();\n  if (measur\
+e()) draw();\n}\n\n\
+// The run that the program wrote. A page of another plan than the one in the folder of this page begins with its run.\
+\nconst OWN = { is_own: true, title: 'The run that the program wrote' };\nfunction openOwn(event) {\n  const opened = \
+Machine.open(Machine.planOfRun($('run').textContent), '', $('report').textContent);\n  OWN.is_site = opened.planText()\
+.replace(/\\s/g, '') === $('site').textContent;\n  openRun(opened, OWN, event);\n}\nfunction openLesson(id, event, tab\
+le) {\n  const lesson = LESSONS.find(one => one.id === id);\n  if (!lesson) return false;\n  openRun(Machine.open(Mach\
+ine.planOfText(JSON.stringify(lesson.plan)), table === 'right' ? '' : lesson.table || ''), { lesson }, event);\n  retu\
+rn true;\n}\n// Opens an exercise with the steps that were made, as far as the passes have these steps.\nfunction open\
+Exercise(id, steps, event) {\n  const exercise = EXERCISES.find(one => one.id === id);\n  if (!exercise) return false;\
+\n  const opened = Machine.open(Machine.planOfText(JSON.stringify(exercise.plan)), exercise.table || ''), from = opene\
+d.now;\n  Telling.makeSteps(opened, steps);\n  openRun(opened, { exercise, from }, event === null ? opened.events.leng\
+th : Math.max(from, event));\n  return true;\n}\n// Opens a plan in JSON, and says what is wrong with it, or nothing.\
 \nfunction openPlan(text, event, table, title) {\n  let opened;\n  try {\n    opened = Machine.open(Machine.planOfText\
 (text), table || '');\n  } catch (fault) {\n    return fault.message;\n  }\n  openRun(opened, { title }, event === nul\
 l ? 0 : event);\n  return '';\n}\n\n\
@@ -2006,63 +2060,65 @@ in('');\ndocument.querySelector('.tables').innerHTML = '<option value=\"\">the r
 $('slider').addEventListener('input', () => seek(Number($('slider').value)));\nconst MOVES = { first: () => 0, before\
 : () => nextDecision(run.now, -1), back: () => run.now - 1, next: () => run.now + 1, after: () => nextDecision(run.now\
 , 1), last: () => run.events.length };\nfor (const [id, to] of Object.entries(MOVES)) $(id).addEventListener('click', \
-() => seek(to()));\n$('play').addEventListener('click', () => play(!playing));\n$('more-toggle').addEventListener('cli\
-ck', () => {\n  const open = $('player').classList.toggle('open');\n  $('more-toggle').setAttribute('aria-expanded', o\
-pen ? 'true' : 'false');\n});\n$('speed').addEventListener('change', () => { if (playing) play(true); });\n$('branches\
-').addEventListener('change', () => { play(false); run.choose(Number($('branches').value)); draw(); keepPlace(); });\n\
-for (const id of ['cells', 'turns', 'moments', 'law', 'parting']) $(id).addEventListener('click', click => {\n  const \
-cell = click.target.closest('[data-event]');\n  if (cell && id === 'moments' && run.chosen > 0) run.choose(0);\n  if (\
-cell) seek(Number(cell.dataset.event));\n});\n$('compare').addEventListener('click', () => {\n  openLesson(source.less\
-on.id, pair ? pair.upTo[run.now] : run.now, run.variant ? 'right' : undefined);\n  keepPlace();\n  $('compare').focus(\
-);\n});\n$('pair').addEventListener('click', () => {\n  if (pair) pair = null; else openPair();\n  $('pair').setAttrib\
-ute('aria-pressed', pair ? 'true' : 'false');\n  draw();\n});\n$('law').addEventListener('toggle', toggle => { if (tog\
-gle.target.tagName === 'DETAILS') { law_open = toggle.target.open; delete drawn.law; } }, true);\n$('names').addEventL\
-istener('click', click => {\n  const button = click.target.closest('button');\n  if (!button) return;\n  const row = N\
-umber(button.dataset.row);\n  if (button.className !== 'more') stepOf(row, button.className === 'leap');\n  else if (r\
-ow >= senders) addCall(row);\n  else { $('add').hidden = false; choosePass(row); say('The words of the item of a furth\
-er send of ' + passName(row) + ', or a close.'); $('body').focus(); $('body').select(); }\n});\n$('stop-before').addEv\
-entListener('click', () => toStop(-1));\n$('stop-next').addEventListener('click', () => toStop(1));\n$('to-lecture').a\
-ddEventListener('click', toLecture);\n$('search').addEventListener('click', search);\n$('hint-button').addEventListene\
-r('click', () => { $('task-hint').hidden = false; $('task-hint').innerHTML = marked('Hint: ' + source.exercise.hint); \
-});\n$('solve').addEventListener('click', () => { openExercise(source.exercise.id, source.exercise.solution, source.fr\
-om); keepPlace(); });\n$('again').addEventListener('click', () => { openExercise(source.exercise.id, [], null); keepPl\
-ace(); });\n$('lecture-back').addEventListener('click', () => toScreen(-1));\n$('lecture-next').addEventListener('clic\
-k', () => toScreen(1));\n$('lecture-leave').addEventListener('click', leaveLecture);\n$('lecture-program').addEventLis\
-tener('click', toggleCode);\n$('lecture-full').addEventListener('click', fullScreen);\n// after a click the keys lead \
-on, and don't press that button once more\n$('lecture').addEventListener('click', click => { const button = click.deta\
-il > 0 && click.target.closest('button'); if (button) button.blur(); });\n$('lecture-lesson').addEventListener('change\
-', () => openLecture($('lecture-lesson').value, 0));\n$('caller').addEventListener('change', () => choosePass(Number($\
-('caller').value)));\n$('add').addEventListener('submit', submit => {\n  submit.preventDefault();\n  const row = Numbe\
-r($('caller').value);\n  addCall(row, row < senders ? $('body').value.trim().split(/\\s+/) : undefined);\n});\n$('add-\
-close').addEventListener('click', () => addCall(Number($('caller').value)));\n$('add-take').addEventListener('click', \
-() => addCall(Number($('caller').value)));\n$('all').addEventListener('change', draw);\n$('texts').addEventListener('t\
-oggle', drawTexts);\n$('order').addEventListener('toggle', drawOrder);\n$('export').addEventListener('click', () => { \
-$('texts').open = true; drawTexts(); $('plan').focus(); $('plan').select(); });\n$('copy').addEventListener('click', (\
-) => {\n  $('link').select();\n  if (navigator.clipboard) navigator.clipboard.writeText($('link').value).catch(() => {\
-});\n});\n// A queue of the reader's own: the items of sender 1 are 101, 102 and so on, and a further word is ten time\
-s the one before.\n$('own-form').addEventListener('submit', submit => {\n  submit.preventDefault();\n  const form = $(\
-'own-form').elements, of = name => Number(form[name].value);\n  const body = (s, k) => { const first = 100 * (s + 1) \
-+ k + 1, words = [...Array(of('words')).keys()].map(n => first * 10 ** n); return second ? words : words[0]; };\n  con\
-st second = of('groups') > 1 || of('words') > 1;\n  const plan = { ...(second ? { version: 2, groups: of('groups') } \
-: {}), capacity: of('capacity'), bound: of('bound'), life: of('life'),\n    senders: [...Array(of('senders')).keys()].\
-map(s => [...Array(of('sends')).keys()].map(k => body(s, k))), receivers: Array(of('groups') * of('receivers')).fill(o\
-f('takes')), schedule: [] };\n  const wrong = openPlan(JSON.stringify(plan), 0, form.table.value, 'Your own queue');\
-\n  $('import-hint').textContent = wrong;\n  if (!wrong) { keepPlace(); toStage(); }\n});\nfunction importPlan(text) {\
-\n  const wrong = openPlan(text, 0, $('own-form').elements.table.value, 'Your plan');\n  $('import-hint').textContent \
-= wrong;\n  if (!wrong) { keepPlace(); toStage(); }\n}\n// An empty field opens the example that it shows.\n$('open-pl\
-an').addEventListener('click', () => importPlan($('import').value || $('import').placeholder));\n$('file').addEventLis\
-tener('change', async () => {\n  const [file] = $('file').files;\n  if (!file) return;\n  $('import').value = await fi\
-le.text();\n  importPlan($('import').value);\n});\ndocument.querySelector('header nav').addEventListener('click', clic\
-k => {\n  const id = click.target.hash && click.target.hash.slice(1);\n  if (id && id.startsWith('lecture')) { click.p\
-reventDefault(); toLecture(); return; }\n  if (!$(id)) return;\n  click.preventDefault();\n  if (id === 'own') $('own'\
-).open = true;\n  $(id).scrollIntoView();\n  $(id).setAttribute('tabindex', '-1');\n  $(id).focus({ preventScroll: tru\
-e });\n});\ndocument.querySelector('.skip').addEventListener('click', click => { click.preventDefault(); toStage(); })\
-;\n$('choose').addEventListener('click', click => {\n  const link = click.target.closest('a[data-id]');\n  if (!link |\
-| click.ctrlKey || click.metaKey || click.shiftKey) return;\n  click.preventDefault();\n  if (link.dataset.of === 'exe\
-rcise') openExercise(link.dataset.id, [], null); else openLesson(link.dataset.id, 0);\n  keepPlace();\n  toStage();\n}\
-);\nfor (const [event, does] of [['mouseover', explain], ['focusin', explain], ['click', explain], ['mouseout', hideTi\
-p], ['focusout', hideTip]]) {\n  document.addEventListener(event, from => { const term = from.target.closest && from.t\
-arget.closest('.term'); if (term) does(term); });\n}\n\n\
+() => seek(to()));\nfor (const id of ['play', 'live-play']) $(id).addEventListener('click', () => play(!playing));\n$(\
+'more-toggle').addEventListener('click', () => {\n  const open = $('player').classList.toggle('open');\n  $('more-togg\
+le').setAttribute('aria-expanded', open ? 'true' : 'false');\n});\n$('speed').addEventListener('change', () => { if (p\
+laying) play(true); });\n$('branches').addEventListener('change', () => { play(false); run.choose(Number($('branches')\
+.value)); draw(); keepPlace(); });\nfor (const id of ['cells', 'turns', 'moments', 'law', 'parting']) $(id).addEventLi\
+stener('click', click => {\n  const cell = click.target.closest('[data-event]');\n  if (cell && id === 'moments' && ru\
+n.chosen > 0) run.choose(0);\n  if (cell) seek(Number(cell.dataset.event));\n});\n$('compare').addEventListener('click\
+', () => {\n  openLesson(source.lesson.id, pair ? pair.upTo[run.now] : run.now, run.variant ? 'right' : undefined);\
+\n  keepPlace();\n  $('compare').focus();\n});\n$('pair').addEventListener('click', () => {\n  if (pair) pair = null; \
+else openPair();\n  $('pair').setAttribute('aria-pressed', pair ? 'true' : 'false');\n  draw();\n});\n$('law').addEven\
+tListener('toggle', toggle => { if (toggle.target.tagName === 'DETAILS') { law_open = toggle.target.open; delete drawn\
+.law; } }, true);\n$('names').addEventListener('click', click => {\n  const button = click.target.closest('button');\
+\n  if (!button) return;\n  const row = Number(button.dataset.row);\n  if (button.className !== 'more') stepOf(row, bu\
+tton.className === 'leap');\n  else if (row >= senders) addCall(row);\n  else { $('add').hidden = false; choosePass(ro\
+w); say('The words of the item of a further send of ' + passName(row) + ', or a close.'); $('body').focus(); $('body')\
+.select(); }\n});\n$('stop-before').addEventListener('click', () => toStop(-1));\n$('stop-next').addEventListener('cli\
+ck', () => toStop(1));\n$('to-lecture').addEventListener('click', toLecture);\n$('search').addEventListener('click', s\
+earch);\n$('hint-button').addEventListener('click', () => { $('task-hint').hidden = false; $('task-hint').innerHTML = \
+marked('Hint: ' + source.exercise.hint); });\n$('solve').addEventListener('click', () => { openExercise(source.exercis\
+e.id, source.exercise.solution, source.from); keepPlace(); });\n$('next-exercise').addEventListener('click', () => { o\
+penExercise(EXERCISES[EXERCISES.indexOf(source.exercise) + 1].id, [], null); keepPlace(); toStage(); });\n$('again').a\
+ddEventListener('click', () => { openExercise(source.exercise.id, [], null); keepPlace(); });\n$('lecture-back').addEv\
+entListener('click', () => toScreen(-1));\n$('lecture-next').addEventListener('click', () => toScreen(1));\n$('lecture\
+-leave').addEventListener('click', leaveLecture);\n$('lecture-program').addEventListener('click', toggleCode);\n$('lec\
+ture-full').addEventListener('click', fullScreen);\n// after a click the keys lead on, and don't press that button onc\
+e more\n$('lecture').addEventListener('click', click => { const button = click.detail > 0 && click.target.closest('but\
+ton'); if (button) button.blur(); });\n$('lecture-lesson').addEventListener('change', () => openLecture($('lecture-les\
+son').value, 0));\n$('caller').addEventListener('change', () => choosePass(Number($('caller').value)));\n$('add').addE\
+ventListener('submit', submit => {\n  submit.preventDefault();\n  const row = Number($('caller').value);\n  addCall(ro\
+w, row < senders ? $('body').value.trim().split(/\\s+/) : undefined);\n});\n$('add-close').addEventListener('click', (\
+) => addCall(Number($('caller').value)));\n$('add-take').addEventListener('click', () => addCall(Number($('caller').va\
+lue)));\n$('all').addEventListener('change', draw);\n$('texts').addEventListener('toggle', drawTexts);\n$('order').add\
+EventListener('toggle', drawOrder);\n$('export').addEventListener('click', () => { $('texts').open = true; drawTexts()\
+; $('plan').focus(); $('plan').select(); });\n$('copy').addEventListener('click', () => {\n  $('link').select();\n  i\
+f (navigator.clipboard) navigator.clipboard.writeText($('link').value).catch(() => {});\n});\n// A queue of the reader\
+'s own: the items of sender 1 are 101, 102 and so on, and a further word is ten times the one before.\n$('own-form').a\
+ddEventListener('submit', submit => {\n  submit.preventDefault();\n  const form = $('own-form').elements, of = name =\
+> Number(form[name].value);\n  const body = (s, k) => { const first = 100 * (s + 1) + k + 1, words = [...Array(of('wor\
+ds')).keys()].map(n => first * 10 ** n); return second ? words : words[0]; };\n  const second = of('groups') > 1 || of\
+('words') > 1;\n  const plan = { ...(second ? { version: 2, groups: of('groups') } : {}), capacity: of('capacity'), bo\
+und: of('bound'), life: of('life'),\n    senders: [...Array(of('senders')).keys()].map(s => [...Array(of('sends')).key\
+s()].map(k => body(s, k))), receivers: Array(of('groups') * of('receivers')).fill(of('takes')), schedule: [] };\n  con\
+st wrong = openPlan(JSON.stringify(plan), 0, form.table.value, 'Your own queue');\n  $('import-hint').textContent = wr\
+ong;\n  if (!wrong) { keepPlace(); toStage(); }\n});\nfunction importPlan(text) {\n  const wrong = openPlan(text, 0, $\
+('own-form').elements.table.value, 'Your plan');\n  $('import-hint').textContent = wrong;\n  if (!wrong) { keepPlace()\
+; toStage(); }\n}\n// An empty field opens the example that it shows.\n$('open-plan').addEventListener('click', () => \
+importPlan($('import').value || $('import').placeholder));\n$('file').addEventListener('change', async () => {\n  cons\
+t [file] = $('file').files;\n  if (!file) return;\n  $('import').value = await file.text();\n  importPlan($('import').\
+value);\n});\ndocument.querySelector('header nav').addEventListener('click', click => {\n  const id = click.target.has\
+h && click.target.hash.slice(1);\n  if (id && id.startsWith('lecture')) { click.preventDefault(); toLecture(); return\
+; }\n  if (!$(id)) return;\n  click.preventDefault();\n  if (id === 'own') $('own').open = true;\n  $(id).scrollIntoVi\
+ew();\n  $(id).setAttribute('tabindex', '-1');\n  $(id).focus({ preventScroll: true });\n});\ndocument.querySelector('\
+.skip').addEventListener('click', click => { click.preventDefault(); toStage(); });\n$('choose').addEventListener('cli\
+ck', click => {\n  const link = click.target.closest('a[data-id]');\n  if (!link || click.ctrlKey || click.metaKey || \
+click.shiftKey) return;\n  click.preventDefault();\n  if (link.dataset.of === 'exercise') openExercise(link.dataset.id\
+, [], null); else openLesson(link.dataset.id, 0);\n  keepPlace();\n  toStage();\n});\nfor (const [event, does] of [['m\
+ouseover', explain], ['focusin', explain], ['click', explain], ['mouseout', hideTip], ['focusout', hideTip]]) {\n  doc\
+ument.addEventListener(event, from => { const term = from.target.closest && from.target.closest('.term'); if (term) do\
+es(term); });\n}\n\n\
 // Whether a key belongs to what has the focus: a field for text, or another that uses the key itself.\nfunction isTyp\
 ed(target, name) {\n  if (target.closest('textarea, pre, input:not([type=range]):not([type=checkbox]):not([type=file])\
 ')) return true;\n  if (target.closest('select')) return name !== ' ';\n  return name === ' ' && target.closest('input\
@@ -2086,11 +2142,14 @@ rites another sign\n  const digit = /^[1-9]$/.test(key.key) ? key.key : key.shif
 Key);\n  // a row of boxes that is wider than its card scrolls by the arrows\n  const strip = key.target.closest('.str\
 ip');\n  if (strip && key.key.startsWith('Arrow') && strip.scrollWidth > strip.clientWidth) return;\n  if (key.key ==\
 = ' ' && key.target.closest('.term')) return;\n  if (!moves[key.key] && !others[key.key]) return;\n  key.preventDefaul\
-t();\n  if (others[key.key]) others[key.key](); else seek(MOVES[moves[key.key]]());\n});\n// space plays: it doesn't p\
-ress the button that has the focus too\ndocument.addEventListener('keyup', key => { if (key.key === ' ' && !lecture &\
-& key.target.closest && !isTyped(key.target, ' ')) key.preventDefault(); });\nwindow.addEventListener('hashchange', (\
-) => { if (fromAddress()) $('stage').scrollIntoView(); });\nopenOwn(0);\ndocument.body.dataset.check = run.faults.leng\
-th ? 'disagrees' : 'agrees';\nif (fromAddress() && !document.body.classList.contains('bare')) $('stage').scrollIntoVie\
-w();\nnew ResizeObserver(() => { if (measure()) draw(); }).observe($('cells'));\nnew ResizeObserver(() => measure()).o\
-bserve($('player'));\nwindow.addEventListener('resize', () => { if (measure()) draw(); });\nmeasure();\ndraw();\n})();\
+t();\n  // a key that moves the run shows it\n  if (!key.target.closest('#live') && $('player').getBoundingClientRect(\
+).bottom > window.innerHeight) $('stage').scrollIntoView();\n  if (others[key.key]) others[key.key](); else seek(MOVES\
+[moves[key.key]]());\n});\n// space plays: it doesn't press the button that has the focus too\ndocument.addEventListen\
+er('keyup', key => { if (key.key === ' ' && !lecture && key.target.closest && !isTyped(key.target, ' ')) key.preventDe\
+fault(); });\nwindow.addEventListener('hashchange', () => { if (fromAddress()) $('stage').scrollIntoView(); });\nopenO\
+wn(0);\nif (!OWN.is_site) {\n  document.body.classList.add('own-run');\n  document.querySelector('h1').textContent = T\
+elling.titleOf(run);\n  $('stage').after($('intro'), $('choose'));\n}\ndocument.body.dataset.check = run.faults.lengt\
+h ? 'disagrees' : 'agrees';\nif (fromAddress() && !document.body.classList.contains('bare')) $('stage').scrollIntoView\
+();\nnew ResizeObserver(() => { if (measure()) draw(); }).observe($('cells'));\nnew ResizeObserver(() => measure()).ob\
+serve($('player'));\nwindow.addEventListener('resize', () => { if (measure()) draw(); });\nmeasure();\ndraw();\n})();\
 \n</script>\n</body>\n</html>\n";
