@@ -3,8 +3,8 @@
 
     bench/readme.py [--write]
 
-Each figure is a cell of docs/BENCH.md: an item's time by the clock, and the p99.99 of a send of 16 senders beside four
-receivers. The peers' versions are those that docs/BENCH.md names. Without --write it writes nothing, and says if README
+Each figure is a cell of docs/BENCH.md: an item's time by the clock, the p99.99 of a send of 16 senders beside four
+receivers, and an item's time in C. The peers' versions are those that docs/BENCH.md names. Without --write it writes nothing, and says if README
 differs; exit status 1 then.
 """
 import os
@@ -14,9 +14,11 @@ import sys
 TOP = os.path.dirname(os.path.dirname(os.path.abspath(__file__)))
 BEGIN, END = "<!-- speed -->\n", "<!-- end of speed -->\n"
 # The rows, by their names in the tables of docs/BENCH.md, and the columns of an item's time.
-ROWS = {"typed": "**vahepito** (Rust)", "crossbeam-channel": None, "flume": None, "async-channel": None,
-        "Mutex+Condvar": "std `Mutex`, `Condvar`"}
+ROWS = {"typed": "**vahepito** (Rust)", "crossbeam-channel": None, "Mutex+Condvar": "std `Mutex`, `Condvar`"}
 COLUMNS = {"one thread": "one thread", "1/1": "1→1", "4/4": "4→4", "32/32": "32→32"}
+# The same of the calls that wait in C, where the queues are the columns.
+OF_C = {"`vahepito.h`": "**vahepito**", "TBB's bounded queue": "TBB, bounded", "boost::lockfree": "boost::lockfree",
+        "mutex and condition variables": "mutex"}
 
 
 def rows_after(text, mark):
@@ -53,6 +55,11 @@ def section(text):
     for row in ROWS:
         cells = [clock[row][column] for column in COLUMNS] + [brief(tail[row])]
         lines.append(f"| {named(text, row)} | {' | '.join(cells)} |")
+    waits, _ = rows_after(text, "<!-- c -->")
+    lines += ["", f"| ns an item in C | {' | '.join(OF_C.values())} |", "|---" * (len(OF_C) + 1) + "|"]
+    for row in ("1/1", "4/4"):
+        cells = [waits[f"{row}, ns an item"][queue].split(" (")[0] for queue in OF_C]
+        lines.append(f"| {COLUMNS[row]} | {' | '.join(cells)} |")
     return "\n".join(lines) + "\n"
 
 

@@ -35,7 +35,8 @@ WRONG += ["    crates/ccq/out/ccq play", "```sh\n./nowhere PLAN\n```", "`libvahe
 # Names of others: of C, of gdb, of the toolchain, of other channels, of a program, and of a reader's own files.
 OUTSIDE = {"stddef.h", "stdint.h", "bt", "backtrace", "start_io", "Permit", "Selector", "blocking_recv"}
 OUTSIDE |= {"blocking_send", "into_sink", "into_stream", "max_capacity", "poll_recv", "recv_many"}
-OUTSIDE |= {"tokio::time::timeout", "jq", "log.c", "item.c", "../trial/src/main.rs"}
+OUTSIDE |= {"tokio::time::timeout", "jq", "log.c", "item.c", "mine.py", "sum.cpp", "../trial/src/main.rs",
+            "../project/src/main.rs", "CMakeLists.txt"}
 PATH = re.compile(r"[\w.*-]*/[\w./*-]*|[\w*-]+\.(?:antt|c|cmake|edit|expect|h|html|in|js|json|md|py|rs|rt|sh|toml|txt)")
 NAME = re.compile(r"(?:\w+::)*\w+")
 POINTER = re.compile(
@@ -143,7 +144,7 @@ def wrong_programs(tree, path, text):
         begun = re.match(r"    \(?(?:cd [\w/]+ && )?(\.{0,2}/?[\w-]+(?:/[\w.-]+)+|\./[\w-]+)(?: |$)", line)
         name = begun[1].removeprefix("./") if begun else ""
         # What the reader's own compiler leaves, by the lines before, is there.
-        own = f" -o {name}\n" in text or name.startswith("build/") and "cmake --build build\n" in text
+        own = re.search(rf" -o {re.escape(name)}(?!\S)", text) or name.startswith("build/") and "cmake --build build\n" in text
         if re.search(r"crates/\S*\bout/\w", line) or name and not own and not {name, f"{folder}/{name}"} & tree.files:
             yield at, f"a clone doesn't have this program: {line.strip()}"
 

@@ -118,8 +118,8 @@ def block_after(text):
 
 
 def has_lines(text, block):
-    """Whether these lines are lines of a text, one after another, at any margin."""
-    lines, size = text.split("\n"), block.count("\n") + 1
+    """Whether these lines are lines of a text, or of its documentation, one after another, at any margin."""
+    lines, size = re.sub(r"(?m)^//! ?", "", text).split("\n"), block.count("\n") + 1
     return any(textwrap.dedent("\n".join(lines[at : at + size])) == block for at in range(len(lines) - size + 1))
 
 

@@ -1,19 +1,21 @@
 #!/usr/bin/env python3
-"""Runs every command of README.md as a stranger does: in a Debian that has the packages which README installs, and no
-other.
+"""Runs every command of README.md and of the other DOCUMENTS as a stranger does: in a Debian that has the packages
+which `./test --install` installs, and no other.
 
     tests/readme.py [--gate | --list]
 
 debootstrap makes the smallest variant of this machine's Debian, from this machine's mirror, in
-~/.cache/vahepito/debian. It is made once: README's first commands install the packages there, and other packages in
-README, or another Debian, make it again. The tracked files of the clone are put into /root/vahepito, in a folder for
-temporary files that is the home of the user in there.
+~/.cache/vahepito/debian. It is made once: the command with --install installs the packages there, and another `test`,
+other packages in DOCUMENTS, or another Debian make it again. The tracked files of the clone are put into
+/root/vahepito, in a folder for temporary files that is the home of the user in there.
 
-In README a fenced block of the language `sh` has commands, one on each line. Each is run at the top of the clone, in a
-fresh shell with an empty environment, and has to end with status 0. If its comment ends with `prints: TEXT`, it has to
-print a line that begins with TEXT. A comment that says "on Debian 13" names the word that the command has there, and
-the word for which it stands. A block of another language is a file, whose name is the last one in backticks before
-it. --list prints commands and files, and runs none.
+In these documents a fenced block of the language `sh` has commands, one on each line that doesn't end with a backslash.
+Each is run at the top of the clone, in a fresh shell whose environment has nothing but what an `export` of the block
+set, and ~/.local/bin on the path, where README installs `ccq`. It has to end with status 0, or with that which its
+comment names as `status N`. If its comment ends with `prints: TEXT`, it has to print a line that begins with TEXT. If
+it says `needs PACKAGE`, that package of Debian is installed first: README's own commands come before all of these. A
+block of another language is a file, if the last name in backticks before it is that of a file. --list prints commands
+and files, and runs none.
 
 The tests of the crate make a twentieth of their rounds (VAHEPITO_ROUNDS). With --gate, as ./test calls it, they make a
 fiftieth, and cargo compiles each crate once for all commands, without a debugger's lines: tests/bindings.py makes all
@@ -36,7 +38,8 @@ import time
 TOP = pathlib.Path(__file__).resolve().parent.parent
 # Outside of the tree, since `rt ci` refuses one that has links.
 KEPT = pathlib.Path(os.environ.get("XDG_CACHE_HOME") or pathlib.Path.home() / ".cache") / "vahepito" / "debian"
-ENVIRONMENT = {"HOME": "/root", "PATH": "/usr/local/sbin:/usr/local/bin:/usr/sbin:/usr/bin:/sbin:/bin",
+DOCUMENTS = ["README.md", "docs/JUDGE.md", "bindings/rust/README.md", "bindings/c/README.md"]
+ENVIRONMENT = {"HOME": "/root", "PATH": "/root/.local/bin:/usr/local/sbin:/usr/local/bin:/usr/sbin:/usr/bin:/sbin:/bin",
                "LANG": "C.UTF-8", "VAHEPITO_ROUNDS": "5"}
 RELEASE = dict(re.findall(r'^(\w+)="?([^"\n]*)', pathlib.Path("/etc/os-release").read_text(), re.M))
 # What makes the same commands cheaper, in the gate.
@@ -60,14 +63,14 @@ class Skipped(Exception):
 
 
 class Command:
-    """A line of a block of commands: what is run, and what it prints, if README says so."""
+    """A line of a block of commands: what is run, its status, what it prints and needs, if the document says so."""
 
-    def __init__(self, line):
+    def __init__(self, line, exports=()):
         self.text, _, comment = line.partition("   #")
         self.text = self.text.strip()
-        for number, this, that in re.findall(r"on Debian (\d+) `(\S+)`, not `(\S+)`", comment):
-            if number == RELEASE.get("VERSION_ID"):
-                self.text = self.text.replace(that, this)
+        self.run = "; ".join([*exports, self.text])
+        self.status = int((re.findall(r"\bstatus (\d+)", comment) or [0])[0])
+        self.needs = re.findall(r"\bneeds ([\w.+-]*\w\+*)", comment)
         self.prints = (re.findall(r"prints: (.*)", comment) or [None])[0]
 
 
@@ -90,8 +93,10 @@ def parts(text):
             lines.append(line)
         else:
             if language == "sh":
-                yield from map(Command, filter(str.strip, lines))
-            else:
+                lines = re.sub(r" *\\\n *", " ", "\n".join(lines)).splitlines()
+                exports = [line for line in lines if line.startswith("export ")]
+                yield from (Command(line, exports) for line in lines if line.strip() and line not in exports)
+            elif names and re.fullmatch(r"[\w./-]+\.\w+", names[-1]):
                 yield File(names[-1], lines)
             language = None
 
@@ -123,9 +128,10 @@ def in_chroot(base, room, folder, command, limit=1800):
 
 
 def have_base(packages):
-    """The folder of a Debian into which nothing but these packages was installed."""
+    """The folder of a Debian into which nothing was installed but what `test` installs, and then these packages."""
     codename, address = mirror()
-    key = hashlib.sha256(" ".join([codename, address, *packages]).encode()).hexdigest()[:12]
+    installs = re.findall(r"packages\+=.*|cargo=.*", (TOP / "test").read_text())
+    key = hashlib.sha256(" ".join([codename, address, *installs, *packages]).encode()).hexdigest()[:12]
     base = KEPT / f"{codename}-{key}"
     if base.is_dir():
         return base
@@ -164,7 +170,7 @@ def put_clone(folder):
 
 def run_all(room, found):
     """Runs these; the number of commands that failed."""
-    packages = [part.text for part in found if isinstance(part, Command) and part.text.startswith("apt-get ")]
+    packages = [need for part in found if isinstance(part, Command) for need in part.needs]
     base, failed, spent = have_base(packages), 0, 0
     for folder in ("home", "tmp"):
         (room / folder).mkdir()
@@ -180,12 +186,17 @@ def run_all(room, found):
             path.write_text(part.text)
             continue
         start = time.time()
-        status, said, seconds = in_chroot(base, room, "/root/vahepito", part.text)
+        if part.needs:
+            install = f"DEBIAN_FRONTEND=noninteractive apt-get install -y --no-install-recommends {' '.join(part.needs)}"
+            status, said, _ = in_chroot(base, room, "/", install)
+            if status != 0:
+                raise Skipped(f"{' '.join(part.needs)} couldn't be installed: {said.strip().splitlines()[-1]}")
+        status, said, seconds = in_chroot(base, room, "/root/vahepito", part.run)
         spent += seconds
-        unfetched = re.search(OF_THE_MIRROR, said) if status != 0 and part.text in packages else None
+        unfetched = re.search(OF_THE_MIRROR, said) if status != 0 and "--install" in part.text else None
         if unfetched:
             raise Skipped(f"the packages couldn't be fetched: {unfetched[0]}")
-        fault = f"status {status}" if status != 0 else ""
+        fault = f"status {status}" if status != part.status else ""
         if not fault and part.prints and not any(line.startswith(part.prints) for line in said.splitlines()):
             fault = f"no line that it prints begins with {part.prints!r}"
         if not fault:
@@ -197,12 +208,12 @@ def run_all(room, found):
             lines = [line for line in lines[:-40] if "FAILED" in line] + lines[-40:]
             print(f"readme: {part.text}: FAILED ({fault}); its last lines, and each with this word:\n"
                   + "\n".join(lines), flush=True)
-    print(f"readme: {spent:.1f} processor seconds of all commands")
+    print(f"readme: {spent:.1f} processor seconds of all commands", flush=True)
     return failed
 
 
 def main():
-    found = list(parts((TOP / "README.md").read_text()))
+    found = [part for name in DOCUMENTS for part in parts((TOP / name).read_text())]
     if sys.argv[1:] == ["--list"]:
         for part in found:
             print(part.text if isinstance(part, Command) else f"{part.name}: {len(part.text.splitlines())} lines")
@@ -214,18 +225,17 @@ def main():
         ENVIRONMENT.update(CHEAPER)
         print("readme: left out here: the examples in the crate's documentation, and most rounds of long tests")
     commands = [part for part in found if isinstance(part, Command)]
-    if len(commands) < 2 or not any(part.text.startswith("apt-get ")
-                                    for part in commands) or len(commands) == len(found):
-        print("readme: README.md has no commands, no packages or no files, so this script reads it wrongly")
+    if len(commands) < 20 or not any("--install" in part.text for part in commands) or len(commands) == len(found):
+        print("readme: the documents have no commands, no packages or no files, so this script reads them wrongly")
         return 1
     try:
         check_machine()
         with tempfile.TemporaryDirectory() as room:
             failed = run_all(pathlib.Path(room), found)
     except Skipped as why:
-        print(f"readme: the commands of README in a fresh Debian: SKIPPED: {why}")
+        print(f"readme: the commands of the documents in a fresh Debian: SKIPPED: {why}")
         return 77
-    print(f"readme: {len(commands) - failed} of {len(commands)} commands of README pass in a fresh Debian")
+    print(f"readme: {len(commands) - failed} of {len(commands)} commands of the documents pass in a fresh Debian")
     return 1 if failed else 0
 
 
