@@ -122,7 +122,7 @@ module _ (old new errors_old errors_new : Option (List ℕ)) (fails fails_after 
   not_hidden (inl complains) = let is = complains.0 in absurd (omega (arith, is))
   not_hidden (inr out) = let is = out.0 in absurd (omega (arith, is))
 
-  not_64 : (failed : Bool) → 64 ≡ cond failed 4 0 → ⊥
+  not_64 : (failed : Bool) → ◌≡◌ {A = ℕ} 64 (cond failed 4 0) → ⊥
   not_64 true is = absurd (omega (arith, is))
   not_64 false is = absurd (omega (arith, is))
 
