@@ -56,8 +56,8 @@ IN_RUST = {
         "select! { recv(r) -> _ => panic!(), recv(q) -> _ => panic!(), default => assert!(i < calls) }", 538,
     ),
     "after and its drop": ("", "let r = after(std::time::Duration::from_secs(100)); assert!(r.len() as u64 <= i);",
-                           390),
-    "never and its drop": ("", "let r = never::<u64>(); assert!(r.len() as u64 <= i);", 286),
+                           397),
+    "never and its drop": ("", "let r = never::<u64>(); assert!(r.len() as u64 <= i);", 293),
 }
 # Openings with a pair and the drop, in a program of their own: what the compiler inlines into `main` changes with its
 # rows.

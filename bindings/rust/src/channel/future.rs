@@ -11,6 +11,7 @@ use super::core::{Core, SENDERS, Sent, or_closed};
 use super::pool::Patience;
 use super::rendezvous::{Waiter, is_sent};
 use super::select::Case;
+use super::side::Source;
 use super::{Receiver, RecvError, SendError, Sender};
 use crate::event::{Again, Panics, Ticket, Try};
 use std::borrow::Cow;
@@ -52,19 +53,14 @@ impl Waiting {
                 }
                 return Poll::Ready(done);
             }
-            // Nobody else wakes it at that moment, unless a thread does.
-            Err(Again::At(_)) if !wakes_later(case) => {
-                panics.run_each([waker], Waker::wake_by_ref);
-            }
-            Err(_) => {}
+            // A thread notifies the line of a timer.
+            Err(Again::At(_)) if matches!(case, Case::Timer(_)) => {}
+            // Nobody else wakes it at that moment.
+            Err(Again::At(_)) => panics.run_each([waker], Waker::wake_by_ref),
+            Err(Again::WhenNotified) => {}
         }
         Poll::Pending
     }
-}
-
-/// Whether a thread notifies those in line, when they are to look again.
-fn wakes_later(case: Case) -> bool {
-    matches!(case, Case::Timer(timer) if timer.notify_when_due())
 }
 
 /// None once the future is done.
@@ -171,6 +167,11 @@ impl<T> Future for RecvFuture<'_, T> {
     fn poll(mut self: Pin<&mut Self>, context: &mut Context<'_>) -> Poll<Self::Output> {
         let RecvFuture { receiver, state } = &mut *self;
         let taken = poll_take(state, receiver.0.case(), context.waker());
+        if let (Source::Timer(timer), Poll::Pending) = (&receiver.0, &taken) {
+            if !timer.notify_when_due() {
+                context.waker().wake_by_ref();
+            }
+        }
         taken.map(|item| item.map(|item| receiver.unpack(item)).ok_or(RecvError))
     }
 }

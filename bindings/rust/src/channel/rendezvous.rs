@@ -37,7 +37,7 @@
 use super::body::{Item, Unsent};
 use super::core::{Core, NotSent, SENDERS, Sent};
 use super::future::Waiting;
-use super::select::{Begun, Case, Entry};
+use super::select::{Begun, Case, Entry, Place};
 use crate::event::{Again, Panics, Try, ignore_panics, lock, poll_until};
 use crate::numbered::Numbered;
 use std::cell::RefCell;
@@ -279,12 +279,12 @@ impl<'a> Locked<'a> {
     }
 }
 
-/// Meets one that is posted for one of these operations, and gives its place. If there is none, it posts a waiter for all
-/// that may meet another, which wakes this waker, a thread's. Without a waker it posts nothing: then none was posted at one
-/// moment.
+/// Meets one that is posted for one of these operations, and gives its index. If there is none, it posts a waiter for all
+/// that may meet another, at these places, which wakes this waker, a thread's. Or it posts nothing: then none was posted at
+/// one moment.
 pub fn meet_each(
-    entries: &mut [Entry],
-    waker: Option<Waker>,
+    entries: &[Entry],
+    posted: Option<(&mut [Place], Waker)>,
 ) -> Result<(usize, Begun), Option<Arc<Waiter>>> {
     let (mut locked, mut woken) = (Locked::of(entries), None);
     let found = entries.iter().enumerate().find_map(|(at, it)| {
@@ -292,11 +292,11 @@ pub fn meet_each(
         Some((at, locked.lists(of).meet(side, &mut None, &mut woken)?))
     });
     let found = found.ok_or_else(|| {
-        let (waker, waiter) = (waker?, Waiter::idle());
+        let ((places, waker), waiter) = (posted?, Waiter::idle());
         waiter.begin(Some(waker), 0, None, None);
-        for (at, it) in entries.iter_mut().enumerate() {
+        for (at, it) in entries.iter().enumerate() {
             if let Some(Meeting { of, side, .. }) = it.case.meeting() {
-                it.number = locked.lists(of).post(side, &waiter, at);
+                places[at].number = locked.lists(of).post(side, &waiter, at);
             }
         }
         Some(waiter)
@@ -307,10 +307,14 @@ pub fn meet_each(
 }
 
 /// Takes the waiter of a select off all lists. Gives the operation in which it was met.
-pub fn withdraw_each(entries: &[Entry], waiter: Arc<Waiter>) -> Option<(usize, Begun)> {
-    for it in entries {
+pub fn withdraw_each(
+    entries: &[Entry],
+    places: &[Place],
+    waiter: Arc<Waiter>,
+) -> Option<(usize, Begun)> {
+    for (it, place) in entries.iter().zip(places) {
         if let Some(Meeting { of, side, .. }) = it.case.meeting() {
-            lock(&of.0).posted[side].remove(it.number);
+            lock(&of.0).posted[side].remove(place.number);
         }
     }
     let mut waits = lock(&waiter.0);

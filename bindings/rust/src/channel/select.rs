@@ -176,16 +176,20 @@ impl Core {
     }
 }
 
-/// An operation, its index, and how it waits.
+/// An operation, and its index.
 #[derive(Clone, Copy)]
 pub struct Entry<'a> {
     index: usize,
     pub case: Case<'a>,
     /// The address of its handle.
     handle: usize,
-    /// Its place in the line, while it waits there.
+}
+
+/// Where an operation waits.
+#[derive(Clone, Copy, Default)]
+pub struct Place {
     ticket: Option<Ticket>,
-    /// Whether its line was notified when it left the line.
+    /// Whether its line was notified before it left the line.
     is_notified: bool,
     /// The number under which it is posted, in a channel of capacity 0.
     pub number: u64,
@@ -210,9 +214,6 @@ impl<'a> Arm<'a> {
             index: 0,
             case,
             handle: ptr::from_ref(handle).addr(),
-            ticket: None,
-            is_notified: false,
-            number: 0,
         };
         Arm(entry, PhantomData)
     }
@@ -382,7 +383,7 @@ impl<'a> Select<'a> {
 
 /// A select of these operations, in the order in which they are tried, until this moment.
 struct Turn<'s, 'a> {
-    entries: &'s mut [Entry<'a>],
+    entries: &'s [Entry<'a>],
     aim: Aim,
     until: Option<Instant>,
     /// The operation that it has begun.
@@ -458,11 +459,11 @@ impl<'s, 'a> Turn<'s, 'a> {
             if self.entries.len() == 1 {
                 return None;
             }
-            if self.entries.iter().all(|it| self.is_posted(it)) {
-                return self.meet_at_the_end();
-            }
             if let Some(end) = self.end() {
                 return end;
+            }
+            if self.entries.iter().all(|it| self.is_posted(it)) {
+                return self.meet_at_the_end();
             }
         }
         let mut done = None;
@@ -470,21 +471,28 @@ impl<'s, 'a> Turn<'s, 'a> {
         if !self.entries.iter().any(|it| self.is_posted(it)) {
             done = FOR_OTHERS.try_until(self.until, || self.try_each(0..));
         }
-        done.or_else(|| {
-            Parker::with(|parker| {
-                loop {
-                    match self.stand_and_park(parker) {
-                        Ok(done) => return Some(done),
-                        Err(quiet) if is_over(self.until) => {
-                            let end = self.end();
-                            if let Some(end) = end.or(quiet.then_some(None)) {
-                                return end;
-                            }
+        if done.is_some() {
+            return done;
+        }
+        // The places of few operations need no memory.
+        let (mut few, mut many) = ([Place::default(); 4], vec![]);
+        let places = few.get_mut(..self.entries.len()).unwrap_or_else(|| {
+            many.resize(self.entries.len(), Place::default());
+            &mut many
+        });
+        Parker::with(|parker| {
+            loop {
+                match self.stand_and_park(places, parker) {
+                    Ok(done) => return Some(done),
+                    Err(quiet) if is_over(self.until) => {
+                        let end = self.end();
+                        if let Some(end) = end.or(quiet.then_some(None)) {
+                            return end;
                         }
-                        Err(_) => {}
                     }
+                    Err(_) => {}
                 }
-            })
+            }
         })
     }
 
@@ -528,44 +536,45 @@ impl<'s, 'a> Turn<'s, 'a> {
     /// Stands in all lines, looks, and parks; leaves all, and tries again: the one that was notified comes first. The
     /// notification of a line is passed on if its operation wasn't tried after it, or was only looked at and is ready. If none is
     /// ready, it returns whether no line was notified: at the end none was ready then.
-    fn stand_and_park(&mut self, parker: &Arc<Parker>) -> Result<usize, bool> {
-        let (mut until, mut done) = (self.until, None);
-        for at in 0..self.entries.len() {
-            let entry = &self.entries[at];
-            let stands = !self.is_posted(entry);
-            let ticket = stands.then(|| entry.case.line().stand(parker.clone().into()));
-            self.entries[at].ticket = ticket;
+    fn stand_and_park(
+        &mut self,
+        places: &mut [Place],
+        parker: &Arc<Parker>,
+    ) -> Result<usize, bool> {
+        let (entries, mut until, mut done) = (self.entries, self.until, None);
+        let is_posted = |it: &Entry| self.aim == Aim::Begin && it.case.meeting().is_some();
+        for (it, place) in entries.iter().zip(&mut *places) {
+            let stands = !is_posted(it);
+            place.ticket = stands.then(|| it.case.line().stand(parker.clone().into()));
         }
-        for at in 0..self.entries.len() {
-            match self.attempt(self.entries[at].case) {
+        let has_posted = entries.iter().any(is_posted);
+        for (at, it) in entries.iter().enumerate() {
+            match self.attempt(it.case) {
+                Err(again) => until = again.before(until),
                 Ok(()) => {
                     done = Some(at);
                     break;
                 }
-                Err(again) => until = again.before(until),
             }
         }
-        if done.is_none() {
-            if self.entries.iter().any(|it| self.is_posted(it)) {
-                done = self.meet(until, parker);
-            } else {
-                parker.park(until);
-            }
+        if done.is_none() && has_posted {
+            done = self.meet(places, until, parker);
+        } else if done.is_none() {
+            parker.park(until);
         }
-        for it in &mut *self.entries {
-            let ticket = it.ticket.take();
+        for (it, place) in entries.iter().zip(&mut *places) {
             // The waker is a parker's, whose drop doesn't panic.
-            let leave = |it: &Event, ticket| it.leave(ticket, &mut Panics::default());
-            it.is_notified = ticket.is_some_and(|ticket| leave(it.case.line(), ticket));
+            let leaves = |ticket| it.case.line().leave(ticket, &mut Panics::default());
+            place.is_notified = place.ticket.is_some_and(leaves);
         }
-        let first = self.entries.iter().position(|it| it.is_notified);
+        let first = places.iter().position(|it| it.is_notified);
         let tries = done.is_none();
         if tries {
             done = self.try_each(first.into_iter().chain(0..));
         }
-        for (at, it) in self.entries.iter().enumerate() {
+        for (at, it) in entries.iter().enumerate() {
             let is_used = done.is_none() || self.aim == Aim::Begin && done == Some(at);
-            if it.is_notified && !(tries && is_used) {
+            if places[at].is_notified && !(tries && is_used) {
                 it.case.line().notify_one();
             }
         }
@@ -574,15 +583,20 @@ impl<'s, 'a> Turn<'s, 'a> {
 
     /// Posts the operations of channels of capacity 0, parks, and takes them off. Gives the place of one that has met
     /// another; if that is a take, once it has its item.
-    fn meet(&mut self, until: Option<Instant>, parker: &Arc<Parker>) -> Option<usize> {
-        let found = meet_each(self.entries, Some(parker.clone().into()));
-        let found = found.or_else(|waiter| {
-            let posted = self.entries.iter().filter(|it| self.is_posted(it));
-            posted.for_each(|it| it.case.notify_posted());
+    fn meet(
+        &mut self,
+        places: &mut [Place],
+        until: Option<Instant>,
+        parker: &Arc<Parker>,
+    ) -> Option<usize> {
+        let posted = Some((&mut *places, parker.clone().into()));
+        let found = meet_each(self.entries, posted).or_else(|waiter| {
+            for it in self.entries.iter().filter(|it| it.case.meeting().is_some()) {
+                it.case.notify_posted();
+            }
             parker.wait(until);
-            waiter
-                .and_then(|it| withdraw_each(self.entries, it))
-                .ok_or(())
+            let met = waiter.and_then(|it| withdraw_each(self.entries, places, it));
+            met.ok_or(())
         });
         let (at, met) = found.ok()?;
         self.complete_meeting(at, met)

@@ -6,7 +6,6 @@ use super::side::Source;
 use crate::event::{Again, Event, Panics, Try, lock};
 use std::collections::BTreeMap;
 use std::marker::PhantomData;
-use std::ptr;
 use std::sync::atomic::{AtomicBool, AtomicU64, Ordering};
 use std::sync::{Arc, Mutex, Weak};
 use std::thread::{self, Thread};
@@ -24,12 +23,10 @@ pub struct Timer {
     pub taken: AtomicU64,
     /// The line of those that wait for the moment, or for a close.
     pub line: Event,
-    this: Weak<Timer>,
-    /// The moment under which futures of this timer are awaited.
-    awaited: Mutex<Option<Instant>>,
 }
 
-/// The timers for whose moments futures wait, by the moments and the timers' addresses.
+/// The timers for whose moments futures wait, by the moments and the timers' addresses. Now and then those that are gone are
+/// taken out.
 static AWAITED: Mutex<BTreeMap<(Instant, usize), Weak<Timer>>> = Mutex::new(BTreeMap::new());
 
 /// The thread that wakes the futures, once one waits.
@@ -59,14 +56,6 @@ fn notify_at_moments() {
     }
 }
 
-impl Drop for Timer {
-    #[inline]
-    fn drop(&mut self) {
-        let awaited = lock(&self.awaited).take();
-        self.forget(awaited);
-    }
-}
-
 impl Timer {
     /// Takes the item of a moment that has come; or gives None if none will come. The next one comes a period after it,
     /// or, if a whole period has passed, after now.
@@ -89,15 +78,15 @@ impl Timer {
     }
 
     /// A thread notifies the line at the next moment. Returns whether there is such a thread.
-    pub fn notify_when_due(&self) -> bool {
+    pub fn notify_when_due(self: &Arc<Timer>) -> bool {
         let Some(due) = *lock(&self.due) else {
             return true;
         };
-        let mut awaited = lock(&self.awaited);
-        let is_new = *awaited != Some(due);
-        if is_new {
-            self.forget(awaited.replace(due));
-            lock(&AWAITED).insert((due, ptr::from_ref(self).addr()), self.this.clone());
+        let mut awaited = lock(&AWAITED);
+        let key = (due, Arc::as_ptr(self).addr());
+        let is_new = awaited.insert(key, Arc::downgrade(self)).is_none();
+        if is_new && awaited.len().is_power_of_two() {
+            awaited.retain(|_, it| it.strong_count() > 0);
         }
         drop(awaited);
         let mut thread = lock(&THREAD);
@@ -112,13 +101,6 @@ impl Timer {
             }
         };
         thread.as_ref().map(unpark).is_some()
-    }
-
-    /// No future waits for this moment any more.
-    fn forget(&self, awaited: Option<Instant>) {
-        if let Some(moment) = awaited {
-            lock(&AWAITED).remove(&(moment, ptr::from_ref(self).addr()));
-        }
     }
 
     /// Whether there is an item, or none will come.
@@ -159,9 +141,7 @@ impl Timer {
 }
 
 fn timer<T>(due: Option<Instant>, every: Option<Duration>, has_items: bool) -> Receiver<T> {
-    let timer = Arc::new_cyclic(|this| Timer {
-        this: this.clone(),
-        awaited: Mutex::new(None),
+    let timer = Arc::new(Timer {
         due: Mutex::new(due),
         every,
         has_items,
