@@ -50,7 +50,8 @@ fn a_burst_is_cheap_in_memory() {
         });
     });
     println!("{left} bytes after bursts of four threads");
-    assert!(sender.is_empty() && left < limit, "{left}");
+    assert!(sender.is_empty(), "{} items are left", sender.len());
+    assert!(left < limit, "{left}");
     let left = used_after(before, || drop((sender, receiver)));
     println!("{left} bytes after the drop");
     // The C library itself takes that for eight threads at once.
