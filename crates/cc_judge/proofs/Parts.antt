@@ -254,7 +254,7 @@ fault_so rules calls fault differ s = (inl s, no_first rules calls fault differ 
 -- a log without a legal order is so until its last end
 pub none_until_end : (rules : Rules) (calls : List Call) (time : ℕ) → IsWritten calls → Differ calls → NoFault rules calls → HaveEnded time calls → (IsLinearizable rules calls → ⊥) → StandsFirst rules calls Fault.NoOrder
 none_until_end rules calls time written differ fine ended none =
-    let k = until_end time calls written ended in
+    let k = until_end time calls ended in
     record { time = time; part = calls; part_is = k; stands = none; first = λ ties earlier less. none_until rules calls calls time differ written k fine ties earlier (omega (arith, less)) }
 
 -- a log that is clean once it is cut

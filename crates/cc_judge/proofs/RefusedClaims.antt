@@ -123,15 +123,18 @@ unfolding early
 until_1 = record { there = there; back = back }
   where
     not_over : IsOver 1 (call 10 11 (Act.Took 8)) → ⊥
-    not_over over = let end : Some over.0 ≡ Some 11 = sym over.1 in let same : over.0 ≡ 11 = cc in let by = over.2 in omega (arith, same, by)
+    not_over over = let by = over 11 refl in omega (arith, by)
+
+    over_1 : IsOver 1 (call 0 1 (Act.Took 7))
+    over_1 end e = let is : Some 1 ≡ Some end = e in let same : 1 ≡ end = cc in omega (arith, same)
 
     there : (place : ℕ) (c : Call) → slice_get strays place ≡ Some c → (d : Call) × (slice_get early place ≡ Some d) × IsCallUntil 1 c d
-    there zero c is = subst (λ (x : Call). (d : Call) × (slice_get early 0 ≡ Some d) × IsCallUntil 1 x d) (some_is (call 0 1 (Act.Took 7)) c is) (call 0 1 (Act.Took 7), refl, inl ((1, refl, omega arith), refl))
+    there zero c is = subst (λ (x : Call). (d : Call) × (slice_get early 0 ≡ Some d) × IsCallUntil 1 x d) (some_is (call 0 1 (Act.Took 7)) c is) (call 0 1 (Act.Took 7), refl, inl (over_1, refl))
     there (suc zero) c is = subst (λ (x : Call). (d : Call) × (slice_get early 1 ≡ Some d) × IsCallUntil 1 x d) (some_is (call 10 11 (Act.Took 8)) c is) (waiting 10 Act.Taking, refl, inr (not_over, refl))
     there (suc (suc place)) c is = absurd (cc (is))
 
     back : (place : ℕ) (d : Call) → slice_get early place ≡ Some d → (c : Call) × (slice_get strays place ≡ Some c) × IsCallUntil 1 c d
-    back zero d is = subst (λ (x : Call). (c : Call) × (slice_get strays 0 ≡ Some c) × IsCallUntil 1 c x) (some_is (call 0 1 (Act.Took 7)) d is) (call 0 1 (Act.Took 7), refl, inl ((1, refl, omega arith), refl))
+    back zero d is = subst (λ (x : Call). (c : Call) × (slice_get strays 0 ≡ Some c) × IsCallUntil 1 c x) (some_is (call 0 1 (Act.Took 7)) d is) (call 0 1 (Act.Took 7), refl, inl (over_1, refl))
     back (suc zero) d is = subst (λ (x : Call). (c : Call) × (slice_get strays 1 ≡ Some c) × IsCallUntil 1 c x) (some_is (waiting 10 Act.Taking) d is) (call 10 11 (Act.Took 8), refl, inr (not_over, refl))
     back (suc (suc place)) d is = absurd (cc (is))
 
@@ -146,15 +149,12 @@ last_named rules ties f =
           let act : Act.Took f.stands.item ≡ Act.Taking = sym took.act_is ∙ ap (λ (x : Call). x.act) held.1 ∙ ap (λ (x : Call). act_until x.act) one in
           cc
       | inl over ↦
-          let o = over.0 in
-          let end : Some o.0 ≡ Some 11 = sym o.1 ∙ ap (λ (x : Call). x.end) one in
-          let same : o.0 ≡ 11 = cc in
-          let by = o.2 in
+          let by = over.0 11 (ap (λ (x : Call). x.end) one) in
           no_order (of_any_capacity rules) early (Fault.NeverSent 0) (λ item i j d e. absurd (none_sent_early i item d)) (record {
             item = 7;
             took = record { call = call 0 1 (Act.Took 7); call_is = refl; act_is = refl; ended = refl };
             none = λ i d. none_sent_early i 7 d;
-          }) (f.first ties 1 (omega (arith, same, by)) early until_1)
+          }) (f.first ties 1 (omega (arith, by)) early until_1)
     ]
 
 pub claims_refused : RefusedClaims

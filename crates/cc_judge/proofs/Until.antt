@@ -5,7 +5,7 @@ use Rattle.cc_judge.specs.Names.{Act, Call, Fault, Rules, Step}
 use Rattle.cc_judge.specs.Order.{Allows, Closes, Does, EndsBefore, HasStepOf, IsCall, IsOrder, IsLinearizable, IsRun, MayHaveDone, closed_after, of_any_capacity}
 use Rattle.cc_judge.specs.Faults.{Did, Differ}
 use Rattle.cc_judge.specs.Faultless.{IsWritten, NoFault}
-use Rattle.cc_judge.specs.Until.{HaveEnded, IsCallUntil, IsOver, IsUntil, act_until, unreturned}
+use Rattle.cc_judge.specs.Until.{HaveEnded, IsCallUntil, IsUntil, act_until}
 use Rattle.cc_judge.specs.Verdict.{AreSentBelow, Stands, StandsFirst}
 use Rattle.cc_judge.proofs.Faultless.{faultless_logs_have_orders}
 use Rattle.cc_judge.proofs.NoOrder.{no_order}
@@ -15,6 +15,7 @@ use Rattle.cc_judge.proofs.Calls.{end_cases, none_some}
 
 abbrev pub finds_none : Act → Bool
 finds_none Act.FoundNone = true
+finds_none Act.Taking = true
 finds_none _ = false
 
 abbrev pub act_by : (finds : Bool) → Act → Act
@@ -144,28 +145,8 @@ module _ (time : ℕ) (calls part : List Call) (k : IsUntil time calls part) whe
 -- ---- times
 
 -- until its last end the log is as it is
-pub until_end : (time : ℕ) (calls : List Call) → IsWritten calls → HaveEnded time calls → IsUntil time calls calls
-until_end time calls written ended = record { there = λ p c is. (c, is, whole p c is); back = λ p c is. (c, is, whole p c is) }
-  where
-    plain : (p : ℕ) (c : Call) → slice_get calls p ≡ Some c → c.end ≡ None → (act : Act) → c.act ≡ act → c.act ≡ act_until c.act
-    plain p c is none a act =
-        let took : (v : ℕ) → c.act ≡ Act.Took v → IsSome c.end =
-        λ v e. written.took p v (record { call = c; call_is = is; act_is = e }) in
-        let ended : c.act ≡ Act.Ended → IsSome c.end =
-        λ e. written.ended p (record { call = c; call_is = is; act_is = e }) in
-        grind arith
-
-    same_call : (c : Call) → c.end ≡ None → c.act ≡ act_until c.act → c ≡ unreturned c
-    same_call c none act = ap (λ (e : Option ℕ). record { begin = c.begin; end = e; act = c.act }) none ∙ ap (λ (a : Act). record { begin = c.begin; end = None; act = a }) act
-
-    whole : (p : ℕ) (c : Call) → slice_get calls p ≡ Some c → IsCallUntil time c c
-    whole p c is = elim (end_cases c.end) [
-      | inl e ↦ inl ((e.0, e.1, ended p e.0 c is e.1), refl)
-      | inr none ↦ inr (λ over. none_some c.end none (some_of c over), same_call c none (plain p c is none c.act refl))
-    ]
-      where
-        some_of : (c : Call) → IsOver time c → IsSome c.end
-        some_of c over = subst IsSome (sym over.1) refl
+pub until_end : (time : ℕ) (calls : List Call) → HaveEnded time calls → IsUntil time calls calls
+until_end time calls ended = record { there = λ p c is. (c, is, inl (λ end e. ended p end c is e, refl)); back = λ p c is. (c, is, inl (λ end e. ended p end c is e, refl)) }
 
 -- the log until an earlier time
 pub until_earlier : (early late : ℕ) (calls part first : List Call) → early ≤ late → IsUntil late calls part → IsUntil early calls first → IsUntil early part first

@@ -3,15 +3,16 @@ use Rattle.std.specs.Prelude.{◌≡◌, ℕ, ◌≤◌, ◌⊎◌, List, Some, 
 use Rattle.cc_judge.specs.Names.{Act, Call}
 use Rattle.cc_judge.specs.Cuts.{AreEach}
 
--- what is known of a call that hasn't returned: of a take neither the item nor that the queue was closed
+-- what is known of a call that hasn't returned: of a take nothing
 abbrev pub act_until : Act → Act
 act_until (Act.Took item) = Act.Taking
-act_until Act.Ended = Act.FoundNone
+act_until Act.FoundNone = Act.Taking
+act_until Act.Ended = Act.Taking
 act_until act = act
 
--- the call had ended by the time
+-- the call had ended by the time, or the log has no end of it
 abbrev pub IsOver : (time : ℕ) → Call → Type 0
-IsOver time call = (end : ℕ) × (call.end ≡ Some end) × (end ≤ time)
+IsOver time call = (end : ℕ) → call.end ≡ Some end → end ≤ time
 
 -- the call as one that hasn't returned
 abbrev pub unreturned : Call → Call

@@ -111,7 +111,9 @@ struct Held {
     until: Option<u64>,
 }
 
-/// The item that is in the queue for certain at a time: this one that was taken last, if it is, or one of those that are left.
+/// The item that is in the queue for certain at a time of this span: the one that was taken last, if it is, or one of
+/// those that are left: of as many of the youngest as show it until the span's end. It rests on a close if its send
+/// hadn't ended before the span.
 fn held_at(
     alloc: Global,
     calls: &[Call],
@@ -120,6 +122,7 @@ fn held_at(
     found: Option<Spell>,
     left: usize,
     time: u64,
+    span: Span,
 ) -> Result<Held, AllocError>
     ensures { IfOk result (λ h. (rules : Rules) → AreLists rules calls.now lists.now → IfSome found (IsSpell rules calls.now) → IsStay calls.now h.stay) }
 {
@@ -133,7 +136,7 @@ fn held_at(
     ) = found
     {
         if time < until {
-            let closed = if is_late(calls, send, time) {
+            let closed = if is_late(calls, send, span.begin) {
                 closed
             } else {
                 None
@@ -144,14 +147,15 @@ fn held_at(
             });
         }
     }
-    let late = closed.is_some() && are_late(calls, lists, left, time);
+    let late = closed.is_some() && are_late(calls, lists, left, span.begin);
     let closed = if late { closed } else { None };
-    let until = match lists.waits.get(left.saturating_sub(1)) {
+    let count = left.min(upto(&lists.waits, span.end).saturating_add(1));
+    let until = match lists.waits.get(count.saturating_sub(1)) {
         Some((begin, _)) => Some(*begin),
         None => None,
     };
     Ok(Held {
-        stay: stay_of_lefts(alloc, lists, left, left, closed)?,
+        stay: stay_of_lefts(alloc, lists, left, count, closed)?,
         until,
     })
 }
@@ -191,36 +195,38 @@ fn held_after(
     let closed = closed_before(shut, span.begin).unwrap_or(call);
     let found = latest_upto(lists, span.end);
     let left = upto(&lists.lefts, span.end);
-    held_at(alloc, calls, lists, Some(closed), found, left, span.end)
+    held_at(
+        alloc,
+        calls,
+        lists,
+        Some(closed),
+        found,
+        left,
+        span.end,
+        span,
+    )
 }
 
-/// The item that was in the queue for certain at a time, and was sent before that.
+/// The item that was in the queue for certain at the begin of this span, and was sent before that.
 fn held_before(
     alloc: Global,
     calls: &[Call],
     lists: &Lists,
     shut: Option<Shut>,
-    time: u64,
+    span: Span,
 ) -> Result<Held, AllocError>
     ensures { IfOk result (λ h. (rules : Rules) → AreLists rules calls.now lists.now → IsStay calls.now h.stay) }
 {
-    let found = latest_before(lists, time);
-    let left = before(&lists.lefts, time);
-    held_at(
-        alloc,
-        calls,
-        lists,
-        closed_before(shut, time),
-        found,
-        left,
-        time,
-    )
+    let found = latest_before(lists, span.begin);
+    let left = before(&lists.lefts, span.begin);
+    let closed = closed_before(shut, span.begin);
+    held_at(alloc, calls, lists, closed, found, left, span.begin, span)
 }
 
-/// Until when an item is in the queue, if that is past a time and within the end.
-fn next_from(until: Option<u64>, time: u64, end: u64) -> Option<u64> {
+/// Until when an item is in the queue, if that is past the begin of a span and within its end.
+fn next_from(until: Option<u64>, span: Span) -> Option<u64> {
     match until {
-        Some(until) if time < until && until <= end => Some(until),
+        Some(until) if span.begin < until && until <= span.end => Some(until),
         _ => None,
     }
 }
@@ -245,14 +251,14 @@ pub fn stays_of(
         stays.push(stay)?;
         return Ok(stays);
     }
-    let mut time = span.begin;
+    let mut rest = span;
     for _ in 0..calls.len() {
-        let Held { stay, until } = held_before(alloc, calls, lists, shut, time)?;
+        let Held { stay, until } = held_before(alloc, calls, lists, shut, rest)?;
         stays.push(stay)?;
-        let Some(next) = next_from(until, time, span.end) else {
+        let Some(next) = next_from(until, rest) else {
             break;
         };
-        time = next;
+        rest.begin = next;
     }
     Ok(stays)
 }

@@ -10,20 +10,19 @@ fn act_until(act: Act) -> Act
     ensures { result ≡ act_until act }
 {
     match act {
-        Act::Took(_) => Act::Taking,
-        Act::Ended => Act::FoundNone,
+        Act::Took(_) | Act::FoundNone | Act::Ended => Act::Taking,
         _ => act,
     }
 }
 
-/// Whether a call ended by a time.
+/// Whether a call ended by a time, or the log has no end of it.
 fn is_over(call: Call, time: u64) -> bool
     ensures over { result ≡ true → IsOver time call }
     ensures open { result ≡ false → IsOver time call → ⊥ }
 {
     match call.end {
         Some(end) => end <= time,
-        None => false,
+        None => true,
     }
 }
 

@@ -8,7 +8,7 @@ use Rattle.cc_judge.proofs.decide.first_fault.Goals as goal
 use Rattle.cc_judge.proofs.decide.first_fault.Goals.{in-Some, in-None}
 
 pub loop-low-init : goal.loop-low-init
-loop-low-init c = (omega (arith), none_first c.args.rules.now c.args.calls.now, record { part = c.args.calls.now; part_is = until_end c.last_end-high.result c.args.calls.now c.requires.written c.last_end-high.ensures; stands = c.requires.stands })
+loop-low-init c = (omega (arith), none_first c.args.rules.now c.args.calls.now, record { part = c.args.calls.now; part_is = until_end c.last_end-high.result c.args.calls.now c.last_end-high.ensures; stands = c.requires.stands })
 
 pub found_in-requires-clause-written : goal.found_in-requires-clause-written
 found_in-requires-clause-written c = subst IsWritten (sym c.as_slice.ensures.value) (until_written c.next_time-time.result c.args.calls.now c.in_ok-part.part.items c.in_ok-part.ensures c.requires.written)
