@@ -88,6 +88,14 @@ FUTURES = {
         "assert!(std::pin::pin!(s.send_async(i)).poll(context).is_ready()); assert_eq!(r.try_recv(), Ok(i));", 757,
     ),
 }
+# A batch, in a program of its own too: by the limit an item of it costs at most 0.92 of a pair.
+BATCHES = {
+    "send_many and recv_many of 64 words": (
+        "let (s, r) = channel::<u64>(64)?; let (mut some, mut all) = (std::collections::VecDeque::new(), vec![]);",
+        "some.extend(i..i + 64); s.send_many(&mut some).unwrap(); assert_eq!(r.recv_many(&mut all, 64), 64); all.clear();",
+        37262,
+    ),
+}
 # The pairs of the program in C: by handles, as the Rust crate makes them, and the calls that wait, which take a seat
 # and make a call by its handle. The last number is how many of these may be locked: two exchanges of a tail, a mark,
 # and an addition; and for each call that waits one, by which it takes a seat.
@@ -231,7 +239,8 @@ def main():
         return 77
     with tempfile.TemporaryDirectory() as room:
         c, rows = build_c(room), []
-        for part, of_part in (("calls", IN_RUST), ("openings", OPENINGS), ("bounds", BOUNDS), ("futures", FUTURES)):
+        for part, of_part in (("calls", IN_RUST), ("openings", OPENINGS), ("bounds", BOUNDS), ("futures", FUTURES),
+                              ("batches", BATCHES)):
             rust = build_rust(room, part, of_part)
             rows += [(name, [rust, name], [limit]) for name, (_, _, limit) in of_part.items()]
         rows += [(name, [c, mode], limits) for name, (mode, *limits) in IN_C.items()]

@@ -46,6 +46,11 @@ impl Kind {
         !matches!(size_of::<T>(), 9..=INLINE)
     }
 
+    /// Whether an item asks for memory of its own.
+    pub fn is_boxed(&self) -> bool {
+        self.is_boxed
+    }
+
     /// Of items that one receiver each gets.
     pub fn alone<T>() -> &'static Kind {
         const { &Kind::new::<T>(None) }

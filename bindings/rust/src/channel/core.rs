@@ -300,7 +300,7 @@ impl Core {
     /// Acquires a free seat of this side, by a thread that holds no lock, and waits for one. If the side has one seat alone and that is
     /// held, it gets its others.
     #[inline]
-    fn acquire_seat<'a>(&'a self, side: &'a Side) -> SeatGuard<'a> {
+    pub fn acquire_seat<'a>(&'a self, side: &'a Side) -> SeatGuard<'a> {
         side.seats.acquire_or(|| self.acquire_another_seat(side))
     }
 
@@ -586,7 +586,7 @@ impl Core {
     /// The same of an item of one word.
     #[allow(unsafe_code)]
     #[inline(always)]
-    fn take_word_by(&self, seat: &mut SeatGuard) -> Result<Answer, u32> {
+    pub fn take_word_by(&self, seat: &mut SeatGuard) -> Result<Answer, u32> {
         let word = seat.take_word()?;
         // SAFETY: as of `take_by`. The queue gives no item of more words by this call.
         Ok(unsafe { Answer::taken(word, self.kind) })

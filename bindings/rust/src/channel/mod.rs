@@ -2,6 +2,7 @@
 #[macro_use]
 mod texts;
 
+mod batch;
 mod body;
 mod core;
 mod error;

@@ -278,7 +278,8 @@ impl<T> Receiver<T> {
     /// # Ok::<(), vahepito::OpenError>(())
     /// ```
     pub fn drain(&self) -> Drain<'_, T> {
-        let items: Vec<T> = self.try_iter().take(self.len()).collect();
+        let mut items = vec![];
+        self.take_many(&mut items, self.len(), || self.try_recv().ok());
         Drain(items.into_iter(), PhantomData)
     }
 

@@ -116,7 +116,7 @@ impl<T> Sender<T> {
 
     /// The same, with the reason if it isn't sent.
     #[inline(always)]
-    fn send_item(&self, item: T, until: Option<Instant>) -> Result<(), (NotSent, T)> {
+    pub(super) fn send_item(&self, item: T, until: Option<Instant>) -> Result<(), (NotSent, T)> {
         if !Kind::is_one_word::<T>() {
             let send = |core: &Core, item: &mut Unsent| core.send_until(item, until);
             return self.send_by(Some(self.pack(item)), send);

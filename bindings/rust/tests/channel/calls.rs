@@ -1,6 +1,6 @@
 //! Channels of any type: every answer, handles, and what becomes of items.
 use crate::rounds::rounds;
-use std::collections::BTreeSet;
+use std::collections::{BTreeSet, VecDeque};
 use std::error::Error;
 use std::panic::{AssertUnwindSafe, catch_unwind};
 use std::sync::atomic::{AtomicI64, AtomicUsize, Ordering};
@@ -10,7 +10,7 @@ use std::time::{Duration, Instant};
 use vahepito::{
     OpenError, ReadyTimeoutError, Receiver, RecvError, RecvTimeoutError, SelectTimeoutError,
     SendError, SendTimeoutError, Sender, TryReadyError, TryRecvError, TrySelectError, TrySendError,
-    WeakReceiver, WeakSender, bounded, channel, groups, unbounded_groups,
+    WeakReceiver, WeakSender, bounded, channel, groups, unbounded, unbounded_groups,
 };
 
 /// An item that counts how many of its kind there are.
@@ -747,4 +747,86 @@ fn groups_of_threads() {
         );
         assert_eq!(alive(&count), 0);
     }
+}
+
+/// Batches keep the order of their sender beside each other and beside single calls, in every kind of channel; and each item wakes a
+/// receiver.
+#[test]
+fn batches_of_many_threads() {
+    const SENDERS: usize = 3;
+    let items = rounds(2000) as usize;
+    let opened = [0, 1, 7, 64, 4097].map(|it| channel(it).unwrap());
+    for (sender, receiver) in opened.into_iter().chain([unbounded()]) {
+        let taken: Vec<Vec<(usize, usize)>> = thread::scope(|scope| {
+            for number in 0..SENDERS {
+                let sender = sender.clone();
+                scope.spawn(move || {
+                    let mut next = 0;
+                    while next < items {
+                        let end = items.min(next + 1 + (7 * next + number) % 90);
+                        let mut some: VecDeque<_> = (next..end).map(|it| (number, it)).collect();
+                        if next % 2 == 0 {
+                            sender.send_many(&mut some).unwrap();
+                        } else if let Err(told) = sender.try_send_many(&mut some) {
+                            assert!(told.is_full());
+                            sender
+                                .send(some.pop_front().expect("one isn't sent"))
+                                .unwrap();
+                        }
+                        next = end - some.len();
+                    }
+                });
+            }
+            drop(sender);
+            let takes = (0..3).map(|number| {
+                let receiver = receiver.clone();
+                scope.spawn(move || {
+                    let mut all = vec![];
+                    while receiver.recv_many(&mut all, 1 + 50 * number) > 0 {
+                        all.extend(receiver.drain());
+                    }
+                    all
+                })
+            });
+            let takes: Vec<_> = takes.collect();
+            takes.into_iter().map(|it| it.join().unwrap()).collect()
+        });
+        for number in 0..SENDERS {
+            let of_sender = |all: &Vec<(usize, usize)>| -> Vec<usize> {
+                let own = all.iter().filter(|it| it.0 == number);
+                own.map(|it| it.1).collect()
+            };
+            let each: Vec<_> = taken.iter().map(of_sender).collect();
+            assert!(each.iter().all(|it| it.is_sorted()));
+            let mut all = each.concat();
+            all.sort();
+            assert!(all.into_iter().eq(0..items));
+        }
+    }
+}
+
+/// What a batch can't send stays, in its order; and a batch of groups comes to each of them.
+#[test]
+fn batches_end_where_the_channel_does() {
+    let (sender, receivers) = groups::<Box<usize>>(40, 2).unwrap();
+    let mut items: VecDeque<_> = (0..70).map(Box::new).collect();
+    assert!(sender.try_send_many(&mut items).unwrap_err().is_full());
+    assert!(items.iter().map(|it| **it).eq(40..70));
+    for receiver in &receivers {
+        let mut all = vec![];
+        assert_eq!(receiver.recv_many(&mut all, 0), 0);
+        assert_eq!(receiver.recv_many(&mut all, 33), 33);
+        assert_eq!(receiver.recv_many(&mut all, 33), 7);
+        assert!(all.into_iter().map(|it| *it).eq(0..40));
+    }
+    sender.close();
+    assert!(sender.send_many(&mut items).is_err());
+    assert!(
+        sender
+            .try_send_many(&mut items)
+            .unwrap_err()
+            .is_disconnected()
+    );
+    assert_eq!((items.len(), *items[0]), (30, 40));
+    assert_eq!(receivers[0].recv_many(&mut vec![], 5), 0);
 }
