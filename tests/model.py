@@ -1,8 +1,13 @@
 #!/usr/bin/env python3
 """Searches every interleaving of a few passes of the queue, by the model checker Spin.
 
-    tests/model.py           all searches, in half a minute
-    tests/model.py NAME      the shortest counterexample of a broken table of tools/definitions.py, as a plan of `ccq`
+    tests/model.py                  all searches, in half a minute
+    tests/model.py NAME             the shortest counterexample of a broken table of tools/definitions.py
+    tests/model.py FILE SIZE=N..    that of a model in a file with the ending .pml, as tests/model/queue.pml, in these
+                                    sizes: tests/model/around.pml has their names
+
+A counterexample is printed as a plan of `ccq`. Standard error says what is wrong, and has a link to the page that shows
+the plan: with a broken table, if the page has one of this name.
 
 tests/model/queue.pml is the table of steps as a model, written by tools/model.py; tests/model/around.pml says what is
 checked. A line for each search says its sizes and how many states there are:
@@ -17,8 +22,8 @@ checked. A line for each search says its sizes and how many states there are:
 - Each broken table is found, and so are points which aren't those of the document: Full at its decision, and the order
   of the links for that of the exchanges.
 
-If VAHEPITO_ROUNDS is set, as many of a hundred searches are made, and of each kind at least one. Exit status 0 if all
-is so, and 77 without spin or gcc, where nothing is done.
+If VAHEPITO_ROUNDS is set, as many of a hundred searches are made, and at least one. Exit status 0 if all is so, and 77
+without spin or gcc, where nothing is done.
 """
 import json
 import os
@@ -28,6 +33,7 @@ import shutil
 import subprocess
 import sys
 import tempfile
+import urllib.parse
 
 sys.dont_write_bytecode = True
 import derive
@@ -35,41 +41,42 @@ import derive
 TOP = pathlib.Path(derive.TOP)
 sys.path.insert(0, str(TOP / "tools"))
 import model
+from page_steps import VARIANTS
 
 # What is searched for, as flags of the compiler.
-FAULTS, CYCLES = "-DSAFETY", "-DNP -DNOFAIR"
-# Sizes in which all is right, what is searched for, and the words for it.
-RIGHT = [
-    ("SENDERS=2 SENDS=2 TAKES=2", FAULTS, "answers of a queue that moves at the points"),
-    ("SENDERS=2 TAKES=2 ORDERS=1", FAULTS, "answers of some order in real time"),
-    ("SENDERS=1 SENDS=2 CLOSERS=1 RECEIVERS=2 LIFE=1", CYCLES, "no run is endless"),
-    ("SENDERS=2 CLOSERS=2 TAKES=2 BOUND=1", FAULTS, "answers of a queue that moves at the points"),
-    ("SENDERS=1 SENDS=2 GROUPS=2", FAULTS, "answers of a queue that moves at the points"),
-    ("SENDERS=3 BOUND=3 CAPACITY=2", FAULTS, "answers of a queue that moves at the points"),
-]
+FAULTS, CYCLES = "-DSAFETY -DNOCOMP", "-DNP -DNOFAIR"
+# What a right model has.
+AT_POINTS, ORDERED = "the answers of a queue that moves at the points", "the answers of some order in real time"
+ENDS = "no run is endless"
+# Sizes in which the model is searched, and what it has there.
+RIGHT = [("SENDERS=1 SENDS=2 GROUPS=2 BOUND=1", AT_POINTS), ("SENDERS=2 SENDS=2 TAKES=2", AT_POINTS),
+         ("SENDERS=2 SENDS=2 FINAL=0 CLOSERS=2 LIFE=1", AT_POINTS), ("SENDERS=2 TAKES=2 ORDERS=1", ORDERED)]
 LONG_BODIES = "SENDERS=2 TAKES=2"
 # Sizes in which histories with store buffers are compared with those of atomic steps; a 3 says that all stores are
 # plain too.
-BUFFERED = [
-    "SENDERS=1 RECEIVERS=1 HISTORIES=3",
-    "SENDERS=1 SENDS=2 TAKES=2 HISTORIES=2",
-    "SENDERS=2 THREADS=2 SIDES=1 HISTORIES=2",
-    "SENDERS=1 SENDS=2 THREADS=2 HISTORIES=2",
-]
-# Sizes, and the broken tables that are found there.
+BUFFERED = ["SENDERS=1 SENDS=2 TAKES=2 HISTORIES=2", "SENDERS=2 THREADS=2 SIDES=1 HISTORIES=2",
+            "SENDERS=1 SENDS=2 THREADS=2 HISTORIES=3"]
+# Sizes, what is searched for, and the broken tables that are found there, each with smaller sizes for a counterexample;
+# and what the right table has, if it is searched there too.
 WRONG = [
-    ("SENDERS=1 RECEIVERS=3 TAKES=2 BOUND=3", FAULTS, ["marked_early", "answer_late", "marks_nothing"]),
-    ("SENDERS=3 FINAL=0 CLOSERS=2 BOUND=1", FAULTS, ["handed_past", "past_the_bound", "never_shut", "full_always",
-                                                   "keeps_the_chain", "returns_unserved", "links_nothing"]),
-    ("SENDERS=1 SENDS=6 CLOSERS=1 TAKES=4 CAPACITY=3", FAULTS, [
-        "full_early", "freed_dummy", "freed_before_read", "ended_early", "same_again", "empty_always",
-        "waits_for_a_link"]),
-    ("SENDERS=1 SENDS=3 GROUPS=2 TAKES=2", FAULTS, ["one_group"]),
-    ("SENDERS=1 SENDS=2", CYCLES, ["scans_again"]),
+    ("SENDERS=1 SENDS=3 GROUPS=2 RECEIVERS=2 TAKES=2 BOUND=3", FAULTS, {
+        "marked_early": "SENDERS=1 RECEIVERS=3 TAKES=2 BOUND=3", "answer_late": "SENDERS=1 SENDS=2 RECEIVERS=2",
+        "marks_nothing": "SENDERS=1 RECEIVERS=2", "one_group": "SENDERS=1 SENDS=3 GROUPS=2 TAKES=2"}, None),
+    ("SENDERS=3 FINAL=0 CLOSERS=2 BOUND=1", FAULTS, {
+        "handed_past": "SENDERS=3 BOUND=1", "past_the_bound": "SENDERS=3 BOUND=1",
+        "never_shut": "SENDERS=2 FINAL=0 CLOSERS=1", "full_always": "SENDERS=1",
+        "keeps_the_chain": "SENDERS=1 SENDS=2", "returns_unserved": "SENDERS=1", "links_nothing": "SENDERS=1"}, None),
+    ("SENDERS=1 SENDS=6 CLOSERS=1 TAKES=4 CAPACITY=3", FAULTS, {
+        "full_early": "SENDERS=1 SENDS=6 TAKES=3 CAPACITY=3", "freed_dummy": "SENDERS=1 SENDS=4 TAKES=4 CAPACITY=2",
+        "freed_before_read": "SENDERS=1 SENDS=2 TAKES=2", "ended_early": "SENDERS=1 CLOSERS=1 TAKES=2",
+        "same_again": "SENDERS=1 SENDS=2 TAKES=2", "empty_always": "SENDERS=1", "waits_for_a_link": "SENDERS=1"},
+     AT_POINTS),
+    ("SENDERS=2 TAKES=2", CYCLES, {"scans_again": "SENDERS=1 SENDS=2"}, ENDS),
 ]
-# Sizes in which other points are taken for those of the document, and the words for them.
-OTHER_POINTS = [("SENDERS=1 SENDS=2 TAKES=2 FULL_LATE=1", ["Full at its decision"]),
-                ("SENDERS=2 BY_LINK=1", ["the order of the links"])]
+# Points which aren't those of the document, and sizes in which that is found.
+OTHER_POINTS = "SENDERS=2 TAKES=2 OTHER_POINTS=1", {"Full at its decision": None, "the order of the links": None}
+# For how many seconds a shortest counterexample is looked for.
+PATIENCE = 30
 # The words for a fault, by a part of what Spin says.
 FAULT = {
     "invalid end state": "a call is stuck",
@@ -86,10 +93,6 @@ RANDOM, RUNS = ["SENDERS=2 SENDS=2 TAKES=3", "SENDERS=3 CLOSERS=1 RECEIVERS=2 GR
 ROUNDS = int(os.environ.get("VAHEPITO_ROUNDS", 100))
 
 
-def thinned(rows):
-    return rows[:: max(100 // ROUNDS, 1)]
-
-
 def words_of(sizes):
     return [f"-D{word}" for word in sizes.split()]
 
@@ -99,7 +102,8 @@ def described(sizes):
     size = sizes_of(sizes)
     count = lambda n, word: f"{n} {word}{'s' * (n != 1)}"
     groups = f"{count(size['GROUPS'], 'group')} of " if size["GROUPS"] > 1 else ""
-    parts = [f"{count(size['SENDERS'], 'sender')} with {count(size['SENDS'], 'send')}",
+    last = f", the last one with {size['FINAL']}" if "FINAL" in size else ""
+    parts = [f"{count(size['SENDERS'], 'sender')} with {count(size['SENDS'], 'send')}{last}",
              f"{count(size['CLOSERS'], 'close')}" if size["CLOSERS"] else "",
              f"{groups}{count(size['RECEIVERS'], 'receiver')} with {count(size['TAKES'], 'take')}",
              f"capacity {size['CAPACITY']}", f"bound {size['BOUND']}",
@@ -131,14 +135,17 @@ class Room:
         self.run("spin", "-a", "-o3", *words_of(sizes), "queue.pml")
         self.run("gcc", "-w", "-O0", *flags.split(), "-DNOREDUCE", "-DVECTORSZ=2048", "-o", "pan", "pan.c")
 
-    def search(self, flags, *words, table=0):
-        """What the search says."""
+    def search(self, flags, *words, table=0, limit=None):
+        """What the search says; nothing if it hasn't ended after so many seconds."""
         loops = ["-l"] if "-DNP" in flags else []
-        return self.run("./pan", "-m100000", *loops, *words, table=table)
+        try:
+            return self.run("./pan", "-m100000", "-w19", *loops, *words, table=table, limit=limit)
+        except subprocess.TimeoutExpired:
+            return ""
 
-    def run(self, *command, table=0):
+    def run(self, *command, table=0, limit=None):
         done = subprocess.run(command, cwd=self.folder, env={**os.environ, "TABLE": str(table)}, text=True,
-                              stdout=subprocess.PIPE)
+                              stdout=subprocess.PIPE, timeout=limit)
         if done.returncode != 0:
             raise SystemExit(f"model: {' '.join(command)} has status {done.returncode}: {done.stdout}")
         return done.stdout
@@ -150,36 +157,42 @@ def states_of(said):
 
 def fault_in(said):
     """What is wrong in the last counterexample of a search."""
-    found = [text for text in re.findall(r"pan:\d+: (.*) .at depth", said)]
-    return next(words for part, words in FAULT.items() if part in found[-1]) if found else ""
+    found = re.findall(r"pan:\d+: (.*) .at depth|failed assertion: (.*)", said)
+    return next(words for part, words in FAULT.items() if part in "".join(found[-1])) if found else ""
 
 
 def is_clean(said):
     return "errors: 0\n" in said and "too small" not in said and "not completed" not in said
 
 
-def unreached(said):
-    return set(re.findall(r"queue\.pml:(\d+), state \d+, \"(?!-end-)", said.split("unreached in init")[0]))
-
-
 class Check:
-    """The checks that were made: how many states, and what failed."""
+    """The searches that were made: how many states, which lines of the model have a step that was in none of them, how
+    many wrong machines were found, and how many searches failed."""
 
     def __init__(self, room):
-        self.room, self.states, self.failed = room, 0, 0
+        self.room, self.states, self.left, self.found, self.failed = room, 0, None, 0, 0
 
     def tell(self, fault, line, said=""):
         print(f"model: {line}" if not fault else f"model: FAILED: {line}: {fault}\n{said}", flush=True)
         self.failed += bool(fault)
 
-    def right(self, text, sizes, flags, words):
-        """Searches a right model; the lines of it with a step that was never made."""
-        self.room.compile(text, f"QUIET=1 {sizes}", flags)
+    def right(self, text, sizes, has):
+        """Searches a right model."""
+        self.room.compile(text, f"QUIET=1 {sizes}", FAULTS)
+        said = self.all_right(sizes, FAULTS, has)
+        if text.startswith("/*"):
+            lines = set(re.findall(r"queue\.pml:(\d+), state \d+, \"(?!-end-)", said.split("unreached in init")[0]))
+            self.left = lines if self.left is None else self.left & lines
+
+    def all_right(self, sizes, flags, has):
         said = self.room.search(flags)
         self.states += states_of(said)
-        line = f"{described(sizes)}: {states_of(said)} states: {words}"
-        self.tell("" if is_clean(said) else "it isn't so", line, said)
-        return unreached(said)
+        self.tell("" if is_clean(said) else "it isn't so", f"{described(sizes)}: {states_of(said)} states: {has}", said)
+        return said
+
+    def reached(self):
+        for line in sorted(self.left, key=int):
+            self.tell("its step is made in no search", f"line {line} of queue.pml")
 
     def buffered(self, text, sizes):
         """Compares the histories with store buffers with those of atomic steps."""
@@ -197,12 +210,16 @@ class Check:
             line += f"; {more} of no queue if all stores are plain"
         self.tell(fault, line, said[-2000:])
 
-    def wrong(self, text, sizes, flags, names):
-        """Searches broken tables, each by its number in the model."""
+    def wrong(self, text, sizes, flags, names, has=None):
+        """Searches models in which something is wrong, each by its number in the text; and the right one."""
         self.room.compile(text, f"QUIET=1 {sizes}", flags)
+        if has:
+            self.all_right(sizes, flags, has)
         for number, name in enumerate(names, 1):
             said = self.room.search(flags, "-c1", table=number)
-            self.tell("" if "errors: 1\n" in said else "nothing wrong was found",
+            is_found = "errors: 1\n" in said
+            self.found += is_found
+            self.tell("" if is_found else "nothing wrong was found",
                       f"{described(sizes)}: {name} is found after {states_of(said)} states: {fault_in(said)}")
 
     def random(self, text, sizes, table=None):
@@ -238,48 +255,63 @@ def plan_of(sizes, steps, table=None):
             "receivers": [size["TAKES"]] * (size["RECEIVERS"] * size["GROUPS"]), "schedule": schedule}
 
 
-def shortest(room, name):
-    """The shortest counterexample of a broken table, as a plan; what is wrong there on standard error."""
-    sizes, flags = next((sizes, flags) for sizes, flags, names in WRONG if name in names)
-    room.compile(model.model(name), sizes, flags if flags == CYCLES else f"{flags} -DREACH")
-    said = room.search(flags, "-i")
-    steps = re.findall(r"\b([sr]\d+) \w+$", room.run("spin", "-t", *words_of(sizes), "queue.pml"), re.M)
-    print(f"model: {name}: {len(steps)} steps: {fault_in(said)}", file=sys.stderr)
-    return plan_of(sizes, steps)
+def show(room, text, sizes, flags, name):
+    """Prints the shortest counterexample of a model that is found in some time: what is wrong, and a link to the page,
+    on standard error; and its plan."""
+    room.compile(text, sizes, flags if flags == CYCLES else f"{flags} -DREACH")
+    room.search(flags, "-i", limit=PATIENCE)
+    if not (room.folder / "queue.pml.trail").exists():
+        print(f"model: {name}: {described(sizes)}: nothing wrong was found", file=sys.stderr)
+        return 1
+    said = room.run("spin", "-t", *words_of(sizes), "queue.pml")
+    steps = re.findall(r"\b([sr]\d+) \w+$", said, re.M)
+    plan = json.dumps(plan_of(sizes, steps), separators=(",", ":"))
+    table = f"table={name}&" if name in VARIANTS else ""
+    fault = "a run is endless" if flags == CYCLES else fault_in(said) or "a call is stuck"
+    print(f"model: {name}: {described(sizes)}: {len(steps)} steps: {fault}\n"
+          f"docs/pages/index.html#{table}event={len(steps)}&plan={urllib.parse.quote(plan, safe=',:')}", file=sys.stderr)
+    print(plan)
+    return 0
 
 
-def main():
-    names = [name for _, _, names in WRONG for name in names]
-    if sys.argv[2:] or sys.argv[1:] and sys.argv[1] not in names:
+def main(words):
+    tables = {name: (sizes, flags) for _, flags, names, _ in WRONG for name, sizes in names.items()}
+    is_file = words and words[0].endswith(".pml") and all(re.fullmatch(r"[A-Z]+=\d+", word) for word in words[1:])
+    if not is_file and words and (words[1:] or words[0] not in tables):
         print(__doc__)
-        return 0 if sys.argv[1:] in (["-h"], ["--help"]) else 64
+        return 0 if words in (["-h"], ["--help"]) else 64
     if not shutil.which("spin") or not shutil.which("gcc"):
         print("model: SKIPPED: spin or gcc is not on this machine")
         return 77
-    text, long_text = (TOP / "tests/model/queue.pml").read_text(), model.model("two_words")
     with tempfile.TemporaryDirectory() as folder:
         room = Room(folder)
-        if sys.argv[1:]:
-            print(json.dumps(shortest(room, sys.argv[1])))
-            return 0
-        check = Check(room)
-        left = [check.right(text, *row) for row in thinned(RIGHT)]
-        check.right(long_text, LONG_BODIES, FAULTS, "the same with bodies of one word and of two")
-        for line in sorted(set.intersection(*left), key=int) if len(left) == len(RIGHT) else []:
-            check.tell("its step is made in no search", f"line {line} of queue.pml")
-        for sizes in thinned(BUFFERED):
-            check.buffered(text, sizes)
-        for sizes in thinned(RANDOM):
-            check.random(text, sizes)
-            check.random(long_text, sizes, "two_words")
-        for sizes, flags, tables in thinned(WRONG):
-            tables = thinned(tables)
-            check.wrong(model.model(None, *tables), sizes, flags, tables)
-        for sizes, words in thinned(OTHER_POINTS):
-            check.wrong(text, sizes, FAULTS, words)
-    print(f"model: {check.states} states without a fault; {check.failed} failed")
+        if is_file:
+            text = pathlib.Path(words[0]).read_text()
+            return show(room, text, " ".join(words[1:]), FAULTS, pathlib.Path(words[0]).stem)
+        if words:
+            return show(room, model.model(words[0]), *tables[words[0]], words[0])
+        return check_all(Check(room))
+
+
+def check_all(check):
+    text, long_text = (TOP / "tests/model/queue.pml").read_text(), model.model("two_words")
+    searches = [*((check.right, text, *row) for row in RIGHT),
+                (check.right, long_text, LONG_BODIES, f"{AT_POINTS}, with bodies of one word and of two"),
+                *((check.buffered, text, sizes) for sizes in BUFFERED),
+                *((check.random, text, sizes) for sizes in RANDOM),
+                *((check.random, long_text, sizes, "two_words") for sizes in RANDOM),
+                (check.wrong, model.model(None, None, None), OTHER_POINTS[0], FAULTS, OTHER_POINTS[1]),
+                *((check.wrong, model.model(None, *tables), sizes, flags, tables, has)
+                  for sizes, flags, tables, has in WRONG)]
+    made = searches[:: max(100 // ROUNDS, 1)]
+    for search, *words in made:
+        search(*words)
+    if made == searches:
+        check.reached()
+    print(f"model: {check.failed} searches FAILED" if check.failed
+          else f"model: no fault in {check.states} states, and {check.found} wrong machines are found")
     return bool(check.failed)
 
 
 if __name__ == "__main__":
-    sys.exit(main())
+    sys.exit(main(sys.argv[1:]))

@@ -391,24 +391,30 @@ HEAD = """\
 
        spin -a -DTAKES=2 tests/model/queue.pml && gcc -O1 -DSAFETY -o pan pan.c && ./pan */
 """
-REQUEST = made("", tag=variable("tag"), body=made("", first=variable("body"), second=number(0), third=number(0),
-                                                fourth=number(0)))
-LONG_REQUEST = made("", tag=variable("tag"), body=made("", first=variable("body"), second=variable("more"),
-                                                     third=number(0), fourth=number(0)))
+CALLS = {"sender": ["NEW_SEND", "NEW_CLOSE"], "receiver": ["NEW_TAKE"]}
 
 
-def process(tables, name, calls, chain, request):
-    """The processes of a chain's passes: each step is that of a table, by its number among these."""
-    sides = [Side(table, chain, request(table)) for table in tables]
-    begin = sides[0].steps["ResetNext"]
-    options = [f"  :: atomic {{ {call}; {begin} }}" for call in calls]
+@functools.cache
+def side(table, name):
+    """The steps of the senders, or of the receivers of a group."""
+    if name == "receiver":
+        return Side(table, made("Take", **{"0": variable("group")}), made(""))
+    second = variable("more") if table == "two_words" else number(0)
+    body = made("", first=variable("body"), second=second, third=number(0), fourth=number(0))
+    return Side(table, made("Send"), made("", tag=variable("tag"), body=body))
+
+
+def process(tables, name):
+    """The processes of a side: each step is that of a table, by its number among these."""
+    sides = [side(table, name) for table in tables]
+    options = [f"  :: atomic {{ {call}; {sides[0].steps['ResetNext']} }}" for call in CALLS[name]]
     labels = []
-    for place in dict.fromkeys(place for side in sides for place in side.steps if place != "ResetNext"):
-        having = {k: side.steps[place] for k, side in enumerate(sides) if place in side.steps}
+    for place in dict.fromkeys(place for one in sides for place in one.steps if place != "ResetNext"):
+        having = {k: one.steps[place] for k, one in enumerate(sides) if place in one.steps}
         usual = next(iter(having.values()))
         others = [(f"table == {k}", text) for k, text in having.items() if text != usual]
         labels.append(f"{place}:\n  atomic {{ {choice([*others, ('', usual)])} }}")
-    own = ", ".join(sorted(set.union(*(side.registers for side in sides))))
+    own = ", ".join(sorted(set.union(*(one.registers for one in sides))))
     return "\n".join([f"proctype {name}(byte me; byte own; bit closes; byte chain) {{", f"  byte made, {own};", "end:",
                       "  if", *options, "  fi;", ";\n".join(labels), "}"])
 
@@ -417,14 +423,11 @@ def model(*tables):
     """The model of a table, None for the right one; or of several, of which the environment's TABLE names one by its
     number."""
     tables = tables or (None,)
-    sender = process(tables, "sender", ["NEW_SEND", "NEW_CLOSE"], made("Send"),
-                     lambda table: LONG_REQUEST if table == "two_words" else REQUEST)
-    receiver = process(tables, "receiver", ["NEW_TAKE"], made("Take", **{"0": variable("group")}),
-                       lambda table: made(""))
     head = ("#define TWO_WORDS\n" if "two_words" in tables else "") + '#include "around.pml"\n'
     head += "byte table;\n" if len(tables) > 1 else ""
     chosen = '  c_code { now.table = atoi(getenv("TABLE")); };\n' if len(tables) > 1 else ""
-    text = f"{head}\n{sender}\n\n{receiver}\n\ninit {{\n{chosen}  atomic {{ OPENS() }};\n  CHECKED\n}}\n"
+    text = (f"{head}\n{process(tables, 'sender')}\n\n{process(tables, 'receiver')}\n\n"
+            f"init {{\n{chosen}  atomic {{ OPENS() }};\n  CHECKED\n}}\n")
     return "".join(f"{wrapped(line)}\n" for line in text.splitlines())
 
 

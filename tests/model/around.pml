@@ -328,6 +328,14 @@ bit busy[GROUPS + 1];
 /* For each chain of takes the list node that a take reads next, and the node that a send prepares, each + 1. */
 byte reads_next[GROUPS + 1], prepared;
 #define BEGINS assert(asker[ROW(chain, own)] == 0)
+/* wrong, for tests/model.py: Full answers for the moment of its decision; the place of a call is that of its link */
+#ifdef OTHER_POINTS
+#define FULL_LATE (table == 1)
+#define BY_LINK (table == 2)
+#else
+#define FULL_LATE false
+#define BY_LINK false
+#endif
 inline READS(n) { d_step {
   reads_next[chain] = n;
   assert(reads_next[chain] == 0 || reads_next[chain] != prepared) }
@@ -341,15 +349,9 @@ inline CLEARS(n) { d_step {
   od }
 }
 #define LINKED prepared = 0
-#ifdef BY_LINK
-/* wrong: the place of a call is decided at its link */
-#define ENTERS(n) asker[ROW(chain, n)] = me + 1; asks[me] = (chain == 0 -> tag : 0)
-#define LINKS turn[me] = entered[chain]; entered[chain]++
-#else
-#define ENTERS(n) asker[ROW(chain, n)] = me + 1; asks[me] = (chain == 0 -> tag : 0); turn[me] = entered[chain]; \
-  entered[chain]++
-#define LINKS skip
-#endif
+#define ENTERS(n) asker[ROW(chain, n)] = me + 1; asks[me] = (chain == 0 -> tag : 0); if :: BY_LINK :: else -> QUEUES fi
+#define LINKS if :: BY_LINK -> QUEUES :: else fi
+#define QUEUES turn[me] = entered[chain]; entered[chain]++
 #define SERVES assert(!busy[chain]); busy[chain] = 1
 #define HANDS busy[chain] = 0
 inline LEAST() {
@@ -360,12 +362,7 @@ inline LEAST() {
   :: else -> break
   od
 }
-#ifdef FULL_LATE
-/* wrong: Full answers for the moment of its decision */
-#define SCANS skip
-#else
-#define SCANS d_step { LEAST(); was_full = (!is_shut && count < LIFE && count - least == CAPACITY) }
-#endif
+#define SCANS d_step { LEAST(); was_full = (!is_shut && count < LIFE && count - least == CAPACITY && !FULL_LATE) }
 #define DECIDES(code, number, t, b, m) d_step { DECIDED(IS_##code, number, t, b, m) }
 inline DECIDED(code, number, t, b, m) {
   p = asker[ROW(chain, at)];
