@@ -137,6 +137,7 @@ def add_crate(steps):
               **of_unproved)
     for example, prints in (("thread_pool", "9592 primes below 100000"), ("pipeline", "77031 takes 350 steps"),
                             ("tasks", "the sum of the squares up to 10000 is 333383335000"),
+                            ("topics", "10000 orders in the archive, 100010000 in the accounts"),
                             ("log", "40000 events in the archive, 4000 alarms")):
         steps.add(f"Rust: the example {example}", *cargo, "run", "--example", example, prints=prints, after=compiled,
                   **main)

@@ -92,7 +92,8 @@ FUTURES = {
 BATCHES = {
     "send_many and recv_many of 64 words": (
         "let (s, r) = channel::<u64>(64)?; let (mut some, mut all) = (std::collections::VecDeque::new(), vec![]);",
-        "some.extend(i..i + 64); s.send_many(&mut some).unwrap(); assert_eq!(r.recv_many(&mut all, 64), 64); all.clear();",
+        "some.extend(i..i + 64); s.send_many(&mut some).unwrap(); assert_eq!(r.recv_many(&mut all, 64), 64); "
+        "all.clear();",
         37262,
     ),
 }

@@ -106,7 +106,8 @@ const FOR_AN_EXCHANGE: Duration = Duration::from_nanos(400);
 /// How often it then yields its processor, which the partner may wait for, before it parks.
 const YIELDS: u32 = 4;
 
-/// Waits until this holds, by looks at a word that the partner alone writes; or until it is time to park, or this moment.
+/// Waits until this holds, by looks at a word that the partner alone writes; or until it is time to park, or this
+/// moment.
 pub fn wait_for_partner(until: Option<Instant>, is_done: impl Fn() -> bool) {
     let (begin, mut yields) = (Instant::now(), 0);
     while !is_done() {

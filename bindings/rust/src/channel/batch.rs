@@ -1,9 +1,9 @@
 //! Batches: sends and takes of many items, one after another. Each item is a send or a take of its own, and items of
 //! other threads may come between two of them; but many are made in one seat, and so cost less.
 //!
-//! While the seat is held no user code runs, and no memory is asked for: those that wait are notified, once for each item,
-//! when the seat is free, and items that lie in boxes go one by one. What a seat can't do ends its part of the batch, and
-//! is done by a call for one item: a wait, the next queue, capacity 0, and a send beside reserved places.
+//! While the seat is held no user code runs, and no memory is asked for: those that wait are notified, once for each
+//! item, when the seat is free, and items that lie in boxes go one by one. A call for one item does all else: a wait,
+//! the next queue, capacity 0, and a send beside reserved places.
 use super::body::{Item, Kind, lend};
 use super::core::{Core, NotSent, Side};
 use super::pool::SeatGuard;
@@ -82,8 +82,8 @@ impl<T> Sender<T> {
         Ok(())
     }
 
-    /// Sends these items, from the front on, and waits for room. Each is a send of its own, and they keep their order; items
-    /// of other senders may come between two of them. This takes less time than as many calls of
+    /// Sends these items, from the front on, and waits for room. Each is a send of its own, and they keep their order;
+    /// items of other senders may come between two of them. This takes less time than as many calls of
     /// [`send`](Sender::send).
     ///
     /// # Errors
@@ -197,8 +197,8 @@ impl<T> Receiver<T> {
         buffer.len() - begin
     }
 
-    /// Takes up to `limit` items, and appends them: waits for the first one, and takes those that are there then. Returns
-    /// how many: 0 at the end of the channel, or if `limit` is 0. This takes less time than as many calls of
+    /// Takes up to `limit` items, and appends them: waits for the first one, and takes those that are there then.
+    /// Returns how many: 0 at the end of the channel, or if `limit` is 0. This takes less time than as many calls of
     /// [`recv`](Receiver::recv).
     ///
     /// # Panics

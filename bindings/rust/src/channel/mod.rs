@@ -163,8 +163,8 @@ pub fn bounded<T>(capacity: usize) -> (Sender<T>, Receiver<T>) {
     opened(channel(capacity))
 }
 
-/// Opens a channel that holds any number of items, and gives its first sender and its first receiver. Without memory for
-/// the first queue the program is aborted, as by `Vec`; [`try_unbounded`] returns an error then.
+/// Opens a channel that holds any number of items, and gives its first sender and its first receiver. Without memory
+/// for the first queue the program is aborted, as by `Vec`; [`try_unbounded`] returns an error then.
 ///
 /// A send never waits for room, and [`try_send`](Sender::try_send) never finds the channel full; all else is as of
 /// [`channel`]. [`capacity`](Sender::capacity) is None.

@@ -9,8 +9,9 @@
 //! parks between two of them. Sends and takes make the same polls: a poll that is done has exchanged the item, or the
 //! channel is closed.
 //!
-//! **A call allocates nothing**: a thread keeps the waiters of its calls that are over, and uses them again. A thread or
-//! a select that has met a waiter doesn't touch the waiter after the waiter's call is over, but to drop its reference.
+//! **A call allocates nothing**: a thread keeps the waiters of its calls that are over, and uses them again. A thread
+//! or a select that has met a waiter doesn't touch the waiter after the waiter's call is over, but to drop its
+//! reference.
 //!
 //! **None is missed.** A call looks for others and posts itself, in all the channels of its select, in one step: it
 //! has the locks of all of them. So of two that might meet, one is posted first, and the other one finds it. Before
@@ -200,8 +201,8 @@ impl Drop for Lists {
 }
 
 impl Lists {
-    /// Meets the first of the other side that no call has met. If the send has its item, both exchange the item, and the
-    /// other one wakes.
+    /// Meets the first of the other side that no call has met. If the send has its item, both exchange the item, and
+    /// the other one wakes.
     fn meet(&mut self, side: usize, item: &mut Unsent, woken: &mut Option<Waker>) -> Option<Begun> {
         let returned = (side == TAKES).then(|| self.returned.pop_front());
         if let Some(item) = returned.flatten() {
@@ -279,9 +280,9 @@ impl<'a> Locked<'a> {
     }
 }
 
-/// Meets one that is posted for one of these operations, and gives its index. If there is none, it posts a waiter for all
-/// that may meet another, at these places, which wakes this waker, a thread's. Or it posts nothing: then none was posted at
-/// one moment.
+/// Meets one that is posted for one of these operations, and gives its index. If there is none, it posts a waiter for
+/// all that may meet another, at these places, which wakes this waker, a thread's. Or it posts nothing: then none was
+/// posted at one moment.
 pub fn meet_each(
     entries: &[Entry],
     posted: Option<(&mut [Place], Waker)>,
@@ -358,8 +359,8 @@ pub fn is_sent(item: &Unsent) -> Sent {
     item.as_ref().map_or(Ok(()), |_| Err(NotSent::Closed))
 }
 
-/// A send or a take of a channel of capacity 0. It is done if the item is exchanged, or the channel is closed: then a send
-/// has its item still, and a take has none.
+/// A send or a take of a channel of capacity 0. It is done if the item is exchanged, or the channel is closed: then a
+/// send has its item still, and a take has none.
 #[derive(Clone, Copy)]
 pub struct Meeting<'a> {
     pub core: &'a Core,
@@ -425,8 +426,8 @@ impl Meeting<'_> {
         item
     }
 
-    /// Takes this call off its list, with the item that it has. Returns false if a selected send has met it, which is to
-    /// give it an item; unless the call is dropped.
+    /// Takes this call off its list, with the item that it has. Returns false if a selected send has met it, which is
+    /// to give it an item; unless the call is dropped.
     fn withdraw(self, it: &Waiter, drops: bool, item: &mut Unsent, panics: &mut Panics) -> bool {
         let number = lock(&it.0).number;
         lock(&self.of.0).posted[self.side].remove(number);

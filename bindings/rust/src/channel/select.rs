@@ -10,9 +10,10 @@
 //! sent; of a send the items that were sent, and those that the slowest group has taken, and the capacity. Both only grow, and the
 //! operation isn't ready if they are equal. The select reads the first number of each operation, and then the second number of
 //! each; see `Turn::is_none_ready`. Where these numbers say nothing it stands in all lines, tries, and leaves: if no line
-//! was notified until then, none was ready. That is so for capacity 0 beside queues, beside reserved places, and beside a call whose thread
-//! doesn't run; then others that wait in the same line may be notified in its place, and the moments may differ. If all operations are of
-//! capacity 0, the select looks once while it has the locks of all their lists, and posts nothing.
+//! was notified until then, none was ready. That is so for capacity 0 beside queues, beside reserved places, and beside
+//! a call whose thread doesn't run; then others that wait in the same line may be notified in its place, and the
+//! moments may differ. If all operations are of capacity 0, the select looks once while it has the locks of all their
+//! lists, and posts nothing.
 //!
 //! **A selected take has its item.** The try is the take itself, so there is one, and no other receiver gets the item.
 //! [`SelectedOperation`] keeps it until [`recv`](SelectedOperation::recv) hands it over.
@@ -496,8 +497,8 @@ impl<'s, 'a> Turn<'s, 'a> {
         })
     }
 
-    /// After the time of a select over channels of capacity 0 alone: meets one that is posted, or finds that none was posted at one
-    /// moment. It posts nothing.
+    /// After the time of a select over channels of capacity 0 alone: meets one that is posted, or finds that none was
+    /// posted at one moment. It posts nothing.
     fn meet_at_the_end(&mut self) -> Option<usize> {
         loop {
             let (at, met) = meet_each(self.entries, None).ok()?;

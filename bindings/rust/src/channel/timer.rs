@@ -1,5 +1,5 @@
-//! Timers, and a receiver that has no item. None has a queue: a call that waits parks until the moment, and futures that
-//! wait are woken by a thread, which is the same for all timers.
+//! Timers, and a receiver that has no item. None has a queue: a call that waits parks until the moment, and futures
+//! that wait are woken by a thread, which is the same for all timers.
 use super::Receiver;
 use super::body::Item;
 use super::side::Source;
@@ -25,8 +25,8 @@ pub struct Timer {
     pub line: Event,
 }
 
-/// The timers for whose moments futures wait, by the moments and the timers' addresses. Now and then those that are gone are
-/// taken out.
+/// The timers for whose moments futures wait, by the moments and the timers' addresses. Now and then those that are
+/// gone are taken out.
 static AWAITED: Mutex<BTreeMap<(Instant, usize), Weak<Timer>>> = Mutex::new(BTreeMap::new());
 
 /// The thread that wakes the futures, once one waits.

@@ -15,8 +15,8 @@ pub use error::OpenError;
 use handle::Handle;
 use std::mem::{MaybeUninit, replace};
 
-/// Whether the library is below the channels: without `--cfg vahepito_unproved`. With the feature `strict` it is the library
-/// as it was proved; by default some of its stores are release stores. The channels themselves are tested.
+/// Whether the library is below the channels: without `--cfg vahepito_unproved`. With the feature `strict` it is the
+/// library as it was proved; by default some of its stores are release stores. The channels themselves are tested.
 ///
 /// Whoever builds a program sets that, and no dependency can. A program that is to have the proved queue says so:
 ///

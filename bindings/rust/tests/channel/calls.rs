@@ -749,8 +749,8 @@ fn groups_of_threads() {
     }
 }
 
-/// Batches keep the order of their sender beside each other and beside single calls, in every kind of channel; and each item wakes a
-/// receiver.
+/// Batches keep the order of their sender beside each other and beside single calls, in every kind of channel; and each
+/// item wakes a receiver.
 #[test]
 fn batches_of_many_threads() {
     const SENDERS: usize = 3;
