@@ -272,8 +272,7 @@ def add_copies(steps):
               CARGO_TARGET_DIR=room / "of_vendored")
     refused = '''! cargo check --offline --target riscv64gc-unknown-linux-gnu 2>"$0" &&
         grep -F 'cfg vahepito_unproved' "$0" &&
-        grep -F 'is built for x86_64-unknown-linux-gnu and aarch64-unknown-linux-gnu alone, and the target is riscv' "$0"
-        '''
+        grep -F 'built for x86_64-unknown-linux-gnu and aarch64-unknown-linux-gnu alone, and the target is riscv' "$0"'''
     steps.add("Rust: another target is refused", "bash", "-c", refused, room / "said", folder=copy, **own)
 
 
