@@ -27,7 +27,8 @@ install:
 	@case ":$$PATH:" in *":$(PREFIX)/bin:"*) ;; *) [ "$(DESTDIR)" ] || \
 	  echo 'ccq is found with this line in ~/.profile: PATH="$(PREFIX)/bin:$$PATH"';; esac
 	@case "$$SHELL:$(PREFIX)" in *zsh:/usr | *zsh:/usr/local) ;; *zsh:*) \
-	  echo 'zsh looks there with this line in ~/.zshrc, before compinit: fpath=("$(PREFIX)/share/zsh/site-functions" $$fpath)';; \
+	  echo 'zsh looks there with this line in ~/.zshrc, before compinit:' \
+	    'fpath=("$(PREFIX)/share/zsh/site-functions" $$fpath)';; \
 	esac
 
 uninstall:

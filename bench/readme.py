@@ -4,8 +4,8 @@
     bench/readme.py [--write]
 
 Each figure is a cell of docs/BENCH.md: an item's time by the clock, the p99.99 of a send of 16 senders beside four
-receivers, and an item's time in C. The peers' versions are those that docs/BENCH.md names. Without --write it writes nothing, and says if README
-differs; exit status 1 then.
+receivers, and an item's time in C. The peers' versions are those that docs/BENCH.md names. Without --write it writes
+nothing, and says if README differs; exit status 1 then.
 """
 import os
 import re

@@ -63,8 +63,10 @@ try_tests cc_tests
 tests/rows.py --try""".splitlines()
 # Checks that run steps side by side, and show each when it has ended.
 OF_STEPS = {"tests/bindings.py", "tests/show.sh", "tests/readme.py"}
-LEFT_OUT = "proofs, wrong bodies, README in a fresh Debian, builds by two compilers, refused memory, the build of the " \
-    "library, most of the rows, pages in a browser, valgrind, sanitizers, the package"
+# Checks whose threads spin for each other on all processors: each runs alone.
+ALONE = {"tests/store_buffers.py"}
+LEFT_OUT = "proofs, wrong bodies, README in a fresh Debian, builds by two compilers, refused memory, the build of " \
+    "the library, most of the rows, pages in a browser, valgrind, sanitizers, the package"
 # The tests of a crate, without their proofs; all that they say if one fails.
 TRY_TESTS = """command -v rt >/dev/null || { echo "$0: its tests: SKIPPED: rt is not on this machine"; exit 77; }
 said=$(cd "crates/$0" && rt try --test 2>&1) && echo "$0: $(grep '^test result' <<<"$said")" && exit
@@ -85,7 +87,8 @@ class Run:
             words = name.split()
             if words[0] == "try_tests":
                 words = ["bash", "-c", TRY_TESTS, words[1]]
-            commands.append(Command(name, words, at_once=words[0] in OF_STEPS, shares=words[0] in OF_STEPS))
+            commands.append(Command(name, words, at_once=words[0] in OF_STEPS, shares=words[0] in OF_STEPS,
+                                    processors=10000 if words[0] in ALONE else 1))
         side = Side(commands)
         for check in side.run():
             if not check.at_once:
@@ -152,7 +155,8 @@ def gate(run):
             run.note(waited(yardstick)[1], start, "the yardstick")
         with yards.open("a") as file:
             start = time.time()
-            run.note(waited(subprocess.Popen(["tests/budget.py", "--yard"], stdout=file))[1], start, "the yardstick again")
+            again = subprocess.Popen(["tests/budget.py", "--yard"], stdout=file)
+            run.note(waited(again)[1], start, "the yardstick again")
         parts.write_text("\n".join(run.parts) + "\n")
         run.do([f"tests/budget.py {parts} {yards}"])
     return run.end(int(re.match(r"\d+", last)[0]))

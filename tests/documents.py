@@ -144,7 +144,8 @@ def wrong_programs(tree, path, text):
         begun = re.match(r"    \(?(?:cd [\w/]+ && )?(\.{0,2}/?[\w-]+(?:/[\w.-]+)+|\./[\w-]+)(?: |$)", line)
         name = begun[1].removeprefix("./") if begun else ""
         # What the reader's own compiler leaves, by the lines before, is there.
-        own = re.search(rf" -o {re.escape(name)}(?!\S)", text) or name.startswith("build/") and "cmake --build build\n" in text
+        own = re.search(rf" -o {re.escape(name)}(?!\S)", text)
+        own = own or name.startswith("build/") and "cmake --build build\n" in text
         if re.search(r"crates/\S*\bout/\w", line) or name and not own and not {name, f"{folder}/{name}"} & tree.files:
             yield at, f"a clone doesn't have this program: {line.strip()}"
 

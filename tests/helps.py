@@ -52,7 +52,8 @@ def other_statuses():
 def main():
     with ThreadPoolExecutor(len(os.sched_getaffinity(0))) as pool:
         paths = list(scripts())
-        found = [f"{path.relative_to(TOP)} --help: {said}" for path, said in zip(paths, pool.map(unexplained, paths)) if said]
+        found = zip(paths, pool.map(unexplained, paths))
+        found = [f"{path.relative_to(TOP)} --help: {said}" for path, said in found if said]
     try:
         found += [f"docs/FORMATS.md and `ccq --help` don't both have the status {it}" for it in other_statuses()]
         statuses = "the statuses are those of docs/FORMATS.md"

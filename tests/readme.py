@@ -187,8 +187,8 @@ def run_all(room, found):
             continue
         start = time.time()
         if part.needs:
-            install = f"DEBIAN_FRONTEND=noninteractive apt-get install -y --no-install-recommends {' '.join(part.needs)}"
-            status, said, _ = in_chroot(base, room, "/", install)
+            install = "DEBIAN_FRONTEND=noninteractive apt-get install -y --no-install-recommends "
+            status, said, _ = in_chroot(base, room, "/", install + " ".join(part.needs))
             if status != 0:
                 raise Skipped(f"{' '.join(part.needs)} couldn't be installed: {said.strip().splitlines()[-1]}")
         status, said, seconds = in_chroot(base, room, "/root/vahepito", part.run)

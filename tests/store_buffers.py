@@ -31,7 +31,7 @@ TOP = pathlib.Path(__file__).resolve().parent.parent
 ARCHIVES = TOP / "bindings/rust/lib/x86_64-unknown-linux-gnu"
 ROUNDS = 1000 * int(os.environ.get("VAHEPITO_ROUNDS", 100))
 OF_CONTROL = 6_000_000  # rounds in which the control has to miss; it stops at the first
-LIMIT = 240  # seconds of one run
+LIMIT = 1200  # seconds, on a machine with much other work
 # The programs with their words, and whether the control has to miss.
 FORMS = {("border",): True, ("queues", "accepted"): True, ("queues", "taken"): False, ("queues", "take"): False}
 
