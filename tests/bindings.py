@@ -40,11 +40,9 @@ OTHERS = '''for archive in "$0"/c/*/libvahepito.a; do
     linked=$("$says" | sed 's/.*library \\([0-9]*\\),.*/\\1/')
     VAHEPITO_LINKED=$linked VAHEPITO_LIB=$archive "$@" || exit; seen=1; [ -z "$VAHEPITO_ROUNDS" ] || break
 done; [ "$seen" ]'''
-# A search over the interleavings of a model calls nothing: once is enough.
-SEARCHES = ["--skip", "interleaving", "--skip", "the_search"]
 # Two tests look at how much memory the process has, which says nothing under another allocator. Of the rounds of the
 # long tests a few are enough there.
-FEWER = ["--skip", "frees_the_queue", "--skip", "cheap_in_memory", *SEARCHES]
+FEWER = ["--skip", "frees_the_queue", "--skip", "cheap_in_memory"]
 
 
 def said(*words):
@@ -98,6 +96,24 @@ def add_c(steps):
     steps.add("C over the strict archive", *make, *how, *strict, "STRICT=yes", f"OUT={steps.room}/strict", limit=1800)
 
 
+def add_searches(steps, cargo, bare):
+    """The crate's own code in many schedules of a few threads, with a small queue in the place of the library."""
+    flags = {"RUSTFLAGS": "--cfg vahepito_explore --cfg vahepito_unproved"}
+    explored = {**flags, **bare, "CARGO_TARGET_DIR": steps.target("of_search"),
+                "CARGO_PROFILE_TEST_OPT_LEVEL": 0 if steps.quick else 1}
+    search = [*cargo, "test", "--test", "explore", "--"]
+    two = "Rust: schedules with two preemptions"
+    steps.add(two, *search, "bound=2", "samples=500", **explored)
+    some = [*search, "bound=2", "samples=500", "buffers"]
+    steps.add("Rust: the same with store buffers", *some, after=(two,), **explored)
+    steps.add("Rust: the same once a call was parked", *some, "used", after=(two,), **explored)
+    if not steps.quick:
+        steps.add("Rust: all schedules with one preemption", *search, after=(two,), **explored)
+        waiting = "Rust: all schedules with one preemption, or with one store that waits"
+        steps.add(waiting, *search, "buffers", after=(two,), **explored)
+        steps.add("Rust: the search of schedules finds each fault", TOP / "tests/explore.py", limit=600)
+
+
 def add_crate(steps):
     """The crate, its examples, and the recorder. A debugger's lines are enough here: valgrind and the sanitizers print
     them. The tests with a feature and those of the package run under neither, and are compiled without them."""
@@ -112,12 +128,12 @@ def add_crate(steps):
     lib = [*cargo, "test", "--lib"]
     steps.add("Rust: compiled", *cargo, "test", "--no-run", "--tests", **main)
     compiled = ("Rust: compiled",)
-    steps.add("Rust: tests with the feature strict", *cargo, "test", *chosen, "--features", "strict", "--", *SEARCHES,
-              limit=600, CARGO_TARGET_DIR=steps.target("of_strict"), **bare, VAHEPITO_ROUNDS=rounds(25))
+    steps.add("Rust: tests with the feature strict", *cargo, "test", *chosen, "--features", "strict", limit=600,
+              CARGO_TARGET_DIR=steps.target("of_strict"), **bare, VAHEPITO_ROUNDS=rounds(25))
     of_unproved = {"CARGO_TARGET_DIR": steps.target("of_unproved"), "RUSTFLAGS": "--cfg vahepito_unproved"}
     locked = "Rust: tests with a lock in the place of the queue"
-    steps.add(locked, *cargo, "test", *chosen, "--", *SEARCHES, limit=600, **of_unproved, **bare,
-              VAHEPITO_ROUNDS=rounds(5))
+    steps.add(locked, *cargo, "test", *chosen, limit=600, **of_unproved, **bare, VAHEPITO_ROUNDS=rounds(5))
+    add_searches(steps, cargo, bare)
     steps.add("Rust: tests in src", *lib, limit=600, after=compiled, **in_src)
     steps.add("Rust: tests beside src", *cargo, "test", "--test", "*", limit=600, after=compiled, **main)
     steps.add("Rust: tests in the documentation", *cargo, "test", "--doc", after=compiled, **main)
@@ -245,8 +261,8 @@ def add_copies(steps):
     there = ("Rust: the package has what the copy has",)
     own = {"CARGO_TARGET_DIR": room / "of_package", "CARGO_PROFILE_DEV_DEBUG": "none"}
     manifest = ["--manifest-path", package / "Cargo.toml"]
-    steps.add("Rust: the tests of the package", "cargo", "test", *manifest, "--tests", *cargo[1:], "--", *SEARCHES,
-              limit=600, after=there, VAHEPITO_ROUNDS=1, **own)
+    steps.add("Rust: the tests of the package", "cargo", "test", *manifest, "--tests", *cargo[1:], limit=600,
+              after=there, VAHEPITO_ROUNDS=1, **own)
     if said("cargo", "clippy", "--version"):
         steps.add("Rust: clippy on the package", "cargo", "clippy", "--quiet", "--offline", "--all-targets", *manifest,
                   "--", "-D", "warnings", after=there, **own)
@@ -272,7 +288,7 @@ def add_copies(steps):
               CARGO_TARGET_DIR=room / "of_vendored")
     refused = '''! cargo check --offline --target riscv64gc-unknown-linux-gnu 2>"$0" &&
         grep -F 'cfg vahepito_unproved' "$0" &&
-        grep -F 'built for x86_64-unknown-linux-gnu and aarch64-unknown-linux-gnu alone, and the target is riscv' "$0"'''
+        grep -F 'x86_64-unknown-linux-gnu and aarch64-unknown-linux-gnu alone, and the target is riscv' "$0"'''
     steps.add("Rust: another target is refused", "bash", "-c", refused, room / "said", folder=copy, **own)
 
 

@@ -24,7 +24,7 @@ sys.dont_write_bytecode = True
 import asked
 TOP = Path(__file__).resolve().parent.parent
 REGISTRY = Path("/usr/share/cargo/registry")
-SHAPE = ("config(64);\n    let capacity = 512;", "config(1);\n    let capacity = 1;")
+SHAPE = ("[64, 512]", "[1, 1]")
 RESULT = re.compile(r"^test (\S+)(?: - should panic)? \.\.\. (ok|FAILED|ignored)", re.M)
 
 # Of each other channel: its package, the files of its tests, what these need, each with its features, and its edition.

@@ -3,13 +3,13 @@
 //!
 //! Each wait is a time by the clock, since a pause takes 4 ns on one processor and 60 on another. `bindings/WAITS.md` has
 //! the reasons.
+use crate::host::hint::spin_loop;
+use crate::host::sync::OnceLock;
+use crate::host::sync::atomic::{AtomicU64, Ordering};
+use crate::host::thread;
+use crate::host::time::{Duration, Instant};
 use crate::scheduler::KNOWS_PROCESSORS;
-use std::hint::spin_loop;
 use std::ops::RangeInclusive;
-use std::sync::OnceLock;
-use std::sync::atomic::{AtomicU64, Ordering};
-use std::thread;
-use std::time::{Duration, Instant};
 
 /// How long a thread spins, and how long it then yields the processor, before it parks.
 pub struct Wait {

@@ -37,10 +37,13 @@
 //!
 //! An item's drop on an error that a call returned, or on what it took, is the caller's.
 //!
-//! `tests/channel/wakeups.rs` searches all interleavings of these steps in small models, and finds the lost wake-up
-//! if one of them is left out; `tests/channel/looks.rs` does the same for a look at the counts of seats, and `tests/channel/served.rs` for calls that
-//! another one serves.
+//! `tests/explore` runs this code in every schedule of a few threads with one preemption, also with stores that wait in
+//! buffers, and finds the lost wake-up if a step is left out.
 use crate::backoff::{Wait, wait_for_partner};
+use crate::host::sync::atomic::{AtomicBool, AtomicU32, AtomicUsize, Ordering};
+use crate::host::sync::{Arc, Mutex, MutexGuard, PoisonError};
+use crate::host::thread::{self, Thread, panicking};
+use crate::host::time::{Duration, Instant};
 use crate::numbered::Numbered;
 use crate::scheduler::ask_processor;
 use std::any::Any;
@@ -48,11 +51,7 @@ use std::cell::RefCell;
 use std::mem::{forget, replace, swap};
 use std::ops::Deref;
 use std::panic::{AssertUnwindSafe, catch_unwind, resume_unwind};
-use std::sync::atomic::{AtomicBool, AtomicU32, AtomicUsize, Ordering};
-use std::sync::{Arc, Mutex, MutexGuard, PoisonError};
 use std::task::{Poll, Wake, Waker};
-use std::thread::{self, Thread, panicking};
-use std::time::{Duration, Instant};
 
 pub fn lock<T>(mutex: &Mutex<T>) -> MutexGuard<'_, T> {
     mutex.lock().unwrap_or_else(PoisonError::into_inner)
@@ -291,6 +290,11 @@ thread_local! {
     /// Those of this thread that are idle. A wait inside of another (for a seat, or by an item's own
     /// drop or clone) has one of its own, so that it doesn't use up the other's notification.
     static PARKERS: RefCell<Vec<Arc<Parker>>> = const { RefCell::new(Vec::new()) };
+}
+
+#[cfg(vahepito_explore)]
+pub fn forget_parkers() {
+    PARKERS.take();
 }
 
 impl Parker {

@@ -5,6 +5,12 @@ mod backoff;
 mod broker;
 mod channel;
 mod event;
+#[cfg(vahepito_explore)]
+#[doc(hidden)]
+#[allow(missing_docs, unsafe_code)]
+#[path = "../tests/explore/schedule.rs"]
+pub mod explore;
+mod host;
 mod numbered;
 mod queue;
 mod scheduler;

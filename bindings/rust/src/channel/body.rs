@@ -11,14 +11,14 @@
 use super::core::{Core, NotSent, Sent};
 use super::pool::SeatGuard;
 use crate::event::ignore_panics;
+use crate::host::sync::atomic::{AtomicUsize, Ordering};
+use crate::host::sync::{Arc, Mutex};
 use crate::queue::handle::{Word, Words, code, hands_over};
 use std::marker::PhantomData;
 use std::mem::{ManuallyDrop, MaybeUninit, forget, size_of};
 use std::panic::{AssertUnwindSafe, catch_unwind, resume_unwind};
 use std::process::abort;
 use std::ptr;
-use std::sync::atomic::{AtomicUsize, Ordering};
-use std::sync::{Arc, Mutex};
 
 /// The greatest number of bytes of an item that travels in a body itself. From 9 bytes on a box costs fewer instructions than the
 /// words: 895 a pair of 32 bytes in place of 1,096. But one thread asks for its memory and another one frees it: between four pairs of

@@ -15,13 +15,13 @@ use super::rendezvous::{Meeting, Rendezvous, is_sent};
 use super::row::{Row, Shape};
 use crate::backoff::PACE;
 use crate::event::{Again, Apart, Event, Panics, Try, lock};
+use crate::host::sync::atomic::{AtomicBool, AtomicUsize, Ordering};
+use crate::host::sync::{Arc, Mutex};
 use crate::queue::handle::{Handle, code, has_taken, unexpected};
 use crate::queue::{self, Config, OpenError, Passes};
 use std::iter;
 use std::mem::ManuallyDrop;
 use std::ptr;
-use std::sync::atomic::{AtomicBool, AtomicUsize, Ordering};
-use std::sync::{Arc, Mutex};
 use std::time::Duration;
 
 /// A side of the channel: its senders, or a group of receivers.
@@ -80,7 +80,7 @@ pub const SENDERS: usize = 0;
 const ROOM_APART: usize = 64;
 
 /// A side of a channel of more items has all its seats from the opening on, so that no call has to move them over.
-pub const MOST_MOVED: usize = 64;
+pub const MOST_MOVED: usize = if cfg!(vahepito_explore) { 2 } else { 64 };
 
 /// The groups of receivers. The first one needs no box.
 pub struct Groups {

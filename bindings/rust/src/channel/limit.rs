@@ -15,7 +15,7 @@ use super::core::{Core, Sent, Side};
 use super::pool::{Patience, SeatGuard};
 use super::row::Row;
 use crate::event::{Again, Try, lock};
-use std::sync::atomic::{AtomicU64, Ordering};
+use crate::host::sync::atomic::{AtomicU64, Ordering};
 
 /// The limit of a row, and the counts by which it is kept.
 #[derive(Default)]

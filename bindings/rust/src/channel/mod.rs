@@ -12,6 +12,7 @@ mod judged;
 mod limit;
 #[cfg(test)]
 mod linear;
+mod moments;
 mod pool;
 mod receiver;
 mod rendezvous;
@@ -57,14 +58,35 @@ fn config(capacity: usize) -> Config {
     Config::new(seats, seats, capacity as u32)
 }
 
-/// The most places of one queue.
-const MOST_PLACES: usize = 4096;
+/// The most places of one queue. A few send the search to the end of a queue.
+const MOST_PLACES: usize = if cfg!(vahepito_explore) { 3 } else { 4096 };
 
 /// The queues of a row: the first one is small, and the others are opened in some ten microseconds.
 fn shape() -> Shape {
-    let first = config(64);
-    let capacity = 512;
-    [first, Config { capacity, ..first }]
+    let places = if cfg!(vahepito_explore) {
+        [1, 1]
+    } else {
+        [64, 512]
+    };
+    places.map(config)
+}
+
+/// This thread has the state of a new one.
+#[cfg(vahepito_explore)]
+#[doc(hidden)]
+#[allow(missing_docs)]
+pub fn forget_thread() {
+    crate::event::forget_parkers();
+    pool::forget_hint();
+}
+
+/// From here on each call gives its seat back by an exchange.
+#[cfg(vahepito_explore)]
+#[doc(hidden)]
+#[allow(missing_docs)]
+pub fn use_lines<T>(sender: &Sender<T>) {
+    let core = sender.core();
+    (0..=core.groups.len()).for_each(|it| core.side(it).seats.use_line());
 }
 
 /// A channel with a queue of this capacity; or with a row of them, if one isn't enough.

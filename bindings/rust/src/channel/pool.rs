@@ -14,14 +14,17 @@
 
 use crate::backoff::{Contention, FOR_A_LOOK, FOR_OWN_SIDE};
 use crate::event::{Apart, Event, Panics, Parks, Served, lock, wait_without_end};
+use crate::host::sync::atomic::{
+    AtomicBool, AtomicU16, AtomicU32, AtomicU64, AtomicUsize, Ordering,
+};
+use crate::host::sync::{Mutex, OnceLock};
+use crate::host::thread::available_parallelism;
+use crate::host::thread_number;
+use crate::host::time::{Duration, Instant};
 use crate::queue::handle::{Handle, NO_ITEM, Taken, Word, code, word_of};
 use crate::scheduler::{ask_processor, last_processor};
 use std::cell::{Cell, UnsafeCell};
 use std::mem::ManuallyDrop;
-use std::sync::atomic::{AtomicBool, AtomicU16, AtomicU32, AtomicU64, AtomicUsize, Ordering};
-use std::sync::{Mutex, OnceLock};
-use std::thread::available_parallelism;
-use std::time::{Duration, Instant};
 
 /// The passes of a side are no more than these.
 const MOST: usize = 64;
@@ -307,9 +310,6 @@ impl Parks for Pool {
     fn note_park(&self, _: bool) {}
 }
 
-/// The seat at which the next thread begins.
-static NEXT: AtomicUsize = AtomicUsize::new(0);
-
 thread_local! {
     /// Which seat this thread tries first, of each pool, by the lowest bits; 0 before the first question.
     static HINT: Cell<usize> = const { Cell::new(0) };
@@ -318,9 +318,14 @@ thread_local! {
 /// Which seat this thread tries first.
 fn hint() -> usize {
     match HINT.get() {
-        0 => begin_at(NEXT.fetch_add(1, Ordering::Relaxed)),
+        0 => begin_at(thread_number()),
         hint => hint,
     }
+}
+
+#[cfg(vahepito_explore)]
+pub fn forget_hint() {
+    HINT.set(0);
 }
 
 /// This thread tries this seat first from now on.
@@ -344,6 +349,13 @@ impl Pool {
             free: Apart::default(),
             served: Apart::default(),
         }
+    }
+
+    /// From here on a call was in the line of those that wait until they are served.
+    #[cfg(vahepito_explore)]
+    pub fn use_line(&self) {
+        let ticket = self.served.stand(std::task::Waker::noop().clone());
+        self.served.leave(ticket, &mut Panics::default());
     }
 
     /// Other seats with these passes, if there are some.
@@ -582,8 +594,8 @@ impl Pool {
         !self.first.is_held() && self.others().is_empty()
     }
 
-    /// Waits until this seat was free once, in line. A notification that it used up goes to the next in line, since the seat
-    /// is still free.
+    /// Waits until this seat was free once, in line. A notification that it used up goes to the next in line, since the
+    /// seat is still free.
     #[cold]
     fn wait_for(&self, seat: &Seat) -> bool {
         let was_free = self.wait_for_free(|| (!seat.is_held()).then_some(true));
@@ -597,8 +609,8 @@ impl Pool {
         free.is_some()
     }
 
-    /// Acquires all seats, in the order in which they are free: so it has a use for the notification of each. The caller has the
-    /// lock of the groups, so no other thread does this, and no seat is added.
+    /// Acquires all seats, in the order in which they are free: so it has a use for the notification of each. The
+    /// caller has the lock of the groups, so no other thread does this, and no seat is added.
     pub fn acquire_all(&self) -> Vec<SeatGuard<'_>> {
         let acquire = |_| self.wait_for_free(|| self.acquire_free().next());
         self.seats().map(acquire).collect()

@@ -8,12 +8,12 @@ use super::timer::Timer;
 use super::{RecvError, RecvTimeoutError, TryRecvError};
 use crate::backoff::FOR_OTHERS;
 use crate::event::wait;
+use crate::host::time::{Duration, Instant};
 use std::borrow::Cow;
 use std::iter::FusedIterator;
 use std::marker::PhantomData;
 use std::ptr;
 use std::sync::{Arc, Weak};
-use std::time::{Duration, Instant};
 use std::vec;
 
 /// A receiver of a channel, which [`channel`](crate::channel()) or [`groups`](crate::groups()) opens.

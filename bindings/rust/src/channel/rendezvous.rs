@@ -40,15 +40,15 @@ use super::core::{Core, NotSent, SENDERS, Sent};
 use super::future::Waiting;
 use super::select::{Begun, Case, Entry, Place};
 use crate::event::{Again, Panics, Try, ignore_panics, lock, poll_until};
+use crate::host::sync::atomic::{AtomicBool, Ordering};
+use crate::host::sync::{Arc, Mutex, MutexGuard};
+use crate::host::time::Instant;
 use crate::numbered::Numbered;
 use std::cell::RefCell;
 use std::collections::VecDeque;
 use std::mem::{self, replace, swap};
 use std::ptr;
-use std::sync::atomic::{AtomicBool, Ordering};
-use std::sync::{Arc, Mutex, MutexGuard};
 use std::task::{Poll, Waker};
-use std::time::Instant;
 
 /// The side of the takes.
 const TAKES: usize = 1;

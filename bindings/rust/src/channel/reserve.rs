@@ -5,17 +5,17 @@
 //! come before a refused send that finds no room. A look by seats that finds nothing loads each seat's flag, and waits for the
 //! holders that there are: so its answer is the queue's at some moment of the call.
 //!
-//! A look before a take, or before a send after a Full, saves the price of a call in vain. It pauses for holders that run, and
-//! then leaves the answer to the queue, which waits for no thread of the other side. So does the look of a poll. The look of a
-//! select whose time is over says then that the operation is ready.
+//! A look before a take, or before a send after a Full, saves the price of a call in vain. It pauses for holders that
+//! run, and then leaves the answer to the queue, which waits for no thread of the other side. So does the look of a
+//! poll. The look of a select whose time is over says then that the operation is ready.
 use super::body::Unsent;
 use super::core::{Core, Flavor, NotSent, Sent, Side};
 use super::limit::Limit;
 use super::pool::{Patience, SeatGuard};
 use crate::event::{Again, Try, lock};
+use crate::host::thread;
 use crate::queue::handle::code;
 use std::sync::atomic::Ordering;
-use std::thread;
 use std::time::Duration;
 
 impl Core {

@@ -30,12 +30,12 @@ use super::core::{Core, NotSent, SENDERS, Sent};
 use super::limit::Limit;
 use super::pool::{QueueHandle, SeatGuard};
 use crate::event::{ignore_panics, lock};
+use crate::host::sync::{Mutex, MutexGuard};
 use crate::queue::handle::{Handle, code};
 use crate::queue::{self, Config, OpenError, Passes};
 use std::collections::VecDeque;
 use std::mem::{self, replace};
 use std::sync::atomic::Ordering;
-use std::sync::{Mutex, MutexGuard};
 
 /// A list of fewer queues doesn't shrink.
 const FEW: usize = 64;
@@ -260,7 +260,8 @@ impl Core {
     /// After the queue of this seat refused an item: the seat goes on to the last queue, behind which it appends one if it
     /// was there already. Returns whether it did.
     fn next_for_senders(&self, row: &Row, seat: &mut SeatGuard) -> Result<bool, NotSent> {
-        // The refused call may have served a close whose caller has the lock.
+        // The refused call may have served a close whose caller has the lock, or handed over to a call that is before
+        // the next one of this seat.
         seat.wake_served();
         let mut locked = row.lock();
         let appends = seat.pass().0.queue == locked.queues.last_number();

@@ -40,13 +40,13 @@ use super::{
 };
 use crate::backoff::FOR_OTHERS;
 use crate::event::{Event, Panics, Parker, Ticket, Try, is_over};
+use crate::host::time::{Duration, Instant};
 use std::cell::Cell;
 use std::hash::{BuildHasher, Hasher, RandomState};
 use std::marker::PhantomData;
 use std::ptr;
 use std::sync::Arc;
 use std::sync::atomic::Ordering;
-use std::time::{Duration, Instant};
 
 /// The state of a selected operation, until it is completed.
 pub enum Begun {

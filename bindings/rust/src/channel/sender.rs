@@ -4,12 +4,12 @@ use super::core::{Core, NotSent, SENDERS, Sent};
 use super::future::SendFuture;
 use super::side::Target;
 use super::{SendError, SendTimeoutError, TrySendError};
+use crate::host::time::{Duration, Instant};
 use std::borrow::Cow;
 use std::marker::PhantomData;
 use std::mem::forget;
 use std::sync::Arc;
 use std::sync::atomic::Ordering;
-use std::time::{Duration, Instant};
 
 /// A sender of a channel, which [`channel`](crate::channel()) or [`groups`](crate::groups()) opens.
 ///

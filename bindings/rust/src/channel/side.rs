@@ -6,10 +6,10 @@ use super::select::Case;
 use super::timer::Timer;
 use crate::backoff::{FOR_OTHERS, for_others, let_ahead};
 use crate::event::{Try, is_over, lock, wait, wait_without_end};
+use crate::host::time::Instant;
 use std::panic::RefUnwindSafe;
 use std::sync::Arc;
 use std::sync::atomic::Ordering;
-use std::time::Instant;
 
 /// The least capacity with which a side goes ahead: a smaller channel is full or empty before, and below 8 this
 /// costs more than it saves. A channel without a queue, which has no seats either, has capacity 0 or 1.

@@ -5,7 +5,8 @@ mod error;
 #[cfg(not(vahepito_unproved))]
 pub mod handle;
 #[cfg(vahepito_unproved)]
-#[path = "unproved.rs"]
+#[cfg_attr(not(vahepito_explore), path = "unproved.rs")]
+#[cfg_attr(vahepito_explore, path = "../../tests/explore/combining.rs")]
 pub mod handle;
 #[cfg(test)]
 mod tests;
