@@ -13,6 +13,7 @@ mod limit;
 #[cfg(test)]
 mod linear;
 mod moments;
+mod permit;
 mod pool;
 mod receiver;
 mod rendezvous;
@@ -36,6 +37,7 @@ pub use error::{
     SendTimeoutError, TryReadyError, TryRecvError, TrySelectError, TrySendError,
 };
 pub use future::{RecvFuture, SendFuture};
+pub use permit::Permit;
 pub use receiver::{Drain, IntoIter, Iter, Receiver, TryIter, WeakReceiver};
 #[doc(hidden)]
 pub use select::{Arm, select_arms};

@@ -830,3 +830,36 @@ fn batches_end_where_the_channel_does() {
     assert_eq!((items.len(), *items[0]), (30, 40));
     assert_eq!(receivers[0].recv_many(&mut vec![], 5), 0);
 }
+
+/// A permit has its room until it is used or dropped, in every kind of channel.
+#[test]
+fn permits_have_their_room() {
+    let closed = |sender: &Sender<u64>| sender.try_reserve().unwrap_err().is_disconnected();
+    for (sender, receiver) in [bounded(2), bounded(4097), unbounded()] {
+        let permits = [sender.reserve().unwrap(), sender.try_reserve().unwrap()];
+        let is_full = sender.capacity() == Some(2);
+        assert_eq!(sender.try_send(9).is_err(), is_full);
+        assert_eq!(sender.try_reserve().is_err(), is_full);
+        let [first, second] = permits;
+        drop(first);
+        assert_eq!((sender.send(1), second.send(2)), (Ok(()), Ok(())));
+        assert!(
+            receiver
+                .try_iter()
+                .eq(if is_full { vec![1, 2] } else { vec![9, 1, 2] })
+        );
+        let late = sender.reserve().unwrap();
+        drop(receiver);
+        assert_eq!(late.send(3), Err(SendError(3)));
+        assert!(sender.reserve().is_err() && closed(&sender));
+    }
+    // With capacity 0 it has a receiver.
+    let (sender, receiver) = bounded(0);
+    assert!(sender.try_reserve().unwrap_err().is_full());
+    thread::scope(|scope| {
+        let takes = scope.spawn(|| receiver.recv());
+        drop(sender.reserve().unwrap());
+        sender.reserve().unwrap().send(4).unwrap();
+        assert_eq!(takes.join().unwrap(), Ok(4));
+    });
+}
