@@ -6,8 +6,8 @@
 It is for queues that promise order for each sender alone, as moodycamel::ConcurrentQueue. A lane has the accepted and
 the pending sends of one thread, the takes that got one of these items, all closes, and each take that hasn't returned,
 since that may have got any item. Takes that found none and sends that were refused belong to no lane. A take of an item
-that no line sent is in a lane of its own with all such takes. A lane is judged as a log whose other lines are empty, so
-a fault has the line numbers of the whole log. What the first line says of the log's begin and the last one of its end
+that no line sent is in a lane of its own with all such takes. A lane is judged as a log of its lines, and what is said
+of it has the line numbers of the whole log. What the first line says of the log's begin and the last one of its end
 holds for each lane.
 
 Clean lanes mean: no item was taken twice, none was taken that wasn't sent, and the items of one thread were taken in
@@ -19,9 +19,11 @@ path, or else the one in bin.
 import json
 import os
 import pathlib
+import re
 import shutil
 import subprocess
 import sys
+from concurrent.futures import ThreadPoolExecutor
 
 CCQ = os.environ.get("CCQ") or shutil.which("ccq") or str(
     pathlib.Path(__file__).resolve().parent.parent / "bin/x86_64-unknown-linux-gnu/ccq")
@@ -63,7 +65,7 @@ def calls_of(lines):
 
 
 def lanes_of(lines):
-    """The logs of the lanes, by the names of their threads."""
+    """The places of the lines of each lane, by the names of their threads."""
     calls, said = calls_of(lines)
     # A send without an answer was accepted, or is pending.
     sent_by = {item_of(call["send"]): str(call["thread"])
@@ -76,20 +78,26 @@ def lanes_of(lines):
             lanes.setdefault(sent_by.get(item_of(call["take"]), UNSENT), []).append(place)
         elif "close" in call or "take" in call and "end" not in call:
             shared.append(place)
-    logs = {}
-    for thread, places in lanes.items():
-        kept = {*places, *shared, *said}
-        logs[thread] = "".join(line if place in kept else "\n" for place, line in enumerate(lines))
-    return logs
+    return {thread: sorted({*places, *shared, *said}) for thread, places in lanes.items()}
+
+
+def in_whole(said, places):
+    """What is said of a lane, with the line numbers of the whole log; those in the name of a thread are left."""
+    number = lambda found: str(places[int(found[0]) - 1] + 1)
+    lines = r"\(threads? .*?\)|\blines? \d+(?:(?:, | and )\d+\b(?! others))*"
+    return re.sub(lines, lambda found: found[0] if found[0][0] == "(" else re.sub(r"\d+", number, found[0]), said)
 
 
 def judge_lanes(program, lines, options=()):
     """What the program says of each lane: its status, and its line."""
-    said = {}
-    for thread, log in lanes_of(lines).items():
+    def judged(places):
+        log = "".join(lines[place] for place in places)
         run = subprocess.run([program, "judge", *options], input=log, capture_output=True, text=True, check=False)
-        said[thread] = run.returncode, (run.stdout or run.stderr).strip()
-    return said
+        return run.returncode, in_whole((run.stdout or run.stderr).partition("\n")[0], places)
+
+    lanes = lanes_of(lines)
+    with ThreadPoolExecutor(os.cpu_count()) as pool:
+        return dict(zip(lanes, pool.map(judged, lanes.values())))
 
 
 def main(words):
