@@ -1,7 +1,7 @@
 //! Room for one item, reserved before there is an item: a select of one send.
 use super::select::{Arm, Begun, SelectedOperation, select_arms};
 use super::{SendError, Sender, TrySendError};
-use std::time::Duration;
+use crate::host::time::Duration;
 
 /// Room for one item, which [`Sender::reserve`] or [`Sender::try_reserve`] has reserved.
 ///
