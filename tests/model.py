@@ -50,7 +50,8 @@ AT_POINTS, ORDERED = "the answers of a queue that moves at the points", "the ans
 ENDS = "no run is endless"
 # Sizes in which the model is searched, and what it has there.
 RIGHT = [("SENDERS=1 SENDS=2 GROUPS=2 BOUND=1", AT_POINTS), ("SENDERS=2 SENDS=2 TAKES=2", AT_POINTS),
-         ("SENDERS=2 SENDS=2 FINAL=0 CLOSERS=2 LIFE=1", AT_POINTS), ("SENDERS=2 TAKES=2 ORDERS=1", ORDERED)]
+         ("SENDERS=1 SENDS=2 RECEIVERS=2", AT_POINTS), ("SENDERS=2 SENDS=2 FINAL=0 CLOSERS=2 LIFE=1", AT_POINTS),
+         ("SENDERS=2 TAKES=2 ORDERS=1", ORDERED)]
 LONG_BODIES = "SENDERS=2 TAKES=2"
 # Sizes in which histories with store buffers are compared with those of atomic steps; a 3 says that all stores are
 # plain too.
@@ -62,10 +63,10 @@ WRONG = [
     ("SENDERS=1 SENDS=3 GROUPS=2 RECEIVERS=2 TAKES=2 BOUND=3", FAULTS, {
         "marked_early": "SENDERS=1 RECEIVERS=3 TAKES=2 BOUND=3", "answer_late": "SENDERS=1 SENDS=2 RECEIVERS=2",
         "marks_nothing": "SENDERS=1 RECEIVERS=2", "one_group": "SENDERS=1 SENDS=3 GROUPS=2 TAKES=2"}, None),
-    ("SENDERS=3 FINAL=0 CLOSERS=2 BOUND=1", FAULTS, {
+    ("SENDERS=3 FINAL=0 CLOSERS=1 BOUND=1", FAULTS, {
         "handed_past": "SENDERS=3 BOUND=1", "past_the_bound": "SENDERS=3 BOUND=1",
         "never_shut": "SENDERS=2 FINAL=0 CLOSERS=1", "full_always": "SENDERS=1",
-        "keeps_the_chain": "SENDERS=1 SENDS=2", "returns_unserved": "SENDERS=1", "links_nothing": "SENDERS=1"}, None),
+        "keeps_the_chain": "SENDERS=1 SENDS=2", "returns_unserved": "SENDERS=1", "links_nothing": "SENDERS=1"}, AT_POINTS),
     ("SENDERS=1 SENDS=6 CLOSERS=1 TAKES=4 CAPACITY=3", FAULTS, {
         "full_early": "SENDERS=1 SENDS=6 TAKES=3 CAPACITY=3", "freed_dummy": "SENDERS=1 SENDS=4 TAKES=4 CAPACITY=2",
         "freed_before_read": "SENDERS=1 SENDS=2 TAKES=2", "ended_early": "SENDERS=1 CLOSERS=1 TAKES=2",

@@ -315,7 +315,8 @@ def tests_of(tests):
 
 
 class Side:
-    """The steps of the passes of a chain, from the request of a call on: the statements of each, by its label."""
+    """The steps of the passes of a chain, from the request of a call on, by their labels: what each waits for, and
+    its statements."""
 
     def __init__(self, table, chain, request):
         self.evaluator, self.chain, self.words = Evaluator(table), chain, 2 if table == "two_words" else 1
@@ -343,16 +344,15 @@ class Side:
         early = self.evaluator.call("Early", "may_be_early", self.chain, place)[1] == "true"
         verb = {"Store": "STORE" if early else "LOCKED"}.get(first["does"][1], first["does"][1].upper())
         head = f"{verb}({', '.join([word(at), *map(written, value)])})"
-        waits = [tests for tests, found in paths if verb == "LOAD" and self.is_still(place, found[2])]
+        waits, guard = [tests for tests, found in paths if verb == "LOAD" and self.is_still(place, found[2])], []
         if waits:
             (*_, (test, holds)), = (tests.items() for tests in waits)
             seen = written(test).replace("==", "!=") if holds else written(test)
-            seen = re.sub(r"\bfound\b", f"SEES({word(at)})", seen)
-            head = f"{seen} -> TAKES_UP(1); {head}"
+            guard, head = [re.sub(r"\bfound\b", f"SEES({word(at)})", seen)], f"TAKES_UP(1); {head}"
         branches = [(tests_of(tests), self.branch(name, place, found[2]))
                     for tests, found in paths if tests not in waits]
         kind = first["event"][2]["0"][1]
-        return "; ".join([head, f'SAY("%c%d {kind}\\n")', choice(branches)])
+        return guard, "; ".join([head, f'SAY("%c%d {kind}\\n")', choice(branches)])
 
     def is_still(self, place, line):
         after = line["goes"]
@@ -407,13 +407,17 @@ def side(table, name):
 def process(tables, name):
     """The processes of a side: each step is that of a table, by its number among these."""
     sides = [side(table, name) for table in tables]
-    options = [f"  :: atomic {{ {call}; {sides[0].steps['ResetNext']} }}" for call in CALLS[name]]
+    options = [f"  :: atomic {{ {call}; {sides[0].steps['ResetNext'][1]} }}" for call in CALLS[name]]
     labels = []
     for place in dict.fromkeys(place for one in sides for place in one.steps if place != "ResetNext"):
         having = {k: one.steps[place] for k, one in enumerate(sides) if place in one.steps}
         usual = next(iter(having.values()))
-        others = [(f"table == {k}", text) for k, text in having.items() if text != usual]
-        labels.append(f"{place}:\n  atomic {{ {choice([*others, ('', usual)])} }}")
+        others = {k: step for k, step in having.items() if step != usual}
+        cases = [([f"table == {k}", *guard], text) for k, (guard, text) in others.items()]
+        cases.append(([*(f"table != {k}" for k in others), *usual[0]], usual[1]))
+        texts = [f"{' && '.join(tests)} -> {text}" if tests else text for tests, text in cases]
+        own_step = texts[0] if len(texts) == 1 else "if\n  :: " + "\n  :: ".join(texts) + "\n  fi"
+        labels.append(f"{place}:\n  atomic {{ {own_step} }}")
     own = ", ".join(sorted(set.union(*(one.registers for one in sides))))
     return "\n".join([f"proctype {name}(byte me; byte own; bit closes; byte chain) {{", f"  byte made, {own};", "end:",
                       "  if", *options, "  fi;", ";\n".join(labels), "}"])

@@ -9,7 +9,8 @@ writes.
     tests/show/pages.py lessons      the tour, scenarios and broken queues of docs/pages/index.html, by node
     tests/show/pages.py plans        each plan of tests/rows.py is read or refused as by `ccq play`, by node
     tests/show/pages.py learns       the index: each lesson by clicks and keys, side by side, exercises, also on paper,
-                                     the adversary, a queue of one's own, plans, links, keys
+                                     the adversary, a queue of one's own, plans, links, also those of
+                                     docs/TEACHING.md to broken queues, keys
     tests/show/pages.py lectures     each screen of each lecture; the path of docs/TEACHING.md; motion; a site
     tests/show/pages.py shortest     the solutions of the exercises are shortest ones, by node
     tests/show/pages.py judged       pages of `ccq judge --page`: one of each fault, a clean log, 100,000 calls
@@ -248,13 +249,20 @@ def learns():
     jobs = [{"test": "lessons", **index}, {"test": "beside", **index}, {"test": "exercises", **index},
             {"test": "own", **index}, {"test": "keys", **index}, {"test": "adversary", **index},
             {"test": "paper", **index},
-            *({"test": "link", "text": plan.read_text(), **index} for plan in PLANS)]
+            *({"test": "link", "text": plan.read_text(), **index} for plan in PLANS),
+            *({"test": "broken", "address": address, **index} for address in broken_runs())]
     right = True
     for job, answer in zip(jobs, in_browser(jobs)):
         right &= not failed(job["test"],
                             answer) and (job["test"] != "own"
                                          or all(is_report_of("a queue of one's own", one) for one in answer))
     return right
+
+
+def broken_runs():
+    """The addresses of docs/TEACHING.md that show a broken queue."""
+    found = re.findall(r"pages/index\.html(#table=[^)]*&plan=[^)]*)\)", (TOP / "docs/TEACHING.md").read_text())
+    return found or sys.exit("docs/TEACHING.md has no address of a broken queue")
 
 
 def steps_of_path():

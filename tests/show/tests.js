@@ -689,6 +689,14 @@ const tests = {
     return true;
   },
 
+  // A link of docs/TEACHING.md opens a broken queue at an event that breaks a law.
+  async broken({ $, view, job }) {
+    await follow(view, job.address);
+    assert(/&event=(\d+)/.exec(job.address)[1] === String(whereOf($)), 'the link opens ' + $('where').textContent);
+    assert($('breaks').textContent, 'no law is broken at event ' + whereOf($) + ' of ' + job.address);
+    return $('breaks').textContent;
+  },
+
   // Targets have 32 pixels, and texts 12.
   sizes({ $, page, view }) {
     for (const details of page.querySelectorAll('details')) details.open = true;
