@@ -66,7 +66,8 @@ WRONG = [
     ("SENDERS=3 FINAL=0 CLOSERS=1 BOUND=1", FAULTS, {
         "handed_past": "SENDERS=3 BOUND=1", "past_the_bound": "SENDERS=3 BOUND=1",
         "never_shut": "SENDERS=2 FINAL=0 CLOSERS=1", "full_always": "SENDERS=1",
-        "keeps_the_chain": "SENDERS=1 SENDS=2", "returns_unserved": "SENDERS=1", "links_nothing": "SENDERS=1"}, AT_POINTS),
+        "keeps_the_chain": "SENDERS=1 SENDS=2", "returns_unserved": "SENDERS=1", "links_nothing": "SENDERS=1"},
+     AT_POINTS),
     ("SENDERS=1 SENDS=6 CLOSERS=1 TAKES=4 CAPACITY=3", FAULTS, {
         "full_early": "SENDERS=1 SENDS=6 TAKES=3 CAPACITY=3", "freed_dummy": "SENDERS=1 SENDS=4 TAKES=4 CAPACITY=2",
         "freed_before_read": "SENDERS=1 SENDS=2 TAKES=2", "ended_early": "SENDERS=1 CLOSERS=1 TAKES=2",
@@ -269,16 +270,17 @@ def show(room, text, sizes, flags, name):
     plan = json.dumps(plan_of(sizes, steps), separators=(",", ":"))
     table = f"table={name}&" if name in VARIANTS else ""
     fault = "a run is endless" if flags == CYCLES else fault_in(said) or "a call is stuck"
-    print(f"model: {name}: {described(sizes)}: {len(steps)} steps: {fault}\n"
-          f"docs/pages/index.html#{table}event={len(steps)}&plan={urllib.parse.quote(plan, safe=',:')}", file=sys.stderr)
+    address = f"docs/pages/index.html#{table}event={len(steps)}&plan={urllib.parse.quote(plan, safe=',:')}"
+    print(f"model: {name}: {described(sizes)}: {len(steps)} steps: {fault}\n{address}", file=sys.stderr)
     print(plan)
     return 0
 
 
 def main(words):
     tables = {name: (sizes, flags) for _, flags, names, _ in WRONG for name, sizes in names.items()}
-    is_file = words and words[0].endswith(".pml") and all(re.fullmatch(r"[A-Z]+=\d+", word) for word in words[1:])
-    if not is_file and words and (words[1:] or words[0] not in tables):
+    is_file = words and words[0].endswith(".pml") and pathlib.Path(words[0]).is_file()
+    are_sizes = all(re.fullmatch(r"[A-Z]+=\d+", word) for word in words[1:])
+    if words and not (is_file and are_sizes) and (words[1:] or words[0] not in tables):
         print(__doc__)
         return 0 if words in (["-h"], ["--help"]) else 64
     if not shutil.which("spin") or not shutil.which("gcc"):

@@ -417,7 +417,7 @@ def process(tables, name):
         cases.append(([*(f"table != {k}" for k in others), *usual[0]], usual[1]))
         texts = [f"{' && '.join(tests)} -> {text}" if tests else text for tests, text in cases]
         own_step = texts[0] if len(texts) == 1 else "if\n  :: " + "\n  :: ".join(texts) + "\n  fi"
-        labels.append(f"{place}:\n  atomic {{ {own_step} }}")
+        labels.append(f"{place}: atomic {{ {own_step} }}")
     own = ", ".join(sorted(set.union(*(one.registers for one in sides))))
     return "\n".join([f"proctype {name}(byte me; byte own; bit closes; byte chain) {{", f"  byte made, {own};", "end:",
                       "  if", *options, "  fi;", ";\n".join(labels), "}"])

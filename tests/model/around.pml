@@ -2,7 +2,8 @@
    written from the definitions.
 
    Sizes, by -D: SENDERS and RECEIVERS (of each group), GROUPS, CAPACITY, BOUND, LIFE; SENDS and TAKES, the calls of
-   each pass; FINAL, the sends of the last sender, if other; CLOSERS: so many senders, the last ones, end with a close.
+   each pass, at most 6; FINAL, the sends of the last sender, if other; CLOSERS: so many senders, the last ones, close
+   the queue at their end.
 
    Checked by default: the queue moves at the points that docs/ARCHITECTURE.md gives. Each answer is that of a
    sequential queue which moves there, calls are decided in the order of their exchanges, each once and at most BOUND in
@@ -12,7 +13,8 @@
 
    -DBUFFERS (only with ORDERS): each pass has a store buffer of x86-TSO. -DTHREADS=2 (only with BUFFERS): two threads
    drive the passes, and each thread has a buffer. A thread leaves a pass between its calls, or where it waits, and
-   either thread takes it up there as cc_x86 allows; with -DSIDES=1 one thread drives the senders, and one the receivers.
+   either thread takes it up there as cc_x86 allows; with -DSIDES=1 one thread drives the senders, the other one the
+   receivers.
    -DHISTORIES=2 (only with BUFFERS): each run has atomic steps, or plain stores that may be early, or with 3 also all
    stores plain; its history is printed in place of a check. */
 #ifndef SENDERS
