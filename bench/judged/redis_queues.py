@@ -208,6 +208,9 @@ def record(queue, path, log, items):
 
 
 def main(words):
+    if words in (["-h"], ["--help"]):
+        print(__doc__.strip())
+        return 0
     items = int(words.pop(0)) if words and words[0].isdigit() else 2000
     if unknown := set(words) - QUEUES.keys():
         print(f"redis_queues: no queue {sorted(unknown)}: {', '.join(QUEUES)}", file=sys.stderr)
