@@ -88,7 +88,7 @@ class Run:
             if words[0] == "try_tests":
                 words = ["bash", "-c", TRY_TESTS, words[1]]
             commands.append(Command(name, words, at_once=words[0] in OF_STEPS, shares=words[0] in OF_STEPS,
-                                    processors=10000 if words[0] in ALONE else 1))
+                                    alone=words[0] in ALONE))
         side = Side(commands)
         for check in side.run():
             if not check.at_once:

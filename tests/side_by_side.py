@@ -29,7 +29,7 @@ class Command:
     after: tuple = ()  # the names of the commands that have to end before
     at_once: bool = False  # whether what it prints is shown as it comes
     shares: bool = False  # whether it takes tokens for what it runs side by side
-    processors: int = 1  # how many it needs at once, or all if there are fewer
+    alone: bool = False  # whether no other one runs beside it
     folder: str | os.PathLike = "."
     variables: dict = dataclasses.field(default_factory=dict)
     status: int = 0
@@ -58,35 +58,29 @@ class Tokens:
         found = re.search(r"--jobserver-auth=(\d+),(\d+)", os.environ.get("MAKEFLAGS", ""))
         self.is_outermost = not found
         if found:
-            self.ends, self.count = (int(found[1]), int(found[2])), 1
+            self.ends = int(found[1]), int(found[2])
         else:
-            self.ends, self.count = os.pipe(), lanes(1)
-            os.write(self.ends[1], b"+" * (self.count - 1))
-            os.environ["MAKEFLAGS"] = f" -j{self.count} --jobserver-auth={self.ends[0]},{self.ends[1]}"
+            self.ends, count = os.pipe(), lanes(1)
+            os.write(self.ends[1], b"+" * (count - 1))
+            os.environ["MAKEFLAGS"] = f" -j{count} --jobserver-auth={self.ends[0]},{self.ends[1]}"
         os.set_blocking(self.ends[0], False)
         self.is_own_free = True
 
-    def take(self, count):
-        """This many tokens, or as many as there are in all; or None if so many aren't free."""
-        taken = []
-        while len(taken) < min(count, self.count):
-            if self.is_own_free:
-                self.is_own_free = False
-                taken.append(b"")
-                continue
-            try:
-                taken.append(os.read(self.ends[0], 1))
-            except BlockingIOError:
-                self.put(taken)
-                return None
-        return taken
+    def take(self):
+        """A token, or None: this process's own, or one of the pipe."""
+        if self.is_own_free:
+            self.is_own_free = False
+            return b""
+        try:
+            return os.read(self.ends[0], 1) or None
+        except BlockingIOError:
+            return None
 
-    def put(self, tokens):
-        for token in tokens:
-            if token:
-                os.write(self.ends[1], token)
-            else:
-                self.is_own_free = True
+    def put(self, token):
+        if token:
+            os.write(self.ends[1], token)
+        else:
+            self.is_own_free = True
 
     def close(self):
         """Closes the pipe, if it is this process's own: a further run has another one."""
@@ -125,14 +119,17 @@ class Side:
             self.say(f"{at} after {time.time() - self.start:.0f} s; at work: {names}")
 
     def begin(self, picks):
-        """Begins commands while there are tokens; returns whether one waits for a single token."""
+        """Begins commands while there are tokens; returns whether one waits for a token."""
         done = {command.name for command in self.ended}
-        for command in [it for it in self.waiting if done.issuperset(it.after)]:
-            tokens = self.tokens.take(command.processors)
-            if tokens is None and command.processors == 1:
-                return True
-            if tokens is None:
+        able = [command for command in self.waiting if done.issuperset(command.after)]
+        if not able and not self.running:
+            sys.exit(f"these commands wait for others that aren't there: {[command.name for command in self.waiting]}")
+        for command in able:
+            if any(command.alone or it.alone for _, it, _ in self.running.values()):
                 continue
+            token = self.tokens.take()
+            if token is None:
+                return True
             self.waiting.remove(command)
             command.start = time.time()
             variables = os.environ | command.variables
@@ -140,19 +137,19 @@ class Side:
                 variables.pop("MAKEFLAGS")
             process = subprocess.Popen(command.words, cwd=command.folder, env=variables, stdin=subprocess.DEVNULL,
                                        stdout=subprocess.PIPE, stderr=subprocess.STDOUT, pass_fds=self.tokens.ends)
-            self.running[process.stdout] = process, command, tokens
+            self.running[process.stdout] = process, command, token
             picks.register(process.stdout, selectors.EVENT_READ)
         return False
 
     def finish(self, stream, picks):
         """Notes that a command has ended, and what it took."""
-        process, command, tokens = self.running.pop(stream)
+        process, command, token = self.running.pop(stream)
         picks.unregister(stream)
         stream.close()
         _, status, used = os.wait4(process.pid, 0)
         process.returncode = command.status = os.waitstatus_to_exitcode(status)
         command.end, command.seconds = time.time(), used.ru_utime + used.ru_stime
-        self.tokens.put(tokens)
+        self.tokens.put(token)
         self.ended.append(command)
         return command
 
