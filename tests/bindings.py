@@ -67,7 +67,8 @@ class Steps:
         if prints is not None:
             words = "bash", "-c", PRINTS, prints, *words
         words = ["timeout", str(limit * self.times), *map(str, words)]
-        self.steps.append(Command(name, words, after, at_once, True, folder, {k: str(v) for k, v in variables.items()}))
+        self.steps.append(Command(name, words, after=after, at_once=at_once, shares=True, folder=folder,
+                                  variables={k: str(v) for k, v in variables.items()}))
 
     def skip(self, name, why):
         self.left_out.append(f"bindings: {name}: SKIPPED: {why}")
