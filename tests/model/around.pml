@@ -90,6 +90,8 @@
 byte w[WORDS];
 hidden byte found, k, p, due_now, number_now, least;
 
+/* A d_step changes only hidden variables that nothing reads behind it: a search that goes back doesn't restore them. */
+
 /* the codes of answers */
 #define IS_ACCEPTED 1
 #define IS_FULL 2
@@ -149,12 +151,12 @@ byte of_pass[THREADS * DEPTH];
 inline STORE(a, v) {
   if
   :: plain == ATOMIC -> w[a] = v
-  :: plain != ATOMIC && waiting[THREAD] < DEPTH ->
+  :: plain != ATOMIC && waiting[THREAD] < DEPTH -> d_step {
     TAGGED;
     at_word[AT(THREAD, waiting[THREAD])] = a;
     is_value[AT(THREAD, waiting[THREAD])] = v;
     waiting[THREAD]++;
-    assert(plain == ALL || waiting[THREAD] < DEPTH)
+    assert(plain == ALL || waiting[THREAD] < DEPTH) }
   fi
 }
 inline LOCKED(a, v) {
@@ -251,13 +253,13 @@ hidden byte judged;
 #define READS(n) skip
 #define DECIDES(code, number, t, b, m) skip
 #define RETURNS(code, number, t, b, m) RETURNED(IS_##code, number, t, b, m)
-inline RETURNED(code, number, t, b, m) {
+inline RETURNED(code, number, t, b, m) { d_step {
   told[CALL - 1] = code * 16 + number;
   got[CALL - 1] = t;
   assert(b == t && m == MORE_OF(t));
   ended = ended | (1 << (CALL - 1));
   left--;
-  LEAVES
+  LEAVES }
 }
 c_decl {
   struct queue { int count, shut, handed[8], tags[32]; };
