@@ -1,9 +1,9 @@
 -- The clauses refuse these claims.
-use Rattle.std.proofs.Common.{◌≡◌, ◌∙◌, ◌*◌, ℕ, zero, suc, Bool, true, false, List, [], ◌∷◌, ◌++◌, length, map, Option, Some, None, IfSome, refl, sym, ap, subst, arith}
+use Rattle.std.proofs.Common.{◌≡◌, ◌∙◌, ◌*◌, ℕ, zero, suc, Bool, true, false, List, [], ◌∷◌, ◌++◌, length, map, Option, Some, None, IfSome, ap, subst, arith}
 use Rattle.cc_drive.specs.Asked.{SendersAsked, WereAsked}
-use Rattle.cc_drive.specs.Back.{SenderGave, SenderIsBack, SendsByGate, calls}
+use Rattle.cc_drive.specs.Back.{MadeByGate, SenderGave, SenderIsBack, SendsByGate, calls}
 use Rattle.cc_drive.specs.Crew.{least_missing}
-use Rattle.cc_drive.specs.Names.{Answer, DriveConfig, DriveFault, Entry, Go, Kind, Point, SendReceipt, Verdict, Worked}
+use Rattle.cc_drive.specs.Names.{Answer, DriveConfig, DriveFault, Entry, Kind, Point, SendReceipt, Verdict, Worked}
 use Rattle.cc_drive.specs.Ran.{due, HasEnd}
 use Rattle.cc_drive.specs.Work.{AskedForCalls, AskedUntilOn, IsHeldUp, RanOut}
 use Rattle.cc_drive.specs.Row.{InRowWith}
@@ -30,30 +30,30 @@ held_up zero h held = held
 held_up (suc n) h held = held.2.1 ∙ held_up n held.0 held.1
 
 -- and returns no answer to a sender's worker
-no_answer : (k h : Bool) → k ≡ false → AskedUntilOn OwnPoints Point.SendBegun k h → ⊥
-no_answer k h is asked =
-    let stays : asked.1 ≡ false = held_up asked.0 asked.1 (subst (λ (g : Bool). IsHeldUp OwnPoints Point.SendBegun asked.0 g asked.1) is asked.2) in
-    let bad : true ≡ false = asked.3.0 ∙ stays in absurd (cc bad)
+no_answer : (held : ℕ) (k h : Bool) → k ≡ false → AskedUntilOn OwnPoints Point.SendBegun held k h → ⊥
+no_answer held k h is asked =
+    let stays : asked.0 ≡ false = held_up held asked.0 (subst (λ (g : Bool). IsHeldUp OwnPoints Point.SendBegun held g asked.0) is asked.1) in
+    let bad : true ≡ false = asked.2.0 ∙ stays in absurd (cc bad)
 
 -- nor was it asked for its calls
-no_calls : (n : ℕ) (h : Bool) → AskedForCalls OwnPoints Point.SendBegun Point.SendAnswered (suc n) false h → ⊥
-no_calls zero h asked = no_answer asked.0 asked.1 asked.2 asked.3
-no_calls (suc n) h asked = no_calls n asked.0 asked.2
+no_calls : (n held : ℕ) (h : Bool) → AskedForCalls OwnPoints Point.SendBegun Point.SendAnswered (suc n) held false h → ⊥
+no_calls zero held h asked = no_answer asked.3 asked.0 asked.1 asked.6.1 asked.7
+no_calls (suc n) held h asked = no_calls n asked.2 asked.0 asked.6
 
-no_call : (zs : List (Entry × Option Answer)) (h : Bool) → length (receipts_in sent zs) ≡ 1 → AskedForCalls OwnPoints Point.SendBegun Point.SendAnswered (length zs) false h → ⊥
-no_call [] h one asked = absurd (cc one)
-no_call (z ∷ zs) h one asked = no_calls (length zs) h asked
+no_call : (zs : List (Entry × Option Answer)) (held : ℕ) (h : Bool) → length (receipts_in sent zs) ≡ 1 → AskedForCalls OwnPoints Point.SendBegun Point.SendAnswered (length zs) held false h → ⊥
+no_call [] held h one asked = absurd (cc one)
+no_call (z ∷ zs) held h one asked = no_calls (length zs) held h asked
 
 no_sender : (z : Topic) (items limit : ℕ) (rest : List Bool) → items ≡ 1 → SendersAsked OwnPoints z items limit 1 None (false ∷ rest) → ⊥
 no_sender z items limit rest one s = go s.workers s.many s.missing s.asked
   where
-    back : (p : Option Walk) → None ≡ least_missing 0 (p ∷ []) → IfSome p (SenderIsBack z items 0) → IfSome p (λ w. (h : Bool) × AskedForCalls OwnPoints Point.SendBegun Point.SendAnswered (length (calls w)) false h) → ⊥
-    back (Some w) none is asked = no_call (calls w) asked.0 (is.all ∙ one) asked.1
-    back None none is asked = absurd (cc none)
+    back : (made : ℕ) (p : Option Walk) → None ≡ least_missing 0 (p ∷ []) → IfSome p (SenderIsBack z items 0) → IfSome p (λ w. (h : Bool) × MadeByGate OwnPoints Point.SendBegun Point.SendAnswered made w false h) → ⊥
+    back made (Some w) none is asked = no_call (calls w) asked.1.0 asked.0 (is.all ∙ one) asked.1.1
+    back made None none is asked = absurd (cc none)
 
     go : (ds : List (Worked Walk SendReceipt)) → length ds ≡ 1 → None ≡ least_missing 0 (map (λ d. d.pass) ds) → InRowWith (λ n d g. SenderGave z items limit n d × SendsByGate OwnPoints g z items limit n d) 0 ds (false ∷ rest) → ⊥
     go [] many none row = absurd (cc many)
-    go (d ∷ []) many none row = back d.pass none row.0.0.0 row.0.1.0
+    go (d ∷ []) many none row = back d.made d.pass none row.0.0.0 row.0.1.0
     go (d ∷ e ∷ ds) many none row = absurd (omega (arith, many))
 
 first_is : {A : Type 0} (xs ys rest : List A) (x : A) → xs ++ ys ≡ x ∷ rest → length xs ≡ 1 → xs ≡ x ∷ []

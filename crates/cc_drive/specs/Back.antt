@@ -10,6 +10,7 @@ use Rattle.cc_steps.specs.Walk.{Walk, IsOf}
 use Rattle.cc_queue.specs.Calls.{Begun}
 use Rattle.cc_queue.specs.Headline.{StandsInOne, name, history}
 use Rattle.cc_queue.specs.Receipts.{receipts_in, sent, got}
+use Rattle.cc_queue.specs.Work.{tally, reads}
 use Rattle.cc_drive.specs.Work.{AskedForCalls, AskedAtLast}
 
 -- the calls of a pass in the history that it has seen, each with its answer or pending
@@ -85,15 +86,26 @@ ReceiverGave z limit row d =
     IfSome d.pass (ReceiverIsBack z row) × IfSome d.pass (λ w. d.kept.is_whole ≡ true → d.kept.receipts.items ≡ receipts_in got (calls w))
     × IfNone d.pass (ReceiverStopped z limit row d.made) × (d.made ≤ limit) × (d.row ≡ row)
 
+-- A gate was asked for each call of this pass. Each turn that was made was a read of a state by the pass, or one answer of the
+-- gate that held it up.
+abbrev pub MadeByGate : {G : Type 0} → (G → Point → Go → G → Type 0) → (begun answered : Point) → (made : ℕ) → Walk → G → G → Type 0
+MadeByGate tells begun answered made w g h = (held : ℕ) × AskedForCalls tells begun answered (length (calls w)) held g h × (made ≡ tally reads w.did + held)
+
+-- So it was until these turns were made, and then for a call that came to the limit, or for none. The pass was given up after
+-- that.
+abbrev pub LeftByGate : {G : Type 0} → (G → Point → Go → G → Type 0) → (begun answered : Point) → (made : ℕ) → Walk → Option Walk → G → G → Type 0
+LeftByGate {G} tells begun answered made w left first h = (g : G) × (held : ℕ) × (last : ℕ) × AskedForCalls tells begun answered (length (calls w)) held first g × AskedAtLast tells begun answered last g h
+    × ((x : Walk) × (left ≡ Some x) × (made ≡ tally reads x.did + held + last))
+
 -- The gate of a sender's worker was asked for each of its calls. If it came to a limit, the gate was also asked for the send
 -- that it then began, if it began one.
 abbrev pub SendsByGate : {G : Type 0} → (G → Point → Go → G → Type 0) → G → Topic → (items limit row : ℕ) → Worked Walk SendReceipt → Type 0
 SendsByGate {G} tells gate z items limit row d =
-    IfSome d.pass (λ w. (h : G) × AskedForCalls tells Point.SendBegun Point.SendAnswered (length (calls w)) gate h)
-    × IfNone d.pass ((s : SenderStopped z items limit row d.made) × (g : G) × (h : G) × AskedForCalls tells Point.SendBegun Point.SendAnswered (length (calls s.pass)) gate g × AskedAtLast tells Point.SendBegun Point.SendAnswered g h)
+    IfSome d.pass (λ w. (h : G) × MadeByGate tells Point.SendBegun Point.SendAnswered d.made w gate h)
+    × IfNone d.pass ((s : SenderStopped z items limit row d.made) × (h : G) × LeftByGate tells Point.SendBegun Point.SendAnswered d.made s.pass d.left gate h)
 
 -- and that of a receiver's
 abbrev pub TakesByGate : {G : Type 0} → (G → Point → Go → G → Type 0) → G → Topic → (limit row : ℕ) → Worked Walk TakeReceipt → Type 0
 TakesByGate {G} tells gate z limit row d =
-    IfSome d.pass (λ w. (h : G) × AskedForCalls tells Point.TakeBegun Point.TakeAnswered (length (calls w)) gate h)
-    × IfNone d.pass ((s : ReceiverStopped z limit row d.made) × (g : G) × (h : G) × AskedForCalls tells Point.TakeBegun Point.TakeAnswered (length (calls s.pass)) gate g × AskedAtLast tells Point.TakeBegun Point.TakeAnswered g h)
+    IfSome d.pass (λ w. (h : G) × MadeByGate tells Point.TakeBegun Point.TakeAnswered d.made w gate h)
+    × IfNone d.pass ((s : ReceiverStopped z limit row d.made) × (h : G) × LeftByGate tells Point.TakeBegun Point.TakeAnswered d.made s.pass d.left gate h)

@@ -28,18 +28,20 @@ abbrev pub WasAsked : {G : Type 0} → (G → Point → Go → G → Type 0) →
 WasAsked {G} tells point old new true g h = (k : G) × IsHeldUp tells point (new.made - old.made) g k × tells k point Go.On h
 WasAsked tells point old new false g h = IsHeldUp tells point (new.made - old.made) g h
 
--- a gate was asked at this point, some number of times, until it let the worker go on
-abbrev pub AskedUntilOn : {G : Type 0} → (G → Point → Go → G → Type 0) → Point → G → G → Type 0
-AskedUntilOn {G} tells point g h = (times : ℕ) × (k : G) × IsHeldUp tells point times g k × tells k point Go.On h
+-- a gate was asked at this point until it let the worker go on, and held it up this number of times before
+abbrev pub AskedUntilOn : {G : Type 0} → (G → Point → Go → G → Type 0) → Point → (held : ℕ) → G → G → Type 0
+AskedUntilOn {G} tells point held g h = (k : G) × IsHeldUp tells point held g k × tells k point Go.On h
 
 -- and for this number of calls, one after another: after the begin of each, and after its answer
-abbrev pub AskedForCalls : {G : Type 0} → (G → Point → Go → G → Type 0) → (begun answered : Point) → ℕ → G → G → Type 0
-AskedForCalls tells begun answered zero g h = h ≡ g
-AskedForCalls {G} tells begun answered (suc n) g h = (k : G) × (l : G) × AskedForCalls tells begun answered n g k × AskedUntilOn tells begun k l × AskedUntilOn tells answered l h
+abbrev pub AskedForCalls : {G : Type 0} → (G → Point → Go → G → Type 0) → (begun answered : Point) → (calls held : ℕ) → G → G → Type 0
+AskedForCalls tells begun answered zero held g h = (held ≡ 0) × (h ≡ g)
+AskedForCalls {G} tells begun answered (suc n) held g h = (k : G) × (l : G) × (before : ℕ) × (first : ℕ) × (last : ℕ) × (held ≡ before + first + last)
+    × AskedForCalls tells begun answered n before g k × AskedUntilOn tells begun first k l × AskedUntilOn tells answered last l h
 
 -- and for a call that came to the limit, or for none
-abbrev pub AskedAtLast : {G : Type 0} → (G → Point → Go → G → Type 0) → (begun answered : Point) → G → G → Type 0
-AskedAtLast {G} tells begun answered g h = ((times : ℕ) × IsHeldUp tells begun times g h) ⊎ ((k : G) × (times : ℕ) × AskedUntilOn tells begun g k × IsHeldUp tells answered times k h)
+abbrev pub AskedAtLast : {G : Type 0} → (G → Point → Go → G → Type 0) → (begun answered : Point) → (held : ℕ) → G → G → Type 0
+AskedAtLast {G} tells begun answered held g h = IsHeldUp tells begun held g h
+    ⊎ ((k : G) × (first : ℕ) × (last : ℕ) × (held ≡ first + last) × AskedUntilOn tells begun first g k × IsHeldUp tells answered last k h)
 
 -- a pending call of this queue
 abbrev pub IsPendingAt : Topic → Walk → Type 0
@@ -91,6 +93,11 @@ pub record RanOutBehind {G : Type 0} (tells : G → Point → Go → G → Type 
 abbrev pub Stopped : {G P D : Type 0} → (G → Point → Go → G → Type 0) → (P → Walk) → (D → Walk) → (begun answered : Point) → Walk → Turns → Turns → G → G → Left P D → Type 0
 Stopped tells call pass begun answered v old new g h (Left.Waiting p) = (WasAsked tells begun old new false g h × (call p ≡ v)) ⊎ RanOutBehind tells begun v old new (call p) g h
 Stopped tells call pass begun answered v old new g h (Left.Answered d) = (told : Answer) × AnsweredBetween tells begun answered false v told old new (pass d) g h
+
+-- the pass of a call that came to the limit
+abbrev pub pass_left : Left Walk Walk → Walk
+pass_left (Left.Waiting p) = p
+pass_left (Left.Answered d) = d
 
 -- a send that was answered was made by a sender that could begin one; an exhausted sender is as it was
 abbrev pub IsSent : Walk → Body → Sent → Type 0

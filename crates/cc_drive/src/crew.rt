@@ -42,9 +42,11 @@ pub fn gather<P: Drop, X: Drop>(
         let Worked {
             row: _,
             pass,
+            left,
             made: _,
             kept,
         } = worker;
+        drop(left);
         let is_back = add_pass(&mut passes, pass);
         limited = earlier(limited, is_back, number);
         is_whole &= add_receipts(&mut receipts, kept);

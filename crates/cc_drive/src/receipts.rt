@@ -1,6 +1,7 @@
 //! The receipts that a worker keeps of its calls, and its result.
 ghost use Rattle.std.specs.Prelude.{◌≡◌, [], ◌∷◌, ◌++◌, true};
 
+use cc_queue::GivenUp;
 use std::alloc::Global;
 
 /// The receipts of a worker's calls.
@@ -11,12 +12,15 @@ pub struct KeptReceipts<X: Drop> {
     pub is_whole: bool,
 }
 
-/// The result of a worker: its place, its pass unless it came to a limit, how many turns it made, and its receipts.
+/// The result of a worker: its place, its pass, how many turns it made, and its receipts.
 #[derive(Drop)]
 pub struct Worked<P: Drop, X: Drop> {
     /// The place of its pass in the row of all passes.
     pub row: u32,
+    /// The pass, unless the worker came to a limit.
     pub pass: Option<P>,
+    /// The pass as it was given up then, which has the reads of states that it made.
+    pub left: Option<GivenUp>,
     pub made: u64,
     pub kept: KeptReceipts<X>,
 }

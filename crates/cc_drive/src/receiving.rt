@@ -5,7 +5,7 @@ ghost use Rattle.cc_steps.specs.Walk.{IsOf};
 ghost use Rattle.cc_queue.specs.Calls.{Completed};
 ghost use Rattle.cc_drive.specs.Back.{ReceiverGave, TakesByGate};
 ghost use Rattle.cc_drive.specs.Jobs.{IsTaking};
-ghost use Rattle.cc_drive.specs.Work.{WentOn, IsAskedInTake, CostsOfTake};
+ghost use Rattle.cc_drive.specs.Work.{WentOn, IsAskedInTake, CostsOfTake, pass_left};
 
 use crate::calls::{Left, answer_within};
 use crate::gate::{Gate, Point};
@@ -16,7 +16,7 @@ use crate::threads::Brief;
 use crate::turns::Turns;
 use cc_audit::TakeReceipt;
 use cc_model::TakeAnswer;
-use cc_queue::{PendingTake, Queue, Receiver, begin_take};
+use cc_queue::{GivenUp, PendingTake, Queue, Receiver, begin_take};
 use std::sync::Wait;
 
 /// Takes, and waits for the answer within the limit. The gate is asked after the begin and after the answer. Err has the
@@ -44,6 +44,16 @@ fn take_one<G: Gate>(
         Point::TakeBegun,
         Point::TakeAnswered,
     )
+}
+
+/// Gives up a receiver that came to its limit in a take.
+fn given_up(left: Left<PendingTake, Receiver>) -> GivenUp
+    ensures { result ≡ pass_left left }
+{
+    match left {
+        Left::Waiting(pending) => pending.abandon(),
+        Left::Answered(pass) => pass.abandon(),
+    }
 }
 
 /// Takes until the queue has ended, again after Empty, and keeps a receipt of each item. The pass is returned unless the
@@ -75,13 +85,10 @@ pub(crate) fn take_all<G: Gate, R: Wait>(
         let (after, answer) = match take_one(queue, receiver, &mut gate, &mut turns) {
             Ok((after, answer)) => (after, answer),
             Err(left) => {
-                match left {
-                    Left::Waiting(pending) => drop(pending.abandon()),
-                    Left::Answered(pass) => drop(pass),
-                }
                 return Worked {
                     row,
                     pass: None,
+                    left: Some(given_up(left)),
                     made: turns.made,
                     kept,
                 };
@@ -100,6 +107,7 @@ pub(crate) fn take_all<G: Gate, R: Wait>(
                 return Worked {
                     row,
                     pass: Some(after),
+                    left: None,
                     made: turns.made,
                     kept,
                 };
@@ -110,6 +118,7 @@ pub(crate) fn take_all<G: Gate, R: Wait>(
     Worked {
         row,
         pass: None,
+        left: Some(receiver.abandon()),
         made: turns.made,
         kept,
     }

@@ -3,7 +3,7 @@ ghost use Rattle.std.specs.Prelude.{◌≡◌, ◌+◌, ◌-◌, ◌^◌, ◌<�
 ghost use Rattle.cc_steps.specs.Walk.{IsOf};
 ghost use Rattle.cc_drive.specs.Back.{SenderGave, SendsByGate, one_word};
 ghost use Rattle.cc_drive.specs.Jobs.{IsSending};
-ghost use Rattle.cc_drive.specs.Work.{WentOn, IsAskedInSend, IsSent, CostsOfSend};
+ghost use Rattle.cc_drive.specs.Work.{WentOn, IsAskedInSend, IsSent, CostsOfSend, pass_left};
 
 use crate::calls::{Left, answer_within};
 use crate::gate::{Gate, Point};
@@ -14,7 +14,7 @@ use crate::threads::Brief;
 use crate::turns::Turns;
 use cc_audit::SendReceipt;
 use cc_model::{Body, SendAnswer};
-use cc_queue::{PendingSend, Queue, Sender, begin_send};
+use cc_queue::{GivenUp, PendingSend, Queue, Sender, begin_send};
 use std::sync::Wait;
 
 /// How a send went.
@@ -57,6 +57,16 @@ pub(crate) fn send_body<G: Gate>(
     ) {
         Ok((sender, answer)) => Sent::Answered(sender, answer),
         Err(left) => Sent::Limited(left),
+    }
+}
+
+/// Gives up a sender that came to its limit in a send.
+fn given_up(left: Left<PendingSend, Sender>) -> GivenUp
+    ensures { result ≡ pass_left left }
+{
+    match left {
+        Left::Waiting(pending) => pending.abandon(),
+        Left::Answered(pass) => pass.abandon(),
     }
 }
 
@@ -117,22 +127,19 @@ pub(crate) fn send_all<G: Gate, R: Wait>(
                 }
             }
             Sent::Worn(after) => {
-                drop(after);
                 return Worked {
                     row,
                     pass: None,
+                    left: Some(after.abandon()),
                     made: turns.made,
                     kept,
                 };
             }
             Sent::Limited(left) => {
-                match left {
-                    Left::Waiting(pending) => drop(pending.abandon()),
-                    Left::Answered(pass) => drop(pass),
-                }
                 return Worked {
                     row,
                     pass: None,
+                    left: Some(given_up(left)),
                     made: turns.made,
                     kept,
                 };
@@ -142,6 +149,7 @@ pub(crate) fn send_all<G: Gate, R: Wait>(
     Worked {
         row,
         pass: Some(sender),
+        left: None,
         made: turns.made,
         kept,
     }

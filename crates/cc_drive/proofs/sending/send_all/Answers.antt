@@ -1,9 +1,9 @@
 use Rattle.std.proofs.Common.{rules, arith, ◌∙◌, ◌++◌, length, refl, sym, ap}
-use Rattle.cc_drive.specs.Names.{Call, Point}
+use Rattle.cc_drive.specs.Names.{Call, Point, Turns}
 use Rattle.cc_steps.specs.Walk.{Walk}
 use Rattle.cc_queue.specs.Headline.{entry_of}
 use Rattle.cc_drive.proofs.Gates.{none_asked, send_asked, send_stopped, send_worn}
-use Rattle.cc_drive.proofs.Workers.{calls_fresh, sending_none, sending_more, sending_still, sent_one, sent_none}
+use Rattle.cc_drive.proofs.Workers.{sending_none, sending_more, sending_still, sent_one, sent_none}
 use Rattle.cc_drive.proofs.sending.send_all.Goals as goal
 
 pub loop-accepted-init : goal.loop-accepted-init
@@ -11,7 +11,7 @@ loop-accepted-init g c =
     let begun = sym (ap (λ (w : Walk). w.stand.begun) c.requires.0) in (
       search rules,
       sending_none c.args.queue.now c.args.row c.args.job.number c.args.job.pass _ _ c.requires.0 c.requires.1 c.is_sound.ensures.met c.new-kept.ensures,
-      none_asked g.G.Gate.tells Point.SendBegun Point.SendAnswered c.args.job.pass c.args.job.gate _ (calls_fresh _ _ c.args.job.pass c.requires.0 c.is_sound.ensures.met) refl,
+      none_asked g.G.Gate.tells Point.SendBegun Point.SendAnswered c.args.queue.now c.args.row c.args.job.pass _ c.args.job.gate _ c.requires.0 c.is_sound.ensures.met (ap (λ (t : Turns). t.made) c.new-turns.ensures) refl,
     )
 
 pub loop-accepted-preserved-in-Accepted : goal.loop-accepted-preserved-in-Accepted
@@ -35,13 +35,13 @@ loop-accepted-preserved g c =
 pub returns-in-Worn : goal.returns-in-Worn
 returns-in-Worn g c =
     let was = c.loop-accepted.invariant in
-    let ends = send_worn g.G.Gate.tells c.args.queue.now c.args.brief.items c.args.brief.limit c.args.row c.args.job.number c.loop-accepted.sender c.args.job.gate c.loop-accepted.gate _ _ _ c.send_body.new.turns.made _ was.1 (search rules) c.in-Worn.ensures.sent.1 refl was.2 in
+    let ends = send_worn g.G.Gate.tells c.args.queue.now c.args.brief.items c.args.brief.limit c.args.row c.args.job.number c.loop-accepted.sender c.args.job.gate c.loop-accepted.gate _ _ _ _ _ _ was.1 (search rules) c.in-Worn.ensures.sent.1 c.in-Worn.ensures.asked.0 was.2 (c.abandon.ensures ∙ c.in-Worn.ensures.sent.0) in
     record { gave = (tt, tt, ends.0, search rules, refl); asked = (tt, ends) }
 
 pub returns-in-Limited : goal.returns-in-Limited
 returns-in-Limited g c =
     let was = c.loop-accepted.invariant in
-    let ends = send_stopped g.G.Gate.tells c.args.queue.now c.args.brief.items c.args.brief.limit c.args.row c.args.job.number c.loop-accepted.sender c.args.job.gate c.loop-accepted.gate _ _ _ _ _ _ _ _ was.1 (search rules) c.body_behind-body.ensures (search rules) c.in-Limited.ensures.asked was.2 in
+    let ends = send_stopped g.G.Gate.tells c.args.queue.now c.args.brief.items c.args.brief.limit c.args.row c.args.job.number c.loop-accepted.sender c.args.job.gate c.loop-accepted.gate _ _ _ _ _ _ _ _ _ was.1 (search rules) c.body_behind-body.ensures (search rules) c.in-Limited.ensures.on c.in-Limited.ensures.asked was.2 c.given_up.ensures in
     record { gave = (tt, tt, ends.0, search rules, refl); asked = (tt, ends) }
 
 pub returns : goal.returns
