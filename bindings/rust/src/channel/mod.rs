@@ -12,7 +12,6 @@ mod judged;
 mod limit;
 #[cfg(test)]
 mod linear;
-mod moments;
 mod permit;
 mod pool;
 mod receiver;

@@ -2,13 +2,15 @@
 //! that wait are woken by a thread, which is the same for all timers.
 use super::Receiver;
 use super::body::Item;
-use super::moments::notify_at;
 use super::side::Source;
 use crate::event::{Again, Event, Panics, Try, lock};
 use crate::host::sync::atomic::{AtomicBool, AtomicU64, Ordering};
 use crate::host::sync::{Arc, Mutex};
 use crate::host::time::{Duration, Instant};
+use std::collections::BTreeMap;
 use std::marker::PhantomData;
+use std::sync::Weak;
+use std::thread::{self, Thread};
 
 /// When there is an item, which is the moment.
 pub struct Timer {
@@ -22,6 +24,37 @@ pub struct Timer {
     pub taken: AtomicU64,
     /// The line of those that wait for the moment, or for a close.
     pub line: Event,
+}
+
+/// The timers for whose moments futures wait, by the moments and the timers' addresses. Now and then those that are
+/// gone are taken out.
+static AWAITED: Mutex<BTreeMap<(Instant, usize), Weak<Timer>>> = Mutex::new(BTreeMap::new());
+
+/// The thread that wakes the futures, once one waits.
+static THREAD: Mutex<Option<Thread>> = Mutex::new(None);
+
+/// Notifies the line of each timer at its moment.
+fn notify_at_moments() {
+    loop {
+        let mut awaited = lock(&AWAITED);
+        let next = awaited.first_key_value().map(|it| it.0.0);
+        let rest = next.map_or(Duration::MAX, |it| {
+            it.saturating_duration_since(Instant::now())
+        });
+        let due = if rest.is_zero() {
+            awaited.pop_first()
+        } else {
+            None
+        };
+        drop(awaited);
+        match due {
+            None => thread::park_timeout(rest),
+            Some((_, timer)) => {
+                let notify = |it: Arc<Timer>| it.line.notify_all(&mut Panics::default());
+                timer.upgrade().map(notify);
+            }
+        }
+    }
 }
 
 impl Timer {
@@ -47,8 +80,28 @@ impl Timer {
 
     /// A thread notifies the line at the next moment. Returns whether there is such a thread.
     pub fn notify_when_due(self: &Arc<Timer>) -> bool {
-        let due = *lock(&self.due);
-        due.is_none_or(|it| notify_at(it, self))
+        let Some(due) = *lock(&self.due) else {
+            return true;
+        };
+        let mut awaited = lock(&AWAITED);
+        let key = (due, Arc::as_ptr(self).addr());
+        let is_new = awaited.insert(key, Arc::downgrade(self)).is_none();
+        if is_new && awaited.len().is_power_of_two() {
+            awaited.retain(|_, it| it.strong_count() > 0);
+        }
+        drop(awaited);
+        let mut thread = lock(&THREAD);
+        if thread.is_none() {
+            let builder = thread::Builder::new().name("vahepito timers".to_string());
+            let started = builder.spawn(notify_at_moments);
+            *thread = started.ok().map(|it| it.thread().clone());
+        }
+        let unpark = |it: &Thread| {
+            if is_new {
+                it.unpark();
+            }
+        };
+        thread.as_ref().map(unpark).is_some()
     }
 
     /// Whether there is an item, or none will come.

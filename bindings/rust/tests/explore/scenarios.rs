@@ -9,7 +9,7 @@ use std::time::{Duration, Instant};
 use std::{array, env};
 use vahepito::explore::{Process, Search, World, explore, thread};
 use vahepito::{
-    Receiver, Select, SelectedOperation, Sender, bounded, forget_thread, groups, unbounded,
+    Receiver, Select, SelectedOperation, Sender, channel, forget_thread, groups, try_unbounded,
     use_lines,
 };
 
@@ -61,10 +61,11 @@ impl Ends {
             return ends;
         }
         for receiver in &mut ends.receivers {
-            let (sender, other) = match capacity {
-                "unbounded" => unbounded(),
-                capacity => bounded(number(capacity)),
+            let opened = match capacity {
+                "unbounded" => try_unbounded(),
+                capacity => channel(number(capacity)),
             };
+            let (sender, other) = opened.unwrap();
             ends.senders.push(sender);
             *receiver = Some(other);
         }
