@@ -25,8 +25,12 @@ impl Core {
     /// Makes this call again and again in one seat of this side, until it isn't made. Returns how often it was.
     #[inline]
     fn in_one_seat(&self, side: &Side, mut call: impl FnMut(&mut SeatGuard) -> bool) -> usize {
-        let mut seat = self.acquire_seat(side);
-        let made = (0..IN_ONE_SEAT).take_while(|_| call(&mut seat)).count();
+        let (mut seat, mut made) = (self.acquire_seat(side), 0);
+        while made < IN_ONE_SEAT && call(&mut seat) {
+            made += 1;
+            // The next call may wait for a thread whose call this one has served.
+            seat.wake_served();
+        }
         seat.give_back();
         made
     }

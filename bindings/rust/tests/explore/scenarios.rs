@@ -1,5 +1,6 @@
 //! Reads scenarios, and runs them.
 use crate::rounds::rounds;
+use std::collections::VecDeque;
 use std::mem::take;
 use std::pin::pin;
 use std::sync::atomic::{AtomicU64, Ordering::SeqCst};
@@ -133,6 +134,18 @@ impl Ends {
                 let mut take = pin!(receiver().recv_async());
                 let mut polls = (0..2).map(|_| take.as_mut().poll(context));
                 maybe(polls.find(Poll::is_ready) == Some(Poll::Ready(Ok(1))))
+            }
+            ("batch", true) => {
+                let mut items = VecDeque::from([1, 1]);
+                let is_done = sender.send_many(&mut items).is_ok();
+                let others = 2 - items.len() as u64 - u64::from(is_done);
+                self.counts[SENT][channel].fetch_add(others, SeqCst);
+                ended(is_done)
+            }
+            ("batch", false) => {
+                let taken = receiver().recv_many(&mut vec![], 2) as u64;
+                self.counts[TAKEN][channel].fetch_add(taken.saturating_sub(1), SeqCst);
+                ended(taken > 0)
             }
             ("select" | "give-up", _) => self.complete(actor, select.select()),
             ("select-in-time" | "give-up-in-time", _) => {
