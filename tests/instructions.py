@@ -88,13 +88,13 @@ FUTURES = {
         "assert!(std::pin::pin!(s.send_async(i)).poll(context).is_ready()); assert_eq!(r.try_recv(), Ok(i));", 757,
     ),
 }
-# A batch, in a program of its own too: by the limit an item of it costs at most 0.92 of a pair.
+# A batch, in a program of its own too: by the limit an item of it costs at most 0.93 of a pair.
 BATCHES = {
     "send_many and recv_many of 64 words": (
         "let (s, r) = channel::<u64>(64)?; let (mut some, mut all) = (std::collections::VecDeque::new(), vec![]);",
         "some.extend(i..i + 64); s.send_many(&mut some).unwrap(); assert_eq!(r.recv_many(&mut all, 64), 64); "
         "all.clear();",
-        37262,
+        37848,
     ),
 }
 # The pairs of the program in C: by handles, as the Rust crate makes them, and the calls that wait, which take a seat

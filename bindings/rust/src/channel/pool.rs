@@ -213,7 +213,9 @@ impl<'a> SeatGuard<'a> {
         }
     }
 
-    /// Wakes the waiters that the call of this seat may have served. The holder does so before it waits for a lock: the lock may be theirs.
+    /// Wakes the waiters that the call of this seat may have served. The holder does so before its next call, which may wait
+    /// for them, and before it waits for a lock, which may be theirs.
+    #[inline]
     pub fn wake_served(&self) {
         if self.pool.served.was_used() {
             store_and_wake(self.seat, holder(), &self.pool.served);
