@@ -6,7 +6,7 @@ use Rattle.cc_steps.specs.Topic.{Topic}
 use Rattle.cc_drive.specs.Asked.{ReceiversAsked, SendersAsked, WereAsked, gates_in}
 use Rattle.cc_drive.specs.Names.{DriveConfig, DriveFault, Go, Point, Ran, Refused}
 use Rattle.cc_drive.specs.Jobs.{AreReady}
-use Rattle.cc_drive.specs.Start.{AreStarted, IsStarted}
+use Rattle.cc_drive.specs.Start.{IsStarted}
 use Rattle.cc_drive.specs.declared.jobs.Workers.{Workers}
 use Rattle.cc_drive.proofs.Crewed.{all_started, both_started}
 

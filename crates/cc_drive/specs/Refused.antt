@@ -1,5 +1,5 @@
 -- Refused claims: for each kind of mistake a small case, and a claim about it that the clause doesn't admit.
-use Rattle.std.specs.Prelude.{◌≡◌, ℕ, Bool, true, false, List, [], ◌∷◌, Option, Some, None}
+use Rattle.std.specs.Prelude.{◌≡◌, ℕ, Bool, true, false, [], ◌∷◌, Option, Some, None}
 use Rattle.cc_drive.specs.Asked.{WereAsked}
 use Rattle.cc_drive.specs.Names.{DriveConfig, DriveFault, Go, Point, Verdict}
 use Rattle.cc_drive.specs.Ran.{due, HasEnd}

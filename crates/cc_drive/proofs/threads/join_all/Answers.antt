@@ -1,4 +1,4 @@
-use Rattle.std.proofs.Common.{rules, ◌≡◌, ℕ, List, subst}
+use Rattle.std.proofs.Common.{rules, ◌≡◌, ℕ, subst}
 use Rattle.cc_steps.specs.Topic.{Topic}
 use Rattle.cc_drive.specs.Names.{Brief}
 use Rattle.cc_drive.proofs.Rows.{halfway_first, halfway_last, halfway_next, none_kept, one_kept}
