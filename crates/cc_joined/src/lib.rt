@@ -5,7 +5,8 @@
 //! queue before. The items of the joined history have the places of the whole row. With a bound (`Bounded`, `Narrow`) each
 //! queue has the bound as its capacity; the joined history is then that of one queue with this capacity, each Full among it.
 //!
-//! `cc_row` has the laws of real time, over all interleavings of the threads of a row.
+//! `cc_switch` cites these laws of what a pass has seen. `cc_row` has the laws of real time, over all interleavings of the
+//! threads of a row.
 #![tactic(auto)]
 
 ghost use Rattle.cc_joined.specs.Joined.{JoinedAccepts, JoinedHandsInOrder, JoinedIsLegal, JoinedSendsAreLegal, JoinedTakesAreLegal};

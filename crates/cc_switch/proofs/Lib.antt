@@ -1,0 +1,9 @@
+pub mod LinkFacts
+pub mod Growing
+pub mod Passes
+pub mod Closed
+pub mod Frozen
+pub mod Onward
+pub mod Ended
+pub mod GoingOver
+pub mod Standing

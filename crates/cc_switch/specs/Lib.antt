@@ -1,0 +1,10 @@
+pub mod Links
+pub mod Logs
+pub mod Begin
+pub mod Stages
+pub mod Position
+pub mod Closing
+pub mod Going
+pub mod Receiving
+pub mod Stands
+pub mod Turns
