@@ -140,7 +140,7 @@ NUMBERED = """[{"ClientId":0,"Input":{"Op":0,"Value":1},"Call":1,"Output":{},"Re
 READ_BY_OPTIONS = [
     ("jepsen", POLL, [], "to_log: FILE: unknown operations: poll (2); known are enqueue, "),
     ("jepsen", POLL, ["--ops", "poll=dequeue"], "judge fault: never sent: line 2 "),
-    ("jepsen", POLL, ["--ignore", ":poll"], "to_log: left out: ignored poll (2)\njudge clean: 1 calls"),
+    ("jepsen", POLL, ["--ignore", ":poll"], "to_log: left out: ignored poll (2)\njudge clean: 1 call has"),
     ("jepsen", POLL.replace(":enqueue", ":txn"), [], "to_log: FILE: unknown operations: txn (2), poll (2); "),
     ("jepsen", POLL, ["--ignore", "poll", "--ignore=enqueue"],
      "to_log: FILE: no calls are left; left out: ignored enqueue (2), ignored poll (2)"),
@@ -157,7 +157,7 @@ READ_BY_OPTIONS = [
      'to_log: FILE: operation 2: no item of one to four whole numbers below 2^64: "x"; --number-items '),
     ("jepsen", TEXTS, ["--number-items"], "judge clean: 3 calls"),
     ("jepsen", TEXTS.replace('"x", :process 1', ":x, :process 1"), ["--number-items"],
-     "judge fault: overtaken: line 1 "),
+     "judge fault: overtaken: line "),
     ("porcupine", ONE_CLIENT, [],
      "to_log: FILE: operations that began before the last one of their client returned: ClientId 0 (3); "),
     ("porcupine", ONE_CLIENT, ["--no-clients"], "judge clean: 4 calls"),
@@ -166,7 +166,7 @@ READ_BY_OPTIONS = [
     ("porcupine", NUMBERED, [], "to_log: FILE: unknown operations: 1 (2), 0 (1); "),
     ("porcupine", NUMBERED, ["--ops", "0=enqueue", "--ops", "1=take"], "judge clean: 3 calls"),
     ("porcupine", NUMBERED, ["--ops", "1=enqueue", "--ops", "0=take"], "to_log: FILE: operation 2: no item "),
-    ("porcupine", NUMBERED, ["--ignore", "1", "--ops=0=Put"], "to_log: left out: ignored 1 (2)\njudge clean: 1 calls"),
+    ("porcupine", NUMBERED, ["--ignore", "1", "--ops=0=Put"], "to_log: left out: ignored 1 (2)\njudge clean: 1 call has"),
     ("porcupine", NUMBERED.replace('"Op":0,', ""), [], "to_log: FILE: 1 of 3 operations have no Op in Input: "),
 ]
 # Lines that are refused.
@@ -212,16 +212,18 @@ LANE_ROWS = [
     (("", ""), "lanes: 2 of 2 lanes are clean\n"),
     # 13 is taken while 11 and 12 are in the queue, and one take is pending: that shows before 13 is taken again.
     (('"take":11}', '"take":13}'),
-     "lanes: thread a: judge fault: overtaken: line 3 had ended before line 4 began; the item of line 3 is not taken "
-     "before line 8 began, after line 6 took the other\nlanes: 1 of 2 lanes are clean\n"),
+     "lanes: thread a: judge fault: overtaken: line 6 (thread c) took item 13 of line 4 (thread a), while item 12 of "
+     "line 3 (thread a), sent before it, was in the queue; there at least until line 8 (thread d) began (no line took "
+     "it, and 1 take hasn't returned)\nlanes: 1 of 2 lanes are clean\n"),
     (('"take":13}', '"take":99}'),
-     "lanes: thread no line: judge fault: never sent: line 9 took an item that no accepted send sent\n"
+     "lanes: thread no line: judge fault: never sent: line 9 (thread c) took item 99, which no accepted send sent\n"
      "lanes: 2 of 3 lanes are clean\n"),
     (('"thread":"d","begin":13,"take":null', '"thread":"d","begin":13,"end":14,"take":null'),
-     "lanes: thread a: judge fault: overtaken: line 3 had ended before line 4 began; the item of line 3 is never "
-     "taken, after line 9 took the other\nlanes: 1 of 2 lanes are clean\n"),
+     "lanes: thread a: judge fault: overtaken: line 9 (thread c) took item 13 of line 4 (thread a), while item 12 of "
+     "line 3 (thread a), sent before it, was in the queue; no line took it: lost, or still in the queue\n"
+     "lanes: 1 of 2 lanes are clean\n"),
     (('"take":13}', '"take":99}\n{"ends":"whole"}'),
-     "lanes: thread no line: judge fault: never sent: line 9 took an item that no accepted send sent\n"
+     "lanes: thread no line: judge fault: never sent: line 9 (thread c) took item 99, which no accepted send sent\n"
      "lanes: 2 of 3 lanes are clean\n"),
     (('"take":13}', '"take":99}\n{"ends":"early"}'), "lanes: 3 of 3 lanes are clean\n"),
     (('"take":13}', '"take":13}\n{"ends":"whole"}\n{"ends":"whole"}'), ""),

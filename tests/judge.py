@@ -256,7 +256,11 @@ def has_order(calls, ties, capacity):
 
 # An item of the fault `not empty`: the line of its send or of several, the line that shows the queue closed, and the line of the
 # first take that may have it.
-STAY = re.compile(r"; (?:the item|one of the items) of (?:lines? ([\d, ]+)|a send before the log)(?:, sent before the queue was closed \(line (\d+)\))?, (?:(?:taken by|not taken before) line (\d+))?")
+LINE = r"line (\d+) \(thread [^)]*\)"
+STAY = re.compile(
+    rf"; (?:item \S+|one of the items) of (?:lines? ([\d, and]*\d)(?: and \d+ others)?(?: \(thread [^)]*\))?|a send before the log)"
+    rf"(?:, sent before {LINE} showed that the queue was closed)?, (?:(?:taken later by|there at least until) {LINE})?"
+)
 
 
 def is_explained(calls, ties, said):
@@ -266,16 +270,16 @@ def is_explained(calls, ties, said):
     come_before = lambda first, second: lines[first].get("end", NEVER) < lines[second]["begin"] or ties.get(second) == first
     accused = begins = int(re.match(r"judge fault: not empty: line (\d+) ", said)[1])
     for sends, closed, take in STAY.findall(said):
-        timely = bool(sends) and all(come_before(int(send), begins) for send in sends.split(","))
+        timely = bool(sends) and all(come_before(int(send), begins) for send in re.findall(r"\d+", sends))
         if closed:
             call = lines[int(closed)]
             shows = "close" in call or call.get("answer") in ("closed", "ended")
-            if timely or not shows or not (int(closed) == begins or come_before(int(closed), begins)):
+            if not shows or not (int(closed) == begins or come_before(int(closed), begins)):
                 return False
         elif not timely:
             return False
         begins = int(take or 0)
-    return not begins or come_before(accused, begins)
+    return "one after another" in said or not begins or come_before(accused, begins)
 
 
 def line_of(rng, call):
@@ -315,7 +319,8 @@ def judged(number):
     if capacity and not are_lone(wide, ties):
         possible = run.stdout.startswith("judge clean")
     right = ordered and possible
-    clean = f"judge clean: {len(calls) - answers.count('full') - closed} calls have a legal order, {full + closed} not judged"
+    ordinary = len(calls) - answers.count("full") - closed
+    clean = f"judge clean: {ordinary} call{' has' if ordinary == 1 else 's have'} a legal order, {full + closed} not judged"
     clean += f": {full} full, {closed} closed" * bool(full + closed)
     clean += f"; {answers.count('full')} may have found {capacity} in the queue" * bool(capacity)
     clean += f"; {SAID_END[ends]}"
@@ -374,7 +379,7 @@ def judge_forms():
     for form, due in FORMS:
         run = subprocess.run([PROGRAM, "judge"], input=form, capture_output=True, check=False)
         said = run.stderr.decode()
-        if run.returncode != 2 or said != f"ccq: log refused: line 1: {due}\n":
+        if run.returncode != 2 or said != f"ccq: log refused: standard input: line 1: {due}\n":
             right = False
             print(f"judge: a log that begins with {form[:4]}: status {run.returncode}, {said}", end="")
     print(f"judge: {len(FORMS)} logs in other forms are{'' if right else ' not'} refused by their forms")

@@ -245,7 +245,7 @@ def hints(program):
     place = "standard input: 1:1: x is no JSON here\r\n"
     due = {"play": "ccq: plan refused: P1\r\nccq: " + place, "show": "ccq: plan refused: P1\r\nccq: " + place,
            "audit": "ccq: plan refused: P1\r\nccq: " + place,
-           "judge": "ccq: log refused: line 1: no JSON object\r\n",
+           "judge": "ccq: log refused: standard input: line 1: no JSON object\r\n",
            "play examples/receipts.json": "ccq: plan refused: P2\r\nccq: examples/receipts.json: no fault: these "
                                           "receipts aren't refused\r\n"}
     for line, text in due.items():

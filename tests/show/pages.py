@@ -401,20 +401,20 @@ def large_log(count):
 
 
 def judged_page(calls, options):
-    """The line of the verdict on a log, and its page. Both have one status, which is returned too."""
+    """The first line of the verdict on a log, and its page. Both have one status, which is returned too."""
     log = "".join(json.dumps(call) + "\n" for call in calls).encode()
     line, page = (subprocess.run([PROGRAM, "judge", *more, *options], input=log, stdout=subprocess.PIPE, timeout=120)
                   for more in ([], ["--page"]))
     if line.returncode != page.returncode:
         sys.exit(f"the status is {line.returncode}, and {page.returncode} with a page")
-    return line.stdout.decode().strip(), page.stdout.decode(), line.returncode
+    return line.stdout.decode().partition("\n")[0], page.stdout.decode(), line.returncode
 
 
-def judged_job(calls, line, page, shown, marks=None, says=""):
-    """What a page has to show. The lit calls are those that the line of the verdict names, and the first close if a
-    take found the end."""
+def judged_job(calls, line, page, shown, marks=None, says="", named=()):
+    """What a page has to show. The lit calls are those that the line of the verdict names, or these, and the first
+    close if a take found the end."""
     places = re.findall(r"\blines? (\d+(?:(?:, | and )\d+)*)", line) if line.startswith("judge fault") else []
-    named = {int(number) for place in places for number in re.findall(r"\d+", place)}
+    named = {*named, *(int(number) for place in places for number in re.findall(r"\d+", place))}
     closes = [number for number, call in enumerate(calls, 1) if "close" in call]
     if "closed and empty" in line:
         named.add(min(closes, key=lambda number: calls[number - 1]["begin"]))
@@ -437,7 +437,8 @@ def judged():
     calls = chained_log(25)
     line, page, _ = judged_page(calls, [])
     # The last take began when the call had ended, and took none of the first 20 items.
-    jobs.append(judged_job(calls, line, page, list(range(1, 51)), says=" and then 5 others, one after another"))
+    jobs.append(judged_job(calls, line, page, list(range(1, 51)), says=" and then 5 others, one after another",
+                           named=range(1, 42)))
     calls = large_log(100_000)
     line, page, _ = judged_page(calls, [])
     shown = [json.loads(call)["line"] for call in re.search(r'id="calls">([^<]*)', page)[1].splitlines()]

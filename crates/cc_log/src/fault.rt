@@ -36,13 +36,13 @@ pub enum LineFault {
     #[error("`thread` is missing, or no text and no whole number")]
     Thread,
     /// `begin` is missing, or no whole number below 2^64.
-    #[error("`begin` is missing or no whole number")]
+    #[error("`begin` is missing or no whole number from 0 to 2^64 - 1")]
     Begin,
     /// `end` is no whole number below 2^64, or less than `begin`.
     #[error("`end` is no whole number from `begin` on")]
     End,
     /// There isn't just one of `send`, `take` and `close`, or it has no body of one to four words, or isn't `true`.
-    #[error("neither a `send` nor a `take` of one to four words, nor a `close` that is true")]
+    #[error("neither a `send` nor a `take` of one to four whole numbers, nor a `close` that is true")]
     Call,
     /// `answer` is none of `full`, `closed` and `ended`, or belongs to a call that can't have it.
     #[error("an `answer` that this call can't have")]

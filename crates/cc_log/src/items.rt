@@ -9,7 +9,7 @@ ghost use Rattle.cc_log.specs.State.{sender_in};
 ghost use Rattle.cc_log.specs.Names.{LogFault};
 
 use crate::fault::LogFault;
-use crate::line::{Body, Said, body_text};
+use crate::line::{Body, Said, item_text};
 use crate::narrow::narrow;
 use cc_judge::Act;
 use indexmap::IndexMap;
@@ -45,7 +45,7 @@ fn sent(alloc: Global, items: &mut Items, body: Body, line: usize) -> Result<u32
         return Err(LogFault::SentTwice {
             first: first as usize,
             second: line,
-            item: body_text(alloc, body, "")?,
+            item: item_text(alloc, body)?,
         });
     }
     narrow(place)

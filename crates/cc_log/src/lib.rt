@@ -21,7 +21,7 @@ mod window;
 
 pub use clauses::{definitions_refuse, parts_have_no_fault};
 pub use fault::{LineFault, LogFault};
-pub use line::{Body, Ending, Line, Said, body_text};
+pub use line::{Body, Ending, Line, Said, body_text, item_text};
 pub use parse::{Log, Notes, Options, Shown, read_log};
 pub use parts::{Followed, follow};
 pub use threads::Last;

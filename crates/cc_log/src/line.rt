@@ -26,6 +26,15 @@ pub fn body_text(alloc: Global, body: Body, mark: &str) -> Result<String, AllocE
     }
 }
 
+/// A body as a text names it: a single word without brackets.
+pub fn item_text(alloc: Global, body: Body) -> Result<String, AllocError> {
+    let (count, word, ..) = body;
+    if count == 1 {
+        return format!(in alloc; "{word}");
+    }
+    body_text(alloc, body, "")
+}
+
 /// The call that a line describes.
 #[derive(Clone, Copy)]
 pub enum Said {

@@ -8,16 +8,18 @@ ghost use Rattle.cc_log.specs.State.{Shows, log_view};
 ghost use Rattle.cc_log.specs.Written.{IsWellFormed};
 
 use crate::fault::LogFault;
+use crate::items::Items;
 use crate::late::pad;
-use crate::line::{Ending, Line};
+use crate::line::{Body, Ending, Line, Said};
 use crate::lines::Lines;
 use crate::state::{State, add_line};
 use crate::threads::Last;
 use crate::window::Window;
 use cc_io::Source;
-use cc_judge::{Call, Rules};
+use cc_judge::{Act, Call, Rules};
 use indexmap::IndexMap;
 use std::alloc::Global;
+use std::mem;
 
 /// The options by which a log is judged.
 #[derive(Clone, Copy)]
@@ -26,7 +28,7 @@ pub struct Options {
     pub capacity: Option<u32>,
     /// By how much each call may have begun earlier and ended later than its line says.
     pub skew: u64,
-    /// Whether the answer is a page, for which the lines are kept.
+    /// Whether the answer is a page.
     pub page: bool,
     /// Whether the log is judged in parts, while it is read.
     pub follow: bool,
@@ -52,7 +54,7 @@ impl Options {
     }
 }
 
-/// A line as a page shows it.
+/// A line as the text of a verdict and its page show it.
 #[derive(Clone, Copy)]
 pub struct Shown {
     /// Its times, and the act of its call.
@@ -61,17 +63,23 @@ pub struct Shown {
     pub thread: u32,
 }
 
-/// Counts and lines for the text of the verdict and its page.
+/// What the lines say beside the calls, for the text of the verdict and its page.
 #[derive(Drop)]
 pub struct Notes {
     /// The numbers of the lines of those calls that have one, from 1, in the order of the calls.
     pub lines: Vec<u32>,
+    /// The places of the names of their threads.
+    pub threads: Vec<u32>,
+    /// Their begins and ends, if a skew makes those of the calls differ.
+    pub times: Vec<(u64, Option<u64>)>,
     /// The number of sends with the answer Full.
     pub full: usize,
     /// The number of sends with the answer Closed.
     pub closed: usize,
-    /// The lines in order, if the answer is a page.
-    pub shown: Vec<Shown>,
+    /// The bodies of the items that were refused, each after the place of its send.
+    pub refused: Vec<(u32, Body)>,
+    /// The bodies of the other items, once the log is finished.
+    pub items: Items,
 }
 
 /// A log.
@@ -116,9 +124,12 @@ impl Log {
             options,
             notes: Notes {
                 lines: Vec::new(alloc),
+                threads: Vec::new(alloc),
+                times: Vec::new(alloc),
                 full: 0,
                 closed: 0,
-                shown: Vec::new(alloc),
+                refused: Vec::new(alloc),
+                items: IndexMap::new(alloc),
             },
             threads: IndexMap::new(alloc),
         }
@@ -132,6 +143,52 @@ impl Log {
             Some(line) => Some(*line as usize),
             None => None,
         }
+    }
+
+    /// The body of the item that the call at a place sent, offered or took.
+    pub fn body_at(&self, place: usize) -> Option<Body> {
+        match self.calls.get(place)?.act {
+            Act::Send(item) | Act::Took(item) => {
+                let (body, _) = self.notes.items.get_index(item as usize)?;
+                Some(*body)
+            }
+            Act::Full | Act::Closed => {
+                let refused = &self.notes.refused;
+                let before = refused.partition_point(|(at, _)| (*at as usize) < place);
+                match refused.get(before) {
+                    Some((at, body)) if *at as usize == place => Some(*body),
+                    _ => None,
+                }
+            }
+            Act::FoundNone | Act::Taking | Act::Ended | Act::Close => None,
+        }
+    }
+
+    /// What the line of the call at a place says of the call.
+    fn said_at(&self, place: usize) -> Option<Said> {
+        Some(match self.calls.get(place)?.act {
+            Act::Send(_) => Said::Send(self.body_at(place)?),
+            Act::Took(_) => Said::Took(self.body_at(place)?),
+            Act::FoundNone => Said::FoundNone,
+            Act::Taking => Said::Taking,
+            Act::Full => Said::Full(self.body_at(place)?),
+            Act::Closed => Said::Closed(self.body_at(place)?),
+            Act::Ended => Said::Ended,
+            Act::Close => Said::Close,
+        })
+    }
+
+    /// The line of the call at a place, if the log has one.
+    pub fn shown(&self, place: usize) -> Option<Shown> {
+        let thread = self.notes.threads.get(place).copied()?;
+        let call = self.calls.get(place).copied()?;
+        let (begin, end) = match self.notes.times.get(place) {
+            Some(times) => *times,
+            None => (call.begin, call.end),
+        };
+        let said = self.said_at(place)?;
+        let line = Line { begin, end, said };
+        Some(Shown { line, thread })
     }
 }
 
@@ -176,6 +233,7 @@ pub fn finish(alloc: Global, state: &mut State) -> Result<(), LogFault>
     let part = is_part(state.late, state.log.options.window.from, state.log.ends);
     let items = state.items.len();
     state.log.items = items;
+    state.log.notes.items = mem::replace(&mut state.items, IndexMap::new(alloc));
     state.log.part = part;
     state.log.rules.capacity = judged_capacity(part, state.log.rules.capacity);
     pad(

@@ -15,7 +15,7 @@ use crate::items::{Items, act_of};
 use crate::line::{Ending, Line, Said, begins_late, ending_in};
 use crate::lines::LINE_LIMIT;
 use crate::narrow::narrow;
-use crate::parse::{Log, Notes, Shown};
+use crate::parse::{Log, Notes};
 use crate::threads::{Last, Parsed, after_last, fault_of, note_tie, read_call};
 use crate::window::cut;
 use cc_judge::{Act, Call};
@@ -88,7 +88,7 @@ fn has_close(last: Said, before: bool) -> bool
 /// Notes a line for the text of the verdict and its page.
 fn note(
     notes: &mut Notes,
-    page: bool,
+    skew: u64,
     number: usize,
     line: Line,
     thread: usize,
@@ -96,15 +96,22 @@ fn note(
     ensures lines { OnOk result (notes.new.lines.items ≡ notes.old.lines.items ++ number ∷ []) }
     ensures memory { IfErr result (λ fault. fault ≡ LogFault.Memory) }
 {
+    let place = narrow(notes.lines.len())?;
     notes.lines.push(narrow(number)?)?;
-    match line.said {
-        Said::Full(_) => notes.full = notes.full.saturating_add(1),
-        Said::Closed(_) => notes.closed = notes.closed.saturating_add(1),
-        _ => {}
+    notes.threads.push(narrow(thread)?)?;
+    if skew > 0 {
+        notes.times.push((line.begin, line.end))?;
     }
-    if page {
-        let thread = narrow(thread)?;
-        notes.shown.push(Shown { line, thread })?;
+    match line.said {
+        Said::Full(body) => {
+            notes.full = notes.full.saturating_add(1);
+            notes.refused.push((place, body))?;
+        }
+        Said::Closed(body) => {
+            notes.closed = notes.closed.saturating_add(1);
+            notes.refused.push((place, body))?;
+        }
+        _ => {}
     }
     Ok(())
 }
@@ -148,13 +155,7 @@ fn add(alloc: Global, state: &mut State, parsed: Parsed, number: usize) -> Resul
         place,
     };
     let (thread, _) = state.log.threads.insert_full(thread, now)?;
-    note(
-        &mut state.log.notes,
-        state.log.options.page,
-        number,
-        line,
-        thread,
-    )?;
+    note(&mut state.log.notes, skew, number, line, thread)?;
     state.log.calls.push(call_of(line, skew, act))?;
     Ok(())
 }

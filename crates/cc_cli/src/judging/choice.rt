@@ -1,8 +1,8 @@
 //! Which calls the page of a judged log shows: those that the fault names, those of the same items, and some at the same times.
 
-use crate::judging::verdict_line::{MANY, first_close, found_end};
+use crate::judging::verdict_line::{MANY, first_close, found_end, in_whole, next_of};
 use cc_judge::{Act, Call, Fault, Stay};
-use cc_log::{Body, Log, Said};
+use cc_log::{Body, Log};
 use indexmap::IndexSet;
 use std::alloc::{AllocError, Global};
 
@@ -43,24 +43,32 @@ fn is_marked(marks: &[bool], place: usize) -> bool {
 }
 
 /// Marks the calls of a stay.
-fn mark_stay(marks: &mut Vec<bool>, stay: &Stay) {
+fn mark_stay(
+    alloc: Global,
+    log: &Log,
+    marks: &mut Vec<bool>,
+    stay: &Stay,
+    is_last: bool,
+) -> Result<(), AllocError> {
+    let stay = &in_whole(alloc, log, stay)?;
     match stay {
         Stay::Taken { send, take, .. } => {
             mark(marks, *send);
             mark(marks, *take);
         }
-        Stay::Left { sends, next, .. } => {
+        Stay::Left { sends, .. } => {
             for send in sends {
                 mark(marks, *send);
             }
-            if let Some(next) = next {
-                mark(marks, *next);
+            if let Some(next) = next_of(log, stay, is_last) {
+                mark(marks, next);
             }
         }
     }
     if let Some(closed) = stay.closed() {
         mark(marks, closed);
     }
+    Ok(())
 }
 
 /// The sends of too many items that a page names: of many the first.
@@ -69,7 +77,12 @@ pub fn named_sends(sends: &[usize]) -> &[usize] {
 }
 
 /// Marks the calls that a fault names: of many items those of the first.
-fn mark_named(marks: &mut Vec<bool>, fault: &Fault) {
+fn mark_named(
+    alloc: Global,
+    log: &Log,
+    marks: &mut Vec<bool>,
+    fault: &Fault,
+) -> Result<(), AllocError> {
     match fault {
         Fault::NeverSent { take } => mark(marks, *take),
         Fault::TakenBeforeSent { send, take } => {
@@ -85,14 +98,14 @@ fn mark_named(marks: &mut Vec<bool>, fault: &Fault) {
             later_send,
             later_take,
         } => {
-            mark_stay(marks, stay);
+            mark_stay(alloc, log, marks, stay, true)?;
             mark(marks, *later_send);
             mark(marks, *later_take);
         }
         Fault::NotEmpty { call, stays } => {
             mark(marks, *call);
-            for stay in stays.iter().take(MANY) {
-                mark_stay(marks, stay);
+            for (at, stay) in stays.iter().take(MANY).enumerate() {
+                mark_stay(alloc, log, marks, stay, at.saturating_add(1) == stays.len())?;
             }
         }
         Fault::Reopened { closed, send } => {
@@ -108,6 +121,7 @@ fn mark_named(marks: &mut Vec<bool>, fault: &Fault) {
         }
         Fault::NoOrder => {}
     }
+    Ok(())
 }
 
 /// Of each item the call that took it.
@@ -207,7 +221,7 @@ fn mark_fault(
     fault: &Fault,
     marks: &mut Vec<bool>,
 ) -> Result<(), AllocError> {
-    mark_named(marks, fault);
+    mark_named(alloc, log, marks, fault)?;
     match fault {
         Fault::NotEmpty { call, .. } if found_end(log, *call) => {
             if let Some(close) = first_close(log) {
@@ -227,22 +241,11 @@ fn mark_fault(
     }
 }
 
-/// The body of the item that a line sent, offered or took.
-fn body_of(said: Said) -> Option<Body> {
-    match said {
-        Said::Send(body) | Said::Took(body) | Said::Full(body) | Said::Closed(body) => Some(body),
-        Said::FoundNone | Said::Taking | Said::Ended | Said::Close => None,
-    }
-}
-
 /// The bodies of the items of the marked calls.
 fn bodies(alloc: Global, log: &Log, marks: &[bool]) -> Result<IndexSet<Body>, AllocError> {
     let mut bodies = IndexSet::new(alloc);
-    for (place, shown) in log.notes.shown.iter().enumerate() {
-        if !is_marked(marks, place) {
-            continue;
-        }
-        if let Some(body) = body_of(shown.line.said) {
+    for (place, marked) in marks.iter().enumerate() {
+        if let (true, Some(body)) = (*marked, log.body_at(place)) {
             let _new = bodies.insert(body)?;
         }
     }
@@ -285,9 +288,9 @@ fn overlaps(log: &Log, place: usize, spans: &[Span]) -> bool {
     }
 }
 
-/// Whether the item that a line sent, offered or took has one of these bodies.
-fn is_among(said: Said, bodies: &IndexSet<Body>) -> bool {
-    match body_of(said) {
+/// Whether an item has one of these bodies.
+fn is_among(body: Option<Body>, bodies: &IndexSet<Body>) -> bool {
+    match body {
         Some(body) => bodies.contains(&body),
         None => false,
     }
@@ -296,11 +299,11 @@ fn is_among(said: Said, bodies: &IndexSet<Body>) -> bool {
 /// Marks the calls of these items, and some that overlap one of the spans. Returns how many of the latter are left out.
 fn mark_beside(log: &Log, bodies: &IndexSet<Body>, spans: &[Span], marks: &mut Vec<bool>) -> usize {
     let (mut beside, mut left_out) = (0usize, 0usize);
-    for (place, shown) in log.notes.shown.iter().enumerate() {
+    for place in 0..log.notes.lines.len() {
         if is_marked(marks, place) {
             continue;
         }
-        if is_among(shown.line.said, bodies) {
+        if is_among(log.body_at(place), bodies) {
             mark(marks, place);
         } else if overlaps(log, place, spans) {
             if beside < LIMIT {

@@ -5,7 +5,7 @@ ghost use Rattle.cc_cli.specs.Judged.{IsDueOrNone, IsTold};
 
 use crate::input::Reasoned;
 use crate::judging::judge::{Found, refused, tell_found};
-use crate::judging::verdict_line::{said_end, text_of};
+use crate::judging::verdict_line::{count, said_end, text_of};
 use cc_io::{Sink, Source, out_of_memory};
 use cc_judge::Verdict;
 use cc_log::{Followed, Options, follow};
@@ -15,9 +15,14 @@ use std::alloc::{AllocError, Global};
 fn followed_text(alloc: Global, followed: &Followed) -> Result<String, AllocError> {
     match followed.verdict {
         Verdict::Clean => format!(in alloc;
-            "judge clean: {} parts of {} lines have legal orders; {}\n",
-            followed.parts,
-            followed.lines,
+            "judge clean: {} of {} {}; {}\n",
+            count(alloc, followed.parts, "part", "parts")?,
+            count(alloc, followed.lines, "line", "lines")?,
+            if followed.parts == 1 {
+                "has a legal order"
+            } else {
+                "have legal orders"
+            },
             said_end(followed.log.ends)
         ),
         _ => text_of(alloc, &followed.log, &followed.verdict),

@@ -5,6 +5,7 @@ ghost use Rattle.cc_cli.specs.Judged.{IsJudged, IsRefused, IsTold, Judges, faile
 
 use crate::input::Reasoned;
 use crate::judging::follow::follow_input;
+use crate::judging::lines::named_lines;
 use crate::judging::page::{AnswerFault, write_page};
 use crate::judging::verdict_line::text_of;
 use crate::reading::tell_unread;
@@ -58,22 +59,22 @@ pub fn refused<R: Reasoned, E: Sink>(
     match fault {
         LogFault::Memory => out_of_memory(errors),
         LogFault::Read => tell_unread(alloc, errors, name, source),
-        _ => tell_refusal(alloc, errors, fault),
+        _ => tell_refusal(alloc, errors, name, fault),
     }
 }
 
-/// Writes the line of a refusal, and returns the status.
-fn tell_refusal<E: Sink>(alloc: Global, errors: &mut E, fault: &LogFault) -> u8
+/// Writes the line of a refusal of the log of this name, and returns the status.
+fn tell_refusal<E: Sink>(alloc: Global, errors: &mut E, name: &str, fault: &LogFault) -> u8
     requires { E.write_failures errors.old < 2 ^ 64 - 1 }
     ensures { (result ≡ 2) ⊎ (result ≡ 3) }
 {
-    match format!(in alloc; "ccq: log refused: {fault}\n") {
+    match format!(in alloc; "ccq: log refused: {name}: {fault}\n") {
         Ok(line) => told(errors, line.as_bytes(), 2),
         Err(_) => out_of_memory(errors),
     }
 }
 
-/// Writes a verdict, as its line or as a page, as the options of the log say.
+/// Writes a verdict, as its line and the lines that this names or as a page, as the options of the log say.
 #[tactic(auto, using(crate::proofs::Judged::unwritten))]
 fn write_found<W: Sink>(
     alloc: Global,
@@ -87,7 +88,9 @@ fn write_found<W: Sink>(
     if log.options.page {
         return write_page(alloc, sink, log, &found.verdict, found.line.as_str());
     }
+    let named = named_lines(alloc, log, &found.verdict)?;
     write_bytes(sink, found.line.as_bytes())?;
+    write_bytes(sink, named.as_bytes())?;
     Ok(())
 }
 

@@ -6,10 +6,11 @@ ghost use Rattle.cc_cli.specs.Names.{AnswerFault};
 
 use crate::judging::choice::{Choice, beside_fault, first_calls, held_until, named_sends};
 use crate::judging::fault_page::{BACK, FRONT, MIDDLE};
-use crate::judging::verdict_line::{MANY, first_close, found_end, taker};
+use crate::judging::lines::{call_json, quoted};
+use crate::judging::verdict_line::{MANY, first_close, found_end, in_whole, next_of};
 use cc_io::{Sink, WriteFault, write_bytes};
 use cc_judge::{Fault, Stay, Verdict};
-use cc_log::{Log, Said, Shown, body_text};
+use cc_log::{Log, Shown};
 use std::alloc::{AllocError, Global};
 use std::slice::from_ref;
 
@@ -36,29 +37,6 @@ impl From<WriteFault> for AnswerFault {
     fn from(_: WriteFault) -> AnswerFault {
         AnswerFault::Write
     }
-}
-
-/// Whether a character isn't written as it is: JSON escapes it, or the page would end its text there.
-fn is_escaped(c: char) -> bool {
-    c < ' ' || c == '"' || c == '\\' || c == '<'
-}
-
-/// A text in quotes, as JSON has it in a page.
-fn quoted(alloc: Global, plain: &str) -> Result<String, AllocError> {
-    let mut text = String::from_str(alloc, "\"")?;
-    for piece in plain.split_inclusive(is_escaped) {
-        match piece.strip_suffix(is_escaped) {
-            Some(front) => {
-                text.push_str(front)?;
-                let byte = piece.as_bytes().last().copied().unwrap_or(0);
-                let code = format!(in alloc; "\\u{byte:04x}")?;
-                text.push_str(code.as_str())?;
-            }
-            None => text.push_str(piece)?,
-        }
-    }
-    text.push_str("\"")?;
-    Ok(text)
 }
 
 /// Appends a key and the number of the line of the call at a place, if the log has a line of that call.
@@ -96,28 +74,25 @@ fn push_sends(
 }
 
 /// Appends a stay.
-fn push_stay(alloc: Global, text: &mut String, log: &Log, stay: &Stay) -> Result<(), AllocError> {
+fn push_stay(
+    alloc: Global,
+    text: &mut String,
+    log: &Log,
+    stay: &Stay,
+    is_last: bool,
+) -> Result<(), AllocError> {
+    let stay = &in_whole(alloc, log, stay)?;
     text.push_str("{")?;
     match stay {
         Stay::Taken { send, take, .. } => {
             push_sends(alloc, text, log, from_ref(send))?;
             push_line(alloc, text, log, "take", *take)?;
         }
-        Stay::Left {
-            sends,
-            more,
-            next,
-            ..
-        } => {
+        Stay::Left { sends, more, .. } => {
             push_sends(alloc, text, log, sends.as_slice())?;
             push_more(alloc, text, "more", *more)?;
-            if let Some(next) = next {
-                let key = if taker(log, stay).is_some() {
-                    "take"
-                } else {
-                    "next"
-                };
-                push_line(alloc, text, log, key, *next)?;
+            if let Some(next) = next_of(log, stay, is_last) {
+                push_line(alloc, text, log, "next", next)?;
             }
         }
     }
@@ -149,7 +124,7 @@ fn push_stays(
     text.push_str(",\"stays\":[")?;
     for (at, stay) in stays.iter().take(MANY).enumerate() {
         text.push_str(if at == 0 { "" } else { "," })?;
-        push_stay(alloc, text, log, stay)?;
+        push_stay(alloc, text, log, stay, at.saturating_add(1) == stays.len())?;
     }
     text.push_str("]")?;
     push_more(alloc, text, "others", stays.len().saturating_sub(MANY))
@@ -318,50 +293,6 @@ fn verdict_json(
     Ok(text)
 }
 
-/// The act of a call, as JSON.
-fn act_json(alloc: Global, said: Said) -> Result<String, AllocError> {
-    match said {
-        Said::Send(body) => format!(in alloc; "\"send\":{}", body_text(alloc, body, "\"")?),
-        Said::Full(body) => {
-            format!(in alloc;
-                "\"send\":{},\"answer\":\"full\"",
-                body_text(alloc, body, "\"")?
-            )
-        }
-        Said::Closed(body) => {
-            format!(in alloc;
-                "\"send\":{},\"answer\":\"closed\"",
-                body_text(alloc, body, "\"")?
-            )
-        }
-        Said::Took(body) => format!(in alloc; "\"take\":{}", body_text(alloc, body, "\"")?),
-        Said::FoundNone | Said::Taking => String::from_str(alloc, "\"take\":null"),
-        Said::Ended => String::from_str(alloc, "\"take\":null,\"answer\":\"ended\""),
-        Said::Close => String::from_str(alloc, "\"close\":true"),
-    }
-}
-
-/// The line of JSON of a call: its times and the words of its item are texts, since a browser's numbers have 53 bits.
-fn call_json(alloc: Global, log: &Log, line: usize, shown: Shown) -> Result<String, AllocError> {
-    let name = match log.threads.get_index(shown.thread as usize) {
-        Some((name, _)) => quoted(alloc, name.as_str())?,
-        None => quoted(alloc, "")?,
-    };
-    let mut text = String::from_str(alloc, "{")?;
-    let front = format!(in alloc;
-        "\"line\":{line},\"thread\":{name},\"begin\":\"{}\",",
-        shown.line.begin
-    )?;
-    text.push_str(front.as_str())?;
-    if let Some(end) = shown.line.end {
-        let end = format!(in alloc; "\"end\":\"{end}\",")?;
-        text.push_str(end.as_str())?;
-    }
-    text.push_str(act_json(alloc, shown.line.said)?.as_str())?;
-    text.push_str("}\n")?;
-    Ok(text)
-}
-
 /// Writes the line of a call.
 #[tactic(auto, using(crate::proofs::Judged::unwritten))]
 fn write_call<W: Sink>(
@@ -374,7 +305,8 @@ fn write_call<W: Sink>(
     requires { W.write_failures sink.old < 2 ^ 64 - 1 }
     ensures { W.write_failures sink.new ≡ W.write_failures sink.old + failed_writes result }
 {
-    let text = call_json(alloc, log, line, shown)?;
+    let call = call_json(alloc, log, shown, true)?;
+    let text = format!(in alloc; "{{\"line\":{line},{call}\n")?;
     write_bytes(sink, text.as_bytes())?;
     Ok(())
 }
@@ -390,9 +322,12 @@ fn write_calls<W: Sink>(
     requires { W.write_failures sink.old < 2 ^ 64 - 1 }
     ensures { W.write_failures sink.new ≡ W.write_failures sink.old + failed_writes result }
 {
-    for (place, (shown, marked)) in log.notes.shown.iter().zip(marks.iter()).enumerate() {
-        if let (true, Some(line)) = (*marked, log.line_of(place)) {
-            write_call(alloc, sink, log, line, *shown)?;
+    for (place, marked) in marks.iter().enumerate() {
+        if !*marked {
+            continue;
+        }
+        if let (Some(line), Some(shown)) = (log.line_of(place), log.shown(place)) {
+            write_call(alloc, sink, log, line, shown)?;
         }
     }
     Ok(())
