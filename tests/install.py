@@ -7,12 +7,10 @@
   file; the program plays a plan; `make uninstall` removes them all.
 - The commands, and the options of each command, that the help of `ccq` names are those in each of the completions.
 - The page for man has its sections, in their order, and no line of more than 80 columns on a terminal of that width, as
-groff sets
-  it, if groff is installed. groff warns of nothing there.
+  groff sets it, if groff is installed. groff warns of nothing there.
 - bash, and zsh and fish if they are installed, complete the lines of ROWS: each shell runs at a terminal, where the
-script
-  types a line, presses the tab key, and reads the line that the shell then has. A shell lists all commands for a line
-  that has none.
+  script types a line, presses the tab key, and reads the line that the shell then has. A shell lists all commands for a
+  line that has none.
 
 The program is the one in bin/, or the one that the variable CCQ names. The exit status is 0 if all holds.
 """

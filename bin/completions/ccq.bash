@@ -3,7 +3,7 @@ _ccq() {
     local word=${COMP_WORDS[COMP_CWORD]} before=${COMP_WORDS[COMP_CWORD - 1]} command=${COMP_WORDS[1]-}
     local commands='play audit judge show drive'
     local -A options=(
-        [judge]='--follow --page --capacity --skew --from --until'
+        [judge]='--follow --page --times --capacity --skew --from --until'
         [show]='--trace'
         [drive]='--senders --receivers --items --capacity --bound'
     )

@@ -12,6 +12,7 @@ complete -c ccq -n __fish_use_subcommand -a help -d 'print the help of a command
 complete -c ccq -n '__fish_seen_subcommand_from help' -f -a "$commands"
 complete -c ccq -n '__fish_seen_subcommand_from judge' -l follow -d 'judge in parts while the log is read'
 complete -c ccq -n '__fish_seen_subcommand_from judge' -l page -d 'write a page that draws the calls'
+complete -c ccq -n '__fish_seen_subcommand_from judge' -l times -d 'judge by times alone, for a coarse clock'
 complete -c ccq -n '__fish_seen_subcommand_from judge' -x -l capacity -d 'items that the queue holds, 1 to 4294967295'
 complete -c ccq -n '__fish_seen_subcommand_from judge' -x -l skew -d 'by how much clocks may differ'
 complete -c ccq -n '__fish_seen_subcommand_from judge' -x -l from -d 'the time from which on the log is judged'

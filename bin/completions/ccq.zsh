@@ -27,6 +27,7 @@ _ccq() {
           _arguments $help \
             '--follow[judge in parts while the log is read]' \
             '--page[write a page that draws the calls]' \
+            '--times[judge by times alone, for a coarse clock]' \
             '--capacity[items that the queue holds]:1 to 4294967295:' \
             '--skew[by how much clocks may differ]:a number:' \
             '--from[the time from which on the log is judged]:a number:' \

@@ -39,7 +39,7 @@ are_tasks = (
   (
     (((refl, refl), ((refl, refl), tt)), ((λ e. other e), (λ e. other e))),
     (
-      (((refl, refl), ((refl, refl), ((refl, refl), ((refl, refl), ((refl, refl), ((refl, refl), ((refl, refl), ((refl, refl), tt)))))))), ((λ e. refl), (λ e. other e))),
+      (((refl, refl), ((refl, refl), ((refl, refl), ((refl, refl), ((refl, refl), ((refl, refl), ((refl, refl), ((refl, refl), ((refl, refl), tt))))))))), ((λ e. refl), (λ e. other e))),
       (
         (((refl, refl), ((refl, refl), ((refl, refl), tt))), ((λ e. other e), (λ e. other e))),
         (

@@ -28,6 +28,7 @@ abbrev pub options_of : List Row → Options
 options_of rows = record {
   capacity = number_of 32 (codes "capacity") rows;
   skew = unwrap_or (number_of 64 (codes "skew") rows) 0;
+  times = is_set (codes "times") rows;
   page = is_set (codes "page") rows;
   follow = is_set (codes "follow") rows;
   window = record { from = number_of 64 (codes "from") rows; until = number_of 64 (codes "until") rows };

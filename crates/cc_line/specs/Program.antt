@@ -41,12 +41,12 @@ audit = (with_rule (new_app (codes "audit")) file).top
 abbrev pub show : Shape
 show = (with_rule (with_rule (new_app (codes "show")) (flag (codes "trace"))) file).top
 
--- the flags of `judge`, with them its capacity, with these its skew and the begin of what is judged, and with these all
+-- two flags of `judge`, with them its third and its capacity, with these its skew and the begin of what is judged, and with these all
 abbrev pub with_flags : App
 with_flags = with_rule (with_rule (new_app (codes "judge")) (flag (codes "follow"))) (flag (codes "page"))
 
 abbrev pub with_capacity : App
-with_capacity = with_rule with_flags (option (codes "capacity") (small 1 (2 ^ 32 - 1)))
+with_capacity = with_rule (with_rule with_flags (flag (codes "times"))) (option (codes "capacity") (small 1 (2 ^ 32 - 1)))
 
 abbrev pub with_clocks : App
 with_clocks = with_rule (with_rule with_capacity

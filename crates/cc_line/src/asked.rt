@@ -131,6 +131,7 @@ fn options_in(found: &ArgMatches) -> Options
     Options {
         capacity: small(found, "capacity"),
         skew: large(found, "skew").unwrap_or(0),
+        times: is_set(found, "times"),
         page: is_set(found, "page"),
         follow: is_set(found, "follow"),
         window: Window {

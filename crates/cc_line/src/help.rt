@@ -20,6 +20,10 @@ pub(crate) const PAGE: &str = "\
 Write the answer as a page for a browser that draws the calls. The
 page needs no network";
 
+pub(crate) const TIMES: &str = "\
+Judge by times alone: the lines of a thread order no calls. A log is
+never undecided then, however coarse its clock";
+
 pub(crate) const CAPACITY: &str = "\
 The queue holds at most so many items: judge that, and the answer
 full";

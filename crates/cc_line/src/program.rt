@@ -142,10 +142,14 @@ fn with_capacity<'a>(alloc: Global) -> Result<Command<'a>, AllocError>
         value_parser!(u32).range(1..),
         "Items that the queue holds at most",
     );
-    with_flags(alloc)?.arg(capacity.long_help(help::CAPACITY))
+    with_flags(alloc)?
+        .arg(flag(alloc, "times", "Judge by times alone, for a coarse clock").long_help(
+            help::TIMES,
+        ))?
+        .arg(capacity.long_help(help::CAPACITY))
 }
 
-/// The same with its flags alone.
+/// The same with its first two flags alone.
 fn with_flags<'a>(alloc: Global) -> Result<Command<'a>, AllocError>
     ensures app { IfOk result (λ c. app_of c ≡ with_flags) }
     ensures local { IfOk result (λ c. (fields_of c).has_globals ≡ false) }

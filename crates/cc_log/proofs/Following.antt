@@ -43,7 +43,7 @@ with_more first known (p ∷ part) t is = more_if (with_line first p.0 p.1) part
 
 refused_more : (options : Options) (known : Known) (part : List NumberedLine) (t : NumberedLine) (fault : LogFault) → with_part (at_first options.window) part ≡ Ok known → Refuses fault (with_line known t.0 t.1) → Refuses fault (part_of options (part ++ t ∷ []))
 refused_more options known part t fault is refuses =
-    refused_first fault (with_part (at_first options.window) (part ++ t ∷ [])) (λ k. if_some options.skew (as_late k)) (subst (Refuses fault) (sym (with_more (at_first options.window) known part t is)) refuses)
+    refused_first fault (with_part (at_first options.window) (part ++ t ∷ [])) (λ k. if_some options (as_late k)) (subst (Refuses fault) (sym (with_more (at_first options.window) known part t is)) refuses)
 
 -- a line was added, or is refused
 pub grown : (options : Options) (old new : Part) (text : Text) (result : Result (Unit {0}) LogFault) → (spells : Spells options old) → IsStep options (with_line spells.known text.number text.bytes.items) result new.state
@@ -359,8 +359,8 @@ shows_late options s known shows = record {
   fair = shows.fair;
 }
 
-pub part_given : (options : Options) (part : Part) (spells : Spells options part) → part_of options (numbered part.lines.items) ≡ if_some options.skew (as_late spells.known)
-part_given options part spells = ap (λ r. r >>= (λ known. if_some options.skew (as_late known))) spells.known_is
+pub part_given : (options : Options) (part : Part) (spells : Spells options part) → part_of options (numbered part.lines.items) ≡ if_some options (as_late spells.known)
+part_given options part spells = ap (λ r. r >>= (λ known. if_some options (as_late known))) spells.known_is
 
 -- ---- the next part
 

@@ -8,7 +8,7 @@ use Rattle.cc_log.specs.Answers.{Gives, GivesOfInput, IsLongLine, Refuses, Refus
 use Rattle.cc_log.specs.Lines.{GivesLine, HasInput, HasLines, IsAhead, IsSound, IsTooLong, held, is_blank, line_limit, lines_of}
 use Rattle.cc_log.specs.declared.lines.Lines.{Lines}
 use Rattle.cc_judge.specs.Late.{padded}
-use Rattle.cc_log.specs.Log.{Known, Refusal, Spelled, no_calls, ◌>>=◌, at_first, bad_line, bodies_of, calls_of, if_some, is_early, is_part, log_of, numbers_of, spelled, ties_of, tree_of, with_line, with_lines, with_tree}
+use Rattle.cc_log.specs.Log.{Known, Refusal, Spelled, no_calls, ◌>>=◌, at_first, bad_line, bodies_of, calls_of, if_some, is_early, is_part, judged_ties, log_of, numbers_of, spelled, ties_of, tree_of, with_line, with_lines, with_tree}
 use Rattle.cc_log.specs.State.{Shows}
 use Rattle.cc_log.proofs.Ahead.{some_ahead, some_input}
 use Rattle.std.specs.Result.{OnOk}
@@ -64,10 +64,10 @@ given left value due (Err fault) input has gives = of_input left due fault (inpu
 
 -- no further line
 pub at_end : {A : Type 0} (left_first left : Option (List ℕ)) (l : Lines) (known : Known) (number : ℕ) (options : Options) (value : A → Spelled) (result : Result A LogFault) → HasLines l left [] [] → ((after : List ℕ) → IsAhead l left after → Leads options left_first known number after)
-    → Gives value result (if_some options.skew known) → GivesOfInput value left_first result (log_of options)
+    → Gives value result (if_some options known) → GivesOfInput value left_first result (log_of options)
 at_end left_first left l known number options value result none leads gives =
     let h = leads none.text none.ahead in
-    given left_first value (log_of options) result h.input h.has (subst (λ r. Gives value result (r >>= if_some options.skew)) (sym (h.same ∙ ap (λ lines. with_lines known number lines) none.lines_are)) gives)
+    given left_first value (log_of options) result h.input h.has (subst (λ r. Gives value result (r >>= if_some options)) (sym (h.same ∙ ap (λ lines. with_lines known number lines) none.lines_are)) gives)
 
 -- a refused line
 pub refused_line : (left_first left : Option (List ℕ)) (l : Lines) (known : Known) (number : ℕ) (options : Options) (line : List ℕ) (rest : List (List ℕ)) (fault : LogFault) → HasLines l left [] (line ∷ rest)
@@ -76,8 +76,8 @@ refused_line left_first left l known number options line rest fault has leads re
     let h = leads has.text has.ahead in (
       h.input,
       h.has,
-      subst (λ r. Refuses fault (r >>= if_some options.skew)) (sym (h.same ∙ ap (λ lines. with_lines known number lines) has.lines_are))
-          (refused_first fault (with_line known number line >>= (λ k. with_lines k (number + 1) rest)) (if_some options.skew) (refused_first fault (with_line known number line) (λ k. with_lines k (number + 1) rest) refuses)),
+      subst (λ r. Refuses fault (r >>= if_some options)) (sym (h.same ∙ ap (λ lines. with_lines known number lines) has.lines_are))
+          (refused_first fault (with_line known number line >>= (λ k. with_lines k (number + 1) rest)) (if_some options) (refused_first fault (with_line known number line) (λ k. with_lines k (number + 1) rest) refuses)),
     )
 
 -- a line that is too long
@@ -118,8 +118,8 @@ no_memory left due = let i = some_input left in (i.0, i.1, tt)
 pub has_calls : (options : Options) (s : State) (known : Known) → Shows options s known → length s.log.calls.items ≡ length known.before
 has_calls options s known shows = ap length shows.calls ∙ calls_length options.skew known.before
 
-pub no_calls_given : (options : Options) (s : State) (known : Known) → Shows options s known → nat_eq (length s.log.calls.items) 0 ≡ true → if_some options.skew known ≡ Err no_calls
-no_calls_given options s known shows none = ap (λ b. if b then Err no_calls else Ok (spelled options.skew known)) (ap (λ n. nat_eq n 0) (sym (has_calls options s known shows)) ∙ none)
+pub no_calls_given : (options : Options) (s : State) (known : Known) → Shows options s known → nat_eq (length s.log.calls.items) 0 ≡ true → if_some options known ≡ Err no_calls
+no_calls_given options s known shows none = ap (λ b. if b then Err no_calls else Ok (spelled options known)) (ap (λ n. nat_eq n 0) (sym (has_calls options s known shows)) ∙ none)
 
 -- whether the log is a part
 part_given : (options : Options) (s : State) (known : Known) → Shows options s known → ((s.late || is_some options.window.from) || is_early s.log.ends) ≡ is_part known
@@ -127,31 +127,37 @@ part_given options s known shows =
     ap (λ (b : Bool). (b || is_some options.window.from) || is_early s.log.ends) shows.late ∙ ap (λ (w : Window). (known.late || is_some w.from) || is_early s.log.ends) (sym shows.window)
     ∙ ap (λ (o : Option Ending). (known.late || is_some known.window.from) || is_early o) shows.ends
 
-pub finished : (options : Options) (s : State) (known : Known) (part : Bool) (calls : List Call) (items : ℕ) → Shows options s known → nat_eq (length s.log.calls.items) 0 ≡ false → items ≡ length (keys s.items)
+pub finished : (options : Options) (s : State) (known : Known) (part : Bool) (calls : List Call) (items : ℕ) (ties : List Tie) → Shows options s known → nat_eq (length s.log.calls.items) 0 ≡ false → items ≡ length (keys s.items)
     → part ≡ ((s.late || is_some options.window.from) || is_early s.log.ends) → calls ≡ padded part s.log.rules.closes s.log.calls.items items
-    → if_some options.skew known ≡ Ok (record { part = part; ends = s.log.ends; calls = calls; items = items; lines = s.log.notes.lines.items; closes = s.log.rules.closes; ties = s.log.rules.ties.items })
-finished options s known part calls items shows some count part_is is =
+    → ties ≡ judged_ties options.times s.log.rules.ties.items
+    → if_some options known ≡ Ok (record { part = part; ends = s.log.ends; calls = calls; items = items; lines = s.log.notes.lines.items; closes = s.log.rules.closes; ties = ties })
+finished options s known part calls items ties shows some count part_is is ties_are =
     let same : part ≡ is_part known = part_is ∙ part_given options s known shows in
     let due = λ (b : Bool). λ (closes : Bool). padded b closes (calls_of options.skew known.before) (length (bodies_of known.before)) in
     let whole : calls ≡ padded (is_part known) known.closes (calls_of options.skew known.before) (length (bodies_of known.before)) =
     is ∙ ap (λ n. padded part s.log.rules.closes s.log.calls.items n) (count ∙ ap length shows.bodies) ∙ ap (λ cs. padded part s.log.rules.closes cs (length (bodies_of known.before))) shows.calls
     ∙ ap (λ b. due b s.log.rules.closes) same ∙ ap (λ b. due (is_part known) b) shows.closes in
-    ap (λ b. if b then Err no_calls else Ok (spelled options.skew known)) (ap (λ n. nat_eq n 0) (sym (has_calls options s known shows)) ∙ some)
-    ∙ ap (λ cs. Ok (record { part = is_part known; ends = known.ends; calls = cs; items = length (bodies_of known.before); lines = numbers_of known.before; closes = known.closes; ties = ties_of options.skew known.before })) (sym whole)
-    ∙ ap (λ b. Ok (record { part = is_part known; ends = known.ends; calls = calls; items = length (bodies_of known.before); lines = numbers_of known.before; closes = b; ties = ties_of options.skew known.before })) (sym shows.closes)
-    ∙ ap (λ ts. Ok (record { part = is_part known; ends = known.ends; calls = calls; items = length (bodies_of known.before); lines = numbers_of known.before; closes = s.log.rules.closes; ties = ts })) (sym shows.ties)
-    ∙ ap (λ b. Ok (record { part = b; ends = known.ends; calls = calls; items = length (bodies_of known.before); lines = numbers_of known.before; closes = s.log.rules.closes; ties = s.log.rules.ties.items })) (sym same)
-    ∙ ap (λ e. Ok (record { part = part; ends = e; calls = calls; items = length (bodies_of known.before); lines = numbers_of known.before; closes = s.log.rules.closes; ties = s.log.rules.ties.items })) (sym shows.ends)
-    ∙ ap (λ n. Ok (record { part = part; ends = s.log.ends; calls = calls; items = n; lines = numbers_of known.before; closes = s.log.rules.closes; ties = s.log.rules.ties.items })) (sym (count ∙ ap length shows.bodies))
-    ∙ ap (λ ls. Ok (record { part = part; ends = s.log.ends; calls = calls; items = items; lines = ls; closes = s.log.rules.closes; ties = s.log.rules.ties.items })) (sym shows.lines)
+    ap (λ b. if b then Err no_calls else Ok (spelled options known)) (ap (λ n. nat_eq n 0) (sym (has_calls options s known shows)) ∙ some)
+    ∙ ap (λ cs. Ok (record { part = is_part known; ends = known.ends; calls = cs; items = length (bodies_of known.before); lines = numbers_of known.before; closes = known.closes; ties = judged_ties options.times (ties_of options.skew known.before) })) (sym whole)
+    ∙ ap (λ b. Ok (record { part = is_part known; ends = known.ends; calls = calls; items = length (bodies_of known.before); lines = numbers_of known.before; closes = b; ties = judged_ties options.times (ties_of options.skew known.before) })) (sym shows.closes)
+    ∙ ap (λ ts. Ok (record { part = is_part known; ends = known.ends; calls = calls; items = length (bodies_of known.before); lines = numbers_of known.before; closes = s.log.rules.closes; ties = ts })) (sym (ties_are ∙ ap (judged_ties options.times) shows.ties))
+    ∙ ap (λ b. Ok (record { part = b; ends = known.ends; calls = calls; items = length (bodies_of known.before); lines = numbers_of known.before; closes = s.log.rules.closes; ties = ties })) (sym same)
+    ∙ ap (λ e. Ok (record { part = part; ends = e; calls = calls; items = length (bodies_of known.before); lines = numbers_of known.before; closes = s.log.rules.closes; ties = ties })) (sym shows.ends)
+    ∙ ap (λ n. Ok (record { part = part; ends = s.log.ends; calls = calls; items = n; lines = numbers_of known.before; closes = s.log.rules.closes; ties = ties })) (sym (count ∙ ap length shows.bodies))
+    ∙ ap (λ ls. Ok (record { part = part; ends = s.log.ends; calls = calls; items = items; lines = ls; closes = s.log.rules.closes; ties = ties })) (sym shows.lines)
+
+well_by : (times : Bool) (skew : ℕ) (calls : List Call) (items : ℕ) (ties : List Tie) → IsWellFormed skew calls items ties → IsWellFormed skew calls items (judged_ties times ties)
+well_by true skew calls items ties well = record { written = well.written; differ = well.differ; below = well.below; tied = λ i tie is. absurd (cc is) }
+well_by false skew calls items ties well = well
 
 -- the log of all lines is well-formed
-pub finished_well : (options : Options) (s : State) (known : Known) (part : Bool) (calls : List Call) (items : ℕ) (result : Result (Unit {0}) LogFault) → Shows options s known → items ≡ length (keys s.items)
-    → OnOk result (calls ≡ padded part s.log.rules.closes s.log.calls.items items) → OnOk result (IsWellFormed options.skew calls items s.log.rules.ties.items)
-finished_well options s known part calls items (Ok done) shows count is =
+pub finished_well : (options : Options) (s : State) (known : Known) (part : Bool) (calls : List Call) (items : ℕ) (ties : List Tie) (result : Result (Unit {0}) LogFault) → Shows options s known → items ≡ length (keys s.items)
+    → OnOk result (calls ≡ padded part s.log.rules.closes s.log.calls.items items) → ties ≡ judged_ties options.times s.log.rules.ties.items → OnOk result (IsWellFormed options.skew calls items ties)
+finished_well options s known part calls items ties (Ok done) shows count is ties_are =
     let here : items ≡ length (bodies_of known.before) = count ∙ ap length shows.bodies in
-    subst (λ (ts : List Tie). IsWellFormed options.skew calls items ts) (sym shows.ties)
+    subst (λ (ts : List Tie). IsWellFormed options.skew calls items ts) (sym (ties_are ∙ ap (judged_ties options.times) shows.ties))
+    (well_by options.times options.skew calls items (ties_of options.skew known.before)
     (subst (λ (cs : List Call). IsWellFormed options.skew cs items (ties_of options.skew known.before)) (sym (is ∙ ap (λ (cs : List Call). padded part s.log.rules.closes cs items) shows.calls))
     (subst (λ (n : ℕ). IsWellFormed options.skew (padded part s.log.rules.closes (calls_of options.skew known.before) n) n (ties_of options.skew known.before)) (sym here)
-    (log_well_formed part s.log.rules.closes options.skew known.before shows.fair)))
-finished_well options s known part calls items (Err fault) shows count is = tt
+    (log_well_formed part s.log.rules.closes options.skew known.before shows.fair))))
+finished_well options s known part calls items ties (Err fault) shows count is ties_are = tt

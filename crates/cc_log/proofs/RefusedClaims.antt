@@ -22,7 +22,7 @@ array_refused : (options : Options) (part : List NumberedLine) (log : Spelled) �
 array_refused options [] log of_log has is = absurd (cc has.line_is)
 array_refused options (t ∷ rest) log of_log has is =
     let first = of_log.each 0 t refl in
-    let refused : part_of options (t ∷ rest) ≡ Err (bad_line t.0 LineFault.Array) = ap (λ l. (with_line (at_first options.window) t.0 l >>= (λ next. with_part next rest)) >>= (λ known. if_some options.skew (as_late known))) (array_line t first.place first.line_is) in
+    let refused : part_of options (t ∷ rest) ≡ Err (bad_line t.0 LineFault.Array) = ap (λ l. (with_line (at_first options.window) t.0 l >>= (λ next. with_part next rest)) >>= (λ known. if_some options (as_late known))) (array_line t first.place first.line_is) in
     absurd (cc (sym refused ∙ is))
 
 pub claims_refused : RefusedClaims

@@ -38,7 +38,7 @@ as_late known = record known { late = true }
 
 -- the log that some lines spell as a part, or why they spell none
 abbrev pub part_of : Options → List NumberedLine → Result Spelled Refusal
-part_of options part = with_part (at_first options.window) part >>= (λ known. if_some options.skew (as_late known))
+part_of options part = with_part (at_first options.window) part >>= (λ known. if_some options (as_late known))
 
 -- the rules are those of the log, by these options
 pub record HasRules (options : Options) (log : Spelled) (rules : Rules) : Type 0 where

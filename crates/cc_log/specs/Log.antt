@@ -254,20 +254,25 @@ is_early (Some Ending.Early) = true
 abbrev pub is_part : Known → Bool
 is_part known = (known.late || is_some known.window.from) || is_early known.ends
 
-abbrev pub spelled : (skew : ℕ) → Known → Spelled
-spelled skew known = record {
+-- by times alone the lines of a thread order nothing
+abbrev pub judged_ties : (times : Bool) → List Tie → List Tie
+judged_ties true ties = []
+judged_ties false ties = ties
+
+abbrev pub spelled : Options → Known → Spelled
+spelled options known = record {
   part = is_part known;
   ends = known.ends;
-  calls = padded (is_part known) known.closes (calls_of skew known.before) (length (bodies_of known.before));
+  calls = padded (is_part known) known.closes (calls_of options.skew known.before) (length (bodies_of known.before));
   items = length (bodies_of known.before);
   lines = numbers_of known.before;
   closes = known.closes;
-  ties = ties_of skew known.before;
+  ties = judged_ties options.times (ties_of options.skew known.before);
 }
 
-abbrev pub if_some : (skew : ℕ) → Known → Result Spelled Refusal
-if_some skew known = if length known.before == 0 then Err no_calls else Ok (spelled skew known)
+abbrev pub if_some : Options → Known → Result Spelled Refusal
+if_some options known = if length known.before == 0 then Err no_calls else Ok (spelled options known)
 
 -- the log that the input spells, or why it spells none: the first line with a fault, and its first fault
 abbrev pub log_of : Options → (input : List ℕ) → Result Spelled Refusal
-log_of options input = with_lines (at_first options.window) 1 (lines_of input) >>= if_some options.skew
+log_of options input = with_lines (at_first options.window) 1 (lines_of input) >>= if_some options

@@ -2,7 +2,7 @@
 ghost use Rattle.std.specs.Prelude.{◌≡◌, ◌<◌, ◌+◌, ◌-◌, ◌^◌, ◌||◌, [], false, None, IfOk, OnOk, is_some, slice_get};
 ghost use Rattle.cc_judge.specs.Late.{judged_capacity};
 ghost use Rattle.cc_log.specs.Answers.{Gives, GivesOfInput, failed_reads};
-ghost use Rattle.cc_log.specs.Log.{Known, at_first, if_some, is_early, log_of};
+ghost use Rattle.cc_log.specs.Log.{Known, at_first, if_some, is_early, judged_ties, log_of};
 ghost use Rattle.cc_log.specs.Options.{no_options};
 ghost use Rattle.cc_log.specs.State.{Shows, log_view};
 ghost use Rattle.cc_log.specs.Written.{IsWellFormed};
@@ -16,7 +16,7 @@ use crate::state::{State, add_line};
 use crate::threads::Last;
 use crate::window::Window;
 use cc_io::Source;
-use cc_judge::{Act, Call, Rules};
+use cc_judge::{Act, Call, Rules, Tie};
 use indexmap::IndexMap;
 use std::alloc::Global;
 use std::mem;
@@ -28,6 +28,8 @@ pub struct Options {
     pub capacity: Option<u32>,
     /// By how much each call may have begun earlier and ended later than its line says.
     pub skew: u64,
+    /// Whether times alone order calls, and not the lines of a thread.
+    pub times: bool,
     /// Whether the answer is a page.
     pub page: bool,
     /// Whether the log is judged in parts, while it is read.
@@ -44,6 +46,7 @@ impl Options {
         Options {
             capacity: None,
             skew: 0,
+            times: false,
             page: false,
             follow: false,
             window: Window {
@@ -221,9 +224,18 @@ fn is_part(late: bool, from: Option<u64>, ends: Option<Ending>) -> bool
         }
 }
 
+/// Leaves the ties by which a log is judged: none by times alone.
+fn judge_ties(times: bool, ties: &mut Vec<Tie>)
+    ensures { ties.new.items ≡ judged_ties times ties.old.items }
+{
+    if times {
+        ties.clear();
+    }
+}
+
 /// Finishes the log of all lines.
 pub fn finish(alloc: Global, state: &mut State) -> Result<(), LogFault>
-    ensures due { (options : Options) (known : Known) → Shows options state.old known → Gives (λ done. log_view state.new.log) result (if_some options.skew known) }
+    ensures due { (options : Options) (known : Known) → Shows options state.old known → Gives (λ done. log_view state.new.log) result (if_some options known) }
     ensures well { (options : Options) (known : Known) → Shows options state.old known → OnOk result (IsWellFormed options.skew state.new.log.calls.items state.new.log.items state.new.log.rules.ties.items) }
     ensures capacity { OnOk result (state.new.log.rules.capacity ≡ judged_capacity state.new.log.part state.old.log.rules.capacity) }
 {
@@ -236,6 +248,7 @@ pub fn finish(alloc: Global, state: &mut State) -> Result<(), LogFault>
     state.log.notes.items = mem::replace(&mut state.items, IndexMap::new(alloc));
     state.log.part = part;
     state.log.rules.capacity = judged_capacity(part, state.log.rules.capacity);
+    judge_ties(state.log.options.times, &mut state.log.rules.ties);
     pad(
         alloc,
         part,

@@ -438,12 +438,14 @@ fn undecided(alloc: Global, log: &Log, tie: Option<Tie>) -> Result<String, Alloc
     let Some(tie) = tie else {
         return String::from_str(
             alloc,
-            "judge undecided: lines alone order calls, and times are near 2^63 or above\n",
+            "judge undecided: the calls have a legal order by their times alone; their lines order them, too, and times are \
+near 2^63 or above\n",
         );
     };
     let two = two_lines(alloc, log, tie.earlier as usize, tie.later as usize)?;
     format!(in alloc;
-        "judge undecided: lines alone order calls in too many places to try each order, as at {two}; judge by a finer clock, a smaller --skew, or in parts\n"
+        "judge undecided: the calls have a legal order by their times alone; their lines order them in too many places to \
+try each order, as at {two}\n"
     )
 }
 
