@@ -4,6 +4,7 @@ pub mod Passes
 pub mod Closed
 pub mod Frozen
 pub mod Onward
-pub mod Ended
+pub mod Ends
 pub mod GoingOver
 pub mod Standing
+mod Ranks

@@ -33,8 +33,7 @@ pub record LeftWalk : Type 0 where
 abbrev pub HasEnded : Walk → ℕ → Type 0
 HasEnded w total = IsLastAnswer (name w) (history w) (Answer.Take (TakeAnswer.Ended total))
 
--- the pass knows that its group was handed all items of the queue, which was shut
-pub record KnowsEnded (z : Topic) (w : Walk) (total : ℕ) : Type 0 where
-  pub one : w.setting.config.groups ≡ 1
-  pub ended : IsEndedBy z (noted_by w)
+-- the pass knows that this group was handed all items of the queue, which was shut
+pub record KnowsEnded (g : ℕ) (z : Topic) (w : Walk) (total : ℕ) : Type 0 where
+  pub ended : IsEndedBy g z (noted_by w)
   pub total_is : total_of (noted_by w) ≡ total

@@ -35,6 +35,7 @@ pub record IsBehind (u : Stages) (number base total : ℕ) (w : Walk) : Type 0 w
 -- The pass is at a later queue of the same row. The items of the queue that it has left come before all items of that
 -- one.
 pub record GoesTo (l : LeftWalk) (w : RowWalk) : Type 0 where
+  pub group : w.group ≡ l.at.group
   pub row : w.spot.row ≡ l.at.spot.row
   pub seen : GoesOnFrom l.at.spot.seen w.spot.seen
   pub later : l.at.spot.number < w.spot.number
@@ -42,6 +43,7 @@ pub record GoesTo (l : LeftWalk) (w : RowWalk) : Type 0 where
 
 -- the pass stays where it is
 pub record Stays (l m : LeftWalk) : Type 0 where
+  pub group : m.at.group ≡ l.at.group
   pub row : m.at.spot.row ≡ l.at.spot.row
   pub seen : GoesOnFrom l.at.spot.seen m.at.spot.seen
   pub number : m.at.spot.number ≡ l.at.spot.number

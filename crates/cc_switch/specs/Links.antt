@@ -1,5 +1,21 @@
 -- The queues of a row, as a log that only grows.
-use Rattle.std.specs.Prelude.{◌≡◌, ℕ, zero, suc, ◌+◌, true, List, [], ◌∷◌, length}
+use Rattle.std.specs.Prelude.{
+  ◌≡◌,
+  ℕ,
+  zero,
+  suc,
+  ◌+◌,
+  ◌<◌,
+  Bool,
+  true,
+  false,
+  List,
+  [],
+  ◌∷◌,
+  ◌++◌,
+  length,
+  slice_index_or,
+}
 use Rattle.cc_model.specs.Items.{accepted, is_shut}
 use Rattle.cc_runs.specs.Run.{IsRun}
 use Rattle.cc_steps.specs.Topic.{Topic}
@@ -43,18 +59,27 @@ abbrev pub AreShut : Topic → List Link → Type 0
 AreShut first [] = Unit {0}
 AreShut first (l ∷ links) = IsShutBy first l.shut × AreShut (topic_of l.next) links
 
--- By this note of a queue it was shut, and the group was handed all its items.
-pub record IsEndedBy (z : Topic) (n : Noted) : Type 0 where
+-- By this note of a queue it was shut, and this group was handed all its items. Groups count from 0 here.
+pub record IsEndedBy (g : ℕ) (z : Topic) (n : Noted) : Type 0 where
   pub shut : IsShutBy z n
-  pub one : n.setting.config.groups ≡ 1
-  pub all : length (handed (noted_history n) 0) ≡ total_of n
+  pub has : g < n.setting.config.groups
+  pub all : length (handed (noted_history n) g) ≡ total_of n
 
--- the group is done with the first of the queues, of which the notes have the same totals
-abbrev pub AreEnded : Topic → List Link → List Noted → Type 0
-AreEnded first links [] = Unit {0}
-AreEnded first [] (n ∷ ended) = ⊥
-AreEnded first (l ∷ links) (n ∷ ended) = IsEndedBy first n × (total_of n ≡ total_of l.shut)
-    × AreEnded (topic_of l.next) links ended
+-- The group is done with the first of the queues, by these notes, which have the totals of the links.
+abbrev pub AreEnded : (g : ℕ) → Topic → List Link → List Noted → Type 0
+AreEnded g first links [] = Unit {0}
+AreEnded g first [] (n ∷ ended) = ⊥
+AreEnded g first (l ∷ links) (n ∷ ended) =
+    IsEndedBy g first n × (total_of n ≡ total_of l.shut) × AreEnded g (topic_of l.next) links ended
+
+-- the notes after one more, or the same
+abbrev pub added : Bool → Noted → List Noted → List Noted
+added true n ended = ended ++ n ∷ []
+added false n ended = ended
+
+-- the notes of a group
+abbrev pub done_by : List (List Noted) → (g : ℕ) → List Noted
+done_by ended g = slice_index_or ended g []
 
 abbrev pub no_log : RowLog
 no_log = record { links = []; ended = [] }
@@ -62,4 +87,4 @@ no_log = record { links = []; ended = [] }
 -- a log goes on from another
 pub record GoesOnFrom (a b : RowLog) : Type 0 where
   pub links : IsPrefix a.links b.links
-  pub ended : IsPrefix a.ended b.ended
+  pub ended : (g : ℕ) → IsPrefix (done_by a.ended g) (done_by b.ended g)

@@ -2,7 +2,7 @@
 use Rattle.std.specs.Prelude.{◌≡◌, List, [], ◌++◌}
 use mathlib.Core.Path.{subst}
 use mathlib.Core.List.{IsPrefix, append_assoc, append-nil}
-use Rattle.cc_switch.specs.Links.{GoesOnFrom}
+use Rattle.cc_switch.specs.Links.{GoesOnFrom, done_by}
 use Rattle.cc_switch.specs.declared.links.RowLog.{RowLog}
 
 pub prefix_self : {E : Type 0} (xs : List E) → IsPrefix xs xs
@@ -16,10 +16,10 @@ prefix_trans {E} xs ys zs p q = (
 )
 
 pub goes_same : (a : RowLog) → GoesOnFrom a a
-goes_same a = record { links = prefix_self a.links; ended = prefix_self a.ended }
+goes_same a = record { links = prefix_self a.links; ended = λ g. prefix_self (done_by a.ended g) }
 
 pub goes_onward : (a b c : RowLog) → GoesOnFrom a b → GoesOnFrom b c → GoesOnFrom a c
 goes_onward a b c p q = record {
   links = prefix_trans a.links b.links c.links p.links q.links;
-  ended = prefix_trans a.ended b.ended c.ended p.ended q.ended;
+  ended = λ g. prefix_trans (done_by a.ended g) (done_by b.ended g) (done_by c.ended g) (p.ended g) (q.ended g);
 }

@@ -10,6 +10,7 @@ use Rattle.cc_queue.specs.Names.{Config}
 use Rattle.cc_queue.specs.Headline.{history}
 use Rattle.cc_queue.specs.Noted.{noted_history}
 use Rattle.cc_steps.specs.Noted.{Noted}
+use Rattle.cc_switch.specs.Links.{done_by}
 use Rattle.cc_switch.specs.Position.{RowWalk}
 use Rattle.cc_switch.specs.declared.links.Link.{Link}
 
@@ -29,7 +30,7 @@ abbrev pub before_send : RowWalk → List Record
 before_send w = shut_records w.spot.seen.links w.spot.number
 
 abbrev pub before_take : RowWalk → List Record
-before_take w = ended_records w.spot.seen.ended w.spot.number
+before_take w = ended_records (done_by w.spot.seen.ended w.group) w.spot.number
 
 -- The sends of the row have the answers of one queue that is never full, and its places are those of the row.
 pub record SendsStand (w : RowWalk) : Type 0 where
@@ -43,7 +44,7 @@ pub record SendsStand (w : RowWalk) : Type 0 where
 pub record TakesStand (w : RowWalk) : Type 0 where
   pub base : w.spot.base ≡ count_of (before_take w)
   pub legal : TakeSideAnswers (row_items 0 (before_take w) (history w.pass)) (is_shut (history w.pass)) 0
-      (row_calls (takes_of 0) 0 (before_take w) (history w.pass))
-      (row_answers (takes_of 0) 0 (before_take w) (history w.pass))
-  pub fifo : IsPrefix (handed_by (row_answers (takes_of 0) 0 (before_take w) (history w.pass)))
+      (row_calls (takes_of w.group) 0 (before_take w) (history w.pass))
+      (row_answers (takes_of w.group) 0 (before_take w) (history w.pass))
+  pub fifo : IsPrefix (handed_by (row_answers (takes_of w.group) 0 (before_take w) (history w.pass)))
       (row_items 0 (before_take w) (history w.pass))

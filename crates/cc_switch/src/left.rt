@@ -24,7 +24,7 @@ impl Model for Left {
 
     ghost Value = { LeftWalk };
 
-    ghost view = { λ l. record { at = record { spot = l.position; pass = l.sender }; total = l.total } };
+    ghost view = { λ l. record { at = record { spot = l.position; pass = l.sender; group = 0 }; total = l.total } };
 
     ghost invariant = { λ l. IsOf l.position.queue l.sender × KnowsShut l.position.queue l.sender l.total };
 }

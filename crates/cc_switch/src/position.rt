@@ -1,10 +1,14 @@
 //! The position of a pass in a row, and the passes of a row.
 ghost use Rattle.std.specs.Prelude.{◌≡◌, ◌+◌, IfSome};
+ghost use Rattle.std.specs.Arc.{arc_value};
+ghost use Rattle.cc_guard.specs.Guard.{IsHoldOf};
+ghost use Rattle.cc_switch.specs.Links.{GoesOnFrom};
 ghost use Rattle.cc_switch.specs.Position.{IsSpot};
+ghost use Rattle.cc_switch.specs.Stages.{IsAtQueue, log_of};
 
 use crate::links::RowLog;
 use crate::stages::{RowLock, Stages};
-use cc_guard::Look;
+use cc_guard::{Hold, Look};
 use cc_queue::{Queue, Receiver, Sender};
 use std::alloc::Global;
 use std::marker::Model;
@@ -45,7 +49,7 @@ impl Model for RowSender {
 
     ghost Value = { RowWalk };
 
-    ghost view = { λ s. record { spot = s.position; pass = s.sender } };
+    ghost view = { λ s. record { spot = s.position; pass = s.sender; group = 0 } };
 
     ghost invariant = { λ s. IsOf s.position.queue s.sender };
 }
@@ -55,18 +59,63 @@ impl Model for RowSender {
 pub struct RowReceiver {
     pub(crate) position: Position,
     pub(crate) receiver: Receiver,
+    pub(crate) group: u32,
 }
 
 impl Model for RowReceiver {
-    ghost use Rattle.cc_steps.specs.Walk.{IsOf};
-    ghost use Rattle.std.specs.Prelude.{◌≤◌, length};
-    ghost use Rattle.cc_switch.specs.Position.{RowWalk};
+    ghost use Rattle.cc_switch.specs.Position.{RowWalk, IsTaker};
 
     ghost Value = { RowWalk };
 
-    ghost view = { λ s. record { spot = s.position; pass = s.receiver } };
+    ghost view = { λ s. record { spot = s.position; pass = s.receiver; group = s.group } };
 
-    ghost invariant = { λ s. IsOf s.position.queue s.receiver × (s.position.number ≤ length s.position.seen.ended) };
+    ghost invariant = { λ s. IsTaker s.position s.receiver s.group };
+}
+
+impl RowSender {
+    /// The place in the row of the item that has this place in the sender's queue. None if it exceeds 64 bits.
+    pub fn place(&self, place: u64) -> Option<u64>
+        ensures { IfSome result (λ p. p ≡ self.now.spot.base + place) }
+    {
+        self.position.place(place)
+    }
+}
+
+impl RowReceiver {
+    /// The place in the row of the item that has this place in the receiver's queue. None if it exceeds 64 bits.
+    pub fn place(&self, place: u64) -> Option<u64>
+        ensures { IfSome result (λ p. p ≡ self.now.spot.base + place) }
+    {
+        self.position.place(place)
+    }
+}
+
+/// Gives a row its queues back. Returns the position at the queue of this number.
+#[tactic(auto, using(crate::proofs::Onward::in_row))]
+pub(crate) fn put_back(
+    row: Arc<RowLock, Global>,
+    hold: Hold<Stages, RowLog, Queue>,
+    stages: Stages,
+    number: u64,
+    base: u64,
+    queue: Queue,
+) -> Position
+    requires here { IsHoldOf (arc_value row) hold }
+    requires grows { GoesOnFrom hold.seen (log_of stages) }
+    requires at { IsAtQueue (arc_value row).key stages number base queue }
+    ensures row { result.row ≡ arc_value row }
+    ensures seen { result.seen ≡ log_of stages }
+    ensures number { (result.number ≡ number) × (result.base ≡ base) }
+    ensures queue { result.queue ≡ queue }
+{
+    let look = row.put_back(hold, stages);
+    Position {
+        row,
+        look,
+        number,
+        base,
+        queue,
+    }
 }
 
 impl Position {
@@ -79,7 +128,7 @@ impl Position {
     }
 
     /// The place in the row of the item that has this place in its queue. None if it exceeds 64 bits.
-    pub fn place(&self, place: u64) -> Option<u64>
+    pub(crate) fn place(&self, place: u64) -> Option<u64>
         ensures { IfSome result (λ p. p ≡ self.now.base + place) }
     {
         self.base.checked_add(place)

@@ -1,28 +1,31 @@
 //! The queues of a row, under its lock.
-ghost use Rattle.std.specs.Prelude.{◌≡◌, ◌+◌, ◌<◌, ◌≤◌, if◌then◌else◌, [], ◌∷◌, ◌++◌, length, slice_index_or, IfOk, OnOk, IfErr, IfSome};
+ghost use Rattle.std.specs.Prelude.{◌≡◌, ◌+◌, ◌<◌, ◌≤◌, [], ◌∷◌, ◌++◌, ℕ, true, length, slice_index_or, IfOk, OnOk, IfErr, IfSome};
+ghost use Rattle.std.specs.Arc.{arc_value};
 ghost use Rattle.cc_steps.specs.Topic.{Topic};
 ghost use Rattle.cc_steps.specs.Noted.{Noted, IsNoteOf};
 ghost use Rattle.cc_steps.specs.Walk.{IsOf};
-ghost use Rattle.cc_switch.specs.Links.{IsShutBy, IsEndedBy, total_of, topic_of, queue_at, base_at};
-ghost use Rattle.cc_switch.specs.Stages.{KeepsStages, IsSame};
+ghost use Rattle.cc_queue.specs.Group.{Ranked};
+ghost use Rattle.cc_switch.specs.Links.{IsShutBy, IsEndedBy, total_of, queue_at, base_at, done_by};
+ghost use Rattle.cc_switch.specs.Stages.{KeepsStages, IsSame, with_ended};
 ghost use Rattle.cc_switch.specs.declared.links.Link.{Link};
 
-use crate::links::{Link, RowLog};
+use crate::links::{Ended, Link, RowLog};
 use crate::stage::Stage;
 use cc_guard::{Kept, TryLock};
 use cc_queue::{Note, Queue, Receiver, Sender, again};
-use std::alloc::AllocError;
+use std::alloc::{AllocError, Global};
 use std::mem::replace;
+use std::sync::Arc;
 
-/// The last queue, the queues before it that the group isn't done with, and what shows how all queues follow each
+/// The last queue, the queues before it that some group isn't done with, and what shows how all queues follow each
 /// other.
 #[derive(Drop)]
 pub struct Stages {
     pub(crate) links: Vec<Link>,
     pub(crate) older: Vec<Stage>,
     pub(crate) last: Stage,
-    /// For each queue that the group is done with, what shows that. It is zero-sized.
-    pub(crate) ended: Vec<Note>,
+    /// For each group, what shows with which queues it is done.
+    pub(crate) ended: Vec<Ended>,
     /// Whether the row is closed: no queue is appended any more.
     pub(crate) closing: bool,
 }
@@ -48,22 +51,40 @@ impl Kept<Stages, RowLog, Queue> for RowKind {
     ghost holds = { λ first t. KeepsStages first t };
 }
 
+/// For each of these groups, that it is done with no queue.
+#[tactic(auto, using(crate::proofs::Growing::one_more_none))]
+fn none_ended(alloc: Global, groups: u32) -> Result<Vec<Ended>, AllocError>
+    ensures { IfOk result (λ e. (g : ℕ) → done_by e.items g ≡ []) }
+{
+    let mut ended = Vec::new(alloc);
+    for _group in 0..groups {
+        ended.push(Ended {
+            notes: Vec::new(alloc),
+        })?;
+    }
+    Ok(ended)
+}
+
 /// The lock of a row.
 pub type RowLock = TryLock<Stages, RowLog, Queue, RowKind>;
 
 impl Stages {
-    /// A row of one queue.
-    pub fn new(alloc: std::alloc::Global, stage: Stage) -> Stages
+    /// A row of one queue, with this number of groups.
+    ///
+    /// # Errors
+    ///
+    /// `AllocError` if memory was refused.
+    pub fn new(alloc: Global, stage: Stage, groups: u32) -> Result<Stages, AllocError>
         requires { stage.base ≡ 0 }
-        ensures keeps { KeepsStages stage.queue result }
+        ensures keeps { IfOk result (λ t. KeepsStages stage.queue t) }
     {
-        Stages {
+        Ok(Stages {
             links: Vec::new(alloc),
             older: Vec::new(alloc),
             last: stage,
-            ended: Vec::new(alloc),
+            ended: none_ended(alloc, groups)?,
             closing: false,
-        }
+        })
     }
 
     /// Appends a queue. By this note the last one was shut, with this total. Returns a sender of the new queue.
@@ -123,33 +144,72 @@ impl Stages {
         self.last.sender()
     }
 
-    /// By this note, the group is done with the queue that it was at. False if memory was refused: nothing has changed
-    /// then.
-    pub(crate) fn end(&mut self, _row: &RowLock, ended: Note) -> bool
-        requires keeps { KeepsStages _row.now.key self.old }
-        requires more { length self.old.ended.items < length self.old.links.items }
-        requires done { IsEndedBy (queue_at _row.now.key self.old.links.items (length self.old.ended.items)) ended }
-        requires agreed { (d : Link) → total_of ended ≡ total_of (slice_index_or self.old.links.items (length self.old.ended.items) d).shut }
-        ensures keeps { KeepsStages _row.now.key self.new }
+    /// With how many queues the group is done: the number of the queue that it is at.
+    pub(crate) fn done(&self, group: u32) -> usize
+        ensures { result ≡ length (done_by self.now.ended.items group) }
+    {
+        if group as usize >= self.ended.len() {
+            return 0;
+        }
+        self.ended[group as usize].notes.len()
+    }
+
+    /// By this note, the group is done with the queue that it was at. False if memory was refused, or there is no such
+    /// group: nothing has changed then.
+    #[tactic(auto, using(crate::proofs::Growing::ended_or))]
+    pub(crate) fn end(&mut self, _row: &Arc<RowLock, Global>, group: u32, ended: Note) -> bool
+        requires keeps { KeepsStages (arc_value _row.now).key self.old }
+        requires more { length (done_by self.old.ended.items group) < length self.old.links.items }
+        requires done { IsEndedBy group (queue_at (arc_value _row.now).key self.old.links.items (length (done_by self.old.ended.items group))) ended }
+        requires agreed { (d : Link) → total_of ended ≡ total_of (slice_index_or self.old.links.items (length (done_by self.old.ended.items group)) d).shut }
+        ensures keeps { KeepsStages (arc_value _row.now).key self.new }
         ensures links { self.new.links.items ≡ self.old.links.items }
-        ensures ended { self.new.ended.items ≡ (if result then self.old.ended.items ++ ended ∷ [] else self.old.ended.items) }
+        ensures ended { self.new.ended.items ≡ with_ended result group ended self.old.ended.items }
         ensures rest { (self.new.older.items ≡ self.old.older.items) × (self.new.last ≡ self.old.last) }
     {
-        self.ended.push(ended).is_ok()
+        self.note_end(group, ended)
+    }
+
+    /// Adds this note to those of the group, unless memory was refused, or there is no such group.
+    #[tactic(auto, using(crate::proofs::Growing::written))]
+    fn note_end(&mut self, group: u32, ended: Note) -> bool
+        ensures ended { self.new.ended.items ≡ with_ended result group ended self.old.ended.items }
+        ensures links { self.new.links.items ≡ self.old.links.items }
+        ensures rest { (self.new.older.items ≡ self.old.older.items) × (self.new.last ≡ self.old.last) }
+    {
+        if group as usize >= self.ended.len() {
+            return false;
+        }
+        self.ended[group as usize].add(ended)
     }
 
     /// A receiver of the queue that the group is at, a share of that queue, and how many items the queues before it
     /// accepted.
-    pub(crate) fn receiver(&mut self) -> Option<(Receiver, Queue, u64)>
+    pub(crate) fn receiver(&mut self, group: u32) -> Option<(Receiver, Queue, u64)>
         ensures same { IsSame self.old self.new }
         ensures of { IfSome result (λ r. IsOf r.1 r.0) }
-        ensures at { IfSome result (λ r. (first : Topic) → KeepsStages first self.old → (length self.old.ended.items ≤ length self.old.links.items) × (r.1 ≡ queue_at first self.old.links.items (length self.old.ended.items)) × (r.2 ≡ base_at self.old.links.items (length self.old.ended.items))) }
+        ensures ranked { IfSome result (λ r. Ranked r.0 (group + 1)) }
+        ensures has { IfSome result (λ r. group < r.1.setting.config.groups) }
+        ensures at { IfSome result (λ r. (first : Topic) → KeepsStages first self.old → (length (done_by self.old.ended.items group) ≤ length self.old.links.items) × (r.1 ≡ queue_at first self.old.links.items (length (done_by self.old.ended.items group))) × (r.2 ≡ base_at self.old.links.items (length (done_by self.old.ended.items group)))) }
     {
-        let (at, kept, queues) = (self.ended.len(), self.older.len(), self.links.len());
+        let at = self.done(group);
+        self.receiver_at(group, at)
+    }
+
+    /// The same, where the group is done with this number of queues.
+    fn receiver_at(&mut self, group: u32, at: usize) -> Option<(Receiver, Queue, u64)>
+        requires { at ≡ length (done_by self.old.ended.items group) }
+        ensures same { IsSame self.old self.new }
+        ensures of { IfSome result (λ r. IsOf r.1 r.0) }
+        ensures ranked { IfSome result (λ r. Ranked r.0 (group + 1)) }
+        ensures has { IfSome result (λ r. group < r.1.setting.config.groups) }
+        ensures at { IfSome result (λ r. (first : Topic) → KeepsStages first self.old → (length (done_by self.old.ended.items group) ≤ length self.old.links.items) × (r.1 ≡ queue_at first self.old.links.items (length (done_by self.old.ended.items group))) × (r.2 ≡ base_at self.old.links.items (length (done_by self.old.ended.items group)))) }
+    {
+        let (kept, queues) = (self.older.len(), self.links.len());
         if at >= queues {
             let base = self.last.base;
             let share = self.last.queue.share().ok()?;
-            return Some((self.last.receiver()?, share, base));
+            return Some((self.last.receiver(group)?, share, base));
         }
         if queues < kept || at < queues - kept {
             return None;
@@ -157,7 +217,7 @@ impl Stages {
         let stage = &mut self.older[at - (queues - kept)];
         let base = stage.base;
         let share = stage.queue.share().ok()?;
-        Some((stage.receiver()?, share, base))
+        Some((stage.receiver(group)?, share, base))
     }
 
     /// The number of the last queue, how many items the queues before it accepted, and a share of it.
@@ -168,8 +228,20 @@ impl Stages {
         Ok((self.links.len() as u64, self.last.base, share))
     }
 
-    /// Removes the oldest queue, if the group is done with it.
-    pub fn drained(&mut self) -> Option<Stage>
+    /// Whether each group is done with the queue of this number.
+    fn is_left(&self, number: usize) -> bool
+        ensures { result ≡ true → (g : ℕ) → g < length self.now.ended.items → number < length (done_by self.now.ended.items g) }
+    {
+        for group in 0..self.ended.len() {
+            if self.ended[group].notes.len() <= number {
+                return false;
+            }
+        }
+        true
+    }
+
+    /// Removes the oldest queue, if each group is done with it.
+    pub(crate) fn drained(&mut self) -> Option<Stage>
         ensures keeps { (first : Topic) → KeepsStages first self.old → KeepsStages first self.new }
         ensures links { self.new.links.items ≡ self.old.links.items }
         ensures last { self.new.last ≡ self.old.last }
@@ -177,7 +249,7 @@ impl Stages {
     {
         let kept = self.older.len();
         let queues = self.links.len();
-        if kept == 0 || queues < kept || self.ended.len() <= queues - kept {
+        if kept == 0 || queues < kept || !self.is_left(queues - kept) {
             return None;
         }
         Some(self.older.remove(0))

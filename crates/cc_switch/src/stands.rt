@@ -1,5 +1,4 @@
 //! The answers of a row belong to one legal history.
-ghost use Rattle.std.specs.Prelude.{◌≡◌};
 ghost use Rattle.cc_switch.specs.Stands.{SendsStand, TakesStand};
 
 use crate::position::{RowReceiver, RowSender};
@@ -21,7 +20,6 @@ impl RowReceiver {
     /// out: a fact for proofs, and no work.
     #[tactic(auto, using(crate::proofs::Standing::takes_stand))]
     pub fn is_sound(&self)
-        requires { self.now.pass.setting.config.groups ≡ 1 }
         ensures { TakesStand self.now }
     {
         self.position.is_sound();

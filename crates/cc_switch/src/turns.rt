@@ -1,14 +1,14 @@
 //! The calls by which passes of a row come to the end of their queue, in turns: a close by a sender, and a take.
 ghost use Rattle.std.specs.Prelude.{◌≡◌};
-ghost use Rattle.cc_switch.specs.Turns.{Leaves, Takes};
+ghost use Rattle.cc_queue.specs.Calls.{Begun};
+ghost use Rattle.cc_queue.specs.Names.{Call};
+ghost use Rattle.cc_switch.specs.Turns.{IsAt, Leaves, Takes};
 
 use crate::left::{Left, knows_shut, total_of};
 use crate::position::{Position, RowReceiver, RowSender};
 use crate::receiving::{Over, knows_ended};
 use cc_model::TakeAnswer;
-use cc_queue::{
-    Item, PendingClose, PendingTake, Turn, begin_close, begin_take, turn_close, turn_take,
-};
+use cc_queue::{GivenUp, Item, PendingClose, PendingTake, Turn, begin_close, turn_close};
 use std::marker::Model;
 
 /// A sender that closes its queue, to continue at another one.
@@ -23,9 +23,23 @@ impl Model for Leaving {
 
     ghost Value = { RowWalk };
 
-    ghost view = { λ l. record { spot = l.position; pass = l.pending } };
+    ghost view = { λ l. record { spot = l.position; pass = l.pending; group = 0 } };
 
     ghost invariant = { λ l. IsOf l.position.queue l.pending };
+}
+
+impl Leaving {
+    /// Gives the pass up with its call. The call may still be answered. From its turn to combine on it stops the calls
+    /// that come after it at this queue.
+    pub fn abandon(self) -> GivenUp
+        ensures { result ≡ self.pass }
+    {
+        let Leaving {
+            position: _,
+            pending,
+        } = self;
+        pending.abandon()
+    }
 }
 
 /// What a turn of that close returns.
@@ -36,7 +50,8 @@ pub enum Leave {
 
 /// Begins to leave a queue that has refused a send: begins a close of the queue.
 pub fn begin_leave(from: RowSender) -> Leaving
-    ensures { result.spot ≡ from.spot }
+    ensures at { IsAt from result }
+    ensures begun { Begun from.pass Call.Close result.pass }
 {
     let RowSender { position, sender } = from;
     let pending = begin_close(&position.queue, sender);
@@ -70,18 +85,32 @@ pub fn turn_leave(leaving: Leaving) -> Leave
 pub struct Taking {
     pub(crate) position: Position,
     pub(crate) pending: PendingTake,
+    pub(crate) group: u32,
 }
 
 impl Model for Taking {
-    ghost use Rattle.std.specs.Prelude.{◌≤◌, length};
-    ghost use Rattle.cc_steps.specs.Walk.{IsOf};
-    ghost use Rattle.cc_switch.specs.Position.{RowWalk};
+    ghost use Rattle.cc_switch.specs.Position.{RowWalk, IsTaker};
 
     ghost Value = { RowWalk };
 
-    ghost view = { λ l. record { spot = l.position; pass = l.pending } };
+    ghost view = { λ l. record { spot = l.position; pass = l.pending; group = l.group } };
 
-    ghost invariant = { λ l. IsOf l.position.queue l.pending × (l.position.number ≤ length l.position.seen.ended) };
+    ghost invariant = { λ l. IsTaker l.position l.pending l.group };
+}
+
+impl Taking {
+    /// Gives the pass up with its call. The call may still be answered. From its turn to combine on it stops the calls
+    /// that come after it at this queue.
+    pub fn abandon(self) -> GivenUp
+        ensures { result ≡ self.pass }
+    {
+        let Taking {
+            position: _,
+            pending,
+            group: _,
+        } = self;
+        pending.abandon()
+    }
 }
 
 /// What a turn of a take returns.
@@ -96,43 +125,64 @@ pub enum Taken {
 }
 
 /// Begins a take.
-pub fn begin(from: RowReceiver) -> Taking
-    ensures { result.spot ≡ from.spot }
+#[tactic(auto, using(crate::proofs::Ranks::still_taker))]
+pub fn begin_take(from: RowReceiver) -> Taking
+    ensures at { IsAt from result }
+    ensures begun { Begun from.pass Call.Take result.pass }
 {
-    let RowReceiver { position, receiver } = from;
-    let pending = begin_take(&position.queue, receiver);
-    Taking { position, pending }
+    let RowReceiver {
+        position,
+        receiver,
+        group,
+    } = from;
+    let pending = cc_queue::begin_take(&position.queue, receiver);
+    Taking {
+        position,
+        pending,
+        group,
+    }
 }
 
-/// One turn of the take.
-pub fn turn(taking: Taking) -> Taken
-    requires { taking.pass.setting.config.groups ≡ 1 }
+/// One turn of a take.
+#[tactic(auto, using(crate::proofs::Ranks::still_taker))]
+pub fn turn_take(taking: Taking) -> Taken
     ensures { Takes taking result }
 {
-    let Taking { position, pending } = taking;
-    match turn_take(&position.queue, pending) {
-        Turn::Waiting(pending) => Taken::Waiting(Taking { position, pending }),
+    let Taking {
+        position,
+        pending,
+        group,
+    } = taking;
+    match cc_queue::turn_take(&position.queue, pending) {
+        Turn::Waiting(pending) => Taken::Waiting(Taking {
+            position,
+            pending,
+            group,
+        }),
         Turn::Done {
-            pass,
+            pass: receiver,
             answer,
             served: _,
         } => match answer {
             TakeAnswer::Got(item) => {
                 let receiver = RowReceiver {
                     position,
-                    receiver: pass,
+                    receiver,
+                    group,
                 };
                 Taken::Got { receiver, item }
             }
             TakeAnswer::Empty => Taken::Empty(RowReceiver {
                 position,
-                receiver: pass,
+                receiver,
+                group,
             }),
             TakeAnswer::Ended { total } => {
-                knows_ended(&position.queue, &pass, total);
+                knows_ended(&position.queue, &receiver, group, total);
                 Taken::Over(Over {
                     position,
-                    receiver: pass,
+                    receiver,
+                    group,
                     total,
                 })
             }
