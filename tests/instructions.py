@@ -37,10 +37,10 @@ IN_RUST = {
     "two groups": ("let (s, r) = groups::<u64>(64, 2)?;",
                    "s.send(i).unwrap(); for r in &r { assert_eq!(r.recv(), Ok(i)); }", 1265),
     "a refused try_send": ("let (s, _r) = channel::<u64>(1)?; s.send(0).unwrap();", "assert!(s.try_send(i).is_err());",
-                           135),
+                           139),
     "the same with 4,096 places": (
         "let (s, _r) = channel::<u64>(4096)?; (0..4096).for_each(|i| s.send(i).unwrap());",
-        "assert!(s.try_send(i).is_err());", 184,
+        "assert!(s.try_send(i).is_err());", 187,
     ),
     "an empty try_recv": ("let (_s, r) = channel::<u64>(64)?;", "assert!(r.try_recv().is_err() && i < calls);", 57),
     "send, and a select that takes": (
@@ -49,7 +49,7 @@ IN_RUST = {
     ),
     "a select that sends, and recv": (
         "let (s, r) = channel::<u64>(64)?;", "select! { send(s, i) -> it => it.unwrap() } assert_eq!(r.recv(), Ok(i));",
-        1013,
+        1046,
     ),
     "a select of two takes in vain": (
         "let ((_s, r), (_t, q)) = (channel::<u64>(64)?, channel::<u64>(64)?);",
