@@ -60,16 +60,16 @@ fn two_lines(alloc: Global, log: &Log, first: usize, second: usize) -> Result<St
             line(alloc, log, second)?
         );
     };
-    match (
+    let (Some(a), Some(b)) = (
         thread_at(alloc, log, first)?,
         thread_at(alloc, log, second)?,
-    ) {
-        (Some(a), Some(b)) if a.as_str() != b.as_str() => {
-            format!(in alloc; "lines {one} and {other} (threads {a} and {b})")
-        }
-        (Some(a), _) => format!(in alloc; "lines {one} and {other} (thread {a})"),
-        _ => format!(in alloc; "lines {one} and {other}"),
+    ) else {
+        return format!(in alloc; "lines {one} and {other}");
+    };
+    if a.as_str() == b.as_str() {
+        return format!(in alloc; "lines {one} and {other} (thread {a})");
     }
+    format!(in alloc; "lines {one} and {other} (threads {a} and {b})")
 }
 
 /// The numbers of the lines of the calls at these places, and of as many others: of many the first.

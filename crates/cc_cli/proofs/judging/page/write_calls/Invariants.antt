@@ -2,7 +2,4 @@ use Rattle.std.proofs.Common.{◌≡◌}
 use Rattle.cc_cli.proofs.judging.page.write_calls.Given as goal
 
 abbrev pub invariant-loop-place : goal.invariant-loop-place
-invariant-loop-place g l =
-    (goal.iterator-loop-place g).can_next l.place-iterator ×
-    (goal.iterator-loop-place g).is_finite l.place-iterator ×
-    (g.W.Sink.write_failures l.sink ≡ g.W.Sink.write_failures l.fn.sink)
+invariant-loop-place g l = g.W.Sink.write_failures l.sink ≡ g.W.Sink.write_failures l.fn.sink
