@@ -271,12 +271,13 @@ def add_copies(steps):
                "git": f"git = 'file://{repository}'"}
     before = (*there, "Rust: a repository has the crate")
     for name, source in sources.items():
-        for path, prints in ((RUST / "README.md", "\n".join(f"line {k}" for k in range(10))),
-                             (TOP / "README.md", "the sum is 20200")):
-            trial = room / f"trial_{name}_{path.parent.name}"
+        # Each has a program of its own name, since they share a folder for what is built and run side by side.
+        for kind, path, prints in (("crate", RUST / "README.md", "\n".join(f"line {k}" for k in range(10))),
+                                   ("top", TOP / "README.md", "the sum is 20200")):
+            trial = room / f"trial_{name}_{kind}"
             (trial / "src").mkdir(parents=True)
             (trial / "src/main.rs").write_text(main_of(path))
-            (trial / "Cargo.toml").write_text(f'[package]\nname = "trial"\nedition = "2021"\n\n[dependencies]\n'
+            (trial / "Cargo.toml").write_text(f'[package]\nname = "{trial.name}"\nedition = "2021"\n\n[dependencies]\n'
                                               f"vahepito = {{ {source} }}\n\n[workspace]\n")
             if name == "within":
                 (trial / "within").symlink_to(package)
